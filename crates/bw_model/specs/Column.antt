@@ -1,0 +1,19 @@
+-- Columns, and the rows that they admit.
+use Rattle.std.specs.Prelude.{ℕ, Bool, true, false, List, [], ◌∷◌, map, Some, None, ◌&&◌, int_le}
+use Rattle.bw_model.specs.declared.column.Column.{Column}
+use Rattle.bw_model.specs.Row.{Value}
+
+abbrev pub names_of : List Column → List (List ℕ)
+names_of columns = map (λ column. column.name) columns
+
+-- a column admits null where it is nullable, and the numbers from lo to hi
+abbrev pub admits_value : Column → Value → Bool
+admits_value column None = column.nullable
+admits_value column (Some n) = int_le column.lo n && int_le n column.hi
+
+-- columns admit a row of as many values, each of which its column admits
+abbrev pub admits_values : List Column → List Value → Bool
+admits_values [] [] = true
+admits_values [] (value ∷ values) = false
+admits_values (column ∷ columns) [] = false
+admits_values (column ∷ columns) (value ∷ values) = admits_value column value && admits_values columns values

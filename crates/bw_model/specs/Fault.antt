@@ -1,0 +1,41 @@
+-- Refusals: a fault, and what a call that may run out of memory gives.
+use Rattle.std.specs.Prelude.{◌≡◌, ℕ, Bool, ◌==◌, true, false, Result, Ok, Err}
+use Rattle.bw_model.specs.declared.fault.Fault.{Fault}
+use Rattle.bw_model.specs.declared.fault.Place.TheVariants.{Nowhere, Byte, Line, Rec}
+
+-- a fault that stands nowhere, at a byte, at a line or at a record
+abbrev pub nowhere : ℕ → Fault
+nowhere c = record { code = c; place = Nowhere }
+
+abbrev pub at_byte : ℕ → ℕ → Fault
+at_byte c at = record { code = c; place = Byte at }
+
+abbrev pub at_line : ℕ → ℕ → Fault
+at_line c at = record { code = c; place = Line at }
+
+abbrev pub at_record : ℕ → ℕ → Fault
+at_record c at = record { code = c; place = Rec at }
+
+-- want of memory
+abbrev pub no_memory : Fault
+no_memory = nowhere 801
+
+-- the fault tells of want of memory, which no rule of a format foresees
+abbrev pub is_memory : Fault → Bool
+is_memory fault = fault.code == 801
+
+-- an answer or the first fault, and then what follows from the answer
+infixl 10 ◌>>=◌
+abbrev pub ◌>>=◌ : {A B : Type 0} → Result A Fault → (A → Result B Fault) → Result B Fault
+(Ok x) >>= f = f x
+(Err fault) >>= f = Err fault
+
+-- the fault where the test is true, and else what follows
+abbrev pub refused_if : {A : Type 0} → Bool → Fault → Result A Fault → Result A Fault
+refused_if true fault next = Err fault
+refused_if false fault next = next
+
+-- What a call answered, seen by view, is what is expected, want of memory aside.
+abbrev pub Gives : {A B : Type 0} → (A → B) → Result A Fault → Result B Fault → Type 0
+Gives view (Ok x) expected = expected ≡ Ok (view x)
+Gives view (Err fault) expected = is_memory fault ≡ false → expected ≡ Err fault

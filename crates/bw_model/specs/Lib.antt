@@ -1,0 +1,9 @@
+pub mod Column
+pub mod Cond
+pub mod Fault
+pub mod Keyword
+pub mod Name
+pub mod Row
+pub mod Text
+pub mod Total
+pub mod Truth

@@ -1,0 +1,76 @@
+-- Truth in three values, after SQL-92: FALSE is below UNKNOWN, and UNKNOWN below TRUE.
+use Rattle.std.specs.Prelude.{ℤ, Bool, true, false, List, [], ◌∷◌, Some, None, not, int_lt, int_le}
+use Rattle.std.specs.Ordering.{int_eq}
+use Rattle.bw_model.specs.declared.cond.Truth.{Truth}
+use Rattle.bw_model.specs.declared.cond.Truth.TheVariants.{No, Unknown, Yes}
+use Rattle.bw_model.specs.declared.cond.Op.{Op}
+use Rattle.bw_model.specs.declared.cond.Op.TheVariants.{Eq, Ne, Lt, Gt, Le, Ge}
+use Rattle.bw_model.specs.Row.{Value}
+
+-- TRUE or FALSE
+abbrev pub truth : Bool → Truth
+truth true = Yes
+truth false = No
+
+-- AND of two truth values is the least of them
+abbrev pub least : Truth → Truth → Truth
+least No t = No
+least Unknown No = No
+least Unknown Unknown = Unknown
+least Unknown Yes = Unknown
+least Yes t = t
+
+-- OR of two is the greatest
+abbrev pub greatest : Truth → Truth → Truth
+greatest Yes t = Yes
+greatest Unknown Yes = Yes
+greatest Unknown Unknown = Unknown
+greatest Unknown No = Unknown
+greatest No t = t
+
+-- AND and OR of a list
+abbrev pub all_of : List Truth → Truth
+all_of [] = Yes
+all_of (t ∷ ts) = least t (all_of ts)
+
+abbrev pub any_of : List Truth → Truth
+any_of [] = No
+any_of (t ∷ ts) = greatest t (any_of ts)
+
+-- NOT swaps TRUE and FALSE, and keeps UNKNOWN
+abbrev pub negation : Truth → Truth
+negation No = Yes
+negation Unknown = Unknown
+negation Yes = No
+
+-- the truth value is this one
+abbrev pub is_truth : Truth → Truth → Bool
+is_truth No No = true
+is_truth Unknown Unknown = true
+is_truth Yes Yes = true
+is_truth No Unknown = false
+is_truth No Yes = false
+is_truth Unknown No = false
+is_truth Unknown Yes = false
+is_truth Yes No = false
+is_truth Yes Unknown = false
+
+-- the comparison holds of two whole numbers
+abbrev pub holds : Op → ℤ → ℤ → Bool
+holds Eq x y = int_eq x y
+holds Ne x y = not (int_eq x y)
+holds Lt x y = int_lt x y
+holds Gt x y = int_lt y x
+holds Le x y = int_le x y
+holds Ge x y = int_le y x
+
+-- a comparison is UNKNOWN where an operand is null
+abbrev pub compared : Op → Value → Value → Truth
+compared op None y = Unknown
+compared op (Some m) None = Unknown
+compared op (Some m) (Some n) = truth (holds op m n)
+
+-- the value is null
+abbrev pub is_null : Value → Bool
+is_null None = true
+is_null (Some n) = false

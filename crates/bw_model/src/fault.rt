@@ -1,0 +1,154 @@
+ghost use Rattle.std.specs.Prelude.{◌≡◌};
+ghost use Rattle.bw_model.specs.Fault.{no_memory, nowhere};
+
+use std::alloc::{AllocError, AllocFailed};
+use std::fmt;
+use thiserror::Error;
+
+/// The numbers of the faults. The hundreds tell the part: 1 the schema, 2 the CSV, 4 the statement,
+/// 7 a device, 8 memory.
+pub mod code {
+    pub const SCHEMA_FORM: u16 = 101;
+
+    pub const SCHEMA_NAME: u16 = 102;
+
+    pub const SCHEMA_RANGE: u16 = 103;
+
+    pub const NAME_TWICE: u16 = 104;
+
+    pub const COLUMN_COUNT: u16 = 105;
+
+    pub const SCHEMA_TOO_LONG: u16 = 106;
+
+    pub const NO_HEADING: u16 = 201;
+
+    pub const HEADING: u16 = 202;
+
+    pub const RECORD_LENGTH: u16 = 203;
+
+    pub const NOT_A_NUMBER: u16 = 204;
+
+    pub const OUT_OF_RANGE: u16 = 205;
+
+    pub const NULL_NOT_ALLOWED: u16 = 206;
+
+    pub const TOO_MANY_ROWS: u16 = 207;
+
+    pub const CSV_TOO_LONG: u16 = 208;
+
+    pub const CSV_FAULT: u16 = 209;
+
+    pub const CHARACTER: u16 = 401;
+
+    pub const SYNTAX: u16 = 402;
+
+    pub const UNKNOWN_TABLE: u16 = 403;
+
+    pub const UNKNOWN_COLUMN: u16 = 404;
+
+    pub const LITERAL: u16 = 405;
+
+    pub const MIXED_ITEMS: u16 = 406;
+
+    pub const STATEMENT_TOO_LONG: u16 = 407;
+
+    pub const NESTING: u16 = 408;
+
+    pub const READ_FAILED: u16 = 701;
+
+    pub const WRITE_FAILED: u16 = 702;
+
+    pub const OUT_OF_MEMORY: u16 = 801;
+}
+
+/// Where a fault stands.
+#[derive(Clone, Copy, Debug, PartialEq, Eq)]
+pub enum Place {
+    Nowhere,
+    /// A byte, from 0.
+    Byte(u64),
+    /// A line, from 1.
+    Line(u64),
+    /// A record of a CSV text, of which the heading is record 0.
+    Rec(u32),
+}
+
+impl fmt::Display for Place {
+    fn fmt<W: fmt::Write>(&self, f: &mut fmt::Formatter<W>) -> fmt::Result {
+        match self {
+            Place::Nowhere => Ok(()),
+            Place::Byte(at) => write!(f, " at byte {at}"),
+            Place::Line(at) => write!(f, " at line {at}"),
+            Place::Rec(at) => write!(f, " at record {at}"),
+        }
+    }
+}
+
+/// Why a call refused, and where: shown as `404 unknown column at byte 7`.
+#[derive(Clone, Copy, Debug, PartialEq, Eq, Error)]
+#[error("{code} {}{place}", text_of(*.code))]
+pub struct Fault {
+    pub code: u16,
+    pub place: Place,
+}
+
+impl Fault {
+    /// A fault that stands nowhere.
+    pub const fn new(code: u16) -> Self
+        ensures { result ≡ nowhere code }
+    {
+        Fault {
+            code,
+            place: Place::Nowhere,
+        }
+    }
+}
+
+impl From<AllocError> for Fault {
+    ghost from_gives = { λ _ fault. fault ≡ no_memory };
+
+    fn from(_error: AllocError) -> Self {
+        Fault::new(code::OUT_OF_MEMORY)
+    }
+}
+
+impl<T: Drop> From<AllocFailed<T>> for Fault {
+    ghost from_gives = { λ _ fault. fault ≡ no_memory };
+
+    fn from(_error: AllocFailed<T>) -> Self {
+        Fault::new(code::OUT_OF_MEMORY)
+    }
+}
+
+/// What a fault's number means, in words.
+const fn text_of(code: u16) -> &'static str {
+    match code {
+        code::SCHEMA_FORM => "line form",
+        code::SCHEMA_NAME => "name",
+        code::SCHEMA_RANGE => "range",
+        code::NAME_TWICE => "name twice",
+        code::COLUMN_COUNT => "number of columns",
+        code::SCHEMA_TOO_LONG => "schema too long",
+        code::NO_HEADING => "no heading",
+        code::HEADING => "heading",
+        code::RECORD_LENGTH => "record length",
+        code::NOT_A_NUMBER => "not a whole number",
+        code::OUT_OF_RANGE => "out of range",
+        code::NULL_NOT_ALLOWED => "null not allowed",
+        code::TOO_MANY_ROWS => "too many rows",
+        code::CSV_TOO_LONG => "csv too long",
+        code::CSV_FAULT => "csv fault",
+        code::CHARACTER => "character",
+        code::SYNTAX => "syntax",
+        code::UNKNOWN_TABLE => "unknown table",
+        code::UNKNOWN_COLUMN => "unknown column",
+        code::LITERAL => "literal",
+        code::MIXED_ITEMS => "columns and aggregates mixed",
+        code::STATEMENT_TOO_LONG => "statement too long",
+        code::NESTING => "nesting",
+        code::READ_FAILED => "read failed",
+        code::WRITE_FAILED => "write failed",
+        code::OUT_OF_MEMORY => "out of memory",
+        _ => "fault",
+    }
+}

@@ -1,0 +1,30 @@
+//! What a table is: names, columns and schemas, values and rows, conditions and queries, and the faults
+//! that every crate answers.
+//!
+//! The contract that the crates above use: [`Schema::parse`] accepts schema texts, and a [`Schema`], once
+//! made, has at least one and at most 64 columns with names that differ, ignoring case, and bounds in order.
+//! What conditions and queries mean stands in `specs/`: three-valued truth, after SQL-92, in `Truth`, the
+//! truth of a condition in `Cond`, and what is totalled in `Total`.
+//!
+//! Read `schema.rt` first, and then `specs/Cond.antt`.
+#![tactic(auto)]
+
+mod column;
+mod cond;
+mod fault;
+mod keyword;
+mod name;
+mod query;
+mod row;
+mod schema;
+mod text;
+
+pub use column::Column;
+pub use cond::{Cond, Op, Operand, Truth};
+pub use fault::{Fault, Place, code};
+pub use keyword::{KEYWORDS, Keyword};
+pub use name::{Name, is_name};
+pub use query::{Item, Query};
+pub use row::{Row, Value};
+pub use schema::Schema;
+pub use text::{begins_word, goes_on_in_word, is_same_text, is_word};

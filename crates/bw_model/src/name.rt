@@ -1,0 +1,61 @@
+ghost use Rattle.std.specs.Prelude.{◌≡◌, IfOk, IsTrue};
+ghost use Rattle.bw_model.specs.Name.{is_name};
+ghost use Rattle.bw_model.specs.Text.{same_text};
+
+use crate::keyword::Keyword;
+use crate::text::{is_same_text, is_word};
+use std::alloc::{AllocError, Global};
+use std::marker::Model;
+
+/// The name of a table or a column, in its own spelling: a letter or `_`, followed by letters, digits and
+/// `_`, at most 63 bytes, and no reserved word of the query language.
+#[derive(Debug, Drop)]
+pub struct Name {
+    bytes: Vec<u8>,
+}
+
+impl Model for Name {
+    ghost use Rattle.std.specs.Prelude.{List, ℕ, IsTrue};
+    ghost use Rattle.bw_model.specs.Name.{is_name};
+
+    ghost Value = { List ℕ };
+
+    ghost view = { λ name. name.bytes.items };
+
+    ghost invariant = { λ name. IsTrue (is_name name.bytes.items) };
+}
+
+impl Name {
+    /// The name of this spelling.
+    pub fn new(alloc: Global, bytes: &[u8]) -> Result<Self, AllocError>
+        requires { IsTrue (is_name bytes.now) }
+        ensures { IfOk result (λ name. name ≡ bytes.now) }
+    {
+        Ok(Name {
+            bytes: Vec::from_slice(alloc, bytes)?,
+        })
+    }
+
+    /// Its spelling.
+    pub fn as_bytes(&self) -> &[u8]
+        ensures spelling { result.now ≡ self.now }
+        ensures name { IsTrue (is_name result.now) }
+    {
+        self.bytes.as_slice()
+    }
+
+    /// Whether a text is this name, ignoring the case of ASCII letters.
+    pub fn is(&self, text: &[u8]) -> bool
+        ensures { result ≡ same_text self.now text.now }
+    {
+        is_same_text(self.as_bytes(), text)
+    }
+}
+
+/// Whether a text is a name: a word of at most 63 bytes that isn't reserved.
+#[tactic(auto, unfolding(crate::specs::Name::is_name))]
+pub fn is_name(text: &[u8]) -> bool
+    ensures { result ≡ is_name text.now }
+{
+    is_word(text) && text.len() <= 63 && Keyword::of(text).is_none()
+}

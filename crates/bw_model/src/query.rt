@@ -1,0 +1,21 @@
+use crate::cond::Cond;
+
+/// What a query asks for: a column by its number from 0, or an aggregate.
+#[derive(Clone, Copy, Debug, PartialEq, Eq)]
+pub enum Item {
+    Plain(usize),
+    /// The number of rows, `COUNT(*)`.
+    CountAll,
+    /// The number of the column's values that aren't null.
+    Count(usize),
+    Sum(usize),
+    Min(usize),
+    Max(usize),
+}
+
+/// A query over one table: its items, all columns or all aggregates, and which rows are kept.
+#[derive(Debug, Drop)]
+pub struct Query {
+    pub items: Vec<Item>,
+    pub cond: Cond,
+}

@@ -1,0 +1,16 @@
+ghost use Rattle.std.specs.Prelude.{◌≤◌, length, IsTrue};
+ghost use Rattle.bw_model.specs.Name.{are_apart};
+ghost use Rattle.bw_model.specs.Column.{names_of};
+
+use crate::column::Column;
+use crate::name::Name;
+
+/// A table's name and its columns: at least one and at most 64, with names that differ, ignoring case.
+#[derive(Debug, Drop)]
+pub struct Schema {
+    pub name: Name,
+    pub columns: Vec<Column>,
+    pub ghost inhabited: { 1 ≤ length columns.items },
+    pub ghost limited: { length columns.items ≤ 64 },
+    pub ghost apart: { IsTrue (are_apart (names_of columns.items)) },
+}
