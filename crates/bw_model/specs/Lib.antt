@@ -2,8 +2,11 @@ pub mod Column
 pub mod Cond
 pub mod Fault
 pub mod Keyword
+pub mod Lines
 pub mod Name
+pub mod Number
 pub mod Row
+pub mod SchemaText
 pub mod Text
 pub mod Total
 pub mod Truth

@@ -1,0 +1,21 @@
+-- Whole numbers as decimal digits spell them.
+use Rattle.std.specs.Prelude.{ℕ, ℤ, pos, ◌+◌, ◌-◌, ◌*◌, ◌^◌, ◌-ℤ◌, Bool, true, false, not, List, [], ◌∷◌, fold, Option, Some, None, ◌&&◌, if◌then◌else◌, nat_le, nat_lt}
+use Rattle.std.specs.List.{list_all}
+use Rattle.std.specs.Char.{is_ascii_digit}
+
+-- the number that decimal digits spell; 48 is the digit 0
+unfoldable pub decimal : List ℕ → ℕ
+decimal digits = fold (λ n digit. 10 * n + (digit - 48)) 0 digits
+
+abbrev pub text_is_empty : List ℕ → Bool
+text_is_empty [] = true
+text_is_empty (c ∷ cs) = false
+
+-- one digit or more
+abbrev pub are_digits : List ℕ → Bool
+are_digits text = not (text_is_empty text) && list_all is_ascii_digit text
+
+-- the number of a sign and digits, where 64 bits hold it: they hold the numbers from -2^63 to 2^63 - 1
+unfoldable pub number_of : Bool → List ℕ → Option ℤ
+number_of true digits = if nat_le (decimal digits) (2 ^ 63) then Some (pos 0 -ℤ pos (decimal digits)) else None
+number_of false digits = if nat_lt (decimal digits) (2 ^ 63) then Some (pos (decimal digits)) else None

@@ -1,0 +1,115 @@
+-- Schema texts: what a text says, or the first fault in it.
+use Rattle.std.specs.Prelude.{ℕ, ℤ, pos, ◌-ℤ◌, ◌^◌, Bool, true, false, List, [], ◌∷◌, ◌++◌, map, drop, length, Option, Some, None, Result, Ok, Err, codes, not, ◌&&◌, ◌||◌, ◌==◌, if◌then◌else◌, int_le, int_lt, nat_le, nat_lt, slice_index}
+use Rattle.std.specs.List.{list_any}
+use Rattle.bw_model.specs.declared.fault.Fault.{Fault}
+use Rattle.bw_model.specs.declared.column.Column.{Column}
+use Rattle.bw_model.specs.declared.parse.Words.{Words}
+use Rattle.bw_model.specs.declared.schema.Schema.{Schema}
+use Rattle.bw_model.specs.Fault.{nowhere, at_line, ◌>>=◌, refused_if}
+use Rattle.bw_model.specs.Lines.{NumberedWords, is_empty, lines_in, end_in, whole}
+use Rattle.bw_model.specs.Name.{is_name}
+use Rattle.bw_model.specs.Number.{are_digits, number_of}
+use Rattle.bw_model.specs.Text.{same_text}
+
+-- a column and a schema, as lists and numbers
+pub record ColumnShape : Type 0 where
+  pub name : List ℕ
+  pub lo : ℤ
+  pub hi : ℤ
+  pub nullable : Bool
+
+pub record SchemaShape : Type 0 where
+  pub name : List ℕ
+  pub columns : List ColumnShape
+
+abbrev pub column_shape : Column → ColumnShape
+column_shape column = record { name = column.name; lo = column.lo; hi = column.hi; nullable = column.nullable }
+
+abbrev pub schema_shape : Schema → SchemaShape
+schema_shape schema = record { name = schema.name; columns = map column_shape schema.columns.items }
+
+-- what the words of a column's line say
+abbrev pub words_shape : Words → ColumnShape
+words_shape words = record { name = words.name.now; lo = words.lo; hi = words.hi; nullable = words.nullable }
+
+-- a bound is an optional minus sign, which is byte 45, and digits, within 64 bits
+abbrev pub signed_digits : Bool → List ℕ → Option ℤ
+signed_digits is_negative digits = if are_digits digits then number_of is_negative digits else None
+
+unfoldable pub bound_of : List ℕ → Option ℤ
+bound_of text = if slice_index text 0 == 45 then signed_digits true (drop 1 text) else signed_digits false text
+
+-- the bounds are in order, and less than 2^63 apart
+unfoldable pub is_range : ℤ → ℤ → Bool
+is_range lo hi = int_le lo hi && int_lt (hi -ℤ lo) (pos (2 ^ 63))
+
+abbrev pub with_bounds : List ℕ → Option ℤ → Option ℤ → Bool → Option ColumnShape
+with_bounds name None hi nullable = None
+with_bounds name (Some lo) None nullable = None
+with_bounds name (Some lo) (Some hi) nullable = Some (record { name = name; lo = lo; hi = hi; nullable = nullable })
+
+abbrev pub are_not_null : List ℕ → List ℕ → Bool
+are_not_null negates null = same_text negates (codes "NOT") && same_text null (codes "NULL")
+
+-- what the words COLUMN name lo hi, or COLUMN name lo hi NOT NULL, say; none where the words are others
+unfoldable pub column_words : List (List ℕ) → Option ColumnShape
+column_words (keyword ∷ name ∷ lo ∷ hi ∷ []) =
+    if not (same_text keyword (codes "COLUMN")) then None else with_bounds name (bound_of lo) (bound_of hi) true
+column_words (keyword ∷ name ∷ lo ∷ hi ∷ negates ∷ null ∷ []) =
+    if not (same_text keyword (codes "COLUMN")) || not (are_not_null negates null) then None
+    else with_bounds name (bound_of lo) (bound_of hi) false
+column_words [] = None
+column_words (a ∷ []) = None
+column_words (a ∷ b ∷ []) = None
+column_words (a ∷ b ∷ c ∷ []) = None
+column_words (a ∷ b ∷ c ∷ d ∷ e ∷ []) = None
+column_words (a ∷ b ∷ c ∷ d ∷ e ∷ f ∷ g ∷ more) = None
+
+-- what the words TABLE name say
+unfoldable pub table_words : List (List ℕ) → Option (List ℕ)
+table_words (keyword ∷ name ∷ []) = if same_text keyword (codes "TABLE") then Some name else None
+table_words [] = None
+table_words (a ∷ []) = None
+table_words (a ∷ b ∷ c ∷ more) = None
+
+-- the table's name on its line, or the first fault there: the form, and then the name
+abbrev pub named_table : ℕ → Option (List ℕ) → Result (List ℕ) Fault
+named_table line None = Err (at_line 101 line)
+named_table line (Some name) = refused_if (not (is_name name)) (at_line 102 line) (Ok name)
+
+abbrev pub table_on : NumberedWords → Result (List ℕ) Fault
+table_on line = named_table line.number (table_words line.words)
+
+-- the column on a line, behind columns of these names, or the first fault there: the form, the 65th column, the name,
+-- a name that comes twice, and the range
+abbrev pub next_column : List (List ℕ) → ℕ → Option ColumnShape → Result ColumnShape Fault
+next_column before line None = Err (at_line 101 line)
+next_column before line (Some column) =
+    refused_if (nat_le 64 (length before)) (at_line 105 line)
+    (refused_if (not (is_name column.name)) (at_line 102 line)
+    (refused_if (list_any (λ name. same_text name column.name) before) (at_line 104 line)
+    (refused_if (not (is_range column.lo column.hi)) (at_line 103 line)
+    (Ok column))))
+
+abbrev pub column_on : List (List ℕ) → NumberedWords → Result ColumnShape Fault
+column_on before line = next_column before line.number (column_words line.words)
+
+abbrev pub shape_names : List ColumnShape → List (List ℕ)
+shape_names columns = map (λ column. column.name) columns
+
+-- the columns on lines, behind columns that came before
+unfoldable pub columns_on : List ColumnShape → List NumberedWords → Result (List ColumnShape) Fault
+columns_on before [] = Ok before
+columns_on before (line ∷ lines) = column_on (shape_names before) line >>= λ column. columns_on (before ++ column ∷ []) lines
+
+-- the schema on lines whose end is numbered so
+abbrev pub with_columns : List ℕ → ℕ → List ColumnShape → Result SchemaShape Fault
+with_columns name end columns = refused_if (is_empty columns) (at_line 105 end) (Ok (record { name = name; columns = columns }))
+
+unfoldable pub schema_on : List NumberedWords → ℕ → Result SchemaShape Fault
+schema_on [] end = Err (at_line 101 end)
+schema_on (line ∷ lines) end = table_on line >>= λ name. columns_on [] lines >>= λ columns. with_columns name end columns
+
+-- what a schema text says, or the first fault in it: its length, and then its lines
+unfoldable pub schema_of : List ℕ → Result SchemaShape Fault
+schema_of text = refused_if (nat_lt 65536 (length text)) (nowhere 106) (schema_on (lines_in (whole text)) (end_in (whole text)))

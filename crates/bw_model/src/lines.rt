@@ -1,0 +1,132 @@
+//! Texts by lines: a line ends at a line feed or at the text's end, with a carriage return before it or
+//! without; its words stand between spaces and tabs; a line without words, or whose first word begins with
+//! `#`, is skipped, but counted.
+ghost use Rattle.std.specs.Prelude.{◌≡◌, ◌<◌, ◌^◌, [], ◌∷◌, IfOk, IfSome, IfNone, OnOk, map, filter, not, length};
+ghost use Rattle.std.specs.List.{position, slice_split};
+ghost use Rattle.std.specs.Str.Lines.{strip_carriage_return};
+ghost use Rattle.bw_model.specs.Lines.{cut_lines, is_line_feed, is_blank, words_of, is_empty, is_skipped, line_of, lines_in, end_in, whole};
+
+use std::alloc::{AllocError, Global};
+use std::marker::Model;
+
+/// A line that says something: its number, from 1, and its words.
+#[derive(Debug, Drop)]
+pub struct Line<'a> {
+    pub number: u64,
+    pub words: Vec<&'a [u8]>,
+}
+
+/// The lines of a text, from the first to the last. It is seen as the text that is still to be read, and the
+/// number of that text's first line.
+#[derive(Debug, Drop)]
+pub struct Lines<'a> {
+    text: &'a [u8],
+    number: u64,
+}
+
+impl<'a> Model for Lines<'a> {
+    ghost use Rattle.std.specs.Prelude.{◌+◌, ◌<◌, ◌^◌, length};
+    ghost use Rattle.bw_model.specs.Lines.{Unread};
+
+    ghost Value = { Unread };
+
+    ghost view = { λ lines. record { number = lines.number; text = lines.text.now } };
+
+    ghost invariant = { λ lines. lines.number + length lines.text.now < 2 ^ 64 };
+}
+
+impl<'a> Lines<'a> {
+    /// The lines of a whole text.
+    pub fn new(text: &'a [u8]) -> Self
+        requires { length text.now < 2 ^ 63 }
+        ensures { result ≡ whole text.now }
+    {
+        Lines { text, number: 1 }
+    }
+
+    /// The number of the line that is read next. Once there is none, it is that of a fault at the end.
+    pub fn number(&self) -> u64
+        ensures { result ≡ self.now.number }
+    {
+        self.number
+    }
+
+    /// The next line that says something, or none at the end of the text.
+    pub fn next_line(&mut self, alloc: Global) -> Result<Option<Line<'a>>, AllocError>
+        ensures line { IfOk result (λ found. IfSome found (λ line. lines_in self.old ≡ line_of line ∷ lines_in self.new)) }
+        ensures none { IfOk result (λ found. IfNone found ((lines_in self.old ≡ []) × (end_in self.old ≡ self.new.number))) }
+        ensures end { OnOk result (end_in self.new ≡ end_in self.old) }
+    {
+        while !self.text.is_empty() {
+            let (line, rest) = split_line(self.text);
+            let number = self.number;
+            let words = words_of(alloc, line)?;
+            self.text = rest;
+            self.number += 1;
+            if !is_skipped(&words) {
+                return Ok(Some(Line { number, words }));
+            }
+        }
+        Ok(None)
+    }
+}
+
+/// The first line, without its line feed, and the text behind it.
+fn split_line(text: &[u8]) -> (&[u8], &[u8])
+    requires { 0 < length text.now }
+    ensures cut { cut_lines text.now ≡ result.0.now ∷ cut_lines result.1.now }
+    ensures shorter { length result.1.now < length text.now }
+{
+    match line_feed_in(text) {
+        Some(at) => (&text[..at], &text[at + 1..]),
+        None => (text, &[]),
+    }
+}
+
+/// Where the first line feed stands.
+fn line_feed_in(text: &[u8]) -> Option<usize>
+    ensures { result ≡ position is_line_feed text.now }
+{
+    text.iter().position(|c| *c == b'\n')
+}
+
+/// The words of a line.
+#[tactic(auto, unfolding(crate::specs::Lines::words_of))]
+fn words_of(alloc: Global, line: &[u8]) -> Result<Vec<&[u8]>, AllocError>
+    ensures { IfOk result (λ words. map (λ word. word.now) words.items ≡ words_of line.now) }
+{
+    words_between_blanks(alloc, without_carriage_return(line))
+}
+
+/// A line without the carriage return at its end, if there is one.
+fn without_carriage_return(line: &[u8]) -> &[u8]
+    ensures { result.now ≡ strip_carriage_return line.now }
+{
+    match line {
+        [front @ .., b'\r'] => front,
+        _ => line,
+    }
+}
+
+fn words_between_blanks(alloc: Global, line: &[u8]) -> Result<Vec<&[u8]>, AllocError>
+    ensures { IfOk result (λ words. map (λ word. word.now) words.items ≡ filter (λ word. not (is_empty word)) (slice_split is_blank line.now)) }
+{
+    line.split(|c| is_blank(*c))
+        .filter(|word| !word.is_empty())
+        .collect(alloc)
+}
+
+fn is_blank(c: u8) -> bool
+    ensures { result ≡ is_blank c }
+{
+    c == b' ' || c == b'\t'
+}
+
+fn is_skipped(words: &[&[u8]]) -> bool
+    ensures { result ≡ is_skipped (map (λ word. word.now) words.now) }
+{
+    match words.first() {
+        None => true,
+        Some(word) => word.first() == Some(&b'#'),
+    }
+}

@@ -1,0 +1,42 @@
+//! Whole numbers as decimal digits spell them.
+ghost use Rattle.std.specs.Prelude.{◌≡◌, ◌^◌, ◌-◌, min};
+ghost use Rattle.std.specs.List.{list_all};
+ghost use Rattle.std.specs.Char.{is_ascii_digit};
+ghost use Rattle.bw_model.specs.Number.{decimal, are_digits, number_of};
+
+/// Whether a text is one digit or more, and nothing else.
+pub fn are_digits(text: &[u8]) -> bool
+    ensures { result ≡ are_digits text.now }
+{
+    !text.is_empty() && are_all_digits(text)
+}
+
+/// The whole number of a sign and decimal digits, however many; none where 64 bits don't hold it.
+pub fn whole_number(is_negative: bool, digits: &[u8]) -> Option<i64>
+    ensures { result ≡ number_of is_negative digits.now }
+{
+    let magnitude = magnitude_of(digits);
+    if is_negative {
+        0i64.checked_sub_unsigned(magnitude)
+    } else {
+        0i64.checked_add_unsigned(magnitude)
+    }
+}
+
+fn are_all_digits(text: &[u8]) -> bool
+    ensures { result ≡ list_all is_ascii_digit text.now }
+{
+    text.iter().all(|c| c.is_ascii_digit())
+}
+
+/// What the digits spell, or the greatest `u64` where that is less.
+fn magnitude_of(digits: &[u8]) -> u64
+    ensures { result ≡ min (decimal digits.now) (2 ^ 64 - 1) }
+{
+    let mut magnitude: u64 = 0;
+    for digit in digits {
+        let units = u64::from(digit.saturating_sub(b'0'));
+        magnitude = magnitude.saturating_mul(10).saturating_add(units);
+    }
+    magnitude
+}

@@ -1,0 +1,202 @@
+//! Schema texts: first `TABLE name`, then a line `COLUMN name lo hi` or `COLUMN name lo hi NOT NULL` for each
+//! column, by the rules of `lines.rt`. Keywords are read ignoring case.
+ghost use Rattle.std.specs.Prelude.{◌≡◌, ◌≤◌, ◌<◌, false, map, length, option_map, pos, ◌≤ℤ◌, ◌<ℤ◌, ◌-ℤ◌, ◌^◌, IfOk, IsTrue};
+ghost use Rattle.std.specs.List.{list_any};
+ghost use Rattle.bw_model.specs.Column.{names_of};
+ghost use Rattle.bw_model.specs.Fault.{Gives, at_line};
+ghost use Rattle.bw_model.specs.Lines.{line_of};
+ghost use Rattle.bw_model.specs.SchemaText.{schema_of, schema_shape, column_shape, column_words, with_bounds, are_not_null, column_on, table_on, is_range, bound_of, signed_digits, words_shape};
+ghost use Rattle.bw_model.specs.Text.{same_text};
+
+use crate::column::Column;
+use crate::fault::{Fault, Place, code};
+use crate::lines::{Line, Lines};
+use crate::name::{Name, is_name};
+use crate::number::{are_digits, whole_number};
+use crate::schema::Schema;
+use crate::text::is_same_text;
+use std::alloc::Global;
+
+/// The longest schema text has this many bytes.
+pub const LONGEST_SCHEMA: usize = 65_536;
+
+/// A table has at most this many columns.
+pub const MOST_COLUMNS: usize = 64;
+
+impl Schema {
+    /// Reads a schema text.
+    ///
+    /// Refused are a text of more than 65,536 bytes (106), and then the first line that is wrong, and on one
+    /// line the first of: another form than those above, or a bound that isn't an optional `-` and digits
+    /// within 64 bits (101); the 65th column (105); a name that isn't one (102); a name that an earlier column
+    /// has (104); bounds out of order, or 2^63 or more apart (103). At the end of the text, one line after
+    /// the last, a table that is missing is 101, and a table without columns 105.
+    pub fn parse(alloc: Global, text: &[u8]) -> Result<Schema, Fault> {
+        if text.len() > LONGEST_SCHEMA {
+            return Err(Fault::new(code::SCHEMA_TOO_LONG));
+        }
+        let mut lines = Lines::new(text);
+        let Some(first) = lines.next_line(alloc)? else {
+            return Err(at_line(code::SCHEMA_FORM, lines.number()));
+        };
+        let name = table_of(alloc, &first)?;
+        let mut columns: Vec<Column> = Vec::new(alloc);
+        while let Some(line) = lines.next_line(alloc)? {
+            let column = column_of(alloc, &line, &columns)?;
+            columns.push(column)?;
+        }
+        if columns.is_empty() {
+            return Err(at_line(code::COLUMN_COUNT, lines.number()));
+        }
+        Ok(Schema { name, columns })
+    }
+}
+
+fn at_line(code: u16, line: u64) -> Fault
+    ensures { result ≡ at_line code line }
+{
+    Fault {
+        code,
+        place: Place::Line(line),
+    }
+}
+
+/// The table's name, of the line `TABLE name`.
+#[tactic(auto, unfolding(crate::specs::SchemaText::table_words))]
+fn table_of(alloc: Global, line: &Line) -> Result<Name, Fault>
+    ensures { Gives (λ name. name) result (table_on (line_of line.now)) }
+{
+    let [keyword, name] = line.words.as_slice() else {
+        return Err(at_line(code::SCHEMA_FORM, line.number));
+    };
+    if !is_same_text(keyword, b"TABLE") {
+        return Err(at_line(code::SCHEMA_FORM, line.number));
+    }
+    if !is_name(name) {
+        return Err(at_line(code::SCHEMA_NAME, line.number));
+    }
+    Ok(Name::new(alloc, name)?)
+}
+
+/// The words of a column's line.
+#[derive(Drop)]
+struct Words<'a> {
+    name: &'a [u8],
+    lo: i64,
+    hi: i64,
+    nullable: bool,
+}
+
+/// A line of a column's form; none for a line of another one.
+#[tactic(auto, unfolding(crate::specs::SchemaText::column_words))]
+fn words_of_column<'a>(words: &[&'a [u8]]) -> Option<Words<'a>>
+    ensures { option_map words_shape result ≡ column_words (map (λ word. word.now) words.now) }
+{
+    match words {
+        [keyword, name, lo, hi] => {
+            if !is_same_text(keyword, b"COLUMN") {
+                return None;
+            }
+            with_bounds(name, bound_of(lo), bound_of(hi), true)
+        }
+        [keyword, name, lo, hi, not, null] => {
+            if !is_same_text(keyword, b"COLUMN") || !is_not_null(not, null) {
+                return None;
+            }
+            with_bounds(name, bound_of(lo), bound_of(hi), false)
+        }
+        _ => None,
+    }
+}
+
+fn is_not_null(not: &[u8], null: &[u8]) -> bool
+    ensures { result ≡ are_not_null not.now null.now }
+{
+    is_same_text(not, b"NOT") && is_same_text(null, b"NULL")
+}
+
+fn with_bounds<'a>(
+    name: &'a [u8],
+    lo: Option<i64>,
+    hi: Option<i64>,
+    nullable: bool,
+) -> Option<Words<'a>>
+    ensures { option_map words_shape result ≡ with_bounds name.now lo hi nullable }
+{
+    let (Some(lo), Some(hi)) = (lo, hi) else {
+        return None;
+    };
+    Some(Words {
+        name,
+        lo,
+        hi,
+        nullable,
+    })
+}
+
+/// A bound: an optional `-` and digits, within 64 bits.
+#[tactic(auto, unfolding(crate::specs::SchemaText::bound_of))]
+fn bound_of(text: &[u8]) -> Option<i64>
+    ensures { result ≡ bound_of text.now }
+{
+    match text {
+        [b'-', digits @ ..] => signed_digits(true, digits),
+        _ => signed_digits(false, text),
+    }
+}
+
+fn signed_digits(is_negative: bool, digits: &[u8]) -> Option<i64>
+    ensures { result ≡ signed_digits is_negative digits.now }
+{
+    if are_digits(digits) {
+        whole_number(is_negative, digits)
+    } else {
+        None
+    }
+}
+
+/// Whether a column has this name, ignoring case.
+fn has_name(columns: &[Column], name: &[u8]) -> bool
+    ensures { result ≡ list_any (λ column. same_text column.name name.now) columns.now }
+{
+    columns.iter().any(|column| column.name.is(name))
+}
+
+/// Whether bounds are in order, and less than 2^63 apart.
+#[tactic(auto, unfolding(crate::specs::SchemaText::is_range))]
+fn is_range(lo: i64, hi: i64) -> bool
+    ensures test { result ≡ is_range lo hi }
+    ensures ordered { IsTrue result → lo ≤ℤ hi }
+    ensures narrow { IsTrue result → (hi -ℤ lo) <ℤ pos (2 ^ 63) }
+{
+    lo <= hi && hi.checked_sub(lo).is_some()
+}
+
+/// The column of a line, behind the columns before it.
+#[tactic(auto, using(crate::proofs::SchemaLemmas::list_any_names))]
+fn column_of(alloc: Global, line: &Line, before: &[Column]) -> Result<Column, Fault>
+    ensures room { IfOk result (λ column. length before.now < 64) }
+    ensures apart { IfOk result (λ column. list_any (λ name. same_text name column.name) (names_of before.now) ≡ false) }
+{
+    let Some(words) = words_of_column(line.words.as_slice()) else {
+        return Err(at_line(code::SCHEMA_FORM, line.number));
+    };
+    if before.len() >= MOST_COLUMNS {
+        return Err(at_line(code::COLUMN_COUNT, line.number));
+    }
+    if !is_name(words.name) {
+        return Err(at_line(code::SCHEMA_NAME, line.number));
+    }
+    if has_name(before, words.name) {
+        return Err(at_line(code::NAME_TWICE, line.number));
+    }
+    if !is_range(words.lo, words.hi) {
+        return Err(at_line(code::SCHEMA_RANGE, line.number));
+    }
+    Ok(Column {
+        name: Name::new(alloc, words.name)?,
+        lo: words.lo,
+        hi: words.hi,
+        nullable: words.nullable,
+    })
+}
