@@ -1,0 +1,32 @@
+//! Tokens of the query language, and where they stand in a statement.
+use bw_model::{Keyword, Op};
+
+/// A mark that is no comparison.
+#[derive(Clone, Copy, Debug, PartialEq, Eq)]
+pub enum Mark {
+    Open,
+    Close,
+    Comma,
+    Star,
+    Semicolon,
+    Plus,
+    Minus,
+}
+
+/// A token. Names and digits are as the statement spells them.
+#[derive(Clone, Copy, Debug)]
+pub enum Token<'a> {
+    /// A word that isn't reserved.
+    Name(&'a [u8]),
+    Digits(&'a [u8]),
+    Keyword(Keyword),
+    Compare(Op),
+    Mark(Mark),
+}
+
+/// A token, and the byte at which it begins.
+#[derive(Clone, Copy, Debug)]
+pub struct Placed<'a> {
+    pub token: Token<'a>,
+    pub at: usize,
+}
