@@ -1,0 +1,2 @@
+pub mod TakenBytes
+pub mod Texts

@@ -1,0 +1,15 @@
+-- What a refused call tells its caller.
+use Rattle.std.specs.Prelude.{ℕ, nat_lt, if◌then◌else◌, List, ◌++◌, codes, Option, Result}
+use Rattle.bw_model.specs.declared.fault.Fault.{Fault}
+use Rattle.bw_file.specs.Sink.{GoesOut}
+
+-- the exit status of a fault, by the hundred that its number is of: 6xx is the certificate's, 7xx a
+-- device's and 8xx memory's
+abbrev pub status_of : Fault → ℕ
+status_of fault =
+    if nat_lt fault.code 600 then 3 else (if nat_lt fault.code 700 then 4 else (if nat_lt fault.code 800 then 5 else 6))
+
+-- a line that begins with `bw: ` went out to a sink, or a part of it up to a failed write
+abbrev pub PrintsLine : Option (List ℕ) → Option (List ℕ) → ℕ → ℕ → Type 0
+PrintsLine old new before after =
+    (words : List ℕ) × (outcome : Result (Unit {0}) Fault) × GoesOut old new before after (codes "bw: " ++ words ++ codes "\n") outcome

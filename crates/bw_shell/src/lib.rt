@@ -1,0 +1,16 @@
+//! The calls of `bw` from end to end, over sources and sinks of bytes.
+//!
+//! Here stand what every call shares: a source read whole, up to a limit ([`read_limited`]), a text written
+//! whole ([`write_whole`]), and the line and the exit status of a fault ([`report`]). A fault that names a
+//! device is answered only where that device has counted a failure.
+//!
+//! Read `input.rt` first, and then `specs/Source.antt` and `specs/Sink.antt` of `bw_file`.
+#![tactic(auto)]
+
+mod input;
+mod lines;
+mod output;
+
+pub use input::{Input, read_limited};
+pub use lines::report;
+pub use output::write_whole;

@@ -1,0 +1,82 @@
+//! Lines that a call prints beside its result, put together without memory.
+ghost use Rattle.std.specs.Prelude.{◌≡◌, ◌-◌, ◌^◌, ◌<◌};
+ghost use Rattle.bw_shell.specs.Report.{status_of, PrintsLine};
+
+use crate::output::write_whole;
+use bw_file::Sink;
+use bw_model::Fault;
+use std::fmt::InlineText;
+
+/// How many bytes a line has room for.
+const LINE: usize = 128;
+
+/// How many bytes of a line a fault may take: no fault is shown in as many.
+const WORDS: usize = 100;
+
+/// Gives the exit status of a fault: 3 for one of the schema, the CSV, the table file, the statement or the
+/// program text, 4 for one of the certificate, 5 for one of a device, 6 for want of memory.
+fn status_of(fault: &Fault) -> u8
+    ensures { result ≡ status_of fault.now }
+{
+    match fault.code {
+        0..600 => 3,
+        600..700 => 4,
+        700..800 => 5,
+        _ => 6,
+    }
+}
+
+/// Writes the line of a fault, as `bw: 404 unknown column at byte 7`, and gives the exit status, which a
+/// failed write doesn't change. That the sink's count of failures can rise is the caller's condition.
+pub fn report<K: Sink>(fault: &Fault, sink: &mut K) -> u8
+    requires { K.failures sink.old < 2 ^ 64 - 1 }
+    ensures status { result ≡ status_of fault.now }
+    ensures line { PrintsLine (K.taken sink.old) (K.taken sink.new)
+        (K.failures sink.old) (K.failures sink.new) }
+{
+    let words = InlineText::<WORDS>::of(*fault);
+    let line = InlineText::<LINE>::new()
+        .and_str("bw: ", 4)
+        .and_str(words.as_str(), WORDS)
+        .and_str("\n", 1);
+    let _ = write_whole(sink, line.as_str().as_bytes());
+    status_of(fault)
+}
+
+#[cfg(test)]
+mod tests {
+    use super::*;
+    use bw_file::ToWrite;
+    use bw_model::Place;
+    use std::test::Fail;
+
+    #[test]
+    fn faults_are_reported(rt: HostRuntime) -> Result<(), Fail> {
+        let table = [
+            (404, Place::Byte(7), 3, "bw: 404 unknown column at byte 7\n"),
+            (103, Place::Line(2), 3, "bw: 103 range at line 2\n"),
+            (205, Place::Rec(1), 3, "bw: 205 out of range at record 1\n"),
+            (
+                406,
+                Place::Byte(u64::MAX),
+                3,
+                "bw: 406 columns and aggregates mixed at byte 18446744073709551615\n",
+            ),
+            (608, Place::Line(28), 4, "bw: 608 "),
+            (701, Place::Nowhere, 5, "bw: 701 read failed\n"),
+            (702, Place::Nowhere, 5, "bw: 702 write failed\n"),
+            (801, Place::Nowhere, 6, "bw: 801 out of memory\n"),
+        ];
+        for (code, place, status, line) in table {
+            let mut sink = ToWrite::new(Vec::new(rt.alloc()));
+            assert_eq!(rt;
+                report(&Fault { code, place }, &mut sink),
+                status,
+                "at {code}"
+            );
+            let text = sink.into_inner();
+            assert!(rt; text.as_slice().starts_with(line.as_bytes()), "at {code}");
+        }
+        Ok(())
+    }
+}
