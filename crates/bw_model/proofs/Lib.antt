@@ -1,3 +1,4 @@
+pub mod CondLemmas
 pub mod LineLemmas
 pub mod Numbers
 pub mod SchemaLemmas

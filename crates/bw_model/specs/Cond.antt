@@ -3,13 +3,12 @@ use Rattle.std.specs.Prelude.{ℕ, Bool, true, List, map, Some, None, ◌&&◌, 
 use Rattle.std.specs.List.{list_all}
 use Rattle.bw_model.specs.declared.cond.Truth.{Truth}
 use Rattle.bw_model.specs.declared.cond.Truth.TheVariants.{Yes}
-use Rattle.bw_model.specs.declared.cond.Op.TheVariants.{Eq, Le, Ge}
 use Rattle.bw_model.specs.declared.cond.Operand.{Operand}
 use Rattle.bw_model.specs.declared.cond.Operand.TheVariants.{Col, Lit, Null}
 use Rattle.bw_model.specs.declared.cond.Cond.{Cond, Cond-F, fold-Cond}
 use Rattle.bw_model.specs.declared.cond.Cond.TheOpen.{Always, Cmp, Between, Among, IsNull, And, Or, Not, Test}
 use Rattle.bw_model.specs.Row.{Value, value_in}
-use Rattle.bw_model.specs.Truth.{truth, least, all_of, any_of, negation, is_truth, compared, is_null}
+use Rattle.bw_model.specs.Truth.{truth, all_of, any_of, negation, is_truth, compared, between, among, is_null}
 
 -- the value that an operand has in a row
 abbrev pub operand_value : List Value → Operand → Value
@@ -17,19 +16,12 @@ operand_value row (Col column) = value_in row column
 operand_value row (Lit n) = Some n
 operand_value row Null = None
 
--- a comparison of two operands
-abbrev pub compared_in : List Value → Operand → Operand → Truth
-compared_in row x y = compared Eq (operand_value row x) (operand_value row y)
-
 -- the truth of a condition on a row, from that of its parts
 abbrev pub truth_step : List Value → Cond-F Truth → Truth
 truth_step row Always = Yes
 truth_step row (Cmp op x y) = compared op (operand_value row x) (operand_value row y)
--- x BETWEEN y AND z is x >= y AND x <= z
-truth_step row (Between x y z) =
-    least (compared Ge (operand_value row x) (operand_value row y)) (compared Le (operand_value row x) (operand_value row z))
--- x IN (a, b, ..) is x = a OR x = b OR ..
-truth_step row (Among x items) = any_of (map (λ item. compared Eq (operand_value row x) (operand_value row item)) items.items)
+truth_step row (Between x y z) = between (operand_value row x) (operand_value row y) (operand_value row z)
+truth_step row (Among x items) = among (operand_value row x) (map (operand_value row) items.items)
 truth_step row (IsNull x) = truth (is_null (operand_value row x))
 truth_step row (And parts) = all_of parts.items
 truth_step row (Or parts) = any_of parts.items

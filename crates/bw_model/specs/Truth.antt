@@ -1,5 +1,5 @@
 -- Truth in three values, after SQL-92: FALSE is below UNKNOWN, and UNKNOWN below TRUE.
-use Rattle.std.specs.Prelude.{ℤ, Bool, true, false, List, [], ◌∷◌, Some, None, not, int_lt, int_le}
+use Rattle.std.specs.Prelude.{ℤ, Bool, true, false, List, [], ◌∷◌, Some, None, map, not, int_lt, int_le}
 use Rattle.std.specs.Ordering.{int_eq}
 use Rattle.bw_model.specs.declared.cond.Truth.{Truth}
 use Rattle.bw_model.specs.declared.cond.Truth.TheVariants.{No, Unknown, Yes}
@@ -69,6 +69,14 @@ abbrev pub compared : Op → Value → Value → Truth
 compared op None y = Unknown
 compared op (Some m) None = Unknown
 compared op (Some m) (Some n) = truth (holds op m n)
+
+-- x BETWEEN y AND z is x >= y AND x <= z
+abbrev pub between : Value → Value → Value → Truth
+between x y z = least (compared Ge x y) (compared Le x z)
+
+-- x IN (a, b, ..) is x = a OR x = b OR ..
+abbrev pub among : Value → List Value → Truth
+among x items = any_of (map (compared Eq x) items)
 
 -- the value is null
 abbrev pub is_null : Value → Bool

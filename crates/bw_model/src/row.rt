@@ -1,3 +1,6 @@
+use crate::fault::Fault;
+use std::alloc::Global;
+
 /// A value of a table: null, or a whole number.
 pub type Value = Option<i64>;
 
@@ -5,4 +8,20 @@ pub type Value = Option<i64>;
 #[derive(Debug, Drop)]
 pub struct Row {
     pub values: Vec<Value>,
+}
+
+impl Row {
+    ghost use Rattle.std.specs.Prelude.{◌≡◌, IfOk, IsOkUnless};
+    ghost use Rattle.bw_model.specs.Fault.{no_memory};
+    ghost use Rattle.bw_model.specs.Row.{values_of};
+
+    /// An equal row.
+    pub fn copy(&self, alloc: Global) -> Result<Self, Fault>
+        ensures equal { IfOk result (λ row. values_of row ≡ values_of self.now) }
+        ensures only_memory { IsOkUnless result no_memory }
+    {
+        Ok(Row {
+            values: Vec::from_slice(alloc, &self.values)?,
+        })
+    }
 }

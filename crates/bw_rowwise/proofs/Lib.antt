@@ -1,0 +1,2 @@
+pub mod LogicLemmas
+pub mod TotalLemmas

@@ -1,0 +1,38 @@
+-- What an accumulator has to show of the rows that it was given.
+use Rattle.std.specs.Prelude.{ℕ, ℤ, pos, ◌+ℤ◌, ◌*◌, ◌^◌, ◌≤ℤ◌, neg_ℤ, List, Option, Some, None, length}
+use Rattle.std.specs.Option.{ForSome, option_map}
+use Rattle.std.specs.Int.{int_min, int_max}
+use Rattle.bw_model.specs.declared.query.Item.{Item}
+use Rattle.bw_model.specs.declared.query.Item.TheVariants.{Plain, CountAll, Count, Sum, Min, Max}
+use Rattle.bw_model.specs.Row.{Value, value_in}
+use Rattle.bw_model.specs.Total.{total}
+
+-- an aggregate, the number of rows, and their total
+pub record Tally : Type 0 where
+  pub item : Item
+  pub count : ℕ
+  pub answer : Option ℤ
+
+-- the tally of a list of rows
+abbrev pub tally_of : Item → List (List Value) → Tally
+tally_of item rows = record { item = item; count = length rows; answer = total item rows }
+
+-- a total and one more value, which counts where it isn't null
+abbrev pub including : (ℤ → ℤ → ℤ) → Option ℤ → Value → Option ℤ
+including f answer None = answer
+including f None (Some n) = Some n
+including f (Some m) (Some n) = Some (f m n)
+
+-- the total of an aggregate over some rows and one more, from the total over the rows
+abbrev pub answer_with : Item → Option ℤ → List Value → Option ℤ
+answer_with (Plain column) answer row = None
+answer_with CountAll answer row = including (λ a b. a +ℤ b) answer (Some (pos 1))
+answer_with (Count column) answer row = including (λ a b. a +ℤ b) answer (option_map (λ _. pos 1) (value_in row column))
+answer_with (Sum column) answer row = including (λ a b. a +ℤ b) answer (value_in row column)
+answer_with (Min column) answer row = including int_min answer (value_in row column)
+answer_with (Max column) answer row = including int_max answer (value_in row column)
+
+-- a total of so many rows is at most as many times 2^63 in size, as each value is at most 2^63
+abbrev pub IsTotalOfRows : ℕ → Option ℤ → Type 0
+IsTotalOfRows count answer =
+    ForSome answer (λ n. (neg_ℤ (pos (count * 2 ^ 63)) ≤ℤ n) × (n ≤ℤ pos (count * 2 ^ 63)))

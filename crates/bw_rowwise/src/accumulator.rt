@@ -1,0 +1,80 @@
+//! The total of rows that come one at a time, or as a list.
+ghost use Rattle.std.specs.Prelude.{◌≡◌, ◌+◌, ◌<◌, ◌≤◌, ◌^◌, List, [], ◌∷◌, ◌++◌, length, map, All, IsTrue};
+ghost use Rattle.bw_model.specs.Row.{Value, values_of};
+ghost use Rattle.bw_model.specs.Total.{total, is_aggregate, item_within};
+ghost use Rattle.bw_rowwise.specs.Accumulator.{tally_of};
+
+use crate::total::answer_with;
+use bw_model::{Item, Row};
+use std::marker::Model;
+
+/// The total of an aggregate over the rows that it has been given so far, of which there are at most 2^24.
+#[derive(Clone, Copy, Debug)]
+pub struct Accumulator {
+    item: Item,
+    rows: u32,
+    total: Option<i128>,
+}
+
+impl Model for Accumulator {
+    ghost use Rattle.std.specs.Prelude.{◌≤◌, ◌^◌};
+    ghost use Rattle.bw_rowwise.specs.Accumulator.{Tally, IsTotalOfRows};
+
+    ghost Value = { Tally };
+
+    ghost view = { λ a. record { item = a.item; count = a.rows; answer = a.total } };
+
+    ghost invariant = { λ a. (a.rows ≤ 2 ^ 24) × IsTotalOfRows a.rows a.total };
+
+    ghost inverse = { λ t. record { item = t.item; rows = t.count; total = t.answer } };
+}
+
+impl Accumulator {
+    /// The total of an aggregate over no rows.
+    pub fn new(item: Item) -> Self
+        requires { IsTrue (is_aggregate item) }
+        ensures { result ≡ tally_of item [] }
+    {
+        let total = match item {
+            Item::CountAll | Item::Count(_) => Some(0),
+            Item::Plain(_) | Item::Sum(_) | Item::Min(_) | Item::Max(_) => None,
+        };
+        Accumulator {
+            item,
+            rows: 0,
+            total,
+        }
+    }
+
+    /// Adds a row to those so far. It has the aggregate's column.
+    pub fn add(&mut self, row: &Row)
+        requires room { self.old.count < 2 ^ 24 }
+        requires column { IsTrue (item_within (length (values_of row.now)) self.old.item) }
+        ensures { (rows : List (List Value)) → self.old ≡ tally_of self.old.item rows
+            → self.new ≡ tally_of self.old.item (rows ++ values_of row.now ∷ []) }
+    {
+        self.total = answer_with(self.item, self.total, row);
+        self.rows += 1;
+    }
+
+    /// The total of the rows so far.
+    pub fn finish(&self) -> Option<i128>
+        ensures { result ≡ self.now.answer }
+    {
+        self.total
+    }
+}
+
+/// A total over a list of rows. Each row has the aggregate's column.
+pub fn aggregate(item: &Item, rows: &[Row]) -> Option<i128>
+    requires aggregate { IsTrue (is_aggregate item.now) }
+    requires columns { All (λ row. IsTrue (item_within (length (values_of row)) item.now)) rows.now }
+    requires count { length rows.now ≤ 2 ^ 24 }
+    ensures { result ≡ total item.now (map values_of rows.now) }
+{
+    let mut accumulator = Accumulator::new(*item);
+    for row in rows {
+        accumulator.add(row);
+    }
+    accumulator.finish()
+}

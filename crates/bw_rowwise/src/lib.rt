@@ -1,0 +1,18 @@
+//! Conditions and aggregates row by row, straight from their meaning: the slow and simple way to answer a
+//! query, against which every faster way is measured.
+//!
+//! The contract that the crates above use: [`truth`] is the condition's truth on a row, [`select`] keeps
+//! the rows on which it is TRUE, in their order, and [`aggregate`] is the total of a list of rows. An
+//! [`Accumulator`] totals rows that come one at a time.
+//!
+//! The source of the rules is SQL-92: its predicates, search conditions and set functions, whose meaning
+//! stands in the `specs/` of `bw_model`. Read `condition.rt` first, and then `accumulator.rt`.
+#![tactic(auto)]
+
+mod accumulator;
+mod condition;
+mod logic;
+mod total;
+
+pub use accumulator::{Accumulator, aggregate};
+pub use condition::{select, truth};

@@ -1,0 +1,76 @@
+//! Three-valued logic, and comparisons in it, after SQL-92.
+ghost use Rattle.std.specs.Prelude.{◌≡◌};
+ghost use Rattle.bw_model.specs.Truth.{truth, least, greatest, negation, compared, between, holds};
+
+use bw_model::{Op, Truth, Value};
+
+/// TRUE or FALSE.
+pub fn truth_from(holds: bool) -> Truth
+    ensures { result ≡ truth holds }
+{
+    if holds { Truth::Yes } else { Truth::No }
+}
+
+/// AND of two truth values, the least of them.
+pub fn both(a: Truth, b: Truth) -> Truth
+    ensures { result ≡ least a b }
+{
+    match (a, b) {
+        (Truth::No, _) | (_, Truth::No) => Truth::No,
+        (Truth::Yes, Truth::Yes) => Truth::Yes,
+        _ => Truth::Unknown,
+    }
+}
+
+/// OR of two truth values, the greatest of them.
+pub fn either(a: Truth, b: Truth) -> Truth
+    ensures { result ≡ greatest a b }
+{
+    match (a, b) {
+        (Truth::Yes, _) | (_, Truth::Yes) => Truth::Yes,
+        (Truth::No, Truth::No) => Truth::No,
+        _ => Truth::Unknown,
+    }
+}
+
+/// NOT of a truth value.
+pub fn opposite(a: Truth) -> Truth
+    ensures { result ≡ negation a }
+{
+    match a {
+        Truth::No => Truth::Yes,
+        Truth::Unknown => Truth::Unknown,
+        Truth::Yes => Truth::No,
+    }
+}
+
+/// The truth of a comparison: UNKNOWN where a value is null.
+pub fn compared(op: Op, x: Value, y: Value) -> Truth
+    ensures { result ≡ compared op x y }
+{
+    match (x, y) {
+        (Some(x), Some(y)) => truth_from(holds(op, x, y)),
+        _ => Truth::Unknown,
+    }
+}
+
+/// The truth of `x BETWEEN y AND z`.
+pub fn between(x: Value, y: Value, z: Value) -> Truth
+    ensures { result ≡ between x y z }
+{
+    both(compared(Op::Ge, x, y), compared(Op::Le, x, z))
+}
+
+/// Whether a comparison holds of two numbers.
+fn holds(op: Op, x: i64, y: i64) -> bool
+    ensures { result ≡ holds op x y }
+{
+    match op {
+        Op::Eq => x == y,
+        Op::Ne => x != y,
+        Op::Lt => x < y,
+        Op::Gt => x > y,
+        Op::Le => x <= y,
+        Op::Ge => x >= y,
+    }
+}
