@@ -1,5 +1,5 @@
 -- What an accumulator has to show of the rows that it was given.
-use Rattle.std.specs.Prelude.{ℕ, ℤ, pos, ◌+ℤ◌, ◌*◌, ◌^◌, ◌≤ℤ◌, neg_ℤ, List, Option, Some, None, length}
+use Rattle.std.specs.Prelude.{ℕ, ◌+◌, ℤ, pos, ◌+ℤ◌, ◌*◌, ◌^◌, ◌≤ℤ◌, neg_ℤ, List, Option, Some, None, length}
 use Rattle.std.specs.Option.{ForSome, option_map}
 use Rattle.std.specs.Int.{int_min, int_max}
 use Rattle.bw_model.specs.declared.query.Item.{Item}
@@ -31,6 +31,10 @@ answer_with (Count column) answer row = including (λ a b. a +ℤ b) answer (opt
 answer_with (Sum column) answer row = including (λ a b. a +ℤ b) answer (value_in row column)
 answer_with (Min column) answer row = including int_min answer (value_in row column)
 answer_with (Max column) answer row = including int_max answer (value_in row column)
+
+-- a tally and one more row
+abbrev pub tally_with : Tally → List Value → Tally
+tally_with tally row = record { item = tally.item; count = tally.count + 1; answer = answer_with tally.item tally.answer row }
 
 -- a total of so many rows is at most as many times 2^63 in size, as each value is at most 2^63
 abbrev pub IsTotalOfRows : ℕ → Option ℤ → Type 0

@@ -2,7 +2,7 @@
 ghost use Rattle.std.specs.Prelude.{◌≡◌, ◌+◌, ◌<◌, ◌≤◌, ◌^◌, List, [], ◌∷◌, ◌++◌, length, map, All, IsTrue};
 ghost use Rattle.bw_model.specs.Row.{Value, values_of};
 ghost use Rattle.bw_model.specs.Total.{total, is_aggregate, item_within};
-ghost use Rattle.bw_rowwise.specs.Accumulator.{tally_of};
+ghost use Rattle.bw_rowwise.specs.Accumulator.{tally_of, tally_with};
 
 use crate::total::answer_with;
 use bw_model::{Item, Row};
@@ -50,7 +50,8 @@ impl Accumulator {
     pub fn add(&mut self, row: &Row)
         requires room { self.old.count < 2 ^ 24 }
         requires column { IsTrue (item_within (length (values_of row.now)) self.old.item) }
-        ensures { (rows : List (List Value)) → self.old ≡ tally_of self.old.item rows
+        ensures step { self.new ≡ tally_with self.old (values_of row.now) }
+        ensures total { (rows : List (List Value)) → self.old ≡ tally_of self.old.item rows
             → self.new ≡ tally_of self.old.item (rows ++ values_of row.now ∷ []) }
     {
         self.total = answer_with(self.item, self.total, row);

@@ -1,2 +1,3 @@
 pub mod TakenBytes
 pub mod Texts
+pub mod TotalsLemmas

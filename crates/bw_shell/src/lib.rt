@@ -7,10 +7,17 @@
 //! Read `input.rt` first, and then `specs/Source.antt` and `specs/Sink.antt` of `bw_file`.
 #![tactic(auto)]
 
+mod answer;
+mod csv_query;
+mod csv_text;
 mod input;
 mod lines;
+mod listing;
 mod output;
+mod rows;
+mod totals;
 
+pub use csv_query::{LONGEST_CSV, direct};
 pub use input::{Input, read_limited};
 pub use lines::report;
 pub use output::write_whole;

@@ -6,6 +6,6 @@ pub answer_with-self-inside-requires-clause-few : goal.answer_with-self-inside-r
 answer_with-self-inside-requires-clause-few c =
     small_below c.self.inside.rows (2 ^ 24) c.self.inside.total c.self.invariant.0 c.self.invariant.1
 
-pub returns : goal.returns
-returns c = λ rows before.
+pub returns-clause-total : goal.returns-clause-total
+returns-clause-total c = λ rows before.
     tally_append c.self.inside.item c.self.inside.rows c.self.inside.total _ c.args.self.now rows c.args.row.now.values.items c.self.view_is c.answer_with-self-inside.ensures.value before

@@ -1,0 +1,57 @@
+//! A query answered straight from a CSV text.
+ghost use Rattle.std.specs.Prelude.{◌-◌, ◌^◌, ◌<◌};
+
+use crate::answer::answer_text;
+use crate::input::{Input, read_limited};
+use crate::output::write_whole;
+use bw_file::{Sink, Source};
+use bw_model::{Fault, LONGEST_SCHEMA, Schema, code};
+use bw_sql::parse;
+use std::alloc::Global;
+
+/// A CSV text has at most this many bytes.
+pub const LONGEST_CSV: u64 = 1 << 30;
+
+/// Answers a statement over the rows of a CSV text, under the schema of a schema text, and writes the answer
+/// as CSV text: a heading record and then the records, fields joined by commas and each record ended by a
+/// line feed.
+///
+/// Refuses in this order: the schema's source (701) and text (106, 101 to 105), the statement (401 to 408), the
+/// CSV's source (701) and text (208, 201 to 209), and the sink (702); want of memory (801) wherever it comes.
+/// Nothing is written before all else has succeeded. That each device's count of failures can rise is the
+/// caller's condition.
+pub fn direct<S: Source, C: Source, K: Sink>(
+    alloc: Global,
+    schema_source: &mut S,
+    csv_source: &mut C,
+    sql: &[u8],
+    sink: &mut K,
+) -> Result<(), Fault>
+    requires schema { S.failures schema_source.old < 2 ^ 64 - 1 }
+    requires csv { C.failures csv_source.old < 2 ^ 64 - 1 }
+    requires sink { K.failures sink.old < 2 ^ 64 - 1 }
+{
+    let schema = read_schema(alloc, schema_source)?;
+    let query = parse(alloc, &schema, sql)?;
+    let csv = read_csv(alloc, csv_source)?;
+    let text = answer_text(alloc, &schema, &query, &csv)?;
+    write_whole(sink, &text)
+}
+
+fn read_schema<S: Source>(alloc: Global, source: &mut S) -> Result<Schema, Fault>
+    requires { S.failures source.old < 2 ^ 64 - 1 }
+{
+    match read_limited(alloc, source, LONGEST_SCHEMA as u64)? {
+        Input::Whole(text) => Schema::parse(alloc, &text),
+        Input::Over => Err(Fault::new(code::SCHEMA_TOO_LONG)),
+    }
+}
+
+fn read_csv<C: Source>(alloc: Global, source: &mut C) -> Result<Vec<u8>, Fault>
+    requires { C.failures source.old < 2 ^ 64 - 1 }
+{
+    match read_limited(alloc, source, LONGEST_CSV)? {
+        Input::Whole(text) => Ok(text),
+        Input::Over => Err(Fault::new(code::CSV_TOO_LONG)),
+    }
+}
