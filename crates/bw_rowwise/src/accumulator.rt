@@ -54,8 +54,11 @@ impl Accumulator {
         ensures total { (rows : List (List Value)) → self.old ≡ tally_of self.old.item rows
             → self.new ≡ tally_of self.old.item (rows ++ values_of row.now ∷ []) }
     {
-        self.total = answer_with(self.item, self.total, row);
-        self.rows += 1;
+        *self = Accumulator {
+            item: self.item,
+            rows: self.rows + 1,
+            total: answer_with(self.item, self.total, row),
+        };
     }
 
     /// The total of the rows so far.

@@ -12,6 +12,8 @@
 mod accumulator;
 mod condition;
 mod logic;
+#[cfg(test)]
+mod tests;
 mod total;
 
 pub use accumulator::{Accumulator, aggregate};
