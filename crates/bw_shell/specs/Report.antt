@@ -1,5 +1,5 @@
 -- What a refused call tells its caller.
-use Rattle.std.specs.Prelude.{ℕ, nat_lt, if◌then◌else◌, List, ◌++◌, codes, Option, Result}
+use Rattle.std.specs.Prelude.{◌≡◌, ℕ, nat_lt, if◌then◌else◌, List, ◌++◌, codes, Option, Result}
 use Rattle.bw_model.specs.declared.fault.Fault.{Fault}
 use Rattle.bw_file.specs.Sink.{GoesOut}
 
@@ -9,7 +9,11 @@ abbrev pub status_of : Fault → ℕ
 status_of fault =
     if nat_lt fault.code 600 then 3 else (if nat_lt fault.code 700 then 4 else (if nat_lt fault.code 800 then 5 else 6))
 
--- a line that begins with `bw: ` went out to a sink, or a part of it up to a failed write
+-- a line that begins with `bw: `
+abbrev pub IsLine : List ℕ → Type 0
+IsLine line = (words : List ℕ) × (line ≡ codes "bw: " ++ (words ++ codes "\n"))
+
+-- a line went out to a sink, or a part of it up to a failed write
 abbrev pub PrintsLine : Option (List ℕ) → Option (List ℕ) → ℕ → ℕ → Type 0
 PrintsLine old new before after =
-    (words : List ℕ) × (outcome : Result (Unit {0}) Fault) × GoesOut old new before after (codes "bw: " ++ words ++ codes "\n") outcome
+    (line : List ℕ) × IsLine line × ((outcome : Result (Unit {0}) Fault) × GoesOut old new before after line outcome)

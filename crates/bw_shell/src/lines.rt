@@ -1,6 +1,7 @@
 //! Lines that a call prints beside its result, put together without memory.
 ghost use Rattle.std.specs.Prelude.{◌≡◌, ◌-◌, ◌^◌, ◌<◌};
-ghost use Rattle.bw_shell.specs.Report.{status_of, PrintsLine};
+ghost use Rattle.std.specs.Fmt.InlineText.{inline_text};
+ghost use Rattle.bw_shell.specs.Report.{status_of, IsLine, PrintsLine};
 
 use crate::output::write_whole;
 use bw_file::Sink;
@@ -26,6 +27,17 @@ fn status_of(fault: &Fault) -> u8
     }
 }
 
+/// Gives the line of a fault, as `bw: 404 unknown column at byte 7`, with its end.
+fn line_of(fault: &Fault) -> InlineText<LINE>
+    ensures { IsLine (inline_text result) }
+{
+    let words = InlineText::<WORDS>::of(*fault);
+    InlineText::new()
+        .and_str("bw: ", 4)
+        .and_str(words.as_str(), WORDS)
+        .and_str("\n", 1)
+}
+
 /// Writes the line of a fault, as `bw: 404 unknown column at byte 7`, and gives the exit status, which a
 /// failed write doesn't change. That the sink's count of failures can rise is the caller's condition.
 pub fn report<K: Sink>(fault: &Fault, sink: &mut K) -> u8
@@ -34,11 +46,7 @@ pub fn report<K: Sink>(fault: &Fault, sink: &mut K) -> u8
     ensures line { PrintsLine (K.taken sink.old) (K.taken sink.new)
         (K.failures sink.old) (K.failures sink.new) }
 {
-    let words = InlineText::<WORDS>::of(*fault);
-    let line = InlineText::<LINE>::new()
-        .and_str("bw: ", 4)
-        .and_str(words.as_str(), WORDS)
-        .and_str("\n", 1);
+    let line = line_of(fault);
     let _ = write_whole(sink, line.as_str().as_bytes());
     status_of(fault)
 }

@@ -7,6 +7,7 @@ use bw_model::{Fault, code};
 
 /// Writes a whole text, or refuses as 702 at the first write that fails, when a part from the text's front
 /// has gone out. That the sink's count of failures can rise is the caller's condition.
+#[tactic(auto, using(crate::proofs::TakenBytes::more_taken))]
 pub fn write_whole<K: Sink>(sink: &mut K, text: &[u8]) -> Result<(), Fault>
     requires { K.failures sink.old < 2 ^ 64 - 1 }
     ensures { GoesOut (K.taken sink.old) (K.taken sink.new)
