@@ -1,0 +1,15 @@
+//! The program `bw`: runs the calls of `bw_shell` on files and on standard output.
+//!
+//! Results go to standard output. A fault is one line on standard error, as `bw: 404 unknown column at byte 7`,
+//! and the status tells its kind: 0 done, 2 a command line that is no use, 3 a fault of an input, 5 of a device,
+//! 6 want of memory. What a command line may be is in `command_line.rt`.
+#![tactic(auto)]
+
+mod command_line;
+mod run;
+
+use std::process::ExitCode;
+
+fn main(rt: HostRuntime) -> ExitCode {
+    ExitCode::from(run::run(&rt))
+}
