@@ -1,0 +1,221 @@
+//! Statements answered straight from CSV texts.
+use crate::outcome::direct_outcome;
+use std::process::Abort;
+use std::test::Fail;
+
+/// A table of bytes and of small numbers, some of them null.
+const SCHEMA: &str = "TABLE t\nCOLUMN a 0 255 NOT NULL\nCOLUMN b -10 10\n";
+
+const CSV: &str = "a,b\n0,-10\n255,10\n7,\n7,NULL\n8,0\n";
+
+/// A table whose only number is the least of 64 bits.
+const LEAST_SCHEMA: &str = "TABLE m\nCOLUMN x -9223372036854775808 -9223372036854775808\n";
+
+const LEAST_CSV: &str = "x\n-9223372036854775808\nNULL\n";
+
+/// Checks that a call writes this output, reports this line and gives this status.
+fn check(
+    rt: &(impl Abort + AllocGlobal),
+    schema: &str,
+    csv: &str,
+    sql: &str,
+    output: &str,
+    line: &str,
+    status: u8,
+) {
+    let outcome = direct_outcome(
+        rt.alloc(),
+        schema.as_bytes(),
+        csv.as_bytes(),
+        sql.as_bytes(),
+    );
+    assert_eq!(rt;
+        outcome.output.as_slice(),
+        output.as_bytes(),
+        "output of {sql:?}"
+    );
+    assert_eq!(rt;
+        outcome.line.as_slice(),
+        line.as_bytes(),
+        "fault of {sql:?}"
+    );
+    assert_eq!(rt; outcome.status, status, "status of {sql:?}");
+}
+
+#[test]
+fn counts_of_the_rows_that_a_comparison_keeps(rt: HostRuntime) {
+    for (sql, output) in [
+        ("SELECT COUNT(*) FROM t", "COUNT(*)\n5\n"),
+        ("SELECT COUNT(*) FROM t WHERE a < 8", "COUNT(*)\n3\n"),
+        // A literal past the column's bounds is compared as it is.
+        ("SELECT COUNT(*) FROM t WHERE a < 300", "COUNT(*)\n5\n"),
+        ("SELECT COUNT(*) FROM t WHERE a >= 256", "COUNT(*)\n0\n"),
+        ("SELECT COUNT(*) FROM t WHERE b <> 1000", "COUNT(*)\n3\n"),
+        // A null is neither less nor not less.
+        ("SELECT COUNT(*) FROM t WHERE b < 1", "COUNT(*)\n2\n"),
+        // A comment ends a token, and no blank is wanted elsewhere.
+        ("select count(*)from t where a<--x\n5;", "COUNT(*)\n1\n"),
+        ("SELECT COUNT(*) FROM T WHERE A = + 8 ;", "COUNT(*)\n1\n"),
+    ] {
+        check(&rt, SCHEMA, CSV, sql, output, "", 0);
+    }
+}
+
+#[test]
+fn counts_over_other_tables(rt: HostRuntime) {
+    let count = "SELECT COUNT(*) FROM t";
+    check(&rt, SCHEMA, "a,b", count, "COUNT(*)\n0\n", "", 0);
+    check(&rt, SCHEMA, "a,b\n", count, "COUNT(*)\n0\n", "", 0);
+    let least = "SELECT COUNT(*) FROM m WHERE x = -9223372036854775808";
+    check(&rt, LEAST_SCHEMA, LEAST_CSV, least, "COUNT(*)\n1\n", "", 0);
+}
+
+#[test]
+fn csv_texts_as_they_are_written(rt: HostRuntime) {
+    let count = "SELECT COUNT(*) FROM t WHERE b = 5";
+    for csv in [
+        "a,b\n1,5\n",
+        "a,b\r\n1,5\r\n",
+        "\u{feff}a,b\n1,5\n",
+        " A , B \n 1 ,\t5 \n",
+        "a,b\n\n1,+5\n\n",
+        "a,b\n\"1\",\"5\"\n",
+        "a,b\n01,00000000000000000000005",
+        "a,b\n1,5\n1,\n1,\"\"\n1, null \n",
+    ] {
+        check(&rt, SCHEMA, csv, count, "COUNT(*)\n1\n", "", 0);
+    }
+}
+
+#[test]
+fn csv_texts_that_are_refused(rt: HostRuntime) {
+    let count = "SELECT COUNT(*) FROM t";
+    for (csv, line) in [
+        ("", "bw: 201 no heading at record 0\n"),
+        ("\u{feff}", "bw: 201 no heading at record 0\n"),
+        ("a,c\n", "bw: 202 heading at record 0\n"),
+        ("a\n", "bw: 202 heading at record 0\n"),
+        // One byte order mark is dropped, and a second one is the heading's.
+        ("\u{feff}\u{feff}a,b\n", "bw: 202 heading at record 0\n"),
+        ("a,b\n1,2,3\n", "bw: 203 record length at record 1\n"),
+        ("a,b\n1x,0\n", "bw: 204 not a whole number at record 1\n"),
+        ("a,b\n1 2,0\n", "bw: 204 not a whole number at record 1\n"),
+        ("a,b\n-,0\n", "bw: 204 not a whole number at record 1\n"),
+        ("a,b\n256,0\n", "bw: 205 out of range at record 1\n"),
+        ("a,b\n1,-11\n", "bw: 205 out of range at record 1\n"),
+        (
+            "a,b\n1,99999999999999999999999999\n",
+            "bw: 205 out of range at record 1\n",
+        ),
+        ("a,b\n,0\n", "bw: 206 null not allowed at record 1\n"),
+        ("a,b\nNull,0\n", "bw: 206 null not allowed at record 1\n"),
+        // The first record that is wrong, and on it the first field.
+        (
+            "a,b\n1,2\n,x\n1,2,3\n",
+            "bw: 206 null not allowed at record 2\n",
+        ),
+        ("a,b\nx\n", "bw: 203 record length at record 1\n"),
+    ] {
+        check(&rt, SCHEMA, csv, count, "", line, 3);
+    }
+}
+
+#[test]
+fn schemas_that_are_refused(rt: HostRuntime) {
+    for (schema, line) in [
+        ("", "bw: 101 line form at line 1\n"),
+        ("# nothing\n\n", "bw: 101 line form at line 3\n"),
+        ("TABLE t\n", "bw: 105 number of columns at line 2\n"),
+        ("TABLE t\nCOLUMN a 5 4\n", "bw: 103 range at line 2\n"),
+        ("TABLE t\nCOLUMN select 0 1\n", "bw: 102 name at line 2\n"),
+        ("TABLE t\nCOLUMN a 0\n", "bw: 101 line form at line 2\n"),
+        ("TABLE t\nCOLUMN a 0 +1\n", "bw: 101 line form at line 2\n"),
+        (
+            "TABLE t\nCOLUMN a 0 9223372036854775808\n",
+            "bw: 101 line form at line 2\n",
+        ),
+        (
+            "TABLE t\nCOLUMN x -1 9223372036854775807\n",
+            "bw: 103 range at line 2\n",
+        ),
+        (
+            "TABLE t\n# a comment\n\nCOLUMN a 0 1\nCOLUMN A 0 1\n",
+            "bw: 104 name twice at line 5\n",
+        ),
+        ("TABLE 1t\nCOLUMN a 0 1\n", "bw: 102 name at line 1\n"),
+    ] {
+        check(&rt, schema, CSV, "SELECT COUNT(*) FROM t", "", line, 3);
+    }
+}
+
+#[test]
+fn statements_that_are_refused(rt: HostRuntime) {
+    for (sql, line) in [
+        (
+            "SELECT COUNT(*) FROM t WHERE a <",
+            "bw: 402 syntax at byte 32\n",
+        ),
+        (
+            "SELECT COUNT(*) FROM u",
+            "bw: 403 unknown table at byte 21\n",
+        ),
+        (
+            "SELECT COUNT(*) FROM t WHERE a != 1",
+            "bw: 401 character at byte 31\n",
+        ),
+        (
+            "SELECT COUNT(*) FROM t WHERE zz = 1",
+            "bw: 404 unknown column at byte 29\n",
+        ),
+    ] {
+        check(&rt, SCHEMA, CSV, sql, "", line, 3);
+    }
+    check(
+        &rt,
+        LEAST_SCHEMA,
+        LEAST_CSV,
+        "SELECT COUNT(*) FROM m WHERE x = -9223372036854775809",
+        "",
+        "bw: 405 literal at byte 33\n",
+        3,
+    );
+}
+
+#[test]
+fn a_statement_that_is_too_long(rt: HostRuntime) -> Result<(), Fail> {
+    let sql = vec![in rt.alloc(); b' '; 65_537]?;
+    let outcome = direct_outcome(rt.alloc(), SCHEMA.as_bytes(), CSV.as_bytes(), &sql);
+    assert_eq!(rt;
+        outcome.line.as_slice(),
+        b"bw: 407 statement too long at byte 65536\n".as_slice()
+    );
+    assert_eq!(rt; outcome.status, 3);
+    Ok(())
+}
+
+#[test]
+fn a_schema_that_is_too_long(rt: HostRuntime) -> Result<(), Fail> {
+    let schema = vec![in rt.alloc(); b'#'; 65_537]?;
+    let outcome = direct_outcome(rt.alloc(), &schema, CSV.as_bytes(), b"SELECT");
+    assert_eq!(rt;
+        outcome.line.as_slice(),
+        b"bw: 106 schema too long\n".as_slice()
+    );
+    Ok(())
+}
+
+/// The schema is judged before the statement, and the statement before the rows.
+#[test]
+fn the_first_fault_is_answered(rt: HostRuntime) {
+    check(&rt, "", "", "", "", "bw: 101 line form at line 1\n", 3);
+    check(&rt, SCHEMA, "", "", "", "bw: 402 syntax at byte 0\n", 3);
+    check(
+        &rt,
+        SCHEMA,
+        "",
+        "SELECT COUNT(*) FROM t",
+        "",
+        "bw: 201 no heading at record 0\n",
+        3,
+    );
+}

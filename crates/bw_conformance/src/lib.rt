@@ -1,0 +1,10 @@
+//! Tests that cross crates: calls of `bw_shell` over sources and sinks in memory, with outcomes that were worked
+//! out by hand. Nothing stands on this crate.
+//!
+//! Read `direct.rt`, which is a table of statements with what they answer.
+#![tactic(auto)]
+
+#[cfg(test)]
+mod direct;
+#[cfg(test)]
+mod outcome;
