@@ -22,15 +22,18 @@ pub record SchemaShape : Type 0 where
   pub name : List ℕ
   pub columns : List ColumnShape
 
+abbrev pub shape : List ℕ → ℤ → ℤ → Bool → ColumnShape
+shape name lo hi nullable = record { name = name; lo = lo; hi = hi; nullable = nullable }
+
 abbrev pub column_shape : Column → ColumnShape
-column_shape column = record { name = column.name; lo = column.lo; hi = column.hi; nullable = column.nullable }
+column_shape column = shape column.name column.lo column.hi column.nullable
 
 abbrev pub schema_shape : Schema → SchemaShape
 schema_shape schema = record { name = schema.name; columns = map column_shape schema.columns.items }
 
 -- what the words of a column's line say
 abbrev pub words_shape : Words → ColumnShape
-words_shape words = record { name = words.name.now; lo = words.lo; hi = words.hi; nullable = words.nullable }
+words_shape words = shape words.name.now words.lo words.hi words.nullable
 
 -- a bound is an optional minus sign, which is byte 45, and digits, within 64 bits
 abbrev pub signed_digits : Bool → List ℕ → Option ℤ
@@ -46,7 +49,7 @@ is_range lo hi = int_le lo hi && int_lt (hi -ℤ lo) (pos (2 ^ 63))
 abbrev pub with_bounds : List ℕ → Option ℤ → Option ℤ → Bool → Option ColumnShape
 with_bounds name None hi nullable = None
 with_bounds name (Some lo) None nullable = None
-with_bounds name (Some lo) (Some hi) nullable = Some (record { name = name; lo = lo; hi = hi; nullable = nullable })
+with_bounds name (Some lo) (Some hi) nullable = Some (shape name lo hi nullable)
 
 abbrev pub are_not_null : List ℕ → List ℕ → Bool
 are_not_null negates null = same_text negates (codes "NOT") && same_text null (codes "NULL")
@@ -80,16 +83,20 @@ named_table line (Some name) = refused_if (not (is_name name)) (at_line 102 line
 abbrev pub table_on : NumberedWords → Result (List ℕ) Fault
 table_on line = named_table line.number (table_words line.words)
 
--- the column on a line, behind columns of these names, or the first fault there: the form, the 65th column, the name,
--- a name that comes twice, and the range
+-- a column that there is room for, or the first fault: the name, a name that comes twice, and the range
+abbrev pub after_room : List (List ℕ) → ℕ → ColumnShape → Result ColumnShape Fault
+after_room before line column =
+    refused_if (not (is_name column.name)) (at_line 102 line)
+    (refused_if (list_any (λ name. same_text name column.name) before) (at_line 104 line)
+    (refused_if (not (is_range column.lo column.hi)) (at_line 103 line)
+    (Ok column)))
+
+-- the column on a line, behind columns of these names, or the first fault there: the form, the 65th column, and then
+-- the column's own
 abbrev pub next_column : List (List ℕ) → ℕ → Option ColumnShape → Result ColumnShape Fault
 next_column before line None = Err (at_line 101 line)
 next_column before line (Some column) =
-    refused_if (nat_le 64 (length before)) (at_line 105 line)
-    (refused_if (not (is_name column.name)) (at_line 102 line)
-    (refused_if (list_any (λ name. same_text name column.name) before) (at_line 104 line)
-    (refused_if (not (is_range column.lo column.hi)) (at_line 103 line)
-    (Ok column))))
+    refused_if (nat_le 64 (length before)) (at_line 105 line) (after_room before line column)
 
 abbrev pub column_on : List (List ℕ) → NumberedWords → Result ColumnShape Fault
 column_on before line = next_column before line.number (column_words line.words)

@@ -31,7 +31,10 @@ impl Schema {
     /// within 64 bits (101); the 65th column (105); a name that isn't one (102); a name that an earlier column
     /// has (104); bounds out of order, or 2^63 or more apart (103). At the end of the text, one line after
     /// the last, a table that is missing is 101, and a table without columns 105.
-    pub fn parse(alloc: Global, text: &[u8]) -> Result<Schema, Fault> {
+    #[tactic(auto, unfolding(crate::specs::SchemaText::schema_of, crate::specs::SchemaText::schema_on, crate::specs::SchemaText::columns_on))]
+    pub fn parse(alloc: Global, text: &[u8]) -> Result<Schema, Fault>
+        ensures { Gives schema_shape result (schema_of text.now) }
+    {
         if text.len() > LONGEST_SCHEMA {
             return Err(Fault::new(code::SCHEMA_TOO_LONG));
         }
@@ -175,6 +178,7 @@ fn is_range(lo: i64, hi: i64) -> bool
 /// The column of a line, behind the columns before it.
 #[tactic(auto, using(crate::proofs::SchemaLemmas::list_any_names))]
 fn column_of(alloc: Global, line: &Line, before: &[Column]) -> Result<Column, Fault>
+    ensures column { Gives column_shape result (column_on (names_of before.now) (line_of line.now)) }
     ensures room { IfOk result (λ column. length before.now < 64) }
     ensures apart { IfOk result (λ column. list_any (λ name. same_text name column.name) (names_of before.now) ≡ false) }
 {
