@@ -2,3 +2,4 @@ pub mod CondLemmas
 pub mod LineLemmas
 pub mod Numbers
 pub mod SchemaLemmas
+pub mod TreeLemmas

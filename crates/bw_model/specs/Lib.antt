@@ -1,5 +1,7 @@
+pub mod Code
 pub mod Column
 pub mod Cond
+pub mod CondTree
 pub mod Fault
 pub mod Keyword
 pub mod Lines

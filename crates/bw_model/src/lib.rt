@@ -9,8 +9,10 @@
 //! Read `schema.rt` first, and then `specs/Cond.antt`.
 #![tactic(auto)]
 
+mod coding;
 mod column;
 mod cond;
+mod copy;
 mod fault;
 mod keyword;
 mod lines;

@@ -1,0 +1,92 @@
+//! Copies: equal values in memory of their own.
+ghost use Rattle.std.specs.Prelude.{◌≡◌, IfOk, IsOkUnless, map};
+ghost use Rattle.bw_model.specs.CondTree.{tree_of};
+ghost use Rattle.bw_model.specs.Fault.{no_memory};
+
+use crate::column::Column;
+use crate::cond::Cond;
+use crate::fault::Fault;
+use crate::name::Name;
+use crate::schema::Schema;
+use std::alloc::Global;
+
+impl Name {
+    /// An equal name.
+    pub fn copy(&self, alloc: Global) -> Result<Self, Fault>
+        ensures equal { IfOk result (λ name. name ≡ self.now) }
+        ensures only_memory { IsOkUnless result no_memory }
+    {
+        Ok(Name::new(alloc, self.as_bytes())?)
+    }
+}
+
+impl Column {
+    /// An equal column.
+    pub fn copy(&self, alloc: Global) -> Result<Self, Fault>
+        ensures equal { IfOk result (λ column. column ≡ self.now) }
+        ensures only_memory { IsOkUnless result no_memory }
+    {
+        Ok(Column {
+            name: self.name.copy(alloc)?,
+            lo: self.lo,
+            hi: self.hi,
+            nullable: self.nullable,
+        })
+    }
+}
+
+impl Schema {
+    /// An equal schema.
+    pub fn copy(&self, alloc: Global) -> Result<Self, Fault>
+        ensures name { IfOk result (λ schema. schema.name ≡ self.now.name) }
+        ensures columns { IfOk result (λ schema. schema.columns.items ≡ self.now.columns.items) }
+        ensures only_memory { IsOkUnless result no_memory }
+    {
+        let mut columns = Vec::new(alloc);
+        for column in &self.columns {
+            columns.push(column.copy(alloc)?)?;
+        }
+        Ok(Schema {
+            name: self.name.copy(alloc)?,
+            columns,
+        })
+    }
+}
+
+impl Cond {
+    /// An equal condition.
+    #[cycle(copy)]
+    #[tactic(auto, using(crate::proofs::TreeLemmas::trees))]
+    pub fn copy(&self, alloc: Global) -> Result<Self, Fault>
+        ensures equal { IfOk result (λ cond. tree_of cond ≡ tree_of self.now) }
+        ensures only_memory { IsOkUnless result no_memory }
+    {
+        match self {
+            Cond::Always => Ok(Cond::Always),
+            Cond::Cmp(op, x, y) => Ok(Cond::Cmp(*op, *x, *y)),
+            Cond::Between(x, y, z) => Ok(Cond::Between(*x, *y, *z)),
+            Cond::Among(x, items) => Ok(Cond::Among(*x, Vec::from_slice(alloc, items)?)),
+            Cond::IsNull(x) => Ok(Cond::IsNull(*x)),
+            Cond::And(parts) => Ok(Cond::And(copies(alloc, parts)?)),
+            Cond::Or(parts) => Ok(Cond::Or(copies(alloc, parts)?)),
+            Cond::Not(part) => Ok(Cond::Not(Box::new(alloc, part.copy(alloc)?)?)),
+            Cond::Test(part, wanted) => Ok(Cond::Test(
+                Box::new(alloc, part.copy(alloc)?)?,
+                *wanted,
+            )),
+        }
+    }
+}
+
+/// Copies of conditions, in their order.
+#[cycle(copy)]
+fn copies(alloc: Global, conds: &[Cond]) -> Result<Vec<Cond>, Fault>
+    ensures equal { IfOk result (λ copies. map tree_of copies.items ≡ map tree_of conds.now) }
+    ensures only_memory { IsOkUnless result no_memory }
+{
+    let mut copies = Vec::new(alloc);
+    for cond in conds {
+        copies.push(cond.copy(alloc)?)?;
+    }
+    Ok(copies)
+}
