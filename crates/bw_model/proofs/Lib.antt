@@ -3,3 +3,5 @@ pub mod LineLemmas
 pub mod Numbers
 pub mod SchemaLemmas
 pub mod TreeLemmas
+pub mod DigitLemmas
+pub mod VariableLemmas

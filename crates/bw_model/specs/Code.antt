@@ -12,10 +12,6 @@ span_of column = unsigned_abs (column.hi -ℤ column.lo)
 unfoldable pub width_of : Column → ℕ
 width_of column = max 1 (length (digits_of 2 (span_of column)))
 
--- the number of bytes that hold a code
-abbrev pub slices_of : Column → ℕ
-slices_of column = (width_of column + 7) / 8
-
 -- the code of a number within the column's bounds; null and other numbers have none
 abbrev pub code_of : Column → Value → Option ℕ
 code_of column None = None
@@ -33,8 +29,9 @@ span_at columns column = slice_index (map span_of columns) column
 abbrev pub width_at : List Column → ℕ → ℕ
 width_at columns column = slice_index (map width_of columns) column
 
+-- the number of bytes that hold a code
 abbrev pub slices_at : List Column → ℕ → ℕ
-slices_at columns column = slice_index (map slices_of columns) column
+slices_at columns column = (width_at columns column + 7) / 8
 
 abbrev pub code_at : List Column → ℕ → Value → Option ℕ
 code_at columns column value = slice_index_or (map (λ c. code_of c value) columns) column None

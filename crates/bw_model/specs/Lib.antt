@@ -12,3 +12,4 @@ pub mod SchemaText
 pub mod Text
 pub mod Total
 pub mod Truth
+pub mod Variable

@@ -1,8 +1,9 @@
 //! What a schema says of values: which it admits, and their codes.
-ghost use Rattle.std.specs.Prelude.{◌≡◌, ◌+◌, ◌<◌, ◌≤◌, ◌^◌, length, IfSome};
+ghost use Rattle.std.specs.Prelude.{◌≡◌, ◌+◌, ◌<◌, ◌≤◌, ◌^◌, length, max, IfSome};
+ghost use Rattle.std.specs.Int.Digits.{digits_of};
 ghost use Rattle.bw_model.specs.Row.{values_of};
 ghost use Rattle.bw_model.specs.Column.{admits_value, admits_values};
-ghost use Rattle.bw_model.specs.Code.{span_of, width_of, slices_of, code_of, value_of_code, span_at, width_at, slices_at, code_at, value_at};
+ghost use Rattle.bw_model.specs.Code.{span_of, width_of, code_of, value_of_code, span_at, width_at, slices_at, code_at, value_at};
 
 use crate::column::Column;
 use crate::row::{Row, Value};
@@ -26,6 +27,43 @@ impl Schema {
         }
         rest.is_empty()
     }
+
+    /// How many binary digits a column's codes have: those of the greatest code, 1 to 63.
+    pub fn width(&self, col: usize) -> u32
+        requires { col < length self.now.columns.items }
+        ensures width { result ≡ width_at self.now.columns.items col }
+        ensures bounds { (1 ≤ result) × (result ≤ 63) }
+    {
+        self.columns[col].width()
+    }
+
+    /// How many bytes a column's codes have, 1 to 8.
+    pub fn slices(&self, col: usize) -> usize
+        requires { col < length self.now.columns.items }
+        ensures slices { result ≡ slices_at self.now.columns.items col }
+        ensures bounds { (1 ≤ result) × (result ≤ 8) }
+    {
+        (self.width(col) as usize + 7) / 8
+    }
+
+    /// The code of a value in a column: its distance from the least value. Null and numbers out of the
+    /// column's bounds have none.
+    pub fn code(&self, col: usize, value: Value) -> Option<u64>
+        requires { col < length self.now.columns.items }
+        ensures code { result ≡ code_at self.now.columns.items col value }
+        ensures fits { IfSome result (λ code. code < 2 ^ width_at self.now.columns.items col) }
+    {
+        self.columns[col].code(value)
+    }
+
+    /// The value of a code in a column.
+    pub fn value(&self, col: usize, code: u64) -> i64
+        requires column { col < length self.now.columns.items }
+        requires code { code ≤ span_at self.now.columns.items col }
+        ensures { result ≡ value_at self.now.columns.items col code }
+    {
+        self.columns[col].value(code)
+    }
 }
 
 impl Column {
@@ -38,4 +76,51 @@ impl Column {
             Some(n) => self.lo <= n && n <= self.hi,
         }
     }
+
+    /// The greatest code of the column.
+    pub fn span(&self) -> u64
+        ensures { result ≡ span_of self.now }
+    {
+        self.hi.abs_diff(self.lo)
+    }
+
+    /// How many binary digits the column's codes have.
+    #[tactic(auto, unfolding(crate::specs::Code::width_of))]
+    pub fn width(&self) -> u32
+        ensures width { result ≡ width_of self.now }
+        ensures bounds { (1 ≤ result) × (result ≤ 63) }
+    {
+        digits(self.span())
+    }
+
+    /// The code of a value.
+    #[tactic(auto, using(crate::proofs::DigitLemmas::below_width))]
+    pub fn code(&self, value: Value) -> Option<u64>
+        ensures code { result ≡ code_of self.now value }
+        ensures fits { IfSome result (λ code. code < 2 ^ width_of self.now) }
+    {
+        match value {
+            Some(n) if self.lo <= n && n <= self.hi => Some(n.abs_diff(self.lo)),
+            _ => None,
+        }
+    }
+
+    /// The value of a code.
+    pub fn value(&self, code: u64) -> i64
+        requires { code ≤ span_of self.now }
+        ensures { result ≡ value_of_code self.now code }
+    {
+        prove!(self.lo <= self.hi);
+        self.lo + code as i64
+    }
+}
+
+/// How many binary digits a number has, at least 1.
+#[tactic(auto, using(crate::proofs::DigitLemmas::length_digits_between))]
+fn digits(n: u64) -> u32
+    requires { n < 2 ^ 63 }
+    ensures digits { result ≡ max 1 (length (digits_of 2 n)) }
+    ensures bounds { (1 ≤ result) × (result ≤ 63) }
+{
+    if n == 0 { 1 } else { n.ilog2() + 1 }
 }

@@ -23,6 +23,7 @@ mod query;
 mod row;
 mod schema;
 mod text;
+mod variable;
 
 pub use column::Column;
 pub use cond::{Cond, Op, Operand, Truth};
