@@ -5,3 +5,4 @@ pub mod SchemaLemmas
 pub mod TreeLemmas
 pub mod DigitLemmas
 pub mod VariableLemmas
+pub mod BitsLemmas

@@ -1,9 +1,9 @@
 -- Where the variables of a column stand.
-use Rattle.std.proofs.Common.{◌≡◌, ℕ, zero, suc, ◌+◌, ◌<◌, ◌≤◌, List, [], ◌∷◌, length, take, arith, add-one, refl}
+use Rattle.std.proofs.Common.{◌≡◌, ℕ, zero, suc, ◌+◌, ◌<◌, ◌≤◌, List, [], ◌∷◌, length, take, arith, add-one}
 use Rattle.std.proofs.lemmas.List.Sums.{sum_by-cons}
 use Rattle.bw_model.specs.declared.column.Column.{Column}
-use Rattle.bw_model.specs.Code.{width_of, width_at}
-use Rattle.bw_model.specs.Variable.{variable_count, variables_of, first_variable}
+use Rattle.bw_model.specs.Code.{width_at}
+use Rattle.bw_model.specs.Variable.{variable_count, first_variable}
 
 -- a column's bits stand before the next column
 pub width_before_next : (columns : List Column) (column : ℕ) → column < length columns → width_at columns column ≤ first_variable columns (suc column)

@@ -1,10 +1,10 @@
 -- Variables: the bits of a row, numbered from 0 over the whole schema, and rows as assignments of them.
-use Rattle.std.specs.Prelude.{ℕ, zero, suc, ℤ, pos, ◌+◌, ◌-◌, ◌*◌, ◌^◌, ◌+ℤ◌, Bool, true, false, List, [], ◌∷◌, ◌++◌, map, take, sum_by, slice_index_or, Option, Some, None, unwrap_or, if◌then◌else◌, ◌&&◌, ◌==◌}
+use Rattle.std.specs.Prelude.{ℕ, zero, suc, ◌+◌, ◌-◌, ◌^◌, Bool, false, List, [], ◌∷◌, ◌++◌, map, take, sum_by, slice_index_or, Option, Some, None, unwrap_or, if◌then◌else◌, ◌&&◌, ◌==◌}
 use Rattle.std.specs.Int.{bit_at}
 use Rattle.bw_model.specs.declared.column.Column.{Column}
 use Rattle.bw_model.specs.Row.{Value}
 use Rattle.bw_model.specs.Truth.{is_null}
-use Rattle.bw_model.specs.Code.{width_of, width_at, code_of, value_of_code}
+use Rattle.bw_model.specs.Code.{width_of, code_of, value_of_code}
 
 -- For each column in order come first its null variable, where it is nullable, and then its bits from the top
 -- to bit 0.

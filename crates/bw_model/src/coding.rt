@@ -1,5 +1,5 @@
 //! What a schema says of values: which it admits, and their codes.
-ghost use Rattle.std.specs.Prelude.{◌≡◌, ◌+◌, ◌<◌, ◌≤◌, ◌^◌, length, max, IfSome};
+ghost use Rattle.std.specs.Prelude.{◌≡◌, ℕ, ℤ, Some, ◌+◌, ◌<◌, ◌≤◌, ◌^◌, length, max, IfSome};
 ghost use Rattle.std.specs.Int.Digits.{digits_of};
 ghost use Rattle.bw_model.specs.Row.{values_of};
 ghost use Rattle.bw_model.specs.Column.{admits_value, admits_values};
@@ -104,6 +104,14 @@ impl Column {
             _ => None,
         }
     }
+
+    /// A law: codes and values undo each other.
+    pub fn codes_spell_values(&self)
+        ensures of_code { (code : ℕ) → code ≤ span_of self.now
+            → code_of self.now (Some (value_of_code self.now code)) ≡ Some code }
+        ensures of_value { (n : ℤ) (code : ℕ) → code_of self.now (Some n) ≡ Some code
+            → value_of_code self.now code ≡ n }
+    {}
 
     /// The value of a code.
     pub fn value(&self, code: u64) -> i64

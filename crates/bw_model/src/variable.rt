@@ -2,9 +2,11 @@
 ghost use Rattle.std.specs.Prelude.{◌≡◌, ◌+◌, ◌*◌, ◌<◌, ◌≤◌, length, IsTrue, IfSome, sum_by, take};
 ghost use Rattle.bw_model.specs.Column.{admits_values};
 ghost use Rattle.bw_model.specs.Code.{width_at};
-ghost use Rattle.bw_model.specs.Variable.{variable_count, variables_of, first_variable, null_variable, bit_variable};
+ghost use Rattle.bw_model.specs.Variable.{variable_count, variables_of, first_variable, null_variable, bit_variable, assignment_of, bits_of, row_of};
+ghost use Rattle.bw_model.specs.Row.{values_of};
 
 use crate::column::Column;
+use crate::row::Row;
 use crate::schema::Schema;
 
 impl Schema {
@@ -21,7 +23,9 @@ impl Schema {
         requires { col < length self.now.columns.items }
         ensures { result ≡ null_variable self.now.columns.items col }
     {
-        self.columns[col].nullable.then_some(count(&self.columns[..col]))
+        self.columns[col]
+            .nullable
+            .then_some(count(&self.columns[..col]))
     }
 
     /// The variable of a column's bit. Bit 0 is the least, and the top one comes first.
@@ -32,6 +36,13 @@ impl Schema {
     {
         count(&self.columns[..=col]) - 1 - bit
     }
+
+    /// A law: the row that the bits of an admitted row spell is that row.
+    pub fn bits_spell_row(&self, row: &Row)
+        requires { IsTrue (admits_values self.now.columns.items (values_of row.now)) }
+        ensures { row_of self.now.columns.items
+            (assignment_of (bits_of self.now.columns.items (values_of row.now))) ≡ values_of row.now }
+    {}
 }
 
 /// How many variables some columns have.

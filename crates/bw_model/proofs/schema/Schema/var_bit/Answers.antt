@@ -1,5 +1,4 @@
-use Rattle.std.proofs.Common.{◌≡◌, ◌+◌, ◌≤◌, ap, ◌∙◌, arith}
-use Rattle.bw_model.specs.Code.{width_at}
+use Rattle.std.proofs.Common.{◌≡◌, ◌+◌, ap, ◌∙◌, arith}
 use Rattle.bw_model.specs.Variable.{first_variable}
 use Rattle.bw_model.proofs.VariableLemmas.{width_before_next, first_variable_next}
 use Rattle.bw_model.proofs.schema.Schema.var_bit.Goals as goal
