@@ -51,6 +51,7 @@ impl Schema {
     pub fn code(&self, col: usize, value: Value) -> Option<u64>
         requires { col < length self.now.columns.items }
         ensures code { result ≡ code_at self.now.columns.items col value }
+        ensures small { IfSome result (λ code. code ≤ span_at self.now.columns.items col) }
         ensures fits { IfSome result (λ code. code < 2 ^ width_at self.now.columns.items col) }
     {
         self.columns[col].code(value)
@@ -97,6 +98,7 @@ impl Column {
     #[tactic(auto, using(crate::proofs::DigitLemmas::below_width))]
     pub fn code(&self, value: Value) -> Option<u64>
         ensures code { result ≡ code_of self.now value }
+        ensures small { IfSome result (λ code. code ≤ span_of self.now) }
         ensures fits { IfSome result (λ code. code < 2 ^ width_of self.now) }
     {
         match value {

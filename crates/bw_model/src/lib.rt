@@ -22,6 +22,8 @@ mod parse;
 mod query;
 mod row;
 mod schema;
+#[cfg(test)]
+mod tests;
 mod text;
 mod variable;
 

@@ -23,12 +23,11 @@ impl Schema {
         requires { col < length self.now.columns.items }
         ensures { result ≡ null_variable self.now.columns.items col }
     {
-        self.columns[col]
-            .nullable
-            .then_some(count(&self.columns[..col]))
+        let first = count(&self.columns[..col]);
+        self.columns[col].nullable.then_some(first)
     }
 
-    /// The variable of a column's bit. Bit 0 is the least, and the top one comes first.
+    /// The variable of a column's bit, which is below the column's width. Bit 0 is the least, and the top one comes first.
     pub fn var_bit(&self, col: usize, bit: u32) -> u32
         requires column { col < length self.now.columns.items }
         requires bit { bit < width_at self.now.columns.items col }
