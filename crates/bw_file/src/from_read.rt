@@ -52,6 +52,22 @@ impl<R: Read> Source for FromRead<R> {
 #[cfg(test)]
 mod tests {
     use super::*;
+    use std::io;
+
+    /// Is interrupted once, and then at its end.
+    struct Interrupted {
+        once: bool,
+    }
+
+    impl Read for Interrupted {
+        fn read(&mut self, _buffer: &mut [u8]) -> io::Result<usize> {
+            if self.once {
+                return Ok(0);
+            }
+            self.once = true;
+            Err(io::ErrorKind::Interrupted.into())
+        }
+    }
 
     #[test]
     fn bytes_come_from_memory(rt: HostRuntime) {
@@ -63,5 +79,16 @@ mod tests {
         assert_eq!(rt; source.read(&mut buffer), Ok(0));
         assert_eq!(rt; source.failures(), 0);
         assert_eq!(rt; source.into_inner().len(), 0);
+    }
+
+    #[test]
+    fn an_interrupted_read_counts(rt: HostRuntime) {
+        let mut source = FromRead::new(Interrupted { once: false });
+        assert_eq!(rt; source.read(&mut [0; 4]), Err(Failed));
+        assert_eq!(rt; source.failures(), 1);
+        assert_eq!(rt; source.read(&mut [0; 4]), Ok(0));
+        assert_eq!(rt; source.failures(), 1);
+        let Interrupted { once } = source.into_inner();
+        assert!(rt; once);
     }
 }

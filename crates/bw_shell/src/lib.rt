@@ -10,6 +10,8 @@
 mod answer;
 mod csv_query;
 mod csv_text;
+#[cfg(test)]
+mod device_tests;
 mod input;
 mod lines;
 mod listing;
