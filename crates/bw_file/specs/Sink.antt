@@ -1,5 +1,5 @@
 -- What of a text went out to a sink.
-use Rattle.std.specs.Prelude.{◌≡◌, ◌==◌, ℕ, ◌+◌, ◌<◌, Bool, false, List, length, take, Option, Result, Ok, Err, IsOkAnd, MatchBool}
+use Rattle.std.specs.Prelude.{◌≡◌, ◌==◌, ℕ, ◌+◌, ◌<◌, Bool, true, false, List, length, take, Option, Result, Ok, Err, IsOkAnd}
 use Rattle.std.specs.Io.KnownBytes.{Appends, Keeps}
 use Rattle.bw_model.specs.declared.fault.Fault.{Fault}
 use Rattle.bw_model.specs.Fault.{nowhere}
@@ -23,6 +23,5 @@ GoesOut old new before after text (Err fault) = (fault ≡ nowhere 702) × TookP
 abbrev pub Went : {T : Type 0} → (Fault → Bool) → Option (List ℕ) → Option (List ℕ) → ℕ → ℕ → Result (List ℕ) Fault → Result T Fault → Type 0
 Went aside old new before after given (Ok x) = IsOkAnd given (λ text. Appends old new text) × (after ≡ before)
 Went aside old new before after given (Err fault) =
-    MatchBool (is_write_fault fault)
-    ((fault ≡ nowhere 702) × IsOkAnd given (TookPart old new) × (after ≡ before + 1))
-    (Keeps old new × (after ≡ before) × (aside fault ≡ false → given ≡ Err fault))
+    (is_write_fault fault ≡ true → (fault ≡ nowhere 702) × IsOkAnd given (TookPart old new) × (after ≡ before + 1))
+    × (is_write_fault fault ≡ false → Keeps old new × (after ≡ before) × (aside fault ≡ false → given ≡ Err fault))

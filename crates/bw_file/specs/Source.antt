@@ -1,5 +1,5 @@
 -- What came of a source that a call read to its end, or until it passed a limit.
-use Rattle.std.specs.Prelude.{◌≡◌, ℕ, ◌+◌, ◌<◌, ◌≤◌, List, length, drop, Option, Some, None, IfSome, Result, Ok, Err, MatchBool}
+use Rattle.std.specs.Prelude.{◌≡◌, ℕ, ◌+◌, ◌≤◌, List, length, Option, Some, None, IfSome, Result, Ok, Err, MatchBool}
 use Rattle.std.specs.Io.KnownBytes.{Consumes, IsAtEnd}
 use Rattle.bw_model.specs.declared.fault.Fault.{Fault}
 use Rattle.bw_model.specs.Fault.{nowhere, no_memory, is_memory}
@@ -8,9 +8,9 @@ use Rattle.bw_model.specs.Fault.{nowhere, no_memory, is_memory}
 abbrev pub GaveAll : ℕ → Option (List ℕ) → Option (List ℕ) → List ℕ → Type 0
 GaveAll limit old new bytes = (length bytes ≤ limit) × IfSome old (λ xs. bytes ≡ xs) × IsAtEnd new
 
--- there were more bytes to come than the limit, and one more than it was taken
+-- one byte more than the limit was taken, of the bytes to come where they are known
 abbrev pub PassedLimit : ℕ → Option (List ℕ) → Option (List ℕ) → Type 0
-PassedLimit limit old new = IfSome old (λ xs. (limit < length xs) × (new ≡ Some (drop (limit + 1) xs)))
+PassedLimit limit old new = (bytes : List ℕ) × Consumes old new bytes × (length bytes ≡ limit + 1)
 
 -- at most so many of the bytes to come were taken, where they are known
 abbrev pub TookAtMost : ℕ → Option (List ℕ) → Option (List ℕ) → Type 0
