@@ -61,9 +61,10 @@ impl<'a> Lines<'a> {
             let (line, rest) = split_line(self.text);
             let number = self.number;
             let words = words_of(alloc, line)?;
+            let skipped = is_skipped(&words);
             self.text = rest;
             self.number += 1;
-            if !is_skipped(&words) {
+            if !skipped {
                 return Ok(Some(Line { number, words }));
             }
         }

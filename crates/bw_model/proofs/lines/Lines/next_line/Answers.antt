@@ -5,11 +5,11 @@ use Rattle.bw_model.specs.Lines.{is_skipped, words_of}
 use Rattle.bw_model.proofs.LineLemmas.{numbered_from-said, numbered_from-skipped, count_more, nothing_in, cons-words}
 use Rattle.bw_model.proofs.lines.Lines.next_line.Goals as goal
 
-pub returns-then-not-is_skipped-clause-line : goal.returns-then-not-is_skipped-clause-line
-returns-then-not-is_skipped-clause-line c =
+pub returns-then-not-skipped-clause-line : goal.returns-then-not-skipped-clause-line
+returns-then-not-skipped-clause-line c =
     let words = c.in_ok-words.ensures in
     let said : is_skipped (words_of c.split_line.result.0.now) ≡ false =
-    rw (← words, ← c.deref.ensures.value, ← c.is_skipped.ensures) c.if-not-is_skipped.true in
+    rw (← words, ← c.deref.ensures.value, ← c.is_skipped-skipped.ensures) c.if-not-skipped.true in
     c.loop-alloc.invariant.lines
     ∙ numbered_from-said _ _ _ _ c.split_line.ensures.cut said
     ∙ cons-words _ _ _ _ (sym words)
@@ -18,7 +18,7 @@ pub loop-alloc-preserved : goal.loop-alloc-preserved
 loop-alloc-preserved c =
     let words = c.in_ok-words.ensures in
     let skipped : is_skipped (words_of c.split_line.result.0.now) ≡ true =
-    rw (← words, ← c.deref.ensures.value, ← c.is_skipped.ensures) c.if-not-is_skipped.false in
+    rw (← words, ← c.deref.ensures.value, ← c.is_skipped-skipped.ensures) c.if-not-skipped.false in
     record {
       bound = omega arith;
       lines = c.loop-alloc.invariant.lines ∙ numbered_from-skipped _ _ _ _ c.split_line.ensures.cut skipped;
