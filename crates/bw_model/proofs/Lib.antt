@@ -1,8 +1,9 @@
+pub mod BitsLemmas
 pub mod CondLemmas
+pub mod DigitLemmas
 pub mod LineLemmas
 pub mod Numbers
 pub mod SchemaLemmas
+pub mod SchemaSpelling
 pub mod TreeLemmas
-pub mod DigitLemmas
 pub mod VariableLemmas
-pub mod BitsLemmas

@@ -30,15 +30,15 @@ pub list_any_names : (columns : List Column) (name : List ℕ) → list_any (λ 
 list_any_names [] name = refl
 list_any_names (column ∷ columns) name = ap (λ b. same_text column.name name || b) (list_any_names columns name)
 
-not_both : (a b : Bool) → (a || b) ≡ false → (a ≡ false) × (b ≡ false)
+pub not_both : (a b : Bool) → (a || b) ≡ false → (a ≡ false) × (b ≡ false)
 not_both true b e = absurd (cc e)
 not_both false b e = (refl, e)
 
-both : (a b : Bool) → (a && b) ≡ true → (a ≡ true) × (b ≡ true)
+pub both : (a b : Bool) → (a && b) ≡ true → (a ≡ true) × (b ≡ true)
 both true b e = (refl, e)
 both false b e = absurd (cc e)
 
-negated : (b : Bool) → not b ≡ true → b ≡ false
+pub negated : (b : Bool) → not b ≡ true → b ≡ false
 negated true e = absurd (cc e)
 negated false e = refl
 

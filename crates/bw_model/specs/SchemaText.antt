@@ -1,13 +1,13 @@
 -- Schema texts: what a text says, or the first fault in it.
-use Rattle.std.specs.Prelude.{ℕ, ℤ, pos, ◌-ℤ◌, ◌^◌, Bool, true, false, List, [], ◌∷◌, ◌++◌, map, drop, length, Option, Some, None, Result, Ok, Err, codes, not, ◌&&◌, ◌||◌, ◌==◌, if◌then◌else◌, int_le, int_lt, nat_le, nat_lt, slice_index}
-use Rattle.std.specs.List.{list_any}
+use Rattle.std.specs.Prelude.{◌≡◌, ◌≤◌, IsTrue, ℕ, ℤ, pos, ◌-ℤ◌, ◌^◌, Bool, true, false, List, [], ◌∷◌, ◌++◌, map, drop, length, Option, Some, None, Result, Ok, Err, codes, not, ◌&&◌, ◌||◌, ◌==◌, if◌then◌else◌, int_le, int_lt, nat_le, nat_lt, slice_index}
+use Rattle.std.specs.List.{list_any, AllZip}
 use Rattle.bw_model.specs.declared.fault.Fault.{Fault}
 use Rattle.bw_model.specs.declared.column.Column.{Column}
 use Rattle.bw_model.specs.declared.parse.Words.{Words}
 use Rattle.bw_model.specs.declared.schema.Schema.{Schema}
 use Rattle.bw_model.specs.Fault.{nowhere, at_line, ◌>>=◌, refused_if}
 use Rattle.bw_model.specs.Lines.{NumberedWords, is_empty, lines_in, end_in, whole}
-use Rattle.bw_model.specs.Name.{is_name}
+use Rattle.bw_model.specs.Name.{is_name, are_apart}
 use Rattle.bw_model.specs.Number.{are_digits, number_of}
 use Rattle.bw_model.specs.Text.{same_text}
 
@@ -120,3 +120,23 @@ schema_on (line ∷ lines) end = table_on line >>= λ name. columns_on [] lines 
 -- what a schema text says, or the first fault in it: its length, and then its lines
 unfoldable pub schema_of : List ℕ → Result SchemaShape Fault
 schema_of text = refused_if (nat_lt 65536 (length text)) (nowhere 106) (schema_on (lines_in (whole text)) (end_in (whole text)))
+
+-- the words of a line spell a column
+abbrev pub SpellsColumn : NumberedWords → ColumnShape → Type 0
+SpellsColumn line column = (column_words line.words ≡ Some column) × IsTrue (is_name column.name) × IsTrue (is_range column.lo column.hi)
+
+-- Lines spell a schema: the first its table, and each other one its next column. It has at least one column and at most
+-- 64, and no two of them have one name, ignoring case.
+abbrev pub SpellsSchema : List NumberedWords → SchemaShape → Type 0
+SpellsSchema [] schema = ⊥
+SpellsSchema (line ∷ lines) schema =
+    (table_words line.words ≡ Some schema.name)
+    × IsTrue (is_name schema.name)
+    × AllZip SpellsColumn lines schema.columns
+    × (1 ≤ length schema.columns)
+    × (length schema.columns ≤ 64)
+    × IsTrue (are_apart (shape_names schema.columns))
+
+-- a text of at most 65,536 bytes whose lines spell a schema
+abbrev pub IsSchemaText : List ℕ → SchemaShape → Type 0
+IsSchemaText text schema = (length text ≤ 65536) × SpellsSchema (lines_in (whole text)) schema

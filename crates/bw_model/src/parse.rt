@@ -1,11 +1,11 @@
 //! Schema texts: first `TABLE name`, then a line `COLUMN name lo hi` or `COLUMN name lo hi NOT NULL` for each
 //! column, by the rules of `lines.rt`. Keywords are read ignoring case.
-ghost use Rattle.std.specs.Prelude.{◌≡◌, ◌≤◌, ◌<◌, false, map, length, option_map, pos, ◌≤ℤ◌, ◌<ℤ◌, ◌-ℤ◌, ◌^◌, IfOk, IsTrue};
+ghost use Rattle.std.specs.Prelude.{◌≡◌, ◌<◌, Ok, false, map, length, option_map, pos, ◌≤ℤ◌, ◌<ℤ◌, ◌-ℤ◌, ◌^◌, IfOk, IsTrue};
 ghost use Rattle.std.specs.List.{list_any};
 ghost use Rattle.bw_model.specs.Column.{names_of};
 ghost use Rattle.bw_model.specs.Fault.{Gives, at_line};
 ghost use Rattle.bw_model.specs.Lines.{line_of};
-ghost use Rattle.bw_model.specs.SchemaText.{schema_of, schema_shape, column_shape, column_words, with_bounds, are_not_null, column_on, table_on, is_range, bound_of, signed_digits, words_shape};
+ghost use Rattle.bw_model.specs.SchemaText.{schema_of, schema_shape, SchemaShape, IsSchemaText, column_shape, column_words, with_bounds, are_not_null, column_on, table_on, is_range, bound_of, signed_digits, words_shape};
 ghost use Rattle.bw_model.specs.Text.{same_text};
 
 use crate::column::Column;
@@ -31,28 +31,40 @@ impl Schema {
     /// within 64 bits (101); the 65th column (105); a name that isn't one (102); a name that an earlier column
     /// has (104); bounds out of order, or 2^63 or more apart (103). At the end of the text, one line after
     /// the last, a table that is missing is 101, and a table without columns 105.
-    #[tactic(auto, unfolding(crate::specs::SchemaText::schema_of, crate::specs::SchemaText::schema_on, crate::specs::SchemaText::columns_on))]
     pub fn parse(alloc: Global, text: &[u8]) -> Result<Schema, Fault>
-        ensures { Gives schema_shape result (schema_of text.now) }
+        // What is read is spelled so, and what is spelled so is read.
+        ensures spelled { IfOk result (λ schema. IsSchemaText text.now (schema_shape schema)) }
+        ensures accepted { (schema : SchemaShape) → IsSchemaText text.now schema → Gives schema_shape result (Ok schema) }
+
+        // Which fault it is.
+        ensures fault { Gives schema_shape result (schema_of text.now) }
     {
-        if text.len() > LONGEST_SCHEMA {
-            return Err(Fault::new(code::SCHEMA_TOO_LONG));
-        }
-        let mut lines = Lines::new(text);
-        let Some(first) = lines.next_line(alloc)? else {
-            return Err(at_line(code::SCHEMA_FORM, lines.number()));
-        };
-        let name = table_of(alloc, &first)?;
-        let mut columns: Vec<Column> = Vec::new(alloc);
-        while let Some(line) = lines.next_line(alloc)? {
-            let column = column_of(alloc, &line, &columns)?;
-            columns.push(column)?;
-        }
-        if columns.is_empty() {
-            return Err(at_line(code::COLUMN_COUNT, lines.number()));
-        }
-        Ok(Schema { name, columns })
+        read_schema(alloc, text)
     }
+}
+
+/// Reads a schema text line by line.
+#[tactic(auto, unfolding(crate::specs::SchemaText::schema_of, crate::specs::SchemaText::schema_on, crate::specs::SchemaText::columns_on))]
+fn read_schema(alloc: Global, text: &[u8]) -> Result<Schema, Fault>
+    ensures { Gives schema_shape result (schema_of text.now) }
+{
+    if text.len() > LONGEST_SCHEMA {
+        return Err(Fault::new(code::SCHEMA_TOO_LONG));
+    }
+    let mut lines = Lines::new(text);
+    let Some(first) = lines.next_line(alloc)? else {
+        return Err(at_line(code::SCHEMA_FORM, lines.number()));
+    };
+    let name = table_of(alloc, &first)?;
+    let mut columns: Vec<Column> = Vec::new(alloc);
+    while let Some(line) = lines.next_line(alloc)? {
+        let column = column_of(alloc, &line, &columns)?;
+        columns.push(column)?;
+    }
+    if columns.is_empty() {
+        return Err(at_line(code::COLUMN_COUNT, lines.number()));
+    }
+    Ok(Schema { name, columns })
 }
 
 fn at_line(code: u16, line: u64) -> Fault

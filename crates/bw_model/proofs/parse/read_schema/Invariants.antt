@@ -3,7 +3,7 @@ use Rattle.bw_model.specs.Lines.{lines_in, end_in}
 use Rattle.bw_model.specs.Name.{are_apart}
 use Rattle.bw_model.specs.Column.{names_of}
 use Rattle.bw_model.specs.SchemaText.{columns_on, column_shape}
-use Rattle.bw_model.proofs.schema.Schema.parse.Given as goal
+use Rattle.bw_model.proofs.parse.read_schema.Given as goal
 
 -- the columns so far are those of the lines so far
 abbrev pub invariant-loop-columns : goal.invariant-loop-columns
