@@ -55,16 +55,16 @@ code_of-value_of_code column code le =
     let within = code_within column.lo column.hi code column.ordered le in
     rw within (ap Some (distance_of_value column.lo code))
 
-given : (test : Bool) (distance code : ℕ) → cond test (Some distance) None ≡ Some code → (test ≡ true) × (distance ≡ code)
-given true distance code is = (refl, cc)
-given false distance code is = absurd (cc)
+pub given : {A : Type 0} (test : Bool) (x y : A) → cond test (Some x) None ≡ Some y → (test ≡ true) × (x ≡ y)
+given true x y is = (refl, cc)
+given false x y is = absurd (cc)
 
 pub value_of_code-code_of : (column : Column) (n : ℤ) (code : ℕ) → code_of column (Some n) ≡ Some code → value_of_code column code ≡ n
 value_of_code-code_of column n code is =
     let both = given (int_le column.lo n && int_le n column.hi) (unsigned_abs (n -ℤ column.lo)) code is in
     ap (λ k. column.lo +ℤ pos k) (sym both.1) ∙ value_of_distance column.lo column.hi n both.0
 
-both : (a b : Bool) → (a && b) ≡ true → (a ≡ true) × (b ≡ true)
+pub both : (a b : Bool) → (a && b) ≡ true → (a ≡ true) × (b ≡ true)
 both true b is = (refl, is)
 both false b is = absurd (cc)
 
@@ -103,11 +103,11 @@ length-low_bits : (count n : ℕ) → length (low_bits count n) ≡ count
 length-low_bits zero n = refl
 length-low_bits (suc count) n = ap suc (length-low_bits count n)
 
-length_value_list : (nullable null : Bool) (width code : ℕ) → length (cond nullable (null ∷ []) [] ++ low_bits width code) ≡ cond nullable 1 0 + width
+pub length_value_list : (nullable null : Bool) (width code : ℕ) → length (cond nullable (null ∷ []) [] ++ low_bits width code) ≡ cond nullable 1 0 + width
 length_value_list true null width code = omega (arith, length-low_bits width code)
 length_value_list false null width code = omega (arith, length-low_bits width code)
 
-length-value_bits : (column : Column) (value : Value) → length (value_bits column value) ≡ variable_count column
+pub length-value_bits : (column : Column) (value : Value) → length (value_bits column value) ≡ variable_count column
 length-value_bits column value = length_value_list column.nullable (is_null value) (width_of column) (unwrap_or (code_of column value) 0)
 
 row_from-bits_of : (columns : List Column) (values : List Value) (before : List Bool) → admits_values columns values ≡ true →

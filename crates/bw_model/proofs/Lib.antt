@@ -3,6 +3,7 @@ pub mod CondLemmas
 pub mod DigitLemmas
 pub mod LineLemmas
 pub mod Numbers
+pub mod PlaceLemmas
 pub mod SchemaLemmas
 pub mod SchemaSpelling
 pub mod TreeLemmas

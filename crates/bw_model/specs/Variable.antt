@@ -4,7 +4,7 @@ use Rattle.std.specs.Int.{bit_at}
 use Rattle.bw_model.specs.declared.column.Column.{Column}
 use Rattle.bw_model.specs.Row.{Value}
 use Rattle.bw_model.specs.Truth.{is_null}
-use Rattle.bw_model.specs.Code.{width_of, code_of, value_of_code}
+use Rattle.bw_model.specs.Code.{width_of, width_at, code_of, value_of_code, value_at}
 
 -- For each column in order come first its null variable, where it is nullable, and then its bits from the top
 -- to bit 0.
@@ -22,10 +22,13 @@ variables_of columns = sum_by variable_count columns
 abbrev pub first_variable : List Column → ℕ → ℕ
 first_variable columns column = variables_of (take column columns)
 
+-- the column of this number takes null
+abbrev pub is_nullable : List Column → ℕ → Bool
+is_nullable columns column = slice_index_or (map (λ c. c.nullable) columns) column false
+
 -- a column's null variable
 abbrev pub null_variable : List Column → ℕ → Option ℕ
-null_variable columns column =
-    if slice_index_or (map (λ c. c.nullable) columns) column false then Some (first_variable columns column) else None
+null_variable columns column = if is_nullable columns column then Some (first_variable columns column) else None
 
 -- The variable of a column's bit, of which bit 0 is the least: a column's variables end with bit 0, just before the
 -- next column's.
@@ -75,3 +78,10 @@ row_from (column ∷ columns) bits first = value_spelled column bits first ∷ r
 -- the row of an assignment
 abbrev pub row_of : List Column → Assignment → List Value
 row_of columns bits = row_from columns bits 0
+
+-- the value that an assignment gives to the column of this number: null where its null bit is 1, else that of the code
+-- that its bits spell
+abbrev pub value_assigned : List Column → Assignment → ℕ → Value
+value_assigned columns bits column =
+    if is_nullable columns column && bits (first_variable columns column) then None
+    else Some (value_at columns column (spelled bits (bit_variable columns column (width_at columns column - 1)) (width_at columns column)))

@@ -69,7 +69,7 @@ impl Schema {
 
 impl Column {
     /// Whether the column takes a value.
-    pub fn admits(&self, value: Value) -> bool
+    pub(crate) fn admits(&self, value: Value) -> bool
         ensures { result ≡ admits_value self.now value }
     {
         match value {
@@ -79,7 +79,7 @@ impl Column {
     }
 
     /// The greatest code of the column.
-    pub fn span(&self) -> u64
+    pub(crate) fn span(&self) -> u64
         ensures { result ≡ span_of self.now }
     {
         self.hi.abs_diff(self.lo)
@@ -87,7 +87,7 @@ impl Column {
 
     /// How many binary digits the column's codes have.
     #[tactic(auto, unfolding(crate::specs::Code::width_of))]
-    pub fn width(&self) -> u32
+    pub(crate) fn width(&self) -> u32
         ensures width { result ≡ width_of self.now }
         ensures bounds { (1 ≤ result) × (result ≤ 63) }
     {
@@ -96,7 +96,7 @@ impl Column {
 
     /// The code of a value.
     #[tactic(auto, using(crate::proofs::DigitLemmas::below_width))]
-    pub fn code(&self, value: Value) -> Option<u64>
+    pub(crate) fn code(&self, value: Value) -> Option<u64>
         ensures code { result ≡ code_of self.now value }
         ensures small { IfSome result (λ code. code ≤ span_of self.now) }
         ensures fits { IfSome result (λ code. code < 2 ^ width_of self.now) }
@@ -116,7 +116,7 @@ impl Column {
     {}
 
     /// The value of a code.
-    pub fn value(&self, code: u64) -> i64
+    pub(crate) fn value(&self, code: u64) -> i64
         requires { code ≤ span_of self.now }
         ensures { result ≡ value_of_code self.now code }
     {

@@ -12,7 +12,7 @@ use std::alloc::Global;
 
 impl Name {
     /// An equal name.
-    pub fn copy(&self, alloc: Global) -> Result<Self, Fault>
+    pub(crate) fn copy(&self, alloc: Global) -> Result<Self, Fault>
         ensures equal { IfOk result (λ name. name ≡ self.now) }
         ensures only_memory { IsOkUnless result no_memory }
     {
@@ -22,7 +22,7 @@ impl Name {
 
 impl Column {
     /// An equal column.
-    pub fn copy(&self, alloc: Global) -> Result<Self, Fault>
+    pub(crate) fn copy(&self, alloc: Global) -> Result<Self, Fault>
         ensures equal { IfOk result (λ column. column ≡ self.now) }
         ensures only_memory { IsOkUnless result no_memory }
     {

@@ -1,9 +1,11 @@
 //! The variables of a schema: the null bits and code bits of a row, numbered from 0.
-ghost use Rattle.std.specs.Prelude.{◌≡◌, ◌+◌, ◌*◌, ◌<◌, ◌≤◌, length, IsTrue, IfSome, sum_by, take};
+ghost use Rattle.std.specs.Prelude.{◌≡◌, ◌==◌, ◌*◌, ◌<◌, ◌≤◌, ℕ, Some, length, unwrap_or, IsTrue};
+ghost use Rattle.std.specs.Int.{bit_at};
 ghost use Rattle.bw_model.specs.Column.{admits_values};
-ghost use Rattle.bw_model.specs.Code.{width_at};
-ghost use Rattle.bw_model.specs.Variable.{variable_count, variables_of, first_variable, null_variable, bit_variable, assignment_of, bits_of, row_of};
-ghost use Rattle.bw_model.specs.Row.{values_of};
+ghost use Rattle.bw_model.specs.Code.{width_at, code_at};
+ghost use Rattle.bw_model.specs.Truth.{is_null};
+ghost use Rattle.bw_model.specs.Variable.{Assignment, variables_of, null_variable, bit_variable, assignment_of, bits_of, row_of, value_assigned};
+ghost use Rattle.bw_model.specs.Row.{values_of, value_in};
 
 use crate::column::Column;
 use crate::row::Row;
@@ -41,6 +43,26 @@ impl Schema {
         requires { IsTrue (admits_values self.now.columns.items (values_of row.now)) }
         ensures { row_of self.now.columns.items
             (assignment_of (bits_of self.now.columns.items (values_of row.now))) ≡ values_of row.now }
+    {}
+
+    /// A law: where the bits of an admitted row stand.
+    pub fn bits_stand_at_variables(&self, row: &Row, col: usize)
+        requires admitted { IsTrue (admits_values self.now.columns.items (values_of row.now)) }
+        requires column { col < length self.now.columns.items }
+        ensures count { length (bits_of self.now.columns.items (values_of row.now)) ≡ variables_of self.now.columns.items }
+        ensures null { (variable : ℕ) → null_variable self.now.columns.items col ≡ Some variable
+            → assignment_of (bits_of self.now.columns.items (values_of row.now)) variable
+            ≡ is_null (value_in (values_of row.now) col) }
+        ensures code { (bit : ℕ) → bit < width_at self.now.columns.items col
+            → assignment_of (bits_of self.now.columns.items (values_of row.now)) (bit_variable self.now.columns.items col bit)
+            ≡ (bit_at (unwrap_or (code_at self.now.columns.items col (value_in (values_of row.now) col)) 0) bit == 1) }
+    {}
+
+    /// A law: the value that the row of an assignment has in a column.
+    pub fn row_of_assignment(&self, col: usize)
+        requires { col < length self.now.columns.items }
+        ensures { (bits : Assignment) → value_in (row_of self.now.columns.items bits) col
+            ≡ value_assigned self.now.columns.items bits col }
     {}
 }
 
