@@ -4,6 +4,7 @@ pub mod DigitLemmas
 pub mod LineLemmas
 pub mod Numbers
 pub mod PlaceLemmas
+pub mod SameLemmas
 pub mod SchemaLemmas
 pub mod SchemaSpelling
 pub mod TreeLemmas

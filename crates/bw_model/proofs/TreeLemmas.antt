@@ -5,7 +5,7 @@ use Rattle.bw_model.specs.declared.cond.Op.{Op}
 use Rattle.bw_model.specs.declared.cond.Operand.{Operand}
 use Rattle.bw_model.specs.declared.cond.Cond.{Cond, Cond-F, fold-roll-Cond}
 use Rattle.bw_model.specs.declared.cond.Cond.TheVariants.{Always, Cmp, Between, Among, IsNull, And, Or, Not, Test, rolls-Always, rolls-Cmp, rolls-Between, rolls-Among, rolls-IsNull, rolls-And, rolls-Or, rolls-Not, rolls-Test}
-use Rattle.bw_model.specs.CondTree.{CondTree, always, comparison, range_test, list_test, null_test, conjunction, disjunction, negation, truth_test, trees_of, tree_step, tree_of}
+use Rattle.bw_model.specs.CondTree.{CondTree, always, comparison, range_test, list_test, null_test, conjunction, disjunction, opposite, truth_test, trees_of, tree_step, tree_of}
 
 pub tree_of-Always : tree_of Always ≡ always
 unfolding tree_of
@@ -35,7 +35,7 @@ pub tree_of-Or : (parts : Vec Cond Global) → tree_of (Or parts) ≡ disjunctio
 unfolding tree_of
 tree_of-Or parts = ap tree_of (sym (rolls-Or parts)) ∙ fold-roll-Cond CondTree tree_step (Cond-F.Or parts)
 
-pub tree_of-Not : (part : Box Cond Global) → tree_of (Not part) ≡ negation (tree_of part.value)
+pub tree_of-Not : (part : Box Cond Global) → tree_of (Not part) ≡ opposite (tree_of part.value)
 unfolding tree_of
 tree_of-Not part = ap tree_of (sym (rolls-Not part)) ∙ fold-roll-Cond CondTree tree_step (Cond-F.Not part)
 

@@ -1,6 +1,8 @@
 //! Copies: equal values in memory of their own.
-ghost use Rattle.std.specs.Prelude.{◌≡◌, IfOk, IsOkUnless, map};
+ghost use Rattle.std.specs.Prelude.{◌≡◌, IfOk, IsOkUnless, List, map};
+ghost use Rattle.bw_model.specs.Cond.{truth_of};
 ghost use Rattle.bw_model.specs.CondTree.{tree_of};
+ghost use Rattle.bw_model.specs.Row.{Value};
 ghost use Rattle.bw_model.specs.Fault.{no_memory};
 
 use crate::column::Column;
@@ -54,6 +56,12 @@ impl Schema {
 }
 
 impl Cond {
+    /// A law: conditions with the same tree have the same truth on every row.
+    pub fn same_truth(&self, other: &Cond)
+        requires { tree_of self.now ≡ tree_of other.now }
+        ensures { (row : List Value) → truth_of row self.now ≡ truth_of row other.now }
+    {}
+
     /// An equal condition.
     #[cycle(copy)]
     #[tactic(auto, using(crate::proofs::TreeLemmas::trees))]
