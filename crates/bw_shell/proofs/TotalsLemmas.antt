@@ -1,5 +1,5 @@
 -- Totals that rows are added to, all at once.
-use Rattle.std.proofs.Common.{◌≡◌, ℕ, zero, suc, ◌+◌, ◌<◌, ◌^◌, ◌≤◌, List, [], ◌∷◌, map, filter, Bool, true, false, ◌&&◌, cond, refl, ap, ◌∙◌, sym, arith, length, get_or, take, drop, ◌++◌, nat_le, nat_lt}
+use Rattle.std.proofs.Common.{◌≡◌, ℕ, zero, suc, ◌+◌, ◌<◌, ◌^◌, ◌≤◌, List, [], ◌∷◌, map, filter, Bool, true, false, ◌&&◌, cond, refl, ap, ◌∙◌, arith, length, get_or, take, drop, ◌++◌, nat_le, nat_lt}
 use Rattle.std.specs.List.{list_all}
 use Rattle.bw_model.specs.declared.query.Item.{Item}
 use Rattle.bw_model.specs.Row.{Value}

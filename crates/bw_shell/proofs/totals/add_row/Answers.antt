@@ -1,5 +1,5 @@
 -- The total at hand is as it was, and has room; then it has the row.
-use Rattle.std.proofs.Common.{◌∙◌, ap, get_or}
+use Rattle.std.proofs.Common.{ap, get_or}
 use Rattle.std.proofs.lemmas.List.Edits.{map_over_more}
 use Rattle.bw_model.specs.Row.{values_of}
 use Rattle.bw_rowwise.specs.Accumulator.{Tally, tally_with}

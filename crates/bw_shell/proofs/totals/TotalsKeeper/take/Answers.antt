@@ -1,5 +1,5 @@
 -- Totals that have one row more are of one row more.
-use Rattle.std.proofs.Common.{◌≡◌, ◌+◌, ◌∙◌, List, map, length, true, subst, sym, ap, vec_len}
+use Rattle.std.proofs.Common.{◌≡◌, ◌+◌, ◌∙◌, List, map, length, true, subst, sym, ap}
 use Rattle.std.specs.List.{list_all}
 use Rattle.std.proofs.lemmas.List.{length-map, with_items_is}
 use Rattle.bw_model.specs.Row.{values_of}
