@@ -5,6 +5,12 @@
 #![tactic(auto)]
 
 #[cfg(test)]
+mod device_calls;
+#[cfg(test)]
+mod devices;
+#[cfg(test)]
 mod direct;
+#[cfg(test)]
+mod faults;
 #[cfg(test)]
 mod outcome;

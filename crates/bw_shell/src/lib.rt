@@ -10,8 +10,6 @@
 mod answer;
 mod csv_query;
 mod csv_text;
-#[cfg(test)]
-mod device_tests;
 mod input;
 mod lines;
 mod listing;

@@ -1,0 +1,110 @@
+//! Sources and sinks that give or take little at a time, fail at a given call, or never end.
+ghost use Rattle.std.specs.Prelude.{◌≡◌, None};
+
+use bw_file::{Failed, Sink, Source};
+
+/// What one call may move, at which call the device fails (from 1; 0 for never), and what has happened.
+#[derive(Drop)]
+pub struct Calls {
+    pub piece: usize,
+    pub fail_at: u64,
+    pub made: u64,
+    pub failures: u64,
+}
+
+impl Calls {
+    pub fn new(piece: usize, fail_at: u64) -> Self
+        ensures { result.failures ≡ 0 }
+    {
+        Calls {
+            piece,
+            fail_at,
+            made: 0,
+            failures: 0,
+        }
+    }
+}
+
+/// Gives the bytes that are left, and then nothing.
+#[derive(Drop)]
+pub struct Pieces<'a> {
+    pub left: &'a [u8],
+    pub calls: Calls,
+}
+
+impl Source for Pieces<'_> {
+    ghost to_come = { λ _. None };
+
+    ghost failures = { λ s. s.calls.failures };
+
+    fn read(&mut self, buffer: &mut [u8]) -> Result<usize, Failed> {
+        self.calls.made = self.calls.made.saturating_add(1);
+        if self.calls.made == self.calls.fail_at {
+            self.calls.failures += 1;
+            return Err(Failed);
+        }
+        let n = self.calls.piece.min(buffer.len()).min(self.left.len());
+        buffer[..n].copy_from_slice(&self.left[..n]);
+        self.left = &self.left[n..];
+        Ok(n)
+    }
+
+    fn failures(&self) -> u64 {
+        self.calls.failures
+    }
+}
+
+/// Gives `#` without end, and counts what it gave.
+#[derive(Drop)]
+pub struct Endless {
+    pub piece: usize,
+    pub given: usize,
+}
+
+impl Source for Endless {
+    ghost to_come = { λ _. None };
+
+    ghost failures = { λ _. 0 };
+
+    fn read(&mut self, buffer: &mut [u8]) -> Result<usize, Failed> {
+        let n = self.piece.min(buffer.len());
+        for byte in buffer.iter_mut() {
+            *byte = b'#';
+        }
+        self.given = self.given.saturating_add(n);
+        Ok(n)
+    }
+
+    fn failures(&self) -> u64 {
+        0
+    }
+}
+
+/// Keeps the bytes that it took.
+#[derive(Drop)]
+pub struct Taker {
+    pub taken: Vec<u8>,
+    pub calls: Calls,
+}
+
+impl Sink for Taker {
+    ghost taken = { λ _. None };
+
+    ghost failures = { λ s. s.calls.failures };
+
+    fn write(&mut self, bytes: &[u8]) -> Result<usize, Failed> {
+        self.calls.made = self.calls.made.saturating_add(1);
+        let n = self.calls.piece.max(1).min(bytes.len());
+        if self.calls.made == self.calls.fail_at
+            || self.taken.extend_from_slice(&bytes[..n]).is_err()
+        {
+            self.calls.failures += 1;
+            return Err(Failed);
+        }
+        Ok(n)
+    }
+
+    fn failures(&self) -> u64 {
+        self.calls.failures
+    }
+}
