@@ -1,2 +1,10 @@
+pub mod Condition
+pub mod Cut
+pub mod Items
+pub mod Lexer
+pub mod Piece
+pub mod Reader
+pub mod Reading
 pub mod Refusal
+pub mod Statement
 pub mod Token

@@ -1,7 +1,7 @@
 -- The numbers of a statement's faults.
 use Rattle.std.specs.Prelude.{ℕ, Bool, IsTrue, ◌&&◌, ◌||◌, ◌==◌, nat_le}
 use Rattle.bw_sql.specs.declared.reader.Refusal.{Refusal}
-use Rattle.bw_sql.specs.declared.reader.Refusal.TheVariants.{Syntax, UnknownTable, UnknownColumn, Literal}
+use Rattle.bw_sql.specs.declared.reader.Refusal.TheVariants.{Syntax, UnknownTable, UnknownColumn, Literal, MixedItems, Nesting}
 use Rattle.bw_model.specs.declared.fault.Fault.{Fault}
 
 abbrev pub number : Refusal → ℕ
@@ -9,6 +9,8 @@ number Syntax = 402
 number UnknownTable = 403
 number UnknownColumn = 404
 number Literal = 405
+number MixedItems = 406
+number Nesting = 408
 
 -- one of 401 to 408, or want of memory
 abbrev pub is_statement_code : ℕ → Bool

@@ -1,9 +1,12 @@
 //! Cuts a statement into tokens, the longest piece first.
-ghost use Rattle.std.specs.Prelude.{◌≡◌, ◌<◌, ◌+◌, length, not, ◌==◌, IfSome};
-ghost use Rattle.std.specs.List.{take_while};
+ghost use Rattle.std.specs.Prelude.{◌≡◌, ◌≤◌, length, [], ◌∷◌, false, IfOk, IfSome, IfNone, MatchOption};
+ghost use Rattle.std.specs.List.{prefix_len};
 ghost use Rattle.std.specs.Char.{is_ascii_digit};
 ghost use Rattle.bw_model.specs.Text.{goes_on_in_word};
-ghost use Rattle.bw_sql.specs.Token.{lexeme, word_lexeme};
+ghost use Rattle.bw_sql.specs.Cut.{IsCut, spots};
+ghost use Rattle.bw_sql.specs.Lexer.{piece};
+ghost use Rattle.bw_sql.specs.Piece.{IsSign, IsLongestSign, BeginsNoSign, IsLongest, BeginsNoPiece, is_short_sign, is_long_sign, is_blank, is_in_comment, begins_comment};
+ghost use Rattle.bw_sql.specs.Token.{Compare, lexeme, word_lexeme};
 
 use crate::token::{Mark, Placed, Token};
 use bw_model::{Keyword, Op, begins_word, goes_on_in_word};
@@ -25,7 +28,9 @@ enum Piece<'a> {
 }
 
 /// Cuts a text into tokens.
-pub fn lex(alloc: Global, text: &[u8]) -> Result<Lexed<'_>, AllocError> {
+pub fn lex(alloc: Global, text: &[u8]) -> Result<Lexed<'_>, AllocError>
+    ensures { IfOk result (λ lexed. IsCut 0 text.now (spots lexed.tokens.items) lexed.stopped) }
+{
     let mut tokens = Vec::new(alloc);
     let mut rest = text;
     while !rest.is_empty() {
@@ -49,47 +54,60 @@ pub fn lex(alloc: Global, text: &[u8]) -> Result<Lexed<'_>, AllocError> {
 
 /// The longest piece that begins a text, and what follows it.
 fn first_piece(text: &[u8]) -> Option<(Piece<'_>, &[u8])>
-    ensures { IfSome result (λ found. length found.1.now < length text.now) }
+    ensures { MatchOption result (BeginsNoPiece text.now) (λ found. IsLongest text.now found.1.now (piece found.0)) }
 {
     let (first, rest) = text.split_first()?;
     if is_blank(*first) {
         Some((Piece::Gap, rest))
     } else if begins_word(*first) {
-        let (word, after) = text.split_at(1 + word_len(rest));
+        let (word, after) = text.split_at(word_len(text));
         Some((Piece::Token(word_token(word)), after))
     } else if first.is_ascii_digit() {
-        let (digits, after) = text.split_at(1 + digits_len(rest));
+        let (digits, after) = text.split_at(digits_len(text));
         Some((Piece::Token(Token::Digits(digits)), after))
-    } else if *first == b'-' && rest.first().copied() == Some(b'-') {
-        let (_, after) = text.split_at(1 + comment_len(rest));
+    } else if begins_comment(text) {
+        let (_, after) = text.split_at(comment_len(text));
         Some((Piece::Gap, after))
     } else {
-        mark(*first, rest).map(|(token, after)| (Piece::Token(token), after))
+        let (token, after) = sign(text)?;
+        Some((Piece::Token(token), after))
     }
 }
 
 /// Whether a byte is a blank, a tab, an LF or a CR.
-fn is_blank(c: u8) -> bool {
+fn is_blank(c: u8) -> bool
+    ensures { result ≡ is_blank c }
+{
     c == b' ' || c == b'\t' || c == b'\n' || c == b'\r'
+}
+
+/// Whether two dashes begin a text.
+fn begins_comment(text: &[u8]) -> bool
+    ensures { result ≡ begins_comment text.now }
+{
+    text.starts_with(b"--")
 }
 
 /// How many bytes of a text, from its first on, go on in a word.
 fn word_len(text: &[u8]) -> usize
-    ensures { result ≡ length (take_while goes_on_in_word text.now) }
+    ensures is { result ≡ prefix_len goes_on_in_word text.now }
+    ensures within { result ≤ length text.now }
 {
     text.iter().take_while(|c| goes_on_in_word(**c)).count()
 }
 
 /// How many digits begin a text.
 fn digits_len(text: &[u8]) -> usize
-    ensures { result ≡ length (take_while is_ascii_digit text.now) }
+    ensures is { result ≡ prefix_len is_ascii_digit text.now }
+    ensures within { result ≤ length text.now }
 {
     text.iter().take_while(|c| c.is_ascii_digit()).count()
 }
 
 /// How many bytes of a text come before its first LF.
 fn comment_len(text: &[u8]) -> usize
-    ensures { result ≡ length (take_while (λ c. not (c == 10)) text.now) }
+    ensures is { result ≡ prefix_len is_in_comment text.now }
+    ensures within { result ≤ length text.now }
 {
     text.iter().take_while(|c| **c != b'\n').count()
 }
@@ -104,19 +122,25 @@ fn word_token(word: &[u8]) -> Token<'_>
     }
 }
 
-/// The longest mark or comparison that a byte and the bytes behind it begin with.
-fn mark(first: u8, rest: &[u8]) -> Option<(Token<'_>, &[u8])>
-    ensures { IfSome result (λ found. length found.1.now < length rest.now + 1) }
+/// The longest comparison or mark that begins a text, and what follows it.
+fn sign(text: &[u8]) -> Option<(Token<'_>, &[u8])>
+    ensures { MatchOption result (BeginsNoSign text.now) (λ found. IsLongestSign text.now found.1.now (lexeme found.0)) }
 {
-    match rest.split_first() {
-        Some((second, after)) if let Some(op) = long_comparison(first, *second) => {
-            Some((Token::Compare(op), after))
+    let (first, rest) = text.split_first()?;
+    if let Some((second, after)) = rest.split_first() {
+        if let Some(op) = long_comparison(*first, *second) {
+            return Some((Token::Compare(op), after));
         }
-        _ => short_mark(first).map(|token| (token, rest)),
     }
+    let token = short_sign(*first)?;
+    Some((token, rest))
 }
 
-fn long_comparison(first: u8, second: u8) -> Option<Op> {
+/// The comparison that two bytes are.
+fn long_comparison(first: u8, second: u8) -> Option<Op>
+    ensures found { IfSome result (λ op. IsSign (first ∷ second ∷ []) (Compare op)) }
+    ensures none { IfNone result (is_long_sign first second ≡ false) }
+{
     match (first, second) {
         (b'<', b'>') => Some(Op::Ne),
         (b'<', b'=') => Some(Op::Le),
@@ -125,17 +149,21 @@ fn long_comparison(first: u8, second: u8) -> Option<Op> {
     }
 }
 
-fn short_mark(c: u8) -> Option<Token<'static>> {
+/// The comparison or mark that a byte is.
+fn short_sign(c: u8) -> Option<Token<'static>>
+    ensures found { IfSome result (λ token. IsSign (c ∷ []) (lexeme token)) }
+    ensures none { IfNone result (is_short_sign c ≡ false) }
+{
     match c {
         b'(' => Some(Token::Mark(Mark::Open)),
         b')' => Some(Token::Mark(Mark::Close)),
-        b',' => Some(Token::Mark(Mark::Comma)),
         b'*' => Some(Token::Mark(Mark::Star)),
-        b';' => Some(Token::Mark(Mark::Semicolon)),
         b'+' => Some(Token::Mark(Mark::Plus)),
+        b',' => Some(Token::Mark(Mark::Comma)),
         b'-' => Some(Token::Mark(Mark::Minus)),
-        b'=' => Some(Token::Compare(Op::Eq)),
+        b';' => Some(Token::Mark(Mark::Semicolon)),
         b'<' => Some(Token::Compare(Op::Lt)),
+        b'=' => Some(Token::Compare(Op::Eq)),
         b'>' => Some(Token::Compare(Op::Gt)),
         _ => None,
     }

@@ -1,22 +1,31 @@
 //! The parser of the query language, a profile of SQL-92.
 //!
-//! The contract that the crates above use is that of [`parse`]: what is parsed names columns of the schema
-//! alone, its lists are as long as `bw_model` wants them, and a refusal is one of the statement's faults or
-//! want of memory. The fault with the lowest offset is answered, at one offset the one with the lowest
-//! number, and a statement that is too long before all.
+//! The contract that the crates above use is that of [`parse`]. A text is cut into tokens by the longest piece
+//! (`specs/Cut.antt`), in one way, as [`one_cut`] says, and its tokens are read as the grammar has them
+//! (`specs/Reading.antt`): the answer is the query that was read, or the first fault with its byte, want of
+//! memory aside. What is parsed names columns of the schema alone, and its lists are as long as `bw_model`
+//! wants them.
 //!
-//! Read `token.rt` first, and then `statement.rt`, which has the grammar.
+//! Read `token.rt` first, and then `statement.rt`, `items.rt`, `condition.rt` and `predicate.rt`, which have
+//! the grammar.
 #![tactic(auto)]
 
-ghost use Rattle.std.specs.Prelude.{◌≡◌, IfOk, IfErr, IsTrue, vec_len};
+ghost use Rattle.std.specs.Prelude.{List, ℕ, Option, ◌≡◌, ◌<◌, ◌≤◌, length, IfOk, IfErr, IsTrue, vec_len};
 ghost use Rattle.std.specs.List.{list_all};
 ghost use Rattle.bw_model.specs.Fault.{at_byte};
 ghost use Rattle.bw_model.specs.Cond.{names_within, is_whole};
-ghost use Rattle.bw_model.specs.Total.{item_within, is_aggregate};
+ghost use Rattle.bw_model.specs.Total.{item_within};
+ghost use Rattle.bw_sql.specs.Cut.{IsCut, Spot, spots};
+ghost use Rattle.bw_sql.specs.Items.{AreOfOneKind};
 ghost use Rattle.bw_sql.specs.Refusal.{IsStatementFault};
+ghost use Rattle.bw_sql.specs.Statement.{Answers, IsFaultOf};
 
+mod condition;
+mod items;
 mod lexer;
 mod literal;
+mod operand;
+mod predicate;
 mod reader;
 mod statement;
 #[cfg(test)]
@@ -38,12 +47,16 @@ pub const MAX_LEN: usize = 65_536;
 /// Refuses a statement of more than 65,536 bytes (407, at byte 65536); else, the lowest byte first and at
 /// one byte the lowest number: a byte that is part of no token, blank or comment (401), a token with which
 /// no query can go on, or the end where no query ends (402), a table (403) or a column (404) that isn't the
-/// schema's, and a literal that 64 bits don't hold (405, at its sign or first digit). 801 is want of memory.
+/// schema's, a literal that 64 bits don't hold (405, at its sign or first digit), an item of another kind than
+/// the first (406, at its first token), and a bracket or NOT that nests more than 100 deep (408). 801 is want
+/// of memory.
 pub fn parse(alloc: Global, schema: &Schema, text: &[u8]) -> Result<Query, Fault>
+    ensures too_long { MAX_LEN < length text.now → result ≡ Err (at_byte 407 MAX_LEN) }
+    ensures exact { length text.now ≤ MAX_LEN → Answers schema.now text.now result }
     ensures columns { IfOk result (λ query. IsTrue (names_within (vec_len schema.now.columns) query.cond)) }
     ensures whole { IfOk result (λ query. IsTrue (is_whole query.cond)) }
     ensures items { IfOk result (λ query. IsTrue (list_all (item_within (vec_len schema.now.columns)) query.items.items)) }
-    ensures aggregates { IfOk result (λ query. IsTrue (list_all is_aggregate query.items.items)) }
+    ensures kinds { IfOk result (λ query. AreOfOneKind query.items.items) }
     ensures fault { IfErr result IsStatementFault }
 {
     if text.len() > MAX_LEN {
@@ -59,6 +72,11 @@ pub fn parse(alloc: Global, schema: &Schema, text: &[u8]) -> Result<Query, Fault
     }
 }
 
+/// A text is cut into tokens in one way.
+pub fn one_cut()
+    ensures { (at : ℕ) (text : List ℕ) (tokens others : List Spot) (stop other : Option ℕ) → IsCut at text tokens stop → IsCut at text others other → (tokens ≡ others) × (stop ≡ other) }
+{}
+
 fn fault_at(code: u16, at: usize) -> Fault
     ensures { result ≡ at_byte code at }
 {
@@ -70,7 +88,8 @@ fn fault_at(code: u16, at: usize) -> Fault
 
 /// The fault of a reader that stopped: behind the last token, the byte that begins no token comes first.
 fn refusal(stop: Stop, lexed: &Lexed<'_>, text: &[u8]) -> Fault
-    ensures { IsStatementFault result }
+    ensures is { IsFaultOf (spots lexed.now.tokens.items) lexed.now.stopped (length text.now) stop result }
+    ensures fault { IsStatementFault result }
 {
     let Stop::Refused { why, left } = stop else {
         return Fault::new(code::OUT_OF_MEMORY);

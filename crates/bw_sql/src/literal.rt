@@ -1,9 +1,19 @@
 //! Literals: a sign, where there is one, and digits, of a number that fits 64 bits.
+ghost use Rattle.std.specs.Prelude.{◌≡◌, ◌<◌, ◌≤◌, ◌^◌, length, IfOk};
+ghost use Rattle.std.specs.Option.{SomeIff};
+ghost use Rattle.bw_sql.specs.Reader.{Reads};
+ghost use Rattle.bw_sql.specs.Reading.{literal_at, sign_at, digits_at, number_of, value_after};
+ghost use Rattle.bw_sql.specs.Token.{lexemes};
+
 use crate::reader::{Refusal, Stop, after_mark};
 use crate::token::{Mark, Placed, Token};
 
 /// The number that a literal spells, and the tokens behind it.
-pub fn literal<'t, 'a>(tokens: &'t [Placed<'a>]) -> Result<(i64, &'t [Placed<'a>]), Stop> {
+#[tactic(auto, unfolding(crate::specs::Reading::literal_at))]
+pub fn literal<'t>(tokens: &'t [Placed<'t>]) -> Result<(i64, &'t [Placed<'t>]), Stop>
+    ensures read { Reads (λ read. (read.0, lexemes read.1.now)) result (literal_at (lexemes tokens.now)) }
+    ensures shorter { IfOk result (λ read. length read.1.now < length tokens.now) }
+{
     let (is_negative, unsigned) = sign(tokens);
     let (digits, rest) = digits(unsigned)?;
     match number(is_negative, digits) {
@@ -13,7 +23,11 @@ pub fn literal<'t, 'a>(tokens: &'t [Placed<'a>]) -> Result<(i64, &'t [Placed<'a>
 }
 
 /// Whether a minus comes first, and the tokens behind the sign, where there is one.
-fn sign<'t, 'a>(tokens: &'t [Placed<'a>]) -> (bool, &'t [Placed<'a>]) {
+#[tactic(auto, unfolding(crate::specs::Reading::sign_at))]
+fn sign<'t>(tokens: &'t [Placed<'t>]) -> (bool, &'t [Placed<'t>])
+    ensures is { (result.0, lexemes result.1.now) ≡ sign_at (lexemes tokens.now) }
+    ensures shorter { length result.1.now ≤ length tokens.now }
+{
     if let Some(rest) = after_mark(Mark::Minus, tokens) {
         return (true, rest);
     }
@@ -24,15 +38,24 @@ fn sign<'t, 'a>(tokens: &'t [Placed<'a>]) -> (bool, &'t [Placed<'a>]) {
 }
 
 /// The digits that have to come, and the tokens behind them.
-fn digits<'t, 'a>(tokens: &'t [Placed<'a>]) -> Result<(&'a [u8], &'t [Placed<'a>]), Stop> {
-    match tokens.split_first() {
-        Some((first, rest)) if let Token::Digits(text) = first.token => Ok((text, rest)),
-        _ => Err(Stop::at(Refusal::Syntax, tokens)),
+#[tactic(auto, unfolding(crate::specs::Reading::digits_at))]
+fn digits<'t>(tokens: &'t [Placed<'t>]) -> Result<(&'t [u8], &'t [Placed<'t>]), Stop>
+    ensures read { Reads (λ read. (read.0.now, lexemes read.1.now)) result (digits_at (lexemes tokens.now)) }
+    ensures shorter { IfOk result (λ read. length read.1.now < length tokens.now) }
+{
+    if let Some((first, rest)) = tokens.split_first()
+        && let Token::Digits(text) = first.token
+    {
+        return Ok((text, rest));
     }
+    Err(Stop::at(Refusal::Syntax, tokens))
 }
 
 /// The number that a sign and digits spell, if 64 bits hold it.
-fn number(is_negative: bool, digits: &[u8]) -> Option<i64> {
+#[tactic(auto, unfolding(crate::specs::Reading::number_of))]
+fn number(is_negative: bool, digits: &[u8]) -> Option<i64>
+    ensures { result ≡ number_of is_negative digits.now }
+{
     let magnitude = magnitude(digits)?;
     if is_negative {
         0i64.checked_sub_unsigned(magnitude)
@@ -42,12 +65,14 @@ fn number(is_negative: bool, digits: &[u8]) -> Option<i64> {
 }
 
 /// The number that digits spell, if 64 bits hold it.
-fn magnitude(digits: &[u8]) -> Option<u64> {
+fn magnitude(digits: &[u8]) -> Option<u64>
+    ensures { SomeIff result (value_after 0 digits.now < 2 ^ 64) (value_after 0 digits.now) }
+{
     let mut n = 0u64;
     for digit in digits {
         n = n
             .checked_mul(10)?
-            .checked_add(u64::from(digit.wrapping_sub(b'0')))?;
+            .checked_add(u64::from(digit.saturating_sub(b'0')))?;
     }
     Some(n)
 }

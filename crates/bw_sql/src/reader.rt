@@ -1,7 +1,12 @@
 //! What the readers of the grammar share: each takes the tokens that are left, and answers what it read and
 //! the tokens behind it, or where and why it stopped.
-ghost use Rattle.std.specs.Prelude.{◌≡◌};
+ghost use Rattle.std.specs.Prelude.{◌≡◌, ◌<◌, length, IfOk, IfSome};
+ghost use Rattle.std.specs.Option.{option_map};
+ghost use Rattle.bw_sql.specs.declared.reader.Stop.TheVariants.{OutOfMemory};
+ghost use Rattle.bw_sql.specs.Reader.{Reads, refused};
+ghost use Rattle.bw_sql.specs.Reading.{after_keyword, after_mark, keyword_at, mark_at, name_at};
 ghost use Rattle.bw_sql.specs.Refusal.{number};
+ghost use Rattle.bw_sql.specs.Token.{lexemes};
 
 use crate::token::{Mark, Placed, Token};
 use bw_model::{Keyword, code};
@@ -14,6 +19,8 @@ pub enum Refusal {
     UnknownTable,
     UnknownColumn,
     Literal,
+    MixedItems,
+    Nesting,
 }
 
 impl Refusal {
@@ -26,6 +33,8 @@ impl Refusal {
             Refusal::UnknownTable => code::UNKNOWN_TABLE,
             Refusal::UnknownColumn => code::UNKNOWN_COLUMN,
             Refusal::Literal => code::LITERAL,
+            Refusal::MixedItems => code::MIXED_ITEMS,
+            Refusal::Nesting => code::NESTING,
         }
     }
 }
@@ -40,7 +49,9 @@ pub enum Stop {
 
 impl Stop {
     /// A refusal at the first of these tokens.
-    pub fn at(why: Refusal, tokens: &[Placed<'_>]) -> Self {
+    pub fn at(why: Refusal, tokens: &[Placed<'_>]) -> Self
+        ensures { result ≡ refused why (length tokens.now) }
+    {
         Stop::Refused {
             why,
             left: tokens.len(),
@@ -48,38 +59,64 @@ impl Stop {
     }
 }
 
+/// The tokens that a loop has left.
+#[derive(Clone, Copy, Debug)]
+pub struct Left<'t> {
+    pub tokens: &'t [Placed<'t>],
+}
+
 impl From<AllocError> for Stop {
+    ghost from_gives = { λ _ stop. stop ≡ OutOfMemory };
+
     fn from(_error: AllocError) -> Self {
         Stop::OutOfMemory
     }
 }
 
 impl<T: Drop> From<AllocFailed<T>> for Stop {
+    ghost from_gives = { λ _ stop. stop ≡ OutOfMemory };
+
     fn from(_error: AllocFailed<T>) -> Self {
         Stop::OutOfMemory
     }
 }
 
 /// The tokens behind a keyword, where it comes first.
-pub fn after_keyword<'t, 'a>(word: Keyword, tokens: &'t [Placed<'a>]) -> Option<&'t [Placed<'a>]> {
-    let (first, rest) = tokens.split_first()?;
-    match first.token {
-        Token::Keyword(found) if found == word => Some(rest),
-        _ => None,
+#[tactic(auto, unfolding(crate::specs::Reading::after_keyword))]
+pub fn after_keyword<'t>(word: Keyword, tokens: &'t [Placed<'t>]) -> Option<&'t [Placed<'t>]>
+    ensures is { option_map (λ rest. lexemes rest.now) result ≡ after_keyword word (lexemes tokens.now) }
+    ensures shorter { IfSome result (λ rest. length rest.now < length tokens.now) }
+{
+    if let Some((first, rest)) = tokens.split_first()
+        && let Token::Keyword(found) = first.token
+        && found == word
+    {
+        return Some(rest);
     }
+    None
 }
 
 /// The tokens behind a mark, where it comes first.
-pub fn after_mark<'t, 'a>(mark: Mark, tokens: &'t [Placed<'a>]) -> Option<&'t [Placed<'a>]> {
-    let (first, rest) = tokens.split_first()?;
-    match first.token {
-        Token::Mark(found) if found == mark => Some(rest),
-        _ => None,
+#[tactic(auto, unfolding(crate::specs::Reading::after_mark))]
+pub fn after_mark<'t>(mark: Mark, tokens: &'t [Placed<'t>]) -> Option<&'t [Placed<'t>]>
+    ensures is { option_map (λ rest. lexemes rest.now) result ≡ after_mark mark (lexemes tokens.now) }
+    ensures shorter { IfSome result (λ rest. length rest.now < length tokens.now) }
+{
+    if let Some((first, rest)) = tokens.split_first()
+        && let Token::Mark(found) = first.token
+        && found == mark
+    {
+        return Some(rest);
     }
+    None
 }
 
 /// The tokens behind a keyword, which has to come.
-pub fn keyword<'t, 'a>(word: Keyword, tokens: &'t [Placed<'a>]) -> Result<&'t [Placed<'a>], Stop> {
+#[tactic(auto, unfolding(crate::specs::Reading::keyword_at))]
+pub fn keyword<'t>(word: Keyword, tokens: &'t [Placed<'t>]) -> Result<&'t [Placed<'t>], Stop>
+    ensures read { Reads (λ rest. lexemes rest.now) result (keyword_at word (lexemes tokens.now)) }
+    ensures shorter { IfOk result (λ rest. length rest.now < length tokens.now) }
+{
     match after_keyword(word, tokens) {
         Some(rest) => Ok(rest),
         None => Err(Stop::at(Refusal::Syntax, tokens)),
@@ -87,7 +124,11 @@ pub fn keyword<'t, 'a>(word: Keyword, tokens: &'t [Placed<'a>]) -> Result<&'t [P
 }
 
 /// The tokens behind a mark, which has to come.
-pub fn mark<'t, 'a>(mark: Mark, tokens: &'t [Placed<'a>]) -> Result<&'t [Placed<'a>], Stop> {
+#[tactic(auto, unfolding(crate::specs::Reading::mark_at))]
+pub fn mark<'t>(mark: Mark, tokens: &'t [Placed<'t>]) -> Result<&'t [Placed<'t>], Stop>
+    ensures read { Reads (λ rest. lexemes rest.now) result (mark_at mark (lexemes tokens.now)) }
+    ensures shorter { IfOk result (λ rest. length rest.now < length tokens.now) }
+{
     match after_mark(mark, tokens) {
         Some(rest) => Ok(rest),
         None => Err(Stop::at(Refusal::Syntax, tokens)),
@@ -95,9 +136,15 @@ pub fn mark<'t, 'a>(mark: Mark, tokens: &'t [Placed<'a>]) -> Result<&'t [Placed<
 }
 
 /// The name that has to come, and the tokens behind it.
-pub fn name<'t, 'a>(tokens: &'t [Placed<'a>]) -> Result<(&'a [u8], &'t [Placed<'a>]), Stop> {
-    match tokens.split_first() {
-        Some((first, rest)) if let Token::Name(text) = first.token => Ok((text, rest)),
-        _ => Err(Stop::at(Refusal::Syntax, tokens)),
+#[tactic(auto, unfolding(crate::specs::Reading::name_at))]
+pub fn name<'t>(tokens: &'t [Placed<'t>]) -> Result<(&'t [u8], &'t [Placed<'t>]), Stop>
+    ensures read { Reads (λ read. (read.0.now, lexemes read.1.now)) result (name_at (lexemes tokens.now)) }
+    ensures shorter { IfOk result (λ read. length read.1.now < length tokens.now) }
+{
+    if let Some((first, rest)) = tokens.split_first()
+        && let Token::Name(text) = first.token
+    {
+        return Ok((text, rest));
     }
+    Err(Stop::at(Refusal::Syntax, tokens))
 }

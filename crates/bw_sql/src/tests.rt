@@ -50,6 +50,17 @@ fn statements(rt: HostRuntime) -> Result<(), Fail> {
     assert!(rt; matches!(all.cond, Cond::Always));
     let query = parse(rt.alloc(), &t, b"select count(*)from t where a<--x\n5;")?;
     assert_eq!(rt; literal_of(query), Some((Op::Lt, 5)));
+    for text in [
+        "SELECT * FROM t",
+        "SELECT a, A FROM t",
+        "SELECT COUNT(*), COUNT(a), SUM(a), MIN(a), MAX(a) FROM t",
+        "SELECT COUNT(*) FROM t WHERE a = a",
+        "SELECT COUNT(*) FROM t WHERE a NOT BETWEEN 1 AND 8 OR a IS NULL",
+        "SELECT COUNT(*) FROM t WHERE a NOT IN (0, NULL) AND NOT (a < 1) IS NOT UNKNOWN",
+        "SELECT COUNT(*) FROM t WHERE a IS NULL IS NOT FALSE",
+    ] {
+        assert!(rt; parse(rt.alloc(), &t, text.as_bytes()).is_ok(), "{text}");
+    }
     let m = table_of(&rt, rt.alloc(), b"m", b"x", i64::MIN, i64::MIN)?;
     let least = parse(
         rt.alloc(),
@@ -65,8 +76,13 @@ fn faults(rt: HostRuntime) -> Result<(), Fail> {
     let t = table_of(&rt, rt.alloc(), b"t", b"a", 0, 255)?;
     for (text, code, at) in [
         ("SELECT COUNT(*) FROM t WHERE a <", 402, 32),
-        ("SELECT zz FROM t", 402, 7),
-        ("SELECT COUNT(*) FROM t WHERE a = b", 402, 33),
+        ("SELECT zz FROM t", 404, 7),
+        ("SELECT a, COUNT(*) FROM t", 406, 10),
+        ("SELECT COUNT(*), zz FROM t", 404, 17),
+        ("SELECT COUNT(*), a FROM t", 406, 17),
+        ("SELECT COUNT(*) FROM t WHERE a = b", 404, 33),
+        ("SELECT COUNT(*) FROM t WHERE a IS TRUE", 402, 34),
+        ("SELECT COUNT(*) FROM t WHERE NOT NOT a = 1", 402, 33),
         ("SELECT COUNT(*) FROM u", 403, 21),
         ("SELECT COUNT(*) FROM t WHERE b = 1", 404, 29),
         (
@@ -106,5 +122,26 @@ fn faults(rt: HostRuntime) -> Result<(), Fail> {
             place: Place::Byte(65_536)
         }
     );
+    Ok(())
+}
+
+#[test]
+fn nests(rt: HostRuntime) -> Result<(), Fail> {
+    let t = table_of(&rt, rt.alloc(), b"t", b"a", 0, 255)?;
+    for (depth, want) in [(100, None), (101, Some(129))] {
+        let mut text = Vec::new(rt.alloc());
+        text.extend_from_slice(b"SELECT COUNT(*) FROM t WHERE ")?;
+        text.extend_from_slice(vec![in rt.alloc(); b'('; depth]?.as_slice())?;
+        text.extend_from_slice(b"a = 7")?;
+        text.extend_from_slice(vec![in rt.alloc(); b')'; depth]?.as_slice())?;
+        let fault = parse(rt.alloc(), &t, text.as_slice()).err();
+        assert_eq!(rt;
+            fault,
+            want.map(|at| Fault {
+                code: 408,
+                place: Place::Byte(at)
+            })
+        );
+    }
     Ok(())
 }

@@ -1,0 +1,10 @@
+pub mod Columns
+pub mod Cuts
+pub mod Joins
+pub mod Levels
+pub mod OneCut
+pub mod Pieces
+pub mod Readers
+pub mod Repeats
+pub mod Signs
+pub mod Values

@@ -1,0 +1,464 @@
+-- Reading a statement from its tokens: each reader takes the tokens that are left, and gives what it read and
+-- the tokens behind it, or where and why it stopped.
+use Rattle.std.specs.Prelude.{◌+◌, ◌*◌, ◌-◌, ℕ, ℤ, pos, neg_ℤ, Bool, true, false, suc, zero, List, [], ◌∷◌, ◌++◌, map, length, Option, Some, None, Result, Ok, Err, if◌then◌else◌, ◌&&◌, int_le, int_lt, ◌^◌}
+use Rattle.std.specs.List.{position, range_with_len}
+use Rattle.std.specs.Str.{bytes_eq}
+use Rattle.bw_model.specs.declared.cond.Op.{Op}
+use Rattle.bw_model.specs.declared.cond.Operand.{Operand}
+use Rattle.bw_model.specs.declared.cond.Operand.TheVariants.{Col, Lit, Null}
+use Rattle.bw_model.specs.declared.cond.Truth.{Truth}
+use Rattle.bw_model.specs.declared.cond.Truth.TheVariants.{No, Unknown, Yes}
+use Rattle.bw_model.specs.declared.keyword.Keyword.{Keyword}
+use Rattle.bw_model.specs.declared.keyword.Keyword.TheVariants as word
+use Rattle.bw_model.specs.declared.query.Item.{Item}
+use Rattle.bw_model.specs.declared.query.Item.TheVariants.{Plain, CountAll, Count, Sum, Min, Max}
+use Rattle.bw_model.specs.declared.query.Query.{Query}
+use Rattle.bw_model.specs.declared.schema.Schema.{Schema}
+use Rattle.bw_model.specs.Keyword.{spelling}
+use Rattle.bw_model.specs.Text.{same_text}
+use Rattle.bw_sql.specs.Condition.{Condition, Conditions, Always, Cmp, Between, Among, IsNull, And, Or, Not, Test, condition, conditions}
+use Rattle.bw_sql.specs.declared.items.Aggregate.{Aggregate}
+use Rattle.bw_sql.specs.declared.items.Aggregate.TheVariants as aggregate
+use Rattle.bw_sql.specs.declared.reader.Refusal.{Refusal}
+use Rattle.bw_sql.specs.declared.reader.Refusal.TheVariants.{Syntax, UnknownTable, UnknownColumn, Literal, MixedItems, Nesting}
+use Rattle.bw_sql.specs.declared.token.Mark.{Mark}
+use Rattle.bw_sql.specs.declared.token.Mark.TheVariants as mark
+use Rattle.bw_sql.specs.Piece.{mark_spelling}
+use Rattle.bw_sql.specs.Token.{Lexeme, Name, Digits, Reserved, Compare, Punct}
+
+-- why reading stopped, and how many tokens are left from there on
+pub record Halt : Type 0 where
+  pub why : Refusal
+  pub left : ℕ
+
+-- an answer, and then what follows from it, or else the first refusal
+infixl 10 ◌>>=◌
+abbrev pub ◌>>=◌ : {A B : Type 0} → Result A Halt → (A → Result B Halt) → Result B Halt
+(Ok x) >>= f = f x
+(Err halt) >>= f = Err halt
+
+abbrev pub refuse : {A : Type 0} → Refusal → List Lexeme → Result A Halt
+refuse why tokens = Err (record { why = why; left = length tokens })
+
+-- what comes first, where it does, and else a refusal
+abbrev pub wanted : {A : Type 0} → Option A → Refusal → List Lexeme → Result A Halt
+wanted (Some x) why tokens = Ok x
+wanted None why tokens = refuse why tokens
+
+-- a reserved word or a mark is known by its spelling
+abbrev pub same_keyword : Keyword → Keyword → Bool
+same_keyword a b = bytes_eq (spelling a) (spelling b)
+
+abbrev pub same_mark : Mark → Mark → Bool
+same_mark a b = bytes_eq (mark_spelling a) (mark_spelling b)
+
+-- the tokens behind a reserved word or a mark, where it comes first
+unfoldable pub after_keyword : Keyword → List Lexeme → Option (List Lexeme)
+after_keyword word [] = None
+after_keyword word (Reserved found ∷ tokens) = if same_keyword found word then Some tokens else None
+after_keyword word (Name text ∷ tokens) = None
+after_keyword word (Digits text ∷ tokens) = None
+after_keyword word (Compare op ∷ tokens) = None
+after_keyword word (Punct found ∷ tokens) = None
+
+unfoldable pub after_mark : Mark → List Lexeme → Option (List Lexeme)
+after_mark mark [] = None
+after_mark mark (Punct found ∷ tokens) = if same_mark found mark then Some tokens else None
+after_mark mark (Name text ∷ tokens) = None
+after_mark mark (Digits text ∷ tokens) = None
+after_mark mark (Compare op ∷ tokens) = None
+after_mark mark (Reserved found ∷ tokens) = None
+
+unfoldable pub keyword_at : Keyword → List Lexeme → Result (List Lexeme) Halt
+keyword_at word tokens = wanted (after_keyword word tokens) Syntax tokens
+
+unfoldable pub mark_at : Mark → List Lexeme → Result (List Lexeme) Halt
+mark_at mark tokens = wanted (after_mark mark tokens) Syntax tokens
+
+unfoldable pub name_at : List Lexeme → Result (List ℕ × List Lexeme) Halt
+name_at [] = refuse Syntax []
+name_at (Name text ∷ tokens) = Ok (text, tokens)
+name_at (Digits text ∷ tokens) = refuse Syntax (Digits text ∷ tokens)
+name_at (Reserved found ∷ tokens) = refuse Syntax (Reserved found ∷ tokens)
+name_at (Compare op ∷ tokens) = refuse Syntax (Compare op ∷ tokens)
+name_at (Punct found ∷ tokens) = refuse Syntax (Punct found ∷ tokens)
+
+unfoldable pub digits_at : List Lexeme → Result (List ℕ × List Lexeme) Halt
+digits_at [] = refuse Syntax []
+digits_at (Digits text ∷ tokens) = Ok (text, tokens)
+digits_at (Name text ∷ tokens) = refuse Syntax (Name text ∷ tokens)
+digits_at (Reserved found ∷ tokens) = refuse Syntax (Reserved found ∷ tokens)
+digits_at (Compare op ∷ tokens) = refuse Syntax (Compare op ∷ tokens)
+digits_at (Punct found ∷ tokens) = refuse Syntax (Punct found ∷ tokens)
+
+-- the number that digits spell behind those of another; byte 48 is the digit 0
+abbrev pub value_after : ℕ → List ℕ → ℕ
+value_after n [] = n
+value_after n (c ∷ cs) = value_after (n * 10 + (c - 48)) cs
+
+-- the number that a sign and digits spell, and whether 64 bits hold it
+abbrev pub literal_value : Bool → List ℕ → ℤ
+literal_value true digits = neg_ℤ (pos (value_after 0 digits))
+literal_value false digits = pos (value_after 0 digits)
+
+abbrev pub fits_in_64 : ℤ → Bool
+fits_in_64 n = int_le (neg_ℤ (pos (2 ^ 63))) n && int_lt n (pos (2 ^ 63))
+
+-- whether a minus comes first, and the tokens behind the sign, where there is one
+abbrev pub behind_plus : Option (List Lexeme) → List Lexeme → Bool × List Lexeme
+behind_plus (Some rest) tokens = (false, rest)
+behind_plus None tokens = (false, tokens)
+
+abbrev pub behind_minus : Option (List Lexeme) → List Lexeme → Bool × List Lexeme
+behind_minus (Some rest) tokens = (true, rest)
+behind_minus None tokens = behind_plus (after_mark mark.Plus tokens) tokens
+
+unfoldable pub sign_at : List Lexeme → Bool × List Lexeme
+sign_at tokens = behind_minus (after_mark mark.Minus tokens) tokens
+
+unfoldable pub number_of : Bool → List ℕ → Option ℤ
+number_of is_negative digits = if fits_in_64 (literal_value is_negative digits) then Some (literal_value is_negative digits) else None
+
+unfoldable pub literal_at : List Lexeme → Result (ℤ × List Lexeme) Halt
+literal_at tokens = do
+  digits ← digits_at (sign_at tokens).1
+  n ← wanted (number_of (sign_at tokens).0 digits.0) Literal tokens
+  Ok (n, digits.1)
+
+-- the number of the column of this name, ignoring case
+unfoldable pub column_named : Schema → List ℕ → Option ℕ
+column_named schema text = position (λ column. same_text column.name text) schema.columns.items
+
+unfoldable pub column_at : Schema → List Lexeme → Result (ℕ × List Lexeme) Halt
+column_at schema tokens = do
+  name ← name_at tokens
+  column ← wanted (column_named schema name.0) UnknownColumn tokens
+  Ok (column, name.1)
+
+unfoldable pub table_at : Schema → List Lexeme → Result (List Lexeme) Halt
+table_at schema tokens = do
+  name ← name_at tokens
+  if same_text schema.name name.0 then Ok name.1 else refuse UnknownTable tokens
+
+-- an operand: NULL, a column, or a literal
+abbrev pub begins_with_name : List Lexeme → Bool
+begins_with_name [] = false
+begins_with_name (Name text ∷ tokens) = true
+begins_with_name (Digits text ∷ tokens) = false
+begins_with_name (Reserved found ∷ tokens) = false
+begins_with_name (Compare op ∷ tokens) = false
+begins_with_name (Punct found ∷ tokens) = false
+
+abbrev pub column_operand : Schema → List Lexeme → Result (Operand × List Lexeme) Halt
+column_operand schema tokens = do
+  column ← column_at schema tokens
+  Ok (Col column.0, column.1)
+
+abbrev pub literal_operand : List Lexeme → Result (Operand × List Lexeme) Halt
+literal_operand tokens = do
+  n ← literal_at tokens
+  Ok (Lit n.0, n.1)
+
+abbrev pub operand_behind : Option (List Lexeme) → Schema → List Lexeme → Result (Operand × List Lexeme) Halt
+operand_behind (Some rest) schema tokens = Ok (Null, rest)
+operand_behind None schema tokens = if begins_with_name tokens then column_operand schema tokens else literal_operand tokens
+
+unfoldable pub operand_at : Schema → List Lexeme → Result (Operand × List Lexeme) Halt
+operand_at schema tokens = operand_behind (after_keyword word.Null tokens) schema tokens
+
+-- what is read again and again, as long as what introduces it comes; there are no more of them than tokens
+abbrev pub more_behind : {A : Type 0} → Option (List Lexeme) → List Lexeme → (List Lexeme → Result (A × List Lexeme) Halt) →
+    (List Lexeme → Result (List A × List Lexeme) Halt) → Result (List A × List Lexeme) Halt
+more_behind None tokens one others = Ok ([], tokens)
+more_behind (Some next) tokens one others = do
+  x ← one next
+  xs ← others x.1
+  Ok (x.0 ∷ xs.0, xs.1)
+
+unfoldable pub repeated : {A : Type 0} → ℕ → (List Lexeme → Option (List Lexeme)) → (List Lexeme → Result (A × List Lexeme) Halt) →
+    List Lexeme → Result (List A × List Lexeme) Halt
+repeated zero after one tokens = Ok ([], tokens)
+repeated (suc n) after one tokens = more_behind (after tokens) tokens one (repeated n after one)
+
+abbrev pub with_front : {A : Type 0} → List A → Result (List A × List Lexeme) Halt → Result (List A × List Lexeme) Halt
+with_front front read = do
+  xs ← read
+  Ok (front ++ xs.0, xs.1)
+
+abbrev pub more_operands : Schema → List Lexeme → Result (List Operand × List Lexeme) Halt
+more_operands schema tokens = repeated (length tokens) (after_mark mark.Comma) (operand_at schema) tokens
+
+-- what follows an operand: a range behind BETWEEN, or a list behind IN
+abbrev pub range_at : Schema → Operand → List Lexeme → Result (Condition × List Lexeme) Halt
+range_at schema x tokens = do
+  low ← operand_at schema tokens
+  rest ← keyword_at word.And low.1
+  high ← operand_at schema rest
+  Ok (Between x low.0 high.0, high.1)
+
+abbrev pub list_at : Schema → Operand → List Lexeme → Result (Condition × List Lexeme) Halt
+list_at schema x tokens = do
+  rest ← keyword_at word.In tokens
+  rest ← mark_at mark.Open rest
+  first ← operand_at schema rest
+  items ← with_front (first.0 ∷ []) (more_operands schema first.1)
+  rest ← mark_at mark.Close items.1
+  Ok (Among x items.0, rest)
+
+abbrev pub range_or_list_behind : Option (List Lexeme) → Schema → Operand → List Lexeme → Result (Condition × List Lexeme) Halt
+range_or_list_behind (Some next) schema x tokens = range_at schema x next
+range_or_list_behind None schema x tokens = list_at schema x tokens
+
+unfoldable pub range_or_list_at : Schema → Operand → List Lexeme → Result (Condition × List Lexeme) Halt
+range_or_list_at schema x tokens = range_or_list_behind (after_keyword word.Between tokens) schema x tokens
+
+-- [ NOT ] NULL behind IS
+abbrev pub null_behind : Option (List Lexeme) → Operand → List Lexeme → Result (Condition × List Lexeme) Halt
+null_behind (Some next) x tokens = do
+  rest ← keyword_at word.Null next
+  Ok (Not (IsNull x), rest)
+null_behind None x tokens = do
+  rest ← keyword_at word.Null tokens
+  Ok (IsNull x, rest)
+
+unfoldable pub null_test_at : Operand → List Lexeme → Result (Condition × List Lexeme) Halt
+null_test_at x tokens = null_behind (after_keyword word.Not tokens) x tokens
+
+unfoldable pub after_comparison : List Lexeme → Option (Op × List Lexeme)
+after_comparison [] = None
+after_comparison (Compare op ∷ tokens) = Some (op, tokens)
+after_comparison (Name text ∷ tokens) = None
+after_comparison (Digits text ∷ tokens) = None
+after_comparison (Reserved found ∷ tokens) = None
+after_comparison (Punct found ∷ tokens) = None
+
+-- what follows the first operand of a predicate
+abbrev pub behind_not : Schema → Operand → Option (List Lexeme) → List Lexeme → Result (Condition × List Lexeme) Halt
+behind_not schema x (Some next) tokens = do
+  c ← range_or_list_at schema x next
+  Ok (Not c.0, c.1)
+behind_not schema x None tokens = range_or_list_at schema x tokens
+
+abbrev pub behind_is : Schema → Operand → Option (List Lexeme) → List Lexeme → Result (Condition × List Lexeme) Halt
+behind_is schema x (Some next) tokens = null_test_at x next
+behind_is schema x None tokens = behind_not schema x (after_keyword word.Not tokens) tokens
+
+abbrev pub behind_comparison : Schema → Operand → Option (Op × List Lexeme) → List Lexeme → Result (Condition × List Lexeme) Halt
+behind_comparison schema x (Some next) tokens = do
+  y ← operand_at schema next.1
+  Ok (Cmp next.0 x y.0, y.1)
+behind_comparison schema x None tokens = behind_is schema x (after_keyword word.Is tokens) tokens
+
+unfoldable pub predicate_at : Schema → List Lexeme → Result (Condition × List Lexeme) Halt
+predicate_at schema tokens = do
+  x ← operand_at schema tokens
+  behind_comparison schema x.0 (after_comparison x.1) x.1
+
+-- a truth value, and a test for it behind IS
+abbrev pub behind_true : Option (List Lexeme) → Option (List Lexeme) → Option (List Lexeme) → List Lexeme → Result (Truth × List Lexeme) Halt
+behind_true (Some rest) second third tokens = Ok (Yes, rest)
+behind_true None (Some rest) third tokens = Ok (No, rest)
+behind_true None None (Some rest) tokens = Ok (Unknown, rest)
+behind_true None None None tokens = refuse Syntax tokens
+
+unfoldable pub truth_at : List Lexeme → Result (Truth × List Lexeme) Halt
+truth_at tokens = behind_true (after_keyword word.True tokens) (after_keyword word.False tokens) (after_keyword word.Unknown tokens) tokens
+
+abbrev pub tested : Condition → Option (List Lexeme) → List Lexeme → Result (Condition × List Lexeme) Halt
+tested c (Some next) tokens = do
+  t ← truth_at next
+  Ok (Not (Test c t.0), t.1)
+tested c None tokens = do
+  t ← truth_at tokens
+  Ok (Test c t.0, t.1)
+
+abbrev pub truth_behind : Condition → Option (List Lexeme) → List Lexeme → Result (Condition × List Lexeme) Halt
+truth_behind c (Some next) tokens = tested c (after_keyword word.Not next) next
+truth_behind c None tokens = Ok (c, tokens)
+
+unfoldable pub truth_test_at : Condition → List Lexeme → Result (Condition × List Lexeme) Halt
+truth_test_at c tokens = truth_behind c (after_keyword word.Is tokens) tokens
+
+-- what stands one level deeper: a condition behind `(`, and a test behind NOT, given the tokens from the mark
+-- or word on and those behind it
+pub record Nested : Type 0 where
+  pub enclosed : List Lexeme → List Lexeme → Result (Condition × List Lexeme) Halt
+  pub negated : List Lexeme → List Lexeme → Result (Condition × List Lexeme) Halt
+
+abbrev pub primary_behind : Schema → Nested → Option (List Lexeme) → List Lexeme → Result (Condition × List Lexeme) Halt
+primary_behind schema inner (Some next) tokens = inner.enclosed tokens next
+primary_behind schema inner None tokens = predicate_at schema tokens
+
+unfoldable pub primary_in : Schema → Nested → List Lexeme → Result (Condition × List Lexeme) Halt
+primary_in schema inner tokens = primary_behind schema inner (after_mark mark.Open tokens) tokens
+
+unfoldable pub test_in : Schema → Nested → List Lexeme → Result (Condition × List Lexeme) Halt
+test_in schema inner tokens = do
+  c ← primary_in schema inner tokens
+  truth_test_at c.0 c.1
+
+abbrev pub factor_behind : Schema → Nested → Option (List Lexeme) → List Lexeme → Result (Condition × List Lexeme) Halt
+factor_behind schema inner (Some next) tokens = inner.negated tokens next
+factor_behind schema inner None tokens = test_in schema inner tokens
+
+unfoldable pub factor_in : Schema → Nested → List Lexeme → Result (Condition × List Lexeme) Halt
+factor_in schema inner tokens = factor_behind schema inner (after_keyword word.Not tokens) tokens
+
+-- one part, or two and more that a word joins
+abbrev pub joined_behind : Keyword → (Conditions → Condition) → (List Lexeme → Result (Condition × List Lexeme) Halt) → Condition →
+    Option (List Lexeme) → List Lexeme → Result (Condition × List Lexeme) Halt
+joined_behind word join one first None tokens = Ok (first, tokens)
+joined_behind word join one first (Some next) tokens = do
+  second ← one next
+  parts ← with_front (first ∷ second.0 ∷ []) (repeated (length second.1) (after_keyword word) one second.1)
+  Ok (join (conditions parts.0), parts.1)
+
+abbrev pub joined : Keyword → (Conditions → Condition) → (List Lexeme → Result (Condition × List Lexeme) Halt) → List Lexeme →
+    Result (Condition × List Lexeme) Halt
+joined word join one tokens = do
+  first ← one tokens
+  joined_behind word join one first.0 (after_keyword word first.1) first.1
+
+unfoldable pub term_in : Schema → Nested → List Lexeme → Result (Condition × List Lexeme) Halt
+term_in schema inner tokens = joined word.And And (factor_in schema inner) tokens
+
+unfoldable pub condition_in : Schema → Nested → List Lexeme → Result (Condition × List Lexeme) Halt
+condition_in schema inner tokens = joined word.Or Or (term_in schema inner) tokens
+
+-- so many levels of nesting are left
+unfoldable pub nested : Schema → ℕ → Nested
+nested schema zero = record {
+  enclosed = λ tokens next. refuse Nesting tokens;
+  negated = λ tokens next. refuse Nesting tokens;
+}
+nested schema (suc n) = record {
+  enclosed = λ tokens next. do
+    c ← condition_in schema (nested schema n) next
+    rest ← mark_at mark.Close c.1
+    Ok (c.0, rest);
+  negated = λ tokens next. do
+    c ← test_in schema (nested schema n) next
+    Ok (Not c.0, c.1);
+}
+
+-- the condition behind WHERE, where it comes: brackets and NOT nest 100 deep
+abbrev pub behind_where : Schema → Option (List Lexeme) → List Lexeme → Result (Condition × List Lexeme) Halt
+behind_where schema None tokens = Ok (Always, tokens)
+behind_where schema (Some rest) tokens = condition_in schema (nested schema 100) rest
+
+unfoldable pub selection_at : Schema → List Lexeme → Result (Condition × List Lexeme) Halt
+selection_at schema tokens = behind_where schema (after_keyword word.Where tokens) tokens
+
+-- the end of a statement, behind a semicolon, where it comes
+abbrev pub nothing_left : List Lexeme → Result (Unit {0}) Halt
+nothing_left [] = Ok tt
+nothing_left (t ∷ tokens) = refuse Syntax (t ∷ tokens)
+
+abbrev pub behind_semicolon : Option (List Lexeme) → List Lexeme → List Lexeme
+behind_semicolon (Some rest) tokens = rest
+behind_semicolon None tokens = tokens
+
+unfoldable pub end_at : List Lexeme → Result (Unit {0}) Halt
+end_at tokens = nothing_left (behind_semicolon (after_mark mark.Semicolon tokens) tokens)
+
+-- every column, in the order of the schema
+abbrev pub every_column : Schema → List Item
+every_column schema = map Plain (range_with_len 0 (length schema.columns.items))
+
+-- the aggregates, by their words
+abbrev pub aggregate_behind : Option (List Lexeme) → Option (List Lexeme) → Option (List Lexeme) → Option (List Lexeme) → Option (Aggregate × List Lexeme)
+aggregate_behind (Some rest) sum min max = Some (aggregate.Count, rest)
+aggregate_behind None (Some rest) min max = Some (aggregate.Sum, rest)
+aggregate_behind None None (Some rest) max = Some (aggregate.Min, rest)
+aggregate_behind None None None (Some rest) = Some (aggregate.Max, rest)
+aggregate_behind None None None None = None
+
+unfoldable pub after_aggregate : List Lexeme → Option (Aggregate × List Lexeme)
+after_aggregate tokens = aggregate_behind (after_keyword word.Count tokens) (after_keyword word.Sum tokens) (after_keyword word.Min tokens) (after_keyword word.Max tokens)
+
+abbrev pub of_column : Aggregate → ℕ → Item
+of_column aggregate.Count column = Count column
+of_column aggregate.Sum column = Sum column
+of_column aggregate.Min column = Min column
+of_column aggregate.Max column = Max column
+
+abbrev pub column_of : Schema → Aggregate → List Lexeme → Result (Item × List Lexeme) Halt
+column_of schema kind tokens = do
+  column ← column_at schema tokens
+  Ok (of_column kind column.0, column.1)
+
+abbrev pub counted : Schema → Option (List Lexeme) → List Lexeme → Result (Item × List Lexeme) Halt
+counted schema (Some rest) tokens = Ok (CountAll, rest)
+counted schema None tokens = column_of schema aggregate.Count tokens
+
+unfoldable pub aggregated_at : Schema → Aggregate → List Lexeme → Result (Item × List Lexeme) Halt
+aggregated_at schema aggregate.Count tokens = counted schema (after_mark mark.Star tokens) tokens
+aggregated_at schema aggregate.Sum tokens = column_of schema aggregate.Sum tokens
+aggregated_at schema aggregate.Min tokens = column_of schema aggregate.Min tokens
+aggregated_at schema aggregate.Max tokens = column_of schema aggregate.Max tokens
+
+abbrev pub plain_item : Schema → List Lexeme → Result (Item × List Lexeme) Halt
+plain_item schema tokens = do
+  column ← column_at schema tokens
+  Ok (Plain column.0, column.1)
+
+abbrev pub aggregate_item : Schema → Option (Aggregate × List Lexeme) → List Lexeme → Result (Item × List Lexeme) Halt
+aggregate_item schema None tokens = refuse Syntax tokens
+aggregate_item schema (Some found) tokens = do
+  rest ← mark_at mark.Open found.1
+  item ← aggregated_at schema found.0 rest
+  rest ← mark_at mark.Close item.1
+  Ok (item.0, rest)
+
+unfoldable pub item_at : Schema → List Lexeme → Result (Item × List Lexeme) Halt
+item_at schema tokens = if begins_with_name tokens then plain_item schema tokens else aggregate_item schema (after_aggregate tokens) tokens
+
+-- An item of the other kind is refused at its first token, which tells its kind; a column that isn't the
+-- schema's comes before.
+abbrev pub mixed_name : Schema → List Lexeme → Result (Unit {0}) Halt
+mixed_name schema tokens = do
+  column ← column_at schema tokens
+  refuse MixedItems tokens
+
+abbrev pub mixed_aggregate : Option (Aggregate × List Lexeme) → List Lexeme → Result (Unit {0}) Halt
+mixed_aggregate None tokens = Ok tt
+mixed_aggregate (Some found) tokens = refuse MixedItems tokens
+
+unfoldable pub of_one_kind : Schema → Bool → List Lexeme → Result (Unit {0}) Halt
+of_one_kind schema true tokens = if begins_with_name tokens then Ok tt else mixed_aggregate (after_aggregate tokens) tokens
+of_one_kind schema false tokens = if begins_with_name tokens then mixed_name schema tokens else Ok tt
+
+unfoldable pub next_item_at : Schema → Bool → List Lexeme → Result (Item × List Lexeme) Halt
+next_item_at schema is_plain tokens = do
+  same ← of_one_kind schema is_plain tokens
+  item_at schema tokens
+
+abbrev pub more_items : Schema → Bool → List Lexeme → Result (List Item × List Lexeme) Halt
+more_items schema is_plain tokens = repeated (length tokens) (after_mark mark.Comma) (next_item_at schema is_plain) tokens
+
+abbrev pub items_behind : Schema → Option (List Lexeme) → List Lexeme → Result (List Item × List Lexeme) Halt
+items_behind schema (Some rest) tokens = Ok (every_column schema, rest)
+items_behind schema None tokens = do
+  first ← item_at schema tokens
+  with_front (first.0 ∷ []) (more_items schema (begins_with_name tokens) first.1)
+
+unfoldable pub items_at : Schema → List Lexeme → Result (List Item × List Lexeme) Halt
+items_at schema tokens = items_behind schema (after_mark mark.Star tokens) tokens
+
+-- a query as its items and its condition
+pub record Asked : Type 0 where
+  pub items : List Item
+  pub cond : Condition
+
+abbrev pub asked : Query → Asked
+asked query = record { items = query.items.items; cond = condition query.cond }
+
+unfoldable pub statement_at : Schema → List Lexeme → Result Asked Halt
+statement_at schema tokens = do
+  rest ← keyword_at word.Select tokens
+  items ← items_at schema rest
+  rest ← keyword_at word.From items.1
+  rest ← table_at schema rest
+  selection ← selection_at schema rest
+  ended ← end_at selection.1
+  Ok (record { items = items.0; cond = selection.0 })

@@ -1,0 +1,191 @@
+//! What a query asks for:
+//!
+//! ```text
+//! list = * | item { , item }
+//! item = name | COUNT ( * ) | ( COUNT | SUM | MIN | MAX ) ( name )
+//! ```
+//!
+//! The items of a list are all columns or all aggregates.
+ghost use Rattle.std.specs.Prelude.{true, false, is_some, OnOk, ◌≡◌, ◌<◌, ◌≤◌, length, IfOk, IfSome, IsTrue, vec_len};
+ghost use Rattle.std.specs.List.{list_all};
+ghost use Rattle.std.specs.Option.{option_map};
+ghost use Rattle.bw_model.specs.Total.{item_within, is_aggregate};
+ghost use Rattle.bw_sql.specs.Items.{AreOfOneKind, are_of_kind, is_of_kind};
+ghost use Rattle.bw_sql.specs.Reader.{Reads};
+ghost use Rattle.bw_sql.specs.Reading.{after_aggregate, aggregated_at, begins_with_name, every_column, item_at, items_at, more_items, next_item_at, of_column, of_one_kind, with_front};
+ghost use Rattle.bw_sql.specs.Token.{lexemes};
+
+use crate::operand::{begins_with_name, column};
+use crate::reader::{Left, Refusal, Stop, after_keyword, after_mark, keyword, mark};
+use crate::token::{Mark, Placed};
+use bw_model::{Item, Keyword, Schema};
+use std::alloc::{AllocError, Global};
+
+/// The list of items that has to come.
+#[tactic(auto, unfolding(crate::specs::Reading::items_at))]
+pub fn items<'t>(
+    alloc: Global,
+    schema: &Schema,
+    tokens: &'t [Placed<'t>],
+) -> Result<(Vec<Item>, &'t [Placed<'t>]), Stop>
+    ensures read { Reads (λ read. (read.0.items, lexemes read.1.now)) result (items_at schema.now (lexemes tokens.now)) }
+    ensures columns { IfOk result (λ read. IsTrue (list_all (item_within (vec_len schema.now.columns)) read.0.items)) }
+    ensures kinds { IfOk result (λ read. AreOfOneKind read.0.items) }
+{
+    if let Some(rest) = after_mark(Mark::Star, tokens) {
+        return Ok((every_column(alloc, schema)?, rest));
+    }
+    let (first, rest) = item(schema, tokens)?;
+    let is_plain = begins_with_name(tokens);
+    more_items(schema, is_plain, vec![in alloc; first]?, rest)
+}
+
+/// Every column, in the order of the schema.
+fn every_column(alloc: Global, schema: &Schema) -> Result<Vec<Item>, AllocError>
+    ensures { IfOk result (λ items. items.items ≡ every_column schema.now) }
+{
+    (0..schema.columns.len())
+        .map(|column| Item::Plain(column))
+        .collect(alloc)
+}
+
+/// The items, and those that follow behind commas, all of one kind.
+fn more_items<'t>(
+    schema: &Schema,
+    is_plain: bool,
+    mut items: Vec<Item>,
+    tokens: &'t [Placed<'t>],
+) -> Result<(Vec<Item>, &'t [Placed<'t>]), Stop>
+    requires columns { IsTrue (list_all (item_within (vec_len schema.now.columns)) items.items) }
+    requires kinds { IsTrue (are_of_kind is_plain items.items) }
+    ensures read { Reads (λ read. (read.0.items, lexemes read.1.now)) result (with_front items.items (more_items schema.now is_plain (lexemes tokens.now))) }
+    ensures columns { IfOk result (λ read. IsTrue (list_all (item_within (vec_len schema.now.columns)) read.0.items)) }
+    ensures kinds { IfOk result (λ read. IsTrue (are_of_kind is_plain read.0.items)) }
+{
+    let mut left = Left { tokens };
+    while let Some(next) = after_mark(Mark::Comma, left.tokens) {
+        let (item, after) = next_item(schema, is_plain, next)?;
+        items.push(item)?;
+        left = Left { tokens: after };
+    }
+    Ok((items, left.tokens))
+}
+
+/// The item of this kind that has to come.
+#[tactic(auto, unfolding(crate::specs::Reading::next_item_at))]
+fn next_item<'t>(
+    schema: &Schema,
+    is_plain: bool,
+    tokens: &'t [Placed<'t>],
+) -> Result<(Item, &'t [Placed<'t>]), Stop>
+    ensures read { Reads (λ read. (read.0, lexemes read.1.now)) result (next_item_at schema.now is_plain (lexemes tokens.now)) }
+    ensures shorter { IfOk result (λ read. length read.1.now < length tokens.now) }
+    ensures columns { IfOk result (λ read. IsTrue (item_within (vec_len schema.now.columns) read.0)) }
+    ensures kind { IfOk result (λ read. IsTrue (is_of_kind is_plain read.0)) }
+{
+    of_one_kind(schema, is_plain, tokens)?;
+    item(schema, tokens)
+}
+
+/// Refuses an item that begins as one of the other kind. Its first token tells the kind, and a column
+/// that isn't the schema's comes before.
+#[tactic(auto, unfolding(crate::specs::Reading::of_one_kind))]
+fn of_one_kind(schema: &Schema, is_plain: bool, tokens: &[Placed<'_>]) -> Result<(), Stop>
+    ensures read { Reads (λ same. same) result (of_one_kind schema.now is_plain (lexemes tokens.now)) }
+    ensures name { OnOk result (begins_with_name (lexemes tokens.now) ≡ true → is_plain ≡ true) }
+    ensures aggregate { OnOk result (is_some (after_aggregate (lexemes tokens.now)) ≡ true → begins_with_name (lexemes tokens.now) ≡ false → is_plain ≡ false) }
+{
+    if begins_with_name(tokens) {
+        if is_plain {
+            return Ok(());
+        }
+        column(schema, tokens)?;
+        return Err(Stop::at(Refusal::MixedItems, tokens));
+    }
+    if is_plain && after_aggregate(tokens).is_some() {
+        return Err(Stop::at(Refusal::MixedItems, tokens));
+    }
+    Ok(())
+}
+
+/// An aggregate of a column.
+#[derive(Clone, Copy, Debug, PartialEq, Eq)]
+enum Aggregate {
+    Count,
+    Sum,
+    Min,
+    Max,
+}
+
+/// The aggregate whose word comes first, and the tokens behind it.
+#[tactic(auto, unfolding(crate::specs::Reading::after_aggregate))]
+fn after_aggregate<'t>(tokens: &'t [Placed<'t>]) -> Option<(Aggregate, &'t [Placed<'t>])>
+    ensures is { option_map (λ found. (found.0, lexemes found.1.now)) result ≡ after_aggregate (lexemes tokens.now) }
+    ensures shorter { IfSome result (λ found. length found.1.now < length tokens.now) }
+{
+    if let Some(rest) = after_keyword(Keyword::Count, tokens) {
+        return Some((Aggregate::Count, rest));
+    }
+    if let Some(rest) = after_keyword(Keyword::Sum, tokens) {
+        return Some((Aggregate::Sum, rest));
+    }
+    if let Some(rest) = after_keyword(Keyword::Min, tokens) {
+        return Some((Aggregate::Min, rest));
+    }
+    let rest = after_keyword(Keyword::Max, tokens)?;
+    Some((Aggregate::Max, rest))
+}
+
+/// The item that has to come.
+#[tactic(auto, unfolding(crate::specs::Reading::item_at))]
+fn item<'t>(schema: &Schema, tokens: &'t [Placed<'t>]) -> Result<(Item, &'t [Placed<'t>]), Stop>
+    ensures read { Reads (λ read. (read.0, lexemes read.1.now)) result (item_at schema.now (lexemes tokens.now)) }
+    ensures shorter { IfOk result (λ read. length read.1.now < length tokens.now) }
+    ensures columns { IfOk result (λ read. IsTrue (item_within (vec_len schema.now.columns) read.0)) }
+    ensures kind { IfOk result (λ read. IsTrue (is_of_kind (begins_with_name (lexemes tokens.now)) read.0)) }
+    ensures aggregate { OnOk result (begins_with_name (lexemes tokens.now) ≡ false → is_some (after_aggregate (lexemes tokens.now)) ≡ true) }
+{
+    if begins_with_name(tokens) {
+        let (column, rest) = column(schema, tokens)?;
+        return Ok((Item::Plain(column), rest));
+    }
+    let Some((aggregate, rest)) = after_aggregate(tokens) else {
+        return Err(Stop::at(Refusal::Syntax, tokens));
+    };
+    let rest = mark(Mark::Open, rest)?;
+    let (item, rest) = aggregated(schema, aggregate, rest)?;
+    let rest = mark(Mark::Close, rest)?;
+    Ok((item, rest))
+}
+
+/// What an aggregate is taken of: a column, or, where it counts, also the rows.
+#[tactic(auto, unfolding(crate::specs::Reading::aggregated_at))]
+fn aggregated<'t>(
+    schema: &Schema,
+    aggregate: Aggregate,
+    tokens: &'t [Placed<'t>],
+) -> Result<(Item, &'t [Placed<'t>]), Stop>
+    ensures read { Reads (λ read. (read.0, lexemes read.1.now)) result (aggregated_at schema.now aggregate (lexemes tokens.now)) }
+    ensures shorter { IfOk result (λ read. length read.1.now < length tokens.now) }
+    ensures columns { IfOk result (λ read. IsTrue (item_within (vec_len schema.now.columns) read.0)) }
+    ensures kind { IfOk result (λ read. IsTrue (is_aggregate read.0)) }
+{
+    if aggregate == Aggregate::Count
+        && let Some(rest) = after_mark(Mark::Star, tokens)
+    {
+        return Ok((Item::CountAll, rest));
+    }
+    let (column, rest) = column(schema, tokens)?;
+    Ok((of_column(aggregate, column), rest))
+}
+
+fn of_column(aggregate: Aggregate, column: usize) -> Item
+    ensures { result ≡ of_column aggregate column }
+{
+    match aggregate {
+        Aggregate::Count => Item::Count(column),
+        Aggregate::Sum => Item::Sum(column),
+        Aggregate::Min => Item::Min(column),
+        Aggregate::Max => Item::Max(column),
+    }
+}

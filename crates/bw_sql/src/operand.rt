@@ -1,0 +1,73 @@
+//! Operands of predicates, and the names of columns.
+ghost use Rattle.std.specs.Prelude.{◌≡◌, ◌<◌, length, IfOk, IfSome, IsTrue, vec_len};
+ghost use Rattle.bw_model.specs.Cond.{is_within};
+ghost use Rattle.bw_sql.specs.Reader.{Reads};
+ghost use Rattle.bw_sql.specs.Reading.{operand_at, column_at, column_named, begins_with_name};
+ghost use Rattle.bw_sql.specs.Token.{lexemes};
+
+use crate::literal::literal;
+use crate::reader::{Refusal, Stop, after_keyword, name};
+use crate::token::{Placed, Token};
+use bw_model::{Keyword, Operand, Schema};
+
+/// The operand that has to come: a column, a literal or NULL.
+#[tactic(auto, unfolding(crate::specs::Reading::operand_at))]
+pub fn operand<'t>(
+    schema: &Schema,
+    tokens: &'t [Placed<'t>],
+) -> Result<(Operand, &'t [Placed<'t>]), Stop>
+    ensures read { Reads (λ read. (read.0, lexemes read.1.now)) result (operand_at schema.now (lexemes tokens.now)) }
+    ensures shorter { IfOk result (λ read. length read.1.now < length tokens.now) }
+    ensures within { IfOk result (λ read. IsTrue (is_within (vec_len schema.now.columns) read.0)) }
+{
+    if let Some(rest) = after_keyword(Keyword::Null, tokens) {
+        return Ok((Operand::Null, rest));
+    }
+    if begins_with_name(tokens) {
+        let (column, rest) = column(schema, tokens)?;
+        return Ok((Operand::Col(column), rest));
+    }
+    let (n, rest) = literal(tokens)?;
+    Ok((Operand::Lit(n), rest))
+}
+
+/// The number of the column whose name has to come.
+#[tactic(auto, unfolding(crate::specs::Reading::column_at))]
+pub fn column<'t>(
+    schema: &Schema,
+    tokens: &'t [Placed<'t>],
+) -> Result<(usize, &'t [Placed<'t>]), Stop>
+    ensures read { Reads (λ read. (read.0, lexemes read.1.now)) result (column_at schema.now (lexemes tokens.now)) }
+    ensures shorter { IfOk result (λ read. length read.1.now < length tokens.now) }
+    ensures within { IfOk result (λ read. read.0 < vec_len schema.now.columns) }
+{
+    let (text, rest) = name(tokens)?;
+    match column_named(schema, text) {
+        Some(column) => Ok((column, rest)),
+        None => Err(Stop::at(Refusal::UnknownColumn, tokens)),
+    }
+}
+
+/// Whether a name comes first.
+pub fn begins_with_name(tokens: &[Placed<'_>]) -> bool
+    ensures { result ≡ begins_with_name (lexemes tokens.now) }
+{
+    if let Some(first) = tokens.first()
+        && let Token::Name(_) = first.token
+    {
+        return true;
+    }
+    false
+}
+
+/// The number of the column of this name, ignoring the case of ASCII letters.
+#[tactic(auto, unfolding(crate::specs::Reading::column_named))]
+fn column_named(schema: &Schema, text: &[u8]) -> Option<usize>
+    ensures within { IfSome result (λ column. column < vec_len schema.now.columns) }
+    ensures named { result ≡ column_named schema.now text.now }
+{
+    schema
+        .columns
+        .iter()
+        .position(|column| column.name.is(text))
+}
