@@ -42,6 +42,20 @@ fn check(
     assert_eq!(rt; outcome.status, status, "status of {sql:?}");
 }
 
+/// The same of a count of the rows that meet a condition.
+fn check_count(
+    rt: &(impl Abort + AllocGlobal),
+    condition: &str,
+    output: &str,
+    line: &str,
+    status: u8,
+) {
+    match format!(in rt.alloc(); "SELECT COUNT(*) FROM t WHERE {condition}") {
+        Ok(sql) => check(rt, SCHEMA, CSV, sql.as_str(), output, line, status),
+        Err(_) => panic!(rt; "no memory for a statement"),
+    }
+}
+
 #[test]
 fn counts_of_the_rows_that_a_comparison_keeps(rt: HostRuntime) {
     for (sql, output) in [
@@ -59,6 +73,83 @@ fn counts_of_the_rows_that_a_comparison_keeps(rt: HostRuntime) {
     ] {
         check(&rt, SCHEMA, CSV, sql, output, "", 0);
     }
+}
+
+#[test]
+fn conditions_in_three_values(rt: HostRuntime) {
+    for (condition, output) in [
+        // NOT of UNKNOWN is UNKNOWN, so no null comes back by it.
+        ("b < 1", "COUNT(*)\n2\n"),
+        ("NOT (b < 1)", "COUNT(*)\n1\n"),
+        ("b NOT IN (0, NULL)", "COUNT(*)\n0\n"),
+        ("(b < 1) IS UNKNOWN", "COUNT(*)\n2\n"),
+        ("(b < 1) IS NOT UNKNOWN", "COUNT(*)\n3\n"),
+        ("192 <= a", "COUNT(*)\n1\n"),
+        ("a = b", "COUNT(*)\n0\n"),
+        ("a NOT BETWEEN 1 AND 8 OR b IS NULL", "COUNT(*)\n4\n"),
+        ("b NOT BETWEEN 1 AND NULL", "COUNT(*)\n2\n"),
+        ("b IS NULL IS NOT FALSE", "COUNT(*)\n2\n"),
+    ] {
+        check_count(&rt, condition, output, "", 0);
+    }
+}
+
+#[test]
+fn lists_and_totals(rt: HostRuntime) {
+    for (sql, output) in [
+        ("SELECT a, b FROM t WHERE a >= 192", "a,b\n255,10\n"),
+        (
+            "SELECT B, A FROM t WHERE b IS NULL",
+            "b,a\nNULL,7\nNULL,7\n",
+        ),
+        (
+            "SELECT * FROM t",
+            "a,b\n0,-10\n255,10\n7,NULL\n7,NULL\n8,0\n",
+        ),
+        (
+            "SELECT COUNT(*), COUNT(b), SUM(b), MIN(b) FROM t WHERE a = 7",
+            "COUNT(*),COUNT(b),SUM(b),MIN(b)\n2,0,NULL,NULL\n",
+        ),
+        ("SELECT SUM(a), MAX(b) FROM t", "SUM(a),MAX(b)\n277,10\n"),
+    ] {
+        check(&rt, SCHEMA, CSV, sql, output, "", 0);
+    }
+    check(
+        &rt,
+        SCHEMA,
+        "a,b",
+        "SELECT SUM(a) FROM t",
+        "SUM(a)\nNULL\n",
+        "",
+        0,
+    );
+    check(&rt, SCHEMA, "a,b", "SELECT * FROM t", "a,b\n", "", 0);
+}
+
+#[test]
+fn conditions_that_are_refused(rt: HostRuntime) {
+    check_count(&rt, "a IS TRUE", "", "bw: 402 syntax at byte 34\n", 3);
+    check_count(&rt, "NOT NOT a = 1", "", "bw: 402 syntax at byte 33\n", 3);
+}
+
+/// A hundred brackets are read, and the next one is refused where it stands.
+#[test]
+fn brackets_nest_to_a_limit(rt: HostRuntime) -> Result<(), Fail> {
+    for (depth, output, line, status) in [
+        (100, "COUNT(*)\n2\n", "", 0),
+        (101, "", "bw: 408 nesting at byte 129\n", 3),
+    ] {
+        let mut condition = String::new(rt.alloc());
+        for _ in 0..depth {
+            condition.push_str("(")?;
+        }
+        condition.push_str("a = 7")?;
+        for _ in 0..depth {
+            condition.push_str(")")?;
+        }
+        check_count(&rt, condition.as_str(), output, line, status);
+    }
+    Ok(())
 }
 
 #[test]
