@@ -1,5 +1,6 @@
 //! A query answered straight from a CSV text.
-ghost use Rattle.std.specs.Prelude.{◌-◌, ◌^◌, ◌<◌};
+ghost use Rattle.std.specs.Prelude.{◌≡◌, ◌-◌, ◌^◌, ◌<◌, false, IfErr, OnOk};
+ghost use Rattle.bw_file.specs.Sink.{is_write_fault};
 
 use crate::answer::answer_text;
 use crate::input::{Input, read_limited};
@@ -30,6 +31,11 @@ pub fn direct<S: Source, C: Source, K: Sink>(
     requires schema { S.failures schema_source.old < 2 ^ 64 - 1 }
     requires csv { C.failures csv_source.old < 2 ^ 64 - 1 }
     requires sink { K.failures sink.old < 2 ^ 64 - 1 }
+
+    // Where it refuses, but for a write that failed, it has written nothing.
+    ensures unwritten { IfErr result (λ fault. is_write_fault fault ≡ false
+        → (K.taken sink.new ≡ K.taken sink.old) × (K.failures sink.new ≡ K.failures sink.old)) }
+    ensures done { OnOk result (K.failures sink.new ≡ K.failures sink.old) }
 {
     let schema = read_schema(alloc, schema_source)?;
     let query = parse(alloc, &schema, sql)?;
