@@ -234,9 +234,42 @@ fn schemas_that_are_refused(rt: HostRuntime) {
             "bw: 104 name twice at line 5\n",
         ),
         ("TABLE 1t\nCOLUMN a 0 1\n", "bw: 102 name at line 1\n"),
+        // On one line the form comes first, then the name, a name that comes twice, and the range.
+        ("TABLE t\nCOLUMN 1a x 0\n", "bw: 101 line form at line 2\n"),
+        ("TABLE t\nCOLUMN 1a 1 0\n", "bw: 102 name at line 2\n"),
+        (
+            "TABLE t\nCOLUMN a 0 1\nCOLUMN A 1 0\n",
+            "bw: 104 name twice at line 3\n",
+        ),
+        // The lowest line comes first.
+        (
+            "TABLE t\nCOLUMN a 1 0\nCOLUMN\n",
+            "bw: 103 range at line 2\n",
+        ),
     ] {
         check(&rt, schema, CSV, "SELECT COUNT(*) FROM t", "", line, 3);
     }
+}
+
+/// The 65th column is one too many, whatever its name is.
+#[test]
+fn a_schema_of_too_many_columns(rt: HostRuntime) -> Result<(), Fail> {
+    let mut schema = String::from_str(rt.alloc(), "TABLE t\n")?;
+    for i in 0..64 {
+        write!(schema, "COLUMN c{i} 0 1\n")?;
+    }
+    schema.push_str("COLUMN select 1 0\n")?;
+    let line = "bw: 105 number of columns at line 66\n";
+    check(
+        &rt,
+        schema.as_str(),
+        CSV,
+        "SELECT COUNT(*) FROM t",
+        "",
+        line,
+        3,
+    );
+    Ok(())
 }
 
 #[test]
