@@ -1,6 +1,8 @@
 -- Refusals: a fault, and what a call that may run out of memory gives.
-use Rattle.std.specs.Prelude.{◌≡◌, ℕ, Bool, ◌==◌, true, false, Result, Ok, Err}
+use Rattle.std.specs.Prelude.{◌≡◌, ℕ, Bool, ◌==◌, true, false, List, [], ◌++◌, codes, Result, Ok, Err}
+use Rattle.std.specs.Fmt.{decimal}
 use Rattle.bw_model.specs.declared.fault.Fault.{Fault}
+use Rattle.bw_model.specs.declared.fault.Place.{Place}
 use Rattle.bw_model.specs.declared.fault.Place.TheVariants.{Nowhere, Byte, Line, Rec}
 
 -- a fault that stands nowhere, at a byte, at a line or at a record
@@ -15,6 +17,13 @@ at_line c at = record { code = c; place = Line at }
 
 abbrev pub at_record : ℕ → ℕ → Fault
 at_record c at = record { code = c; place = Rec at }
+
+-- how a place is shown, behind what it is the place of
+abbrev pub place_text : Place → List ℕ
+place_text Nowhere = []
+place_text (Byte at) = codes " at byte " ++ decimal at
+place_text (Line at) = codes " at line " ++ decimal at
+place_text (Rec at) = codes " at record " ++ decimal at
 
 -- want of memory
 abbrev pub no_memory : Fault

@@ -1,5 +1,5 @@
-ghost use Rattle.std.specs.Prelude.{◌≡◌};
-ghost use Rattle.bw_model.specs.Fault.{no_memory, nowhere};
+ghost use Rattle.std.specs.Prelude.{◌≡◌, Some};
+ghost use Rattle.bw_model.specs.Fault.{no_memory, nowhere, place_text};
 
 use std::alloc::{AllocError, AllocFailed};
 use std::fmt;
@@ -74,6 +74,8 @@ pub enum Place {
 }
 
 impl fmt::Display for Place {
+    ghost output = { λ place. Some (place_text place) };
+
     fn fmt<W: fmt::Write>(&self, f: &mut fmt::Formatter<W>) -> fmt::Result {
         match self {
             Place::Nowhere => Ok(()),
