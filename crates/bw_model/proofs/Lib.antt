@@ -5,6 +5,7 @@ pub mod LineLemmas
 pub mod Numbers
 pub mod PlaceLemmas
 pub mod SameLemmas
+pub mod SchemaCodes
 pub mod SchemaLemmas
 pub mod SchemaSpelling
 pub mod TreeLemmas

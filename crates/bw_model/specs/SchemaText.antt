@@ -140,3 +140,10 @@ SpellsSchema (line ∷ lines) schema =
 -- a text of at most 65,536 bytes whose lines spell a schema
 abbrev pub IsSchemaText : List ℕ → SchemaShape → Type 0
 IsSchemaText text schema = (length text ≤ 65536) × SpellsSchema (lines_in (whole text)) schema
+
+-- one of 101 to 106, or want of memory
+abbrev pub is_schema_code : ℕ → Bool
+is_schema_code code = (nat_le 101 code && nat_le code 106) || (code == 801)
+
+abbrev pub IsSchemaFault : Fault → Type 0
+IsSchemaFault fault = IsTrue (is_schema_code fault.code)

@@ -1,11 +1,11 @@
 //! Schema texts: first `TABLE name`, then a line `COLUMN name lo hi` or `COLUMN name lo hi NOT NULL` for each
 //! column, by the rules of `lines.rt`. Keywords are read ignoring case.
-ghost use Rattle.std.specs.Prelude.{◌≡◌, ◌<◌, Ok, false, map, length, option_map, pos, ◌≤ℤ◌, ◌<ℤ◌, ◌-ℤ◌, ◌^◌, IfOk, IsTrue};
+ghost use Rattle.std.specs.Prelude.{◌≡◌, ◌<◌, Ok, false, map, length, option_map, pos, ◌≤ℤ◌, ◌<ℤ◌, ◌-ℤ◌, ◌^◌, IfOk, IfErr, IsTrue};
 ghost use Rattle.std.specs.List.{list_any};
 ghost use Rattle.bw_model.specs.Column.{names_of};
 ghost use Rattle.bw_model.specs.Fault.{Gives, at_line};
 ghost use Rattle.bw_model.specs.Lines.{line_of};
-ghost use Rattle.bw_model.specs.SchemaText.{schema_of, schema_shape, SchemaShape, IsSchemaText, column_shape, column_words, with_bounds, are_not_null, column_on, table_on, is_range, bound_of, signed_digits, words_shape};
+ghost use Rattle.bw_model.specs.SchemaText.{schema_of, schema_shape, SchemaShape, IsSchemaText, IsSchemaFault, column_shape, column_words, with_bounds, are_not_null, column_on, table_on, is_range, bound_of, signed_digits, words_shape};
 ghost use Rattle.bw_model.specs.Text.{same_text};
 
 use crate::column::Column;
@@ -38,6 +38,7 @@ impl Schema {
 
         // Which fault it is.
         ensures fault { Gives schema_shape result (schema_of text.now) }
+        ensures code { IfErr result IsSchemaFault }
     {
         read_schema(alloc, text)
     }
