@@ -126,6 +126,83 @@ fn lists_and_totals(rt: HostRuntime) {
     check(&rt, SCHEMA, "a,b", "SELECT * FROM t", "a,b\n", "", 0);
 }
 
+/// A sign without digits and a null in a column without nulls are told from the left.
+#[test]
+fn the_first_field_that_is_wrong_is_told(rt: HostRuntime) {
+    let count = "SELECT COUNT(*) FROM t";
+    for (csv, line) in [
+        ("a,b\n+,11\n", "bw: 204 not a whole number at record 1\n"),
+        ("a,b\n256,-\n", "bw: 205 out of range at record 1\n"),
+        ("a,b\n,-\n", "bw: 206 null not allowed at record 1\n"),
+        ("a,b\n1,-\n,0\n", "bw: 204 not a whole number at record 1\n"),
+    ] {
+        check(&rt, SCHEMA, csv, count, "", line, 3);
+    }
+}
+
+/// A table of one column, where an empty line is no row, and a null is written as such.
+#[test]
+fn a_table_of_one_column(rt: HostRuntime) {
+    let schema = "TABLE one\nCOLUMN x -5 5\n";
+    let csv = "x\n\n1\n\"\"\n\nNULL\n-5\n";
+    check(
+        &rt,
+        schema,
+        csv,
+        "SELECT * FROM one",
+        "x\n1\nNULL\nNULL\n-5\n",
+        "",
+        0,
+    );
+    let counts = "SELECT COUNT(*), COUNT(x), SUM(x), MIN(x), MAX(x) FROM One";
+    let totals = "COUNT(*),COUNT(x),SUM(x),MIN(x),MAX(x)\n4,2,-4,-5,1\n";
+    check(&rt, schema, csv, counts, totals, "", 0);
+}
+
+/// The heading is spelled as the schema spells it, and a column may come twice.
+#[test]
+fn a_heading_is_spelled_as_in_the_schema(rt: HostRuntime) {
+    let schema = "TABLE t\nCOLUMN Minutes 0 9\n";
+    let csv = "MINUTES\n7\n";
+    for (sql, output) in [
+        ("SELECT minutes, MINUTES FROM T", "Minutes,Minutes\n7,7\n"),
+        (
+            "SELECT sum(minutes), Count( * ) FROM t",
+            "SUM(Minutes),COUNT(*)\n7,1\n",
+        ),
+    ] {
+        check(&rt, schema, csv, sql, output, "", 0);
+    }
+}
+
+/// Tables of more rows than a segment has.
+#[test]
+fn larger_tables(rt: HostRuntime) -> Result<(), Fail> {
+    let mut ones = String::from_str(rt.alloc(), "a,b\n")?;
+    let mut mixed = String::from_str(rt.alloc(), "a,b\n")?;
+    for i in 0..512 {
+        ones.push_str("1,0\n")?;
+        mixed.push_str("5,0\n")?;
+        if i % 2 == 1 {
+            mixed.push_str("5,0\n200,0\n")?;
+        }
+    }
+    ones.push_str("0,0\n")?;
+    let not_zero = "SELECT COUNT(*) FROM t WHERE NOT a = 0";
+    check(
+        &rt,
+        SCHEMA,
+        ones.as_str(),
+        not_zero,
+        "COUNT(*)\n512\n",
+        "",
+        0,
+    );
+    let large = "SELECT COUNT(*) FROM t WHERE a >= 192";
+    check(&rt, SCHEMA, mixed.as_str(), large, "COUNT(*)\n256\n", "", 0);
+    Ok(())
+}
+
 #[test]
 fn conditions_that_are_refused(rt: HostRuntime) {
     check_count(&rt, "a IS TRUE", "", "bw: 402 syntax at byte 34\n", 3);
@@ -171,6 +248,8 @@ fn csv_texts_as_they_are_written(rt: HostRuntime) {
         " A , B \n 1 ,\t5 \n",
         "a,b\n\n1,+5\n\n",
         "a,b\n\"1\",\"5\"\n",
+        "\"a\",\" b\"\r\n\"1\" ,\"\t+5 \"\r\n\r\n",
+        "a,b\n1,5",
         "a,b\n01,00000000000000000000005",
         "a,b\n1,5\n1,\n1,\"\"\n1, null \n",
     ] {
@@ -206,6 +285,19 @@ fn csv_texts_that_are_refused(rt: HostRuntime) {
             "bw: 206 null not allowed at record 2\n",
         ),
         ("a,b\nx\n", "bw: 203 record length at record 1\n"),
+        // A comma in quotes parts no fields, and a line break in quotes ends no record and isn't a blank.
+        ("a,b\n\"1,5\"\n", "bw: 203 record length at record 1\n"),
+        (
+            "a,b\n\"1\n\",5\n1\n",
+            "bw: 204 not a whole number at record 1\n",
+        ),
+        ("\"a\nx\",b\n1,5\n", "bw: 202 heading at record 0\n"),
+        (
+            "a,b\n\"\"\"1\"\"\",5\n",
+            "bw: 204 not a whole number at record 1\n",
+        ),
+        // On one record the number of fields comes before what they say.
+        ("a,b\nx,,7\n", "bw: 203 record length at record 1\n"),
     ] {
         check(&rt, SCHEMA, csv, count, "", line, 3);
     }
@@ -290,6 +382,11 @@ fn statements_that_are_refused(rt: HostRuntime) {
         (
             "SELECT COUNT(*) FROM t WHERE zz = 1",
             "bw: 404 unknown column at byte 29\n",
+        ),
+        ("SELECT zz FROM t", "bw: 404 unknown column at byte 7\n"),
+        (
+            "SELECT a, COUNT(*) FROM t",
+            "bw: 406 columns and aggregates mixed at byte 10\n",
         ),
     ] {
         check(&rt, SCHEMA, CSV, sql, "", line, 3);

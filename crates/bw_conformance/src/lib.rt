@@ -14,3 +14,5 @@ mod direct;
 mod faults;
 #[cfg(test)]
 mod outcome;
+#[cfg(test)]
+mod scarcity;

@@ -1,0 +1,36 @@
+#!/usr/bin/env bash
+# Times `bw direct` on a count over a million rows of four columns (16 MB), and the csv reader alone on the same file.
+# Run by hand on an idle machine: bench/direct.sh [FOLDER], which keeps the file in FOLDER (else in a new one).
+# Each line has the seconds of wall time, those of the processor, and the most memory in KB, of the best of five runs.
+set -euo pipefail
+top=$(cd "$(dirname "$0")/.." && pwd)
+folder=${1:-$(mktemp -d)}
+mkdir -p "$folder"
+schema=$folder/million.schema
+csv=$folder/million.csv
+
+printf 'TABLE m\nCOLUMN a 0 255 NOT NULL\nCOLUMN b -10 10\nCOLUMN c 0 99999 NOT NULL\nCOLUMN d 0 999 NOT NULL\n' > "$schema"
+if [ ! -s "$csv" ]; then
+    awk 'BEGIN {
+        srand(7)
+        print "a,b,c,d"
+        for (i = 0; i < 1000000; i++)
+            printf "%d,%s,%d,%d\n", rand() * 256, rand() < 0.05 ? "NULL" : int(rand() * 21) - 10, rand() * 100000, rand() * 1000
+    }' > "$csv"
+fi
+
+# both programs are built, and proved, by their first runs
+"$top/bw" direct "$schema" <(printf 'a,b,c,d\n') 'SELECT COUNT(*) FROM m' > /dev/null
+[ -x "$top/crates/bench_reader/out/bench_reader" ] || (cd "$top/crates/bench_reader" && rt run > /dev/null)
+
+best() {
+    local name=$1
+    shift
+    for _ in 1 2 3 4 5; do
+        /usr/bin/time -f '%e s  %U s  %M KB' "$@" 2>&1 > /dev/null
+    done | sort -n | head -n 1 | sed "s/^/$name: /"
+}
+best 'csv reader alone           ' "$top/crates/bench_reader/out/bench_reader" "$csv"
+best 'SELECT COUNT(*) WHERE a < 8' "$top/crates/bw/out/bw" direct "$schema" "$csv" 'SELECT COUNT(*) FROM m WHERE a < 8'
+best 'SELECT SUM(c), MAX(d)      ' "$top/crates/bw/out/bw" direct "$schema" "$csv" 'SELECT SUM(c), MAX(d) FROM m'
+best 'SELECT *                   ' "$top/crates/bw/out/bw" direct "$schema" "$csv" 'SELECT * FROM m'
