@@ -7,4 +7,3 @@ pub mod Pieces
 pub mod Readers
 pub mod Repeats
 pub mod Signs
-pub mod Values

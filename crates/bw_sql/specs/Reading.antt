@@ -1,6 +1,6 @@
 -- Reading a statement from its tokens: each reader takes the tokens that are left, and gives what it read and
 -- the tokens behind it, or where and why it stopped.
-use Rattle.std.specs.Prelude.{◌+◌, ◌*◌, ◌-◌, ℕ, ℤ, pos, neg_ℤ, Bool, true, false, suc, zero, List, [], ◌∷◌, ◌++◌, map, length, Option, Some, None, Result, Ok, Err, if◌then◌else◌, ◌&&◌, int_le, int_lt, ◌^◌}
+use Rattle.std.specs.Prelude.{ℕ, ℤ, Bool, true, false, suc, zero, List, [], ◌∷◌, ◌++◌, map, length, Option, Some, None, Result, Ok, Err, if◌then◌else◌}
 use Rattle.std.specs.List.{position, range_with_len}
 use Rattle.std.specs.Str.{bytes_eq}
 use Rattle.bw_model.specs.declared.cond.Op.{Op}
@@ -15,6 +15,7 @@ use Rattle.bw_model.specs.declared.query.Item.TheVariants.{Plain, CountAll, Coun
 use Rattle.bw_model.specs.declared.query.Query.{Query}
 use Rattle.bw_model.specs.declared.schema.Schema.{Schema}
 use Rattle.bw_model.specs.Keyword.{spelling}
+use Rattle.bw_model.specs.Number.{number_of}
 use Rattle.bw_model.specs.Text.{same_text}
 use Rattle.bw_sql.specs.Condition.{Condition, Conditions, Always, Cmp, Between, Among, IsNull, And, Or, Not, Test, condition, conditions}
 use Rattle.bw_sql.specs.declared.items.Aggregate.{Aggregate}
@@ -91,19 +92,6 @@ digits_at (Reserved found ∷ tokens) = refuse Syntax (Reserved found ∷ tokens
 digits_at (Compare op ∷ tokens) = refuse Syntax (Compare op ∷ tokens)
 digits_at (Punct found ∷ tokens) = refuse Syntax (Punct found ∷ tokens)
 
--- the number that digits spell behind those of another; byte 48 is the digit 0
-abbrev pub value_after : ℕ → List ℕ → ℕ
-value_after n [] = n
-value_after n (c ∷ cs) = value_after (n * 10 + (c - 48)) cs
-
--- the number that a sign and digits spell, and whether 64 bits hold it
-abbrev pub literal_value : Bool → List ℕ → ℤ
-literal_value true digits = neg_ℤ (pos (value_after 0 digits))
-literal_value false digits = pos (value_after 0 digits)
-
-abbrev pub fits_in_64 : ℤ → Bool
-fits_in_64 n = int_le (neg_ℤ (pos (2 ^ 63))) n && int_lt n (pos (2 ^ 63))
-
 -- whether a minus comes first, and the tokens behind the sign, where there is one
 abbrev pub behind_plus : Option (List Lexeme) → List Lexeme → Bool × List Lexeme
 behind_plus (Some rest) tokens = (false, rest)
@@ -115,9 +103,6 @@ behind_minus None tokens = behind_plus (after_mark mark.Plus tokens) tokens
 
 unfoldable pub sign_at : List Lexeme → Bool × List Lexeme
 sign_at tokens = behind_minus (after_mark mark.Minus tokens) tokens
-
-unfoldable pub number_of : Bool → List ℕ → Option ℤ
-number_of is_negative digits = if fits_in_64 (literal_value is_negative digits) then Some (literal_value is_negative digits) else None
 
 unfoldable pub literal_at : List Lexeme → Result (ℤ × List Lexeme) Halt
 literal_at tokens = do

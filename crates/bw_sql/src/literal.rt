@@ -1,12 +1,12 @@
 //! Literals: a sign, where there is one, and digits, of a number that fits 64 bits.
-ghost use Rattle.std.specs.Prelude.{◌≡◌, ◌<◌, ◌≤◌, ◌^◌, length, IfOk};
-ghost use Rattle.std.specs.Option.{SomeIff};
+ghost use Rattle.std.specs.Prelude.{◌≡◌, ◌<◌, ◌≤◌, length, IfOk};
 ghost use Rattle.bw_sql.specs.Reader.{Reads};
-ghost use Rattle.bw_sql.specs.Reading.{literal_at, sign_at, digits_at, number_of, value_after};
+ghost use Rattle.bw_sql.specs.Reading.{literal_at, sign_at, digits_at};
 ghost use Rattle.bw_sql.specs.Token.{lexemes};
 
 use crate::reader::{Refusal, Stop, after_mark};
 use crate::token::{Mark, Placed, Token};
+use bw_model::whole_number;
 
 /// The number that a literal spells, and the tokens behind it.
 #[tactic(auto, unfolding(crate::specs::Reading::literal_at))]
@@ -16,7 +16,7 @@ pub fn literal<'t>(tokens: &'t [Placed<'t>]) -> Result<(i64, &'t [Placed<'t>]), 
 {
     let (is_negative, unsigned) = sign(tokens);
     let (digits, rest) = digits(unsigned)?;
-    match number(is_negative, digits) {
+    match whole_number(is_negative, digits) {
         Some(n) => Ok((n, rest)),
         None => Err(Stop::at(Refusal::Literal, tokens)),
     }
@@ -49,30 +49,4 @@ fn digits<'t>(tokens: &'t [Placed<'t>]) -> Result<(&'t [u8], &'t [Placed<'t>]), 
         return Ok((text, rest));
     }
     Err(Stop::at(Refusal::Syntax, tokens))
-}
-
-/// The number that a sign and digits spell, if 64 bits hold it.
-#[tactic(auto, unfolding(crate::specs::Reading::number_of))]
-fn number(is_negative: bool, digits: &[u8]) -> Option<i64>
-    ensures { result ≡ number_of is_negative digits.now }
-{
-    let magnitude = magnitude(digits)?;
-    if is_negative {
-        0i64.checked_sub_unsigned(magnitude)
-    } else {
-        i64::try_from(magnitude).ok()
-    }
-}
-
-/// The number that digits spell, if 64 bits hold it.
-fn magnitude(digits: &[u8]) -> Option<u64>
-    ensures { SomeIff result (value_after 0 digits.now < 2 ^ 64) (value_after 0 digits.now) }
-{
-    let mut n = 0u64;
-    for digit in digits {
-        n = n
-            .checked_mul(10)?
-            .checked_add(u64::from(digit.saturating_sub(b'0')))?;
-    }
-    Some(n)
 }
