@@ -1,9 +1,13 @@
 pub mod Columns
 pub mod Cuts
 pub mod Joins
+pub mod Lengths
 pub mod Levels
 pub mod OneCut
 pub mod Pieces
+pub mod Query
 pub mod Readers
 pub mod Repeats
 pub mod Signs
+pub mod Sound
+pub mod Spelled

@@ -9,7 +9,8 @@ use Rattle.bw_sql.specs.declared.reader.Stop.TheVariants.{Refused, OutOfMemory}
 use Rattle.bw_sql.specs.declared.token.Placed.{Placed}
 use Rattle.bw_sql.specs.Cut.{IsCut, spots}
 use Rattle.bw_sql.specs.Reader.{Reads}
-use Rattle.bw_sql.specs.Reading.{asked, statement_at}
+use Rattle.bw_sql.specs.Asked.{asked}
+use Rattle.bw_sql.specs.Reading.{statement_at}
 use Rattle.bw_sql.specs.Statement.{Answers, IsFaultOf, judged, tokens_of}
 use Rattle.bw_sql.specs.Token.{lexeme, lexemes}
 

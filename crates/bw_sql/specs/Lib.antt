@@ -1,5 +1,8 @@
+pub mod Asked
 pub mod Condition
 pub mod Cut
+pub mod Demand
+pub mod Grammar
 pub mod Items
 pub mod Lexer
 pub mod Piece

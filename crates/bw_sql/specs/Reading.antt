@@ -1,7 +1,6 @@
 -- Reading a statement from its tokens: each reader takes the tokens that are left, and gives what it read and
 -- the tokens behind it, or where and why it stopped.
-use Rattle.std.specs.Prelude.{ℕ, ℤ, Bool, true, false, suc, zero, List, [], ◌∷◌, ◌++◌, map, length, Option, Some, None, Result, Ok, Err, if◌then◌else◌}
-use Rattle.std.specs.List.{position, range_with_len}
+use Rattle.std.specs.Prelude.{ℕ, ℤ, Bool, true, false, suc, zero, List, [], ◌∷◌, ◌++◌, length, Option, Some, None, Result, Ok, Err, if◌then◌else◌}
 use Rattle.std.specs.Str.{bytes_eq}
 use Rattle.bw_model.specs.declared.cond.Op.{Op}
 use Rattle.bw_model.specs.declared.cond.Operand.{Operand}
@@ -12,18 +11,19 @@ use Rattle.bw_model.specs.declared.keyword.Keyword.{Keyword}
 use Rattle.bw_model.specs.declared.keyword.Keyword.TheVariants as word
 use Rattle.bw_model.specs.declared.query.Item.{Item}
 use Rattle.bw_model.specs.declared.query.Item.TheVariants.{Plain, CountAll, Count, Sum, Min, Max}
-use Rattle.bw_model.specs.declared.query.Query.{Query}
 use Rattle.bw_model.specs.declared.schema.Schema.{Schema}
 use Rattle.bw_model.specs.Keyword.{spelling}
 use Rattle.bw_model.specs.Number.{number_of}
 use Rattle.bw_model.specs.Text.{same_text}
-use Rattle.bw_sql.specs.Condition.{Condition, Conditions, Always, Cmp, Between, Among, IsNull, And, Or, Not, Test, condition, conditions}
+use Rattle.bw_sql.specs.Asked.{Asked}
+use Rattle.bw_sql.specs.Condition.{Condition, Conditions, Always, Cmp, Between, Among, IsNull, And, Or, Not, Test, conditions}
 use Rattle.bw_sql.specs.declared.items.Aggregate.{Aggregate}
 use Rattle.bw_sql.specs.declared.items.Aggregate.TheVariants as aggregate
 use Rattle.bw_sql.specs.declared.reader.Refusal.{Refusal}
 use Rattle.bw_sql.specs.declared.reader.Refusal.TheVariants.{Syntax, UnknownTable, UnknownColumn, Literal, MixedItems, Nesting}
 use Rattle.bw_sql.specs.declared.token.Mark.{Mark}
 use Rattle.bw_sql.specs.declared.token.Mark.TheVariants as mark
+use Rattle.bw_sql.specs.Demand.{column_named, every_column}
 use Rattle.bw_sql.specs.Piece.{mark_spelling}
 use Rattle.bw_sql.specs.Token.{Lexeme, Name, Digits, Reserved, Compare, Punct}
 
@@ -109,10 +109,6 @@ literal_at tokens = do
   digits ← digits_at (sign_at tokens).1
   n ← wanted (number_of (sign_at tokens).0 digits.0) Literal tokens
   Ok (n, digits.1)
-
--- the number of the column of this name, ignoring case
-unfoldable pub column_named : Schema → List ℕ → Option ℕ
-column_named schema text = position (λ column. same_text column.name text) schema.columns.items
 
 unfoldable pub column_at : Schema → List Lexeme → Result (ℕ × List Lexeme) Halt
 column_at schema tokens = do
@@ -346,10 +342,6 @@ behind_semicolon None tokens = tokens
 unfoldable pub end_at : List Lexeme → Result (Unit {0}) Halt
 end_at tokens = nothing_left (behind_semicolon (after_mark mark.Semicolon tokens) tokens)
 
--- every column, in the order of the schema
-abbrev pub every_column : Schema → List Item
-every_column schema = map Plain (range_with_len 0 (length schema.columns.items))
-
 -- the aggregates, by their words
 abbrev pub aggregate_behind : Option (List Lexeme) → Option (List Lexeme) → Option (List Lexeme) → Option (List Lexeme) → Option (Aggregate × List Lexeme)
 aggregate_behind (Some rest) sum min max = Some (aggregate.Count, rest)
@@ -429,14 +421,6 @@ items_behind schema None tokens = do
 
 unfoldable pub items_at : Schema → List Lexeme → Result (List Item × List Lexeme) Halt
 items_at schema tokens = items_behind schema (after_mark mark.Star tokens) tokens
-
--- a query as its items and its condition
-pub record Asked : Type 0 where
-  pub items : List Item
-  pub cond : Condition
-
-abbrev pub asked : Query → Asked
-asked query = record { items = query.items.items; cond = condition query.cond }
 
 unfoldable pub statement_at : Schema → List Lexeme → Result Asked Halt
 statement_at schema tokens = do

@@ -8,7 +8,9 @@ use Rattle.bw_sql.specs.declared.reader.Refusal.{Refusal}
 use Rattle.bw_sql.specs.declared.reader.Stop.{Stop}
 use Rattle.bw_sql.specs.declared.reader.Stop.TheVariants.{Refused, OutOfMemory}
 use Rattle.bw_sql.specs.Cut.{IsCut, Spot}
-use Rattle.bw_sql.specs.Reading.{Asked, Halt, asked, statement_at}
+use Rattle.bw_sql.specs.Asked.{Asked, asked}
+use Rattle.bw_sql.specs.Grammar.{IsQuery}
+use Rattle.bw_sql.specs.Reading.{Halt, statement_at}
 use Rattle.bw_sql.specs.Refusal.{number}
 use Rattle.bw_sql.specs.Token.{Lexeme}
 
@@ -43,6 +45,12 @@ pub record IsRead (schema : Schema) (text : List ℕ) (outcome : Result Asked Fa
 abbrev pub Answers : Schema → List ℕ → Result Query Fault → Type 0
 Answers schema text (Ok query) = IsRead schema text (Ok (asked query))
 Answers schema text (Err fault) = is_memory fault ≡ false → IsRead schema text (Err fault)
+
+-- the text is cut to its end into tokens that spell the query
+pub record Spells (schema : Schema) (text : List ℕ) (query : Asked) : Type 0 where
+  pub tokens : List Spot
+  pub cut : IsCut 0 text tokens None
+  pub spelled : IsQuery schema (tokens_of tokens) query
 
 -- the fault of a reader that stopped
 abbrev pub IsFaultOf : List Spot → Option ℕ → ℕ → Stop → Fault → Type 0

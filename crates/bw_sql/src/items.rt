@@ -10,9 +10,10 @@ ghost use Rattle.std.specs.Prelude.{true, false, is_some, OnOk, ◌≡◌, ◌<�
 ghost use Rattle.std.specs.List.{list_all};
 ghost use Rattle.std.specs.Option.{option_map};
 ghost use Rattle.bw_model.specs.Total.{item_within, is_aggregate};
+ghost use Rattle.bw_sql.specs.Demand.{every_column};
 ghost use Rattle.bw_sql.specs.Items.{AreOfOneKind, are_of_kind, is_of_kind};
 ghost use Rattle.bw_sql.specs.Reader.{Reads};
-ghost use Rattle.bw_sql.specs.Reading.{after_aggregate, aggregated_at, begins_with_name, every_column, item_at, items_at, more_items, next_item_at, of_column, of_one_kind, with_front};
+ghost use Rattle.bw_sql.specs.Reading.{after_aggregate, aggregated_at, begins_with_name, item_at, items_at, more_items, next_item_at, of_column, of_one_kind, with_front};
 ghost use Rattle.bw_sql.specs.Token.{lexemes};
 
 use crate::operand::{begins_with_name, column};

@@ -1,10 +1,12 @@
 //! The parser of the query language, a profile of SQL-92.
 //!
 //! The contract that the crates above use is that of [`parse`]. A text is cut into tokens by the longest piece
-//! (`specs/Cut.antt`), in one way, as [`one_cut`] says, and its tokens are read as the grammar has them
-//! (`specs/Reading.antt`): the answer is the query that was read, or the first fault with its byte, want of
-//! memory aside. What is parsed names columns of the schema alone, and its lists are as long as `bw_model`
-//! wants them.
+//! (`specs/Cut.antt`), in one way, as [`one_cut`] says, and its tokens have to spell a query by the grammar
+//! (`specs/Grammar.antt`), which is a relation by cases and knows no parser; they spell at most one, as
+//! [`one_query`] says. A text is parsed exactly where its tokens spell a query, and to that query, want of
+//! memory aside. Another text is refused at the byte at which the reading functions of `specs/Reading.antt`
+//! stop; they read what the grammar spells, and nothing else, as [`read_as_spelled`] says. What is parsed names
+//! columns of the schema alone, and its lists are as long as `bw_model` wants them.
 //!
 //! Read `token.rt` first, and then `statement.rt`, `items.rt`, `condition.rt` and `predicate.rt`, which have
 //! the grammar.
@@ -12,13 +14,17 @@
 
 ghost use Rattle.std.specs.Prelude.{List, ℕ, Option, ◌≡◌, ◌<◌, ◌≤◌, length, IfOk, IfErr, IsTrue, vec_len};
 ghost use Rattle.std.specs.List.{list_all};
-ghost use Rattle.bw_model.specs.Fault.{at_byte};
+ghost use Rattle.bw_model.specs.Fault.{at_byte, is_memory};
 ghost use Rattle.bw_model.specs.Cond.{names_within, is_whole};
 ghost use Rattle.bw_model.specs.Total.{item_within};
+ghost use Rattle.bw_sql.specs.Asked.{Asked, asked};
 ghost use Rattle.bw_sql.specs.Cut.{IsCut, Spot, spots};
+ghost use Rattle.bw_sql.specs.Grammar.{IsQuery};
 ghost use Rattle.bw_sql.specs.Items.{AreOfOneKind};
+ghost use Rattle.bw_sql.specs.Reading.{statement_at};
 ghost use Rattle.bw_sql.specs.Refusal.{IsStatementFault};
-ghost use Rattle.bw_sql.specs.Statement.{Answers, IsFaultOf};
+ghost use Rattle.bw_sql.specs.Statement.{Answers, IsFaultOf, Spells};
+ghost use Rattle.bw_sql.specs.Token.{Lexeme};
 
 mod condition;
 mod items;
@@ -52,6 +58,21 @@ pub const MAX_LEN: usize = 65_536;
 /// of memory.
 pub fn parse(alloc: Global, schema: &Schema, text: &[u8]) -> Result<Query, Fault>
     ensures too_long { MAX_LEN < length text.now → result ≡ Err (at_byte 407 MAX_LEN) }
+    ensures spelled { IfOk result (λ query. Spells schema.now text.now (asked query)) }
+    ensures refused { length text.now ≤ MAX_LEN → (query : Asked) → Spells schema.now text.now query → IfErr result (λ fault. IsTrue (is_memory fault)) }
+    ensures exact { length text.now ≤ MAX_LEN → Answers schema.now text.now result }
+    ensures columns { IfOk result (λ query. IsTrue (names_within (vec_len schema.now.columns) query.cond)) }
+    ensures whole { IfOk result (λ query. IsTrue (is_whole query.cond)) }
+    ensures items { IfOk result (λ query. IsTrue (list_all (item_within (vec_len schema.now.columns)) query.items.items)) }
+    ensures kinds { IfOk result (λ query. AreOfOneKind query.items.items) }
+    ensures fault { IfErr result IsStatementFault }
+{
+    read(alloc, schema, text)
+}
+
+/// The query that a statement is read as, or the fault at which reading stopped.
+fn read(alloc: Global, schema: &Schema, text: &[u8]) -> Result<Query, Fault>
+    ensures too_long { MAX_LEN < length text.now → result ≡ Err (at_byte 407 MAX_LEN) }
     ensures exact { length text.now ≤ MAX_LEN → Answers schema.now text.now result }
     ensures columns { IfOk result (λ query. IsTrue (names_within (vec_len schema.now.columns) query.cond)) }
     ensures whole { IfOk result (λ query. IsTrue (is_whole query.cond)) }
@@ -75,6 +96,17 @@ pub fn parse(alloc: Global, schema: &Schema, text: &[u8]) -> Result<Query, Fault
 /// A text is cut into tokens in one way.
 pub fn one_cut()
     ensures { (at : ℕ) (text : List ℕ) (tokens others : List Spot) (stop other : Option ℕ) → IsCut at text tokens stop → IsCut at text others other → (tokens ≡ others) × (stop ≡ other) }
+{}
+
+/// The reading functions read a query from the tokens that spell it, and no other.
+pub fn read_as_spelled()
+    ensures read { (schema : Schema) (tokens : List Lexeme) (query : Asked) → IsQuery schema tokens query → statement_at schema tokens ≡ Ok query }
+    ensures spelled { (schema : Schema) (tokens : List Lexeme) (query : Asked) → statement_at schema tokens ≡ Ok query → IsQuery schema tokens query }
+{}
+
+/// A list of tokens spells at most one query.
+pub fn one_query()
+    ensures { (schema : Schema) (tokens : List Lexeme) (query other : Asked) → IsQuery schema tokens query → IsQuery schema tokens other → query ≡ other }
 {}
 
 fn fault_at(code: u16, at: usize) -> Fault

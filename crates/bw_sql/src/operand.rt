@@ -1,8 +1,9 @@
 //! Operands of predicates, and the names of columns.
 ghost use Rattle.std.specs.Prelude.{◌≡◌, ◌<◌, length, IfOk, IfSome, IsTrue, vec_len};
 ghost use Rattle.bw_model.specs.Cond.{is_within};
+ghost use Rattle.bw_sql.specs.Demand.{column_named};
 ghost use Rattle.bw_sql.specs.Reader.{Reads};
-ghost use Rattle.bw_sql.specs.Reading.{operand_at, column_at, column_named, begins_with_name};
+ghost use Rattle.bw_sql.specs.Reading.{operand_at, column_at, begins_with_name};
 ghost use Rattle.bw_sql.specs.Token.{lexemes};
 
 use crate::literal::literal;
@@ -61,7 +62,7 @@ pub fn begins_with_name(tokens: &[Placed<'_>]) -> bool
 }
 
 /// The number of the column of this name, ignoring the case of ASCII letters.
-#[tactic(auto, unfolding(crate::specs::Reading::column_named))]
+#[tactic(auto, unfolding(crate::specs::Demand::column_named))]
 fn column_named(schema: &Schema, text: &[u8]) -> Option<usize>
     ensures within { IfSome result (λ column. column < vec_len schema.now.columns) }
     ensures named { result ≡ column_named schema.now text.now }

@@ -10,7 +10,8 @@ ghost use Rattle.bw_model.specs.Total.{item_within};
 ghost use Rattle.bw_sql.specs.Reader.{Reads};
 ghost use Rattle.bw_sql.specs.Condition.{condition};
 ghost use Rattle.bw_sql.specs.Items.{AreOfOneKind};
-ghost use Rattle.bw_sql.specs.Reading.{asked, end_at, selection_at, statement_at, table_at};
+ghost use Rattle.bw_sql.specs.Asked.{asked};
+ghost use Rattle.bw_sql.specs.Reading.{end_at, selection_at, statement_at, table_at};
 ghost use Rattle.bw_sql.specs.Token.{lexemes};
 
 use crate::condition::condition;
