@@ -31,6 +31,7 @@ pub fn items<'t>(
 ) -> Result<(Vec<Item>, &'t [Placed<'t>]), Stop>
     ensures read { Reads (λ read. (read.0.items, lexemes read.1.now)) result (items_at schema.now (lexemes tokens.now)) }
     ensures columns { IfOk result (λ read. IsTrue (list_all (item_within (vec_len schema.now.columns)) read.0.items)) }
+    ensures some { IfOk result (λ read. 1 ≤ length read.0.items) }
     ensures kinds { IfOk result (λ read. AreOfOneKind read.0.items) }
 {
     if let Some(rest) = after_mark(Mark::Star, tokens) {
@@ -58,9 +59,11 @@ fn more_items<'t>(
     tokens: &'t [Placed<'t>],
 ) -> Result<(Vec<Item>, &'t [Placed<'t>]), Stop>
     requires columns { IsTrue (list_all (item_within (vec_len schema.now.columns)) items.items) }
+    requires some { 1 ≤ length items.items }
     requires kinds { IsTrue (are_of_kind is_plain items.items) }
     ensures read { Reads (λ read. (read.0.items, lexemes read.1.now)) result (with_front items.items (more_items schema.now is_plain (lexemes tokens.now))) }
     ensures columns { IfOk result (λ read. IsTrue (list_all (item_within (vec_len schema.now.columns)) read.0.items)) }
+    ensures some { IfOk result (λ read. 1 ≤ length read.0.items) }
     ensures kinds { IfOk result (λ read. IsTrue (are_of_kind is_plain read.0.items)) }
 {
     let mut left = Left { tokens };

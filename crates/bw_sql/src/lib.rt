@@ -64,6 +64,7 @@ pub fn parse(alloc: Global, schema: &Schema, text: &[u8]) -> Result<Query, Fault
     ensures columns { IfOk result (λ query. IsTrue (names_within (vec_len schema.now.columns) query.cond)) }
     ensures whole { IfOk result (λ query. IsTrue (is_whole query.cond)) }
     ensures items { IfOk result (λ query. IsTrue (list_all (item_within (vec_len schema.now.columns)) query.items.items)) }
+    ensures some { IfOk result (λ query. 1 ≤ length query.items.items) }
     ensures kinds { IfOk result (λ query. AreOfOneKind query.items.items) }
     ensures fault { IfErr result IsStatementFault }
 {
@@ -77,6 +78,7 @@ fn read(alloc: Global, schema: &Schema, text: &[u8]) -> Result<Query, Fault>
     ensures columns { IfOk result (λ query. IsTrue (names_within (vec_len schema.now.columns) query.cond)) }
     ensures whole { IfOk result (λ query. IsTrue (is_whole query.cond)) }
     ensures items { IfOk result (λ query. IsTrue (list_all (item_within (vec_len schema.now.columns)) query.items.items)) }
+    ensures some { IfOk result (λ query. 1 ≤ length query.items.items) }
     ensures kinds { IfOk result (λ query. AreOfOneKind query.items.items) }
     ensures fault { IfErr result IsStatementFault }
 {

@@ -3,7 +3,7 @@
 //! ```text
 //! query = SELECT list FROM name [ WHERE cond ] [ ; ]
 //! ```
-ghost use Rattle.std.specs.Prelude.{◌≡◌, ◌<◌, IfOk, IfSome, IsTrue, vec_len};
+ghost use Rattle.std.specs.Prelude.{◌≡◌, ◌<◌, ◌≤◌, length, IfOk, IfSome, IsTrue, vec_len};
 ghost use Rattle.std.specs.List.{list_all};
 ghost use Rattle.bw_model.specs.Cond.{names_within, is_whole};
 ghost use Rattle.bw_model.specs.Total.{item_within};
@@ -31,6 +31,7 @@ pub fn statement(alloc: Global, schema: &Schema, tokens: &[Placed<'_>]) -> Resul
     ensures columns { IfOk result (λ query. IsTrue (names_within (vec_len schema.now.columns) query.cond)) }
     ensures whole { IfOk result (λ query. IsTrue (is_whole query.cond)) }
     ensures items { IfOk result (λ query. IsTrue (list_all (item_within (vec_len schema.now.columns)) query.items.items)) }
+    ensures some { IfOk result (λ query. 1 ≤ length query.items.items) }
     ensures kinds { IfOk result (λ query. AreOfOneKind query.items.items) }
 {
     let rest = keyword(Keyword::Select, tokens)?;

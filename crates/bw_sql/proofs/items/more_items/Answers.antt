@@ -1,5 +1,5 @@
 -- Each item goes behind those before it.
-use Rattle.std.proofs.Common.{◌<◌, length, sym, subst, arith}
+use Rattle.std.proofs.Common.{◌<◌, [], ◌∷◌, ap, length, length-append, sym, subst, arith}
 use Rattle.std.proofs.lemmas.Result.{err_from_is_err_and}
 use Rattle.bw_model.specs.Total.{item_within}
 use Rattle.bw_sql.specs.declared.token.Mark.TheVariants.{Comma}
@@ -21,6 +21,7 @@ loop-next-preserved c =
     let some : length c.in_ok-item.after.now < length c.loop-next.left.tokens.now = omega (arith, c.in-Some.ensures.shorter, c.in_ok-item.ensures.shorter) in
     record {
       columns = list_all_push (item_within _) c.loop-next.items.items c.push.new.self.items c.in_ok-item.item c.in_ok-push.ensures.items c.loop-next.invariant.columns c.in_ok-item.ensures.columns;
+      some = omega (arith, ap length c.in_ok-push.ensures.items, length-append c.loop-next.items.items (c.in_ok-item.item ∷ []));
       kinds = list_all_push (is_of_kind _) c.loop-next.items.items c.push.new.self.items c.in_ok-item.item c.in_ok-push.ensures.items c.loop-next.invariant.kinds c.in_ok-item.ensures.kind;
       read = subst (λ items. Repeats (after_mark Comma) (next_item_at c.args.schema.now c.args.is_plain) items (length c.in_ok-item.after.now) (lexemes c.in_ok-item.after.now)
           (with_front c.args.items.items (more_items c.args.schema.now c.args.is_plain (lexemes c.args.tokens.now))))
