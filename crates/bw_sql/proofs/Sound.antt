@@ -1,5 +1,5 @@
 -- What is read is spelled by the grammar, with all demands met.
-use Rattle.std.proofs.Common.{◌≡◌, ℕ, zero, suc, ◌+◌, ℤ, Bool, true, false, nat_le, List, [], ◌∷◌, ◌++◌, length, Option, Some, None, is_some, Result, Ok, Err, if◌then◌else◌, refl, sym, ◌∙◌, ap, subst, arith}
+use Rattle.std.proofs.Common.{◌≡◌, ℕ, zero, suc, ◌+◌, ◌≤◌, ℤ, Bool, true, false, nat_le, List, [], ◌∷◌, ◌++◌, length, Option, Some, None, is_some, Result, Ok, Err, if◌then◌else◌, refl, sym, ◌∙◌, ap, subst, arith}
 use Rattle.std.proofs.lemmas.Bool.Decides.{nat_tests}
 use Rattle.std.proofs.lemmas.Slice.Eq.{bytes_eq-Decides}
 use Rattle.std.specs.Prelude.{find}
@@ -26,6 +26,7 @@ use Rattle.bw_sql.specs.Grammar.{TruthIs, OperandIs, MoreOperands, RangeIs, Pred
 use Rattle.bw_sql.specs.Piece.{mark_spelling}
 use Rattle.bw_sql.specs.Reading.{Halt, Nested, ◌>>=◌, refuse, wanted, begins_with_name, same_keyword, same_mark, after_keyword, after_mark, keyword_at, mark_at, name_at, digits_at, sign_at, literal_at, column_at, table_at, operand_at, repeated, with_front, range_or_list_at, null_test_at, after_comparison, behind_comparison, predicate_at, truth_at, truth_test_at, primary_in, test_in, factor_in, joined_behind, term_in, condition_in, nested, column_of, of_column, selection_at, end_at, after_aggregate, aggregated_at, item_at, of_one_kind, next_item_at, items_at, statement_at}
 use Rattle.bw_sql.specs.Token.{Lexeme, Name, Digits, Reserved, Compare, Punct}
+use Rattle.bw_sql.proofs.Lengths.{operand_length, item_length, factor_length, term_length}
 use Rattle.bw_sql.proofs.Spelled.{fitting}
 
 -- what was read is so
@@ -60,7 +61,7 @@ unfolding mark_of
 spelled_mark mark.Open = refl
 spelled_mark _ = refl
 
-word_same : (v w : Keyword) → same_keyword v w ≡ true → v ≡ w
+pub word_same : (v w : Keyword) → same_keyword v w ≡ true → v ≡ w
 word_same v w e = let both : Some v ≡ Some w = sym (spelled_word v) ∙ ap keyword_of ((bytes_eq-Decides (spelling v) (spelling w)).0 e) ∙ spelled_word w in cc
 
 mark_same : (m n : Mark) → same_mark m n ≡ true → m ≡ n
@@ -235,7 +236,7 @@ module _ (schema : Schema) (depth : ℕ) (inner : Nested) (deeper : Deeper schem
   unfolding condition_in
   condition_read tokens = bind _ (term_read tokens) (λ c p. behind_term tokens c.0 c.1 p)
 
-not_too_deep : (n depth : ℕ) → suc n + depth ≡ 100 → nat_le (suc depth) 100 ≡ true
+pub not_too_deep : (n depth : ℕ) → suc n + depth ≡ 100 → nat_le (suc depth) 100 ≡ true
 not_too_deep n depth e = grind (arith, nat_tests)
 
 deeper_in : (schema : Schema) (n depth : ℕ) → n + depth ≡ 100 → Deeper schema depth (nested schema n)
@@ -336,3 +337,28 @@ given_of P x (gives p) = p
 
 pub query_spelled : (schema : Schema) (tokens : List Lexeme) (q : Asked) → statement_at schema tokens ≡ Ok q → IsQuery schema tokens q
 query_spelled schema tokens q e = given_of (λ q. IsQuery schema tokens q) q (subst (Sound (λ q. IsQuery schema tokens q)) e (statement_read schema tokens))
+
+-- what is read takes tokens
+module _ (schema : Schema) where
+  pub operand_shorter : (tokens : List Lexeme) (x : Operand × List Lexeme) → operand_at schema tokens ≡ Ok x → length x.1 ≤ length tokens
+  operand_shorter tokens x e =
+      let p : OperandIs schema (is_met schema) tokens x.1 x.0 = given_of (λ r. OperandIs schema (is_met schema) tokens r.1 r.0) x (subst (Sound (λ r. OperandIs schema (is_met schema) tokens r.1 r.0)) e (operand_read schema tokens)) in
+      omega (arith, operand_length schema (is_met schema) p)
+
+  pub next_item_shorter : (first : Bool) (tokens : List Lexeme) (x : Item × List Lexeme) → next_item_at schema first tokens ≡ Ok x → length x.1 ≤ length tokens
+  next_item_shorter first tokens x e =
+      let p = given_of (λ r. (kind : Bool) × (is_met schema (OfOneKind first kind) ≡ true) × ItemIs schema (is_met schema) kind tokens r.1 r.0) x
+      (subst (Sound (λ r. (kind : Bool) × (is_met schema (OfOneKind first kind) ≡ true) × ItemIs schema (is_met schema) kind tokens r.1 r.0)) e (next_item_read schema first tokens)) in
+      omega (arith, item_length schema (is_met schema) p.2)
+
+  pub factor_shorter : (n depth : ℕ) → n + depth ≡ 100 → (tokens : List Lexeme) (x : Condition × List Lexeme) → factor_in schema (nested schema n) tokens ≡ Ok x → length x.1 ≤ length tokens
+  factor_shorter n depth h tokens x e =
+      let p = given_of (λ r. FactorIs schema (is_met schema) depth tokens r.1 r.0) x
+      (subst (Sound (λ r. FactorIs schema (is_met schema) depth tokens r.1 r.0)) e (factor_read schema depth (nested schema n) (deeper_in schema n depth h) tokens)) in
+      omega (arith, factor_length schema (is_met schema) p)
+
+  pub term_shorter : (n depth : ℕ) → n + depth ≡ 100 → (tokens : List Lexeme) (x : Condition × List Lexeme) → term_in schema (nested schema n) tokens ≡ Ok x → length x.1 ≤ length tokens
+  term_shorter n depth h tokens x e =
+      let p = given_of (λ r. TermIs schema (is_met schema) depth tokens r.1 r.0) x
+      (subst (Sound (λ r. TermIs schema (is_met schema) depth tokens r.1 r.0)) e (term_read schema depth (nested schema n) (deeper_in schema n depth h) tokens)) in
+      omega (arith, term_length schema (is_met schema) p)

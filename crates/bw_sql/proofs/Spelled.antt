@@ -275,7 +275,7 @@ module _ (schema : Schema) (met : Demand → Bool) where
       go true e = rw e (reads refl)
       go false e = excused (IsTable table) (suc (length rest)) m e (rw e refl)
 
-  statement_read : {tokens : List Lexeme} {q : Asked} → StatementIs schema met tokens q → Outcome schema met (statement_at schema tokens) q
+  pub statement_read : {tokens : List Lexeme} {q : Asked} → StatementIs schema met tokens q → Outcome schema met (statement_at schema tokens) q
   unfolding statement_at keyword_at after_keyword after_mark
   statement_read (statement xs m c e) =
       and_then _ (list_read xs refl) (and_then _ (table_read m) (and_then _ (selection_read c e) (rw (end_read e) (reads refl))))

@@ -2,6 +2,7 @@ pub mod Asked
 pub mod Condition
 pub mod Cut
 pub mod Demand
+pub mod Frontier
 pub mod Grammar
 pub mod Items
 pub mod Lexer

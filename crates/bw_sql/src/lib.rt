@@ -1,18 +1,21 @@
 //! The parser of the query language, a profile of SQL-92.
 //!
 //! The contract that the crates above use is that of [`parse`]. A text is cut into tokens by the longest piece
-//! (`specs/Cut.antt`), in one way, as [`one_cut`] says, and its tokens have to spell a query by the grammar
-//! (`specs/Grammar.antt`), which is a relation by cases and knows no parser; they spell at most one, as
-//! [`one_query`] says. A text is parsed exactly where its tokens spell a query, and to that query, want of
-//! memory aside. Another text is refused at the byte at which the reading functions of `specs/Reading.antt`
-//! stop; they read what the grammar spells, and nothing else, as [`read_as_spelled`] says. What is parsed names
-//! columns of the schema alone, and its lists are as long as `bw_model` wants them.
+//! (`specs/Cut.antt`), in one way, as [`one_cut`] says. It is parsed exactly where its tokens spell a query by
+//! the grammar (`specs/Grammar.antt`), a relation by cases that knows no parser, and to that query, want of
+//! memory aside; a list of tokens spells at most one, as [`one_query`] says. Another text is refused for its
+//! fault: the first token with which no statement can go on, as far as the demands of the fault's number go
+//! (`specs/Frontier.antt`). A text has at most one fault, and none where it spells a query, as [`one_fault`]
+//! says. What is parsed names columns of the schema alone, and its lists are as long as `bw_model` wants them.
+//!
+//! The readers of this crate are proved against reading functions on lists of tokens (`specs/Reading.antt`),
+//! which read what the grammar spells and nothing else, as [`read_as_spelled`] says.
 //!
 //! Read `token.rt` first, and then `statement.rt`, `items.rt`, `condition.rt` and `predicate.rt`, which have
 //! the grammar.
 #![tactic(auto)]
 
-ghost use Rattle.std.specs.Prelude.{List, ℕ, Option, ◌≡◌, ◌<◌, ◌≤◌, length, IfOk, IfErr, IsTrue, vec_len};
+ghost use Rattle.std.specs.Prelude.{List, ℕ, Option, ◌≡◌, ◌<◌, ◌≤◌, length, IfOk, IfErr, IsTrue, IsFalse, vec_len};
 ghost use Rattle.std.specs.List.{list_all};
 ghost use Rattle.bw_model.specs.Fault.{at_byte, is_memory};
 ghost use Rattle.bw_model.specs.Cond.{names_within, is_whole};
@@ -23,7 +26,7 @@ ghost use Rattle.bw_sql.specs.Grammar.{IsQuery};
 ghost use Rattle.bw_sql.specs.Items.{AreOfOneKind};
 ghost use Rattle.bw_sql.specs.Reading.{statement_at};
 ghost use Rattle.bw_sql.specs.Refusal.{IsStatementFault};
-ghost use Rattle.bw_sql.specs.Statement.{Answers, IsFaultOf, Spells};
+ghost use Rattle.bw_sql.specs.Statement.{Answers, IsFault, IsFaultOf, Spells};
 ghost use Rattle.bw_sql.specs.Token.{Lexeme};
 
 mod condition;
@@ -60,6 +63,7 @@ pub fn parse(alloc: Global, schema: &Schema, text: &[u8]) -> Result<Query, Fault
     ensures too_long { MAX_LEN < length text.now → result ≡ Err (at_byte 407 MAX_LEN) }
     ensures spelled { IfOk result (λ query. Spells schema.now text.now (asked query)) }
     ensures refused { length text.now ≤ MAX_LEN → (query : Asked) → Spells schema.now text.now query → IfErr result (λ fault. IsTrue (is_memory fault)) }
+    ensures first { length text.now ≤ MAX_LEN → IfErr result (λ fault. IsFalse (is_memory fault) → IsFault schema.now text.now fault) }
     ensures exact { length text.now ≤ MAX_LEN → Answers schema.now text.now result }
     ensures columns { IfOk result (λ query. IsTrue (names_within (vec_len schema.now.columns) query.cond)) }
     ensures whole { IfOk result (λ query. IsTrue (is_whole query.cond)) }
@@ -109,6 +113,12 @@ pub fn read_as_spelled()
 /// A list of tokens spells at most one query.
 pub fn one_query()
     ensures { (schema : Schema) (tokens : List Lexeme) (query other : Asked) → IsQuery schema tokens query → IsQuery schema tokens other → query ≡ other }
+{}
+
+/// A text has at most one fault, and none where it spells a query.
+pub fn one_fault()
+    ensures one { (schema : Schema) (text : List ℕ) (fault other : Fault) → IsFault schema text fault → IsFault schema text other → fault ≡ other }
+    ensures none_spelled { (schema : Schema) (text : List ℕ) (query : Asked) (fault : Fault) → Spells schema text query → IsFault schema text fault → ⊥ }
 {}
 
 fn fault_at(code: u16, at: usize) -> Fault

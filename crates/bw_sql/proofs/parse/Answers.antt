@@ -1,4 +1,5 @@
 -- What is read is spelled, and what is spelled is read.
+use Rattle.bw_sql.proofs.Faults.{err_is_fault}
 use Rattle.bw_sql.proofs.Query.{ok_spelled, err_is_memory}
 use Rattle.bw_sql.proofs.parse.Goals as goal
 
@@ -7,3 +8,6 @@ returns-clause-spelled c = ok_spelled c.args.schema.now c.args.text.now 65536 _ 
 
 pub returns-clause-refused : goal.returns-clause-refused
 returns-clause-refused c short query spelled = err_is_memory c.args.schema.now c.args.text.now c.read.result (c.read.ensures.exact short) query spelled
+
+pub returns-clause-first : goal.returns-clause-first
+returns-clause-first c short = err_is_fault c.args.schema.now c.args.text.now c.read.result (c.read.ensures.exact short)

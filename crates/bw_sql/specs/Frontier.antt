@@ -1,0 +1,47 @@
+-- Where the faults of a statement stand: each at the first token with which no statement can go on, as far as
+-- the demands of its number go.
+use Rattle.std.specs.Prelude.{◌≡◌, ℕ, Bool, true, false, IsTrue, ◌<◌, ◌≤◌, ◌⊎◌, List, [], ◌∷◌, ◌++◌, length, not, ◌||◌, ◌==◌}
+use Rattle.bw_model.specs.declared.schema.Schema.{Schema}
+use Rattle.bw_sql.specs.declared.reader.Refusal.{Refusal}
+use Rattle.bw_sql.specs.declared.reader.Refusal.TheVariants.{Syntax, Literal}
+use Rattle.bw_sql.specs.declared.token.Mark.TheVariants.{Plus, Minus}
+use Rattle.bw_sql.specs.Asked.{Asked}
+use Rattle.bw_sql.specs.Demand.{Demand, is_met, refusal}
+use Rattle.bw_sql.specs.Grammar.{StatementIs}
+use Rattle.bw_sql.specs.Refusal.{number}
+use Rattle.bw_sql.specs.Token.{Lexeme, Digits, Punct}
+
+-- some statement begins with these tokens
+pub record Viable (schema : Schema) (met : Demand → Bool) (tokens : List Lexeme) : Type 0 where
+  pub more : List Lexeme
+  pub query : Asked
+  pub spelled : StatementIs schema met (tokens ++ more) query
+
+-- The demands of one number alone are asked, and all others let pass. No demand has the number of Syntax, for
+-- which the productions alone count.
+abbrev pub asked_for : Schema → Refusal → Demand → Bool
+asked_for schema why demand = not (number (refusal demand) == number why) || is_met schema demand
+
+abbrev pub Begins : Schema → Refusal → List Lexeme → Type 0
+Begins schema why tokens = Viable schema (asked_for schema why) tokens
+
+-- a plus or a minus
+abbrev pub is_sign : Lexeme → Bool
+is_sign (Punct Plus) = true
+is_sign (Punct Minus) = true
+is_sign _ = false
+
+-- Why a statement is refused, and behind how many tokens: at a token with which none goes on, at a sign where none
+-- goes on with it and its digits, and at the end where the tokens are no statement.
+pub data Stands (schema : Schema) (tokens : List Lexeme) : Refusal → ℕ → Type 0 where
+  at_token : {why : Refusal} (before behind : List Lexeme) (t : Lexeme) → tokens ≡ before ++ t ∷ behind →
+      Begins schema why before → (Begins schema why (before ++ t ∷ []) → ⊥) → Stands schema tokens why (length before)
+  at_sign : (before behind : List Lexeme) (t : Lexeme) (digits : List ℕ) → IsTrue (is_sign t) → tokens ≡ before ++ t ∷ Digits digits ∷ behind →
+      Begins schema Literal before → (Begins schema Literal (before ++ t ∷ Digits digits ∷ []) → ⊥) → Stands schema tokens Literal (length before)
+  at_end : Begins schema Syntax tokens → ((query : Asked) → StatementIs schema (asked_for schema Syntax) tokens query → ⊥) →
+      Stands schema tokens Syntax (length tokens)
+
+-- the first place at which a fault stands, and the lowest number there
+pub record IsFirst (schema : Schema) (tokens : List Lexeme) (why : Refusal) (place : ℕ) : Type 0 where
+  pub stands : Stands schema tokens why place
+  pub first : (other : Refusal) (at : ℕ) → Stands schema tokens other at → (place < at) ⊎ ((place ≡ at) × (number why ≤ number other))
