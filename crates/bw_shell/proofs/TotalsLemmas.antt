@@ -1,12 +1,21 @@
 -- Totals that rows are added to, all at once.
-use Rattle.std.proofs.Common.{◌≡◌, ℕ, zero, suc, ◌+◌, ◌<◌, ◌^◌, ◌≤◌, List, [], ◌∷◌, map, filter, Bool, true, false, ◌&&◌, cond, refl, ap, ◌∙◌, arith, length, get_or, take, drop, ◌++◌, nat_le, nat_lt}
+use Rattle.std.proofs.Common.{◌≡◌, ℕ, zero, suc, ◌+◌, ◌<◌, ◌^◌, ◌≤◌, List, [], ◌∷◌, map, filter, Bool, true, false, ◌&&◌, cond, refl, sym, ap, ◌∙◌, arith, length, get_or, take, drop, ◌++◌, All, subst, nat_le, nat_lt}
 use Rattle.std.specs.List.{list_all}
 use Rattle.bw_model.specs.declared.query.Item.{Item}
 use Rattle.bw_model.specs.Row.{Value}
 use Rattle.bw_model.specs.Total.{item_within, is_aggregate}
 use Rattle.bw_rowwise.specs.Accumulator.{Tally, tally_of, tally_with}
+use Rattle.bw_model.specs.declared.query.Query.{Query}
+use Rattle.bw_model.specs.Cond.{is_kept}
+use Rattle.bw_shell.specs.Answer.{kept}
 use Rattle.bw_shell.specs.Totals.{is_of, has_room}
+use Rattle.std.proofs.lemmas.List.{append-nil, drop_all, get_or_default, take_all}
+use Rattle.std.proofs.lemmas.List.Elements.{filter-append}
 use Rattle.std.proofs.lemmas.Bool.{leb-true, ltb-true, le-leb, lt-ltb}
+
+-- where the total is that of some rows, one more row makes it the total of those and that row
+abbrev pub AddsRow : List Value → Tally → Type 0
+AddsRow row tally = (rows : List (List Value)) → tally ≡ tally_of tally.item rows → tally_with tally row ≡ tally_of tally.item (rows ++ row ∷ [])
 
 pub both : (a b : Bool) → (a && b) ≡ true → (a ≡ true) × (b ≡ true)
 both true b e = (refl, e)
@@ -77,4 +86,35 @@ room_at width f xs ys i d h e room =
     let parts = both (item_within width (get_or xs i d).item) (nat_lt (get_or xs i d).count (2 ^ 24)) here in
     rw same (ltb-true _ _ parts.1)
 
+-- and at the end each element is
+pub all_added : (f : Tally → Tally) (xs ys : List Tally) (i : ℕ) → length xs ≤ i → ys ≡ map f (take i xs) ++ drop i xs → ys ≡ map f xs
+all_added f xs ys i past e = rw (e, take_all i xs past, drop_all i xs past) (append-nil (map f xs))
+
+-- the total at hand takes one more row, as did those before it
+pub adds_at : (row : List Value) (f : Tally → Tally) (xs ys : List Tally) (i : ℕ) (d e : Tally) → i < length xs → ys ≡ map f (take i xs) ++ drop i xs
+    → AddsRow row (get_or ys i e) → AddsRow row (get_or xs i d)
+adds_at row f xs ys i d e h is adds = subst (AddsRow row) (ap (λ l. get_or l i e) is ∙ untouched f xs i e h ∙ get_or_default xs i e d h) adds
+
+-- totals of rows are those of one row more, once each has taken it
+pub rows_added : (row : List Value) (rows : List (List Value)) (items : List Item) (tallies : List Tally) → tallies ≡ map (λ item. tally_of item rows) items
+    → All (AddsRow row) tallies → map (λ tally. tally_with tally row) tallies ≡ map (λ item. tally_of item (rows ++ row ∷ [])) items
+rows_added row rows items tallies e all = rw e (added items (subst (All (AddsRow row)) e all))
+  where
+    added : (items : List Item) → All (AddsRow row) (map (λ item. tally_of item rows) items)
+        → map (λ tally. tally_with tally row) (map (λ item. tally_of item rows) items) ≡ map (λ item. tally_of item (rows ++ row ∷ [])) items
+    added [] all = refl
+    added (item ∷ items) all = λ i. all 0 (tally_of item rows) (omega arith) rows refl i ∷ added items (λ k d h. all (suc k) d (omega arith)) i
+
+pub kept_one : (query : Query) (row : List Value) → is_kept query.cond row ≡ true → kept query (row ∷ []) ≡ row ∷ []
+kept_one query row e = rw e refl
+
+pub kept_none : (query : Query) (row : List Value) → is_kept query.cond row ≡ false → kept query (row ∷ []) ≡ []
+kept_none query row e = rw e refl
+
+-- what is kept of rows and one more, where the condition is the same
+pub kept_more : (here query : Query) (before : List (List Value)) (row : List Value) → here ≡ query → kept query before ++ kept here (row ∷ []) ≡ kept query (before ++ row ∷ [])
+kept_more here query before row same = rw same (sym (filter-append (is_kept query.cond) before (row ∷ [])))
+
 pub ruleset totals_steps = (is_of-new, has_room-from, is_of-more, is_of-with)
+
+pub ruleset kept_steps = (is_of-more, kept_one, kept_none)

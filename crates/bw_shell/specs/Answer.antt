@@ -1,13 +1,18 @@
 -- What a query means over a table's rows, after SQL-92, and the CSV text of it.
-use Rattle.std.specs.Prelude.{ℕ, Bool, true, false, List, [], ◌∷◌, ◌++◌, map, filter, Option, Some, None, codes, slice_index_or, if◌then◌else◌}
+use Rattle.std.specs.Prelude.{ℕ, Bool, true, false, List, [], ◌∷◌, ◌++◌, map, filter, Option, Some, None, Result, Ok, codes, slice_index_or, if◌then◌else◌}
 use Rattle.std.specs.List.{filter_map, flat_map, join_with_byte}
 use Rattle.std.specs.Fmt.{signed_decimal}
+use Rattle.bw_model.specs.declared.column.Column.{Column}
+use Rattle.bw_model.specs.declared.fault.Fault.{Fault}
 use Rattle.bw_model.specs.declared.query.Item.{Item}
 use Rattle.bw_model.specs.declared.query.Item.TheVariants.{Plain, CountAll, Count, Sum, Min, Max}
 use Rattle.bw_model.specs.declared.query.Query.{Query}
+use Rattle.bw_model.specs.Column.{names_of}
 use Rattle.bw_model.specs.Cond.{is_kept}
+use Rattle.bw_model.specs.Fault.{◌>>=◌}
 use Rattle.bw_model.specs.Row.{Value, value_in}
 use Rattle.bw_model.specs.Total.{total}
+use Rattle.bw_csv.specs.Rows.{rows_of}
 
 -- a number in decimal, and null as NULL
 abbrev pub spelled : Value → List ℕ
@@ -49,10 +54,15 @@ field_of row (Max column) = None
 abbrev pub kept : Query → List (List Value) → List (List Value)
 kept query rows = filter (is_kept query.cond) rows
 
+-- a record for each row that is kept, and the one record of totals over them
+abbrev pub listed : Query → List (List Value) → List (List (List ℕ))
+listed query rows = map (λ row. filter_map (field_of row) query.items.items) (kept query rows)
+
+abbrev pub totalled : Query → List (List Value) → List (List ℕ)
+totalled query rows = map (λ item. spelled (total item (kept query rows))) query.items.items
+
 abbrev pub records_of : Query → List (List Value) → List (List (List ℕ))
-records_of query rows =
-    if lists_rows query.items.items then map (λ row. filter_map (field_of row) query.items.items) (kept query rows)
-    else map (λ item. spelled (total item (kept query rows))) query.items.items ∷ []
+records_of query rows = if lists_rows query.items.items then listed query rows else totalled query rows ∷ []
 
 -- the meaning of a query over rows of columns of these names: a heading record, and then a record for each row that is
 -- kept, or one record of totals over them
@@ -65,3 +75,11 @@ record_text fields = join_with_byte 44 fields ++ 10 ∷ []
 
 unfoldable pub csv_text : List (List (List ℕ)) → List ℕ
 csv_text records = flat_map record_text records
+
+-- a text made of the rows that a CSV text spells, or the first fault in that text
+abbrev pub of_rows : List Column → List ℕ → (List (List Value) → List ℕ) → Result (List ℕ) Fault
+of_rows columns csv text = rows_of columns csv >>= λ rows. Ok (text rows)
+
+-- the text of the answer to a query over the rows of a CSV text
+abbrev pub answer_of : List Column → Query → List ℕ → Result (List ℕ) Fault
+answer_of columns query csv = of_rows columns csv (λ rows. csv_text (meaning (names_of columns) query rows))

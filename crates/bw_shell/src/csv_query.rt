@@ -1,6 +1,10 @@
 //! A query answered straight from a CSV text.
-ghost use Rattle.std.specs.Prelude.{◌≡◌, ◌-◌, ◌^◌, ◌<◌, false, IfErr, OnOk};
-ghost use Rattle.bw_file.specs.Sink.{is_write_fault};
+ghost use Rattle.std.specs.Prelude.{◌≡◌, ◌-◌, ◌^◌, ◌<◌, ℕ, List, Option, Result, false, IfErr, OnOk};
+ghost use Rattle.bw_model.specs.declared.fault.Fault.{Fault};
+ghost use Rattle.bw_file.specs.Sink.{is_write_fault, Went};
+ghost use Rattle.bw_file.specs.Source.{Came};
+ghost use Rattle.bw_csv.specs.Rows.{is_aside};
+ghost use Rattle.bw_shell.specs.Direct.{IsAnswer, SchemaTold, CsvTold};
 
 use crate::answer::answer_text;
 use crate::input::{Input, read_limited};
@@ -32,6 +36,16 @@ pub fn direct<S: Source, C: Source, K: Sink>(
     requires csv { C.failures csv_source.old < 2 ^ 64 - 1 }
     requires sink { K.failures sink.old < 2 ^ 64 - 1 }
 
+    // What went out is the text of the answer by what came of the sources, or nothing, where that is a fault. A source
+    // that wasn't reached, or whose text found no memory, stands as one that found no memory.
+    ensures answer { (schema csv : Result (Option (List ℕ)) Fault) × (given : Result (List ℕ) Fault)
+        × Came LONGEST_SCHEMA (S.to_come schema_source.old) (S.to_come schema_source.new)
+        (S.failures schema_source.old) (S.failures schema_source.new) schema
+        × Came LONGEST_CSV (C.to_come csv_source.old) (C.to_come csv_source.new)
+        (C.failures csv_source.old) (C.failures csv_source.new) csv
+        × IsAnswer schema sql.now csv given
+        × Went is_aside (K.taken sink.old) (K.taken sink.new) (K.failures sink.old) (K.failures sink.new) given result }
+
     // Where it refuses, but for a write that failed, it has written nothing.
     ensures unwritten { IfErr result (λ fault. is_write_fault fault ≡ false
         → (K.taken sink.new ≡ K.taken sink.old) × (K.failures sink.new ≡ K.failures sink.old)) }
@@ -46,6 +60,10 @@ pub fn direct<S: Source, C: Source, K: Sink>(
 
 fn read_schema<S: Source>(alloc: Global, source: &mut S) -> Result<Schema, Fault>
     requires { S.failures source.old < 2 ^ 64 - 1 }
+    ensures told { (came : Result (Option (List ℕ)) Fault)
+        × Came LONGEST_SCHEMA (S.to_come source.old) (S.to_come source.new) (S.failures source.old) (S.failures source.new) came
+        × SchemaTold came result }
+    ensures fault { IfErr result (λ fault. is_write_fault fault ≡ false) }
 {
     match read_limited(alloc, source, LONGEST_SCHEMA as u64)? {
         Input::Whole(text) => Schema::parse(alloc, &text),
@@ -55,6 +73,10 @@ fn read_schema<S: Source>(alloc: Global, source: &mut S) -> Result<Schema, Fault
 
 fn read_csv<C: Source>(alloc: Global, source: &mut C) -> Result<Vec<u8>, Fault>
     requires { C.failures source.old < 2 ^ 64 - 1 }
+    ensures told { (came : Result (Option (List ℕ)) Fault)
+        × Came LONGEST_CSV (C.to_come source.old) (C.to_come source.new) (C.failures source.old) (C.failures source.new) came
+        × CsvTold came result }
+    ensures fault { IfErr result (λ fault. is_write_fault fault ≡ false) }
 {
     match read_limited(alloc, source, LONGEST_CSV)? {
         Input::Whole(text) => Ok(text),

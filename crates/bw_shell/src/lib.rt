@@ -11,10 +11,10 @@ mod answer;
 mod csv_query;
 mod csv_text;
 mod input;
+mod kept;
 mod lines;
 mod listing;
 mod output;
-mod rows;
 mod totals;
 
 pub use csv_query::{LONGEST_CSV, direct};

@@ -1,14 +1,17 @@
 //! The rows that a query keeps, as records of its columns.
-ghost use Rattle.std.specs.Prelude.{◌≡◌, IsTrue, length};
-ghost use Rattle.std.specs.List.{list_all};
+ghost use Rattle.std.specs.Prelude.{◌≡◌, ◌<◌, ◌++◌, ◌∷◌, ℕ, List, [], IsTrue, IfErr, OnOk, length};
+ghost use Rattle.std.specs.List.{filter_map, list_all};
 ghost use Rattle.bw_model.specs.Cond.{names_within};
-ghost use Rattle.bw_model.specs.Row.{values_of};
+ghost use Rattle.bw_model.specs.Fault.{no_memory};
+ghost use Rattle.bw_model.specs.Row.{value_in, values_of};
 ghost use Rattle.bw_model.specs.Total.{item_within};
+ghost use Rattle.bw_shell.specs.Answer.{csv_text, field_of, listed, lists_rows, record_text};
+ghost use Rattle.bw_shell.specs.Draft.{Holds};
 
 use crate::csv_text::CsvText;
-use crate::rows::Keeper;
-use bw_model::{Fault, Item, Query, Row, Truth};
-use bw_rowwise::truth;
+use crate::kept::is_kept;
+use bw_csv::Keeper;
+use bw_model::{Fault, Item, Query, Row};
 
 /// Takes rows of so many values, and adds a record to a text for each row on which the query's condition is
 /// TRUE.
@@ -20,6 +23,7 @@ pub struct Listing<'a> {
     text: CsvText,
     ghost names: { IsTrue (names_within width query.now.cond) },
     ghost items: { IsTrue (list_all (item_within width) query.now.items.items) },
+    ghost lists: { IsTrue (lists_rows query.now.items.items) },
 }
 
 impl<'a> Listing<'a> {
@@ -27,8 +31,11 @@ impl<'a> Listing<'a> {
     pub fn new(width: usize, query: &'a Query, text: CsvText) -> Self
         requires names { IsTrue (names_within width query.now.cond) }
         requires items { IsTrue (list_all (item_within width) query.now.items.items) }
+        requires lists { IsTrue (lists_rows query.now.items.items) }
         ensures width { result.width ≡ width }
         ensures rows { result.rows ≡ 0 }
+        ensures query { result.query.now ≡ query.now }
+        ensures text { result.text ≡ text }
     {
         Listing {
             width,
@@ -38,7 +45,10 @@ impl<'a> Listing<'a> {
         }
     }
 
-    pub fn into_text(self) -> CsvText {
+    /// The text with the records of the rows.
+    pub fn into_text(self) -> CsvText
+        ensures { result ≡ self.entry.text }
+    {
         let Listing {
             width: _,
             rows: _,
@@ -54,23 +64,57 @@ impl Keeper for Listing<'_> {
 
     ghost rows = { λ listing. listing.rows };
 
+    ghost use Rattle.bw_shell.specs.Led.{ListsRows};
+
+    ghost led = { ListsRows };
+
     fn take(&mut self, row: &Row) -> Result<(), Fault> {
-        if truth(&self.query.cond, row) == Truth::Yes {
-            push_row(&mut self.text, &self.query.items, row)?;
-        }
+        push_kept(&mut self.text, self.query, row)?;
         self.rows += 1;
+        Ok(())
+    }
+}
+
+/// Adds the record of a row to a text, if the row is kept.
+#[tactic(auto, using(crate::proofs::Rows::one_row))]
+fn push_kept(text: &mut CsvText, query: &Query, row: &Row) -> Result<(), Fault>
+    requires names { IsTrue (names_within (length (values_of row.now)) query.now.cond) }
+    requires columns { IsTrue (list_all (item_within (length (values_of row.now))) query.now.items.items) }
+    requires lists { IsTrue (lists_rows query.now.items.items) }
+    ensures row { OnOk result ((ended : List ℕ) → Holds text.old ended []
+        → Holds text.new (ended ++ csv_text (listed query.now (values_of row.now ∷ []))) []) }
+    ensures only_memory { IfErr result (λ fault. fault ≡ no_memory) }
+{
+    if is_kept(&query.cond, row) {
+        push_row(text, &query.items, row)
+    } else {
         Ok(())
     }
 }
 
 /// Adds the record of a row to a text: its values in the columns among the items.
 fn push_row(text: &mut CsvText, items: &[Item], row: &Row) -> Result<(), Fault>
-    requires { IsTrue (list_all (item_within (length (values_of row.now))) items.now) }
+    requires columns { IsTrue (list_all (item_within (length (values_of row.now))) items.now) }
+    requires lists { IsTrue (lists_rows items.now) }
+    ensures row { OnOk result ((ended : List ℕ) → Holds text.old ended []
+        → Holds text.new (ended ++ record_text (filter_map (field_of (values_of row.now)) items.now)) []) }
+    ensures only_memory { IfErr result (λ fault. fault ≡ no_memory) }
 {
     for item in items {
         if let Item::Plain(column) = item {
-            text.push_number(row.values[*column].map(i128::from))?;
+            text.push_number(number_in(row, *column))?;
         }
     }
     text.end_record()
+}
+
+/// The number in a column of a row, or null.
+fn number_in(row: &Row, column: usize) -> Option<i128>
+    requires { column < length (values_of row.now) }
+    ensures { result ≡ value_in (values_of row.now) column }
+{
+    match row.values[column] {
+        None => None,
+        Some(n) => Some(i128::from(n)),
+    }
 }

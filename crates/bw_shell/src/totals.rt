@@ -1,16 +1,21 @@
 //! The totals that a query asks for.
-ghost use Rattle.std.specs.Prelude.{◌≡◌, IsTrue, [], IfOk, length, map, filter};
+ghost use Rattle.std.specs.Prelude.{◌≡◌, ◌≤◌, ◌+◌, ◌++◌, ◌∷◌, ℕ, List, [], IsTrue, IfOk, IfErr, OnOk, length, map, filter, vec_len};
 ghost use Rattle.std.specs.List.{list_all};
 ghost use Rattle.bw_model.specs.Cond.{names_within};
-ghost use Rattle.bw_model.specs.Row.{values_of};
+ghost use Rattle.bw_model.specs.declared.query.Item.{Item};
+ghost use Rattle.bw_model.specs.Fault.{no_memory};
+ghost use Rattle.bw_model.specs.Row.{Value, values_of};
 ghost use Rattle.bw_model.specs.Total.{item_within, is_aggregate};
-ghost use Rattle.bw_rowwise.specs.Accumulator.{tally_of, tally_with};
+ghost use Rattle.bw_rowwise.specs.Accumulator.{tally_of};
+ghost use Rattle.bw_shell.specs.Answer.{kept, record_text, spelled};
+ghost use Rattle.bw_shell.specs.Draft.{Holds};
 ghost use Rattle.bw_shell.specs.Totals.{is_of, has_room};
 
 use crate::csv_text::CsvText;
-use crate::rows::Keeper;
-use bw_model::{Fault, Item, Query, Row, Truth};
-use bw_rowwise::{Accumulator, truth};
+use crate::kept::is_kept;
+use bw_csv::Keeper;
+use bw_model::{Fault, Item, Query, Row};
+use bw_rowwise::Accumulator;
 use std::alloc::Global;
 
 /// Takes rows of so many values, and adds those on which the query's condition is TRUE to its totals.
@@ -32,6 +37,9 @@ impl<'a> Totals<'a> {
         requires items { IsTrue (list_all (item_within width) query.now.items.items) }
         ensures width { IfOk result (λ totals. totals.width ≡ width) }
         ensures rows { IfOk result (λ totals. totals.rows ≡ 0) }
+        ensures query { IfOk result (λ totals. totals.query.now ≡ query.now) }
+        ensures totals { IfOk result (λ totals. totals.totals.items ≡ map (λ item. tally_of item []) (filter is_aggregate query.now.items.items)) }
+        ensures only_memory { IfErr result (λ fault. fault ≡ no_memory) }
     {
         Ok(Totals {
             width,
@@ -42,7 +50,12 @@ impl<'a> Totals<'a> {
     }
 
     /// Adds the totals to a text, as a record.
-    pub fn push_record(&self, text: &mut CsvText) -> Result<(), Fault> {
+    pub fn push_record(&self, text: &mut CsvText) -> Result<(), Fault>
+        requires { 1 ≤ vec_len self.now.totals }
+        ensures record { OnOk result ((ended : List ℕ) → Holds text.old ended []
+            → Holds text.new (ended ++ record_text (map (λ tally. spelled tally.answer) self.now.totals.items)) []) }
+        ensures only_memory { IfErr result (λ fault. fault ≡ no_memory) }
+    {
         for total in &self.totals {
             text.push_number(total.finish())?;
         }
@@ -55,20 +68,22 @@ impl Keeper for Totals<'_> {
 
     ghost rows = { λ totals. totals.rows };
 
+    ghost use Rattle.bw_shell.specs.Led.{TotalsRows};
+
+    ghost led = { TotalsRows };
+
     #[tactic(auto, using(crate::proofs::TotalsLemmas::totals_steps))]
     fn take(&mut self, row: &Row) -> Result<(), Fault> {
-        let truth = truth(&self.query.cond, row);
+        add_kept(&mut self.totals, self.query, row);
         self.rows += 1;
-        if truth == Truth::Yes {
-            add_row(&mut self.totals, row);
-        }
         Ok(())
     }
 }
 
 /// The totals over no rows, one for each aggregate among the items.
 fn totals_of(alloc: Global, items: &[Item]) -> Result<Vec<Accumulator>, Fault>
-    ensures { IfOk result (λ totals. totals.items ≡ map (λ item. tally_of item []) (filter is_aggregate items.now)) }
+    ensures totals { IfOk result (λ totals. totals.items ≡ map (λ item. tally_of item []) (filter is_aggregate items.now)) }
+    ensures only_memory { IfErr result (λ fault. fault ≡ no_memory) }
 {
     let mut totals = Vec::with_capacity(alloc, items.len())?;
     for item in items {
@@ -80,10 +95,29 @@ fn totals_of(alloc: Global, items: &[Item]) -> Result<Vec<Accumulator>, Fault>
     Ok(totals)
 }
 
+/// Adds a row to each total, if it is kept.
+#[tactic(auto, using(crate::proofs::TotalsLemmas::kept_steps))]
+fn add_kept(totals: &mut [Accumulator], query: &Query, row: &Row)
+    requires names { IsTrue (names_within (length (values_of row.now)) query.now.cond) }
+    requires room { IsTrue (list_all (has_room (length (values_of row.now))) totals.old) }
+    ensures counts { (rows : ℕ) → IsTrue (list_all (is_of (length (values_of row.now)) rows) totals.old)
+        → IsTrue (list_all (is_of (length (values_of row.now)) (rows + 1)) totals.new) }
+    ensures totals { (items : List Item) → (rows : List (List Value)) → totals.old ≡ map (λ item. tally_of item rows) items
+        → totals.new ≡ map (λ item. tally_of item (rows ++ kept query.now (values_of row.now ∷ []))) items }
+{
+    if !is_kept(&query.cond, row) {
+        return;
+    }
+    add_row(totals, row);
+}
+
 /// Adds a row to each total.
 fn add_row(totals: &mut [Accumulator], row: &Row)
     requires { IsTrue (list_all (has_room (length (values_of row.now))) totals.old) }
-    ensures { totals.new ≡ map (λ tally. tally_with tally (values_of row.now)) totals.old }
+    ensures counts { (rows : ℕ) → IsTrue (list_all (is_of (length (values_of row.now)) rows) totals.old)
+        → IsTrue (list_all (is_of (length (values_of row.now)) (rows + 1)) totals.new) }
+    ensures totals { (items : List Item) → (rows : List (List Value)) → totals.old ≡ map (λ item. tally_of item rows) items
+        → totals.new ≡ map (λ item. tally_of item (rows ++ values_of row.now ∷ [])) items }
 {
     for total in totals.iter_mut() {
         total.add(row);

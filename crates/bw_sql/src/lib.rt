@@ -64,7 +64,6 @@ pub fn parse(alloc: Global, schema: &Schema, text: &[u8]) -> Result<Query, Fault
     ensures spelled { IfOk result (λ query. Spells schema.now text.now (asked query)) }
     ensures refused { length text.now ≤ MAX_LEN → (query : Asked) → Spells schema.now text.now query → IfErr result (λ fault. IsTrue (is_memory fault)) }
     ensures first { length text.now ≤ MAX_LEN → IfErr result (λ fault. IsFalse (is_memory fault) → IsFault schema.now text.now fault) }
-    ensures exact { length text.now ≤ MAX_LEN → Answers schema.now text.now result }
     ensures columns { IfOk result (λ query. IsTrue (names_within (vec_len schema.now.columns) query.cond)) }
     ensures whole { IfOk result (λ query. IsTrue (is_whole query.cond)) }
     ensures items { IfOk result (λ query. IsTrue (list_all (item_within (vec_len schema.now.columns)) query.items.items)) }

@@ -1,0 +1,95 @@
+-- The fields of a record, and what they spell, one more at a time.
+use Rattle.std.proofs.Common.{◌≡◌, ◌∙◌, ℕ, zero, suc, ◌+◌, ◌<◌, ◌≤◌, List, [], ◌∷◌, ◌++◌, length, drop, get_or, Some, None, Result, Ok, Err, false, eqb, refl, sym, ap, arith, add-one, append_assoc, drop-cons}
+use Rattle.std.specs.Prelude.{◌&&◌}
+use Rattle.std.proofs.lemmas.List.{append-nil}
+use Rattle.std.proofs.Math.Dec.{eqb-suc-suc, eqb-suc-zero}
+use Rattle.csv.specs.Records.{field_at}
+use Rattle.bw_model.specs.declared.column.Column.{Column}
+use Rattle.bw_model.specs.declared.fault.Fault.{Fault}
+use Rattle.bw_model.specs.Fault.{◌>>=◌, at_record}
+use Rattle.bw_model.specs.Row.{Value}
+use Rattle.bw_model.specs.Text.{same_text}
+use Rattle.bw_csv.specs.Rows.{is_heading, without_blanks, value_of_field, values_of_fields}
+
+-- the fields from a place on
+drop-suc : (fields : List (List ℕ)) (i : ℕ) (field : List ℕ) → field_at fields i ≡ Some field → drop i fields ≡ field ∷ drop (suc i) fields
+unfolding field_at
+drop-suc [] i field e = cc e
+drop-suc (f ∷ fs) zero field e = ap (λ (g : List ℕ). g ∷ fs) (let same : f ≡ field = cc e in same)
+drop-suc (f ∷ fs) (suc i) field e = drop-suc fs i field e
+
+pub drop-field_at : (fields : List (List ℕ)) (i : ℕ) (field : List ℕ) → field_at fields i ≡ Some field → drop i fields ≡ field ∷ drop (i + 1) fields
+drop-field_at fields i field e = rw (add-one) (drop-suc fields i field e)
+
+pub drop-no_field : (fields : List (List ℕ)) (i : ℕ) → field_at fields i ≡ None → drop i fields ≡ []
+unfolding field_at
+drop-no_field [] zero e = refl
+drop-no_field [] (suc i) e = refl
+drop-no_field (f ∷ fs) zero e = cc e
+drop-no_field (f ∷ fs) (suc i) e = drop-no_field fs i e
+
+pub within-field_at : (fields : List (List ℕ)) (i : ℕ) (field : List ℕ) → field_at fields i ≡ Some field → i < length fields
+unfolding field_at
+within-field_at [] i field e = cc e
+within-field_at (f ∷ fs) zero field e = omega arith
+within-field_at (f ∷ fs) (suc i) field e = let more = within-field_at fs i field e in omega arith
+
+-- the columns from a place on
+pub drop-column : (columns : List Column) (i : ℕ) (column : Column) → i < length columns → column ≡ get_or columns i column → drop i columns ≡ column ∷ drop (i + 1) columns
+drop-column columns i column h e = drop-cons columns i column h ∙ rw (← e, add-one) refl
+
+-- one more name of a heading
+pub is_heading-next : (cs cs2 : List Column) (fs fs2 : List (List ℕ)) (column : Column) (field : List ℕ) → cs ≡ column ∷ cs2 → fs ≡ field ∷ fs2
+    → is_heading cs fs ≡ (same_text column.name (without_blanks field) && is_heading cs2 fs2)
+unfolding is_heading
+is_heading-next cs cs2 fs fs2 column field c f = rw (c, f) refl
+
+-- a column without a field
+pub is_heading-short : (cs cs2 : List Column) (fs : List (List ℕ)) (column : Column) → cs ≡ column ∷ cs2 → fs ≡ [] → is_heading cs fs ≡ false
+unfolding is_heading
+is_heading-short cs cs2 fs column c f = rw (c, f) refl
+
+-- no column is left, and no field should be
+no_field_left : (fs : List (List ℕ)) (n : ℕ) → n ≤ length fs → is_heading [] (drop n fs) ≡ eqb (length fs) n
+unfolding is_heading
+no_field_left [] zero h = refl
+no_field_left [] (suc n) h = absurd (omega arith)
+no_field_left (f ∷ fs) zero h = sym (eqb-suc-zero (length fs))
+no_field_left (f ∷ fs) (suc n) h = no_field_left fs n (omega arith) ∙ sym (eqb-suc-suc (length fs) n)
+
+pub is_heading-end : (cs : List Column) (fs : List (List ℕ)) (n : ℕ) → cs ≡ [] → n ≤ length fs → is_heading cs (drop n fs) ≡ eqb (length fs) n
+is_heading-end cs fs n e h = rw e (no_field_left fs n h)
+
+-- results behind those so far
+abbrev pub behind : {A : Type 0} → List A → Result (List A) Fault → Result (List A) Fault
+behind done more = more >>= λ rest. Ok (done ++ rest)
+
+pub behind-nothing : {A : Type 0} (more : Result (List A) Fault) → more ≡ behind [] more
+behind-nothing (Ok rest) = refl
+behind-nothing (Err fault) = refl
+
+pub behind-cons : {A : Type 0} (done : List A) (x : A) (more : Result (List A) Fault) → behind done (more >>= λ rest. Ok (x ∷ rest)) ≡ behind (done ++ x ∷ []) more
+behind-cons done x (Ok rest) = ap Ok (sym (append_assoc done (x ∷ []) rest))
+behind-cons done x (Err fault) = refl
+
+-- one more value
+pub values-next : (number : ℕ) (cs cs2 : List Column) (fs fs2 : List (List ℕ)) (column : Column) (field : List ℕ) (value : Value) (done : List Value)
+    → cs ≡ column ∷ cs2 → fs ≡ field ∷ fs2 → value_of_field number column field ≡ Ok value
+    → behind done (values_of_fields number cs fs) ≡ behind (done ++ value ∷ []) (values_of_fields number cs2 fs2)
+unfolding values_of_fields
+values-next number cs cs2 fs fs2 column field value done c f v = rw (c, f, v) (behind-cons done value (values_of_fields number cs2 fs2))
+
+pub values-fault : (number : ℕ) (cs cs2 : List Column) (fs fs2 : List (List ℕ)) (column : Column) (field : List ℕ) (fault : Fault) (done : List Value)
+    → cs ≡ column ∷ cs2 → fs ≡ field ∷ fs2 → value_of_field number column field ≡ Err fault
+    → behind done (values_of_fields number cs fs) ≡ Err fault
+unfolding values_of_fields
+values-fault number cs cs2 fs fs2 column field fault done c f v = rw (c, f, v) refl
+
+pub values-short : (number : ℕ) (cs cs2 : List Column) (fs : List (List ℕ)) (column : Column) (done : List Value)
+    → cs ≡ column ∷ cs2 → fs ≡ [] → behind done (values_of_fields number cs fs) ≡ Err (at_record 203 number)
+unfolding values_of_fields
+values-short number cs cs2 fs column done c f = rw (c, f) refl
+
+pub values-end : (number : ℕ) (cs : List Column) (fs : List (List ℕ)) (done : List Value) → cs ≡ [] → behind done (values_of_fields number cs fs) ≡ Ok done
+unfolding values_of_fields
+values-end number cs fs done c = rw c (ap Ok (append-nil done))

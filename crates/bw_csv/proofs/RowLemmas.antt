@@ -1,0 +1,189 @@
+-- The rows of a text, one more at a time.
+use Rattle.std.proofs.Common.{◌≡◌, ◌∙◌, ℕ, ℤ, ◌+◌, ◌^◌, suc, ltb, List, [], ◌∷◌, ◌++◌, length, Option, Some, None, Result, Ok, Err, Bool, true, false, refl, ap, eqb}
+use Rattle.std.specs.Prelude.{◌&&◌, not, int_le, if◌then◌else◌}
+use Rattle.std.specs.Prelude.{IfOk, IsOkAnd, IsTrue}
+use Rattle.std.specs.List.{list_all}
+use Rattle.std.proofs.lemmas.List.{append-nil}
+use Rattle.bw_model.specs.declared.column.Column.{Column}
+use Rattle.bw_model.specs.declared.fault.Fault.{Fault}
+use Rattle.bw_model.specs.Fault.{◌>>=◌, at_record, refused_if}
+use Rattle.bw_model.specs.Column.{admits_value, admits_values}
+use Rattle.bw_model.specs.Number.{are_digits, number_of}
+use Rattle.bw_model.specs.Row.{Value}
+use Rattle.bw_csv.specs.Rows.{Hands, is_heading, is_minus, is_null_text, number_value, row_of_record, rows_from, rows_behind, unsigned, value_of_field, values_of_fields, with_row, within_bounds, without_blanks}
+use Rattle.bw_csv.proofs.FieldLemmas.{behind, behind-cons, behind-nothing}
+
+and_right : (a b : Bool) → (a && b) ≡ true → b ≡ true
+and_right true b e = e
+and_right false b e = cc e
+
+-- a column admits the value of a field
+bounds_admitted : (number : ℕ) (column : Column) (n : ℤ) (value : Value) (within : Bool) → (int_le column.lo n && int_le n column.hi) ≡ within
+    → refused_if (not within) (at_record 205 number) (Ok (Some n)) ≡ Ok value → admits_value column value ≡ true
+bounds_admitted number column n value true w e = let same : ◌≡◌ {A = Value} (Some n) value = cc in rw (← same) w
+bounds_admitted number column n value false w e = cc e
+
+within_admitted : (number : ℕ) (column : Column) (spelled : Option ℤ) (value : Value) → within_bounds number column spelled ≡ Ok value → admits_value column value ≡ true
+within_admitted number column None value e = cc e
+within_admitted number column (Some n) value e = bounds_admitted number column n value (int_le column.lo n && int_le n column.hi) refl e
+
+number_admitted : (number : ℕ) (column : Column) (spelled : Option ℤ) (value : Value) (digits : Bool)
+    → refused_if (not digits) (at_record 204 number) (within_bounds number column spelled) ≡ Ok value → admits_value column value ≡ true
+number_admitted number column spelled value true e = within_admitted number column spelled value e
+number_admitted number column spelled value false e = cc e
+
+null_admitted : (number : ℕ) (column : Column) (value : Value) (nullable : Bool) → column.nullable ≡ nullable
+    → refused_if (not nullable) (at_record 206 number) (Ok None) ≡ Ok value → admits_value column value ≡ true
+null_admitted number column value true n e = let same : ◌≡◌ {A = Value} None value = cc in rw (← same) n
+null_admitted number column value false n e = cc e
+
+either_admitted : (number : ℕ) (column : Column) (text : List ℕ) (value : Value) (null : Bool)
+    → (if null then refused_if (not column.nullable) (at_record 206 number) (Ok None) else number_value number column (is_minus text) (unsigned text)) ≡ Ok value
+    → admits_value column value ≡ true
+either_admitted number column text value true e = null_admitted number column value column.nullable refl e
+either_admitted number column text value false e = number_admitted number column (number_of (is_minus text) (unsigned text)) value (are_digits (unsigned text)) e
+
+value_admitted : (number : ℕ) (column : Column) (field : List ℕ) (value : Value) → value_of_field number column field ≡ Ok value → admits_value column value ≡ true
+unfolding value_of_field
+value_admitted number column field value e = either_admitted number column (without_blanks field) value (is_null_text (without_blanks field)) e
+
+-- columns admit the values of fields
+more_admitted : (column : Column) (columns : List Column) (value : Value) (more : Result (List Value) Fault) (values : List Value) → admits_value column value ≡ true
+    → ((rest : List Value) → more ≡ Ok rest → admits_values columns rest ≡ true)
+    → (more >>= λ rest. Ok (value ∷ rest)) ≡ Ok values → admits_values (column ∷ columns) values ≡ true
+more_admitted column columns value (Ok rest) values first all e = let same : ◌≡◌ {A = List Value} (value ∷ rest) values = cc in rw (← same, first) (all rest refl)
+more_admitted column columns value (Err fault) values first all e = cc e
+
+next_admitted : (number : ℕ) (column : Column) (columns : List Column) (fields : List (List ℕ)) (field : List ℕ) (first : Result Value Fault) (values : List Value)
+    → value_of_field number column field ≡ first
+    → ((rest : List Value) → values_of_fields number columns fields ≡ Ok rest → admits_values columns rest ≡ true)
+    → (first >>= λ value. values_of_fields number columns fields >>= λ rest. Ok (value ∷ rest)) ≡ Ok values → admits_values (column ∷ columns) values ≡ true
+next_admitted number column columns fields field (Ok value) values v all e = more_admitted column columns value (values_of_fields number columns fields) values (value_admitted number column field value v) all e
+next_admitted number column columns fields field (Err fault) values v all e = cc e
+
+values_admitted : (number : ℕ) (columns : List Column) (fields : List (List ℕ)) (values : List Value)
+    → values_of_fields number columns fields ≡ Ok values → admits_values columns values ≡ true
+unfolding values_of_fields
+values_admitted number [] fields values e = let same : ◌≡◌ {A = List Value} [] values = cc in rw (← same) refl
+values_admitted number (column ∷ columns) [] values e = cc e
+values_admitted number (column ∷ columns) (field ∷ fields) values e =
+    next_admitted number column columns fields field (value_of_field number column field) values refl (values_admitted number columns fields) e
+
+-- columns admit the row of a record
+pub row_admitted : (number : ℕ) (columns : List Column) (fields : List (List ℕ)) (row : List Value) → row_of_record number columns fields ≡ Ok row → admits_values columns row ≡ true
+unfolding row_of_record
+row_admitted number columns fields row e = tested (eqb (length fields) (length columns)) (ltb (2 ^ 24) number) e
+  where
+    tested : (wide late : Bool)
+        → refused_if (not wide) (at_record 203 number) (refused_if late (at_record 207 number) (values_of_fields number columns fields)) ≡ Ok row
+        → admits_values columns row ≡ true
+    tested true false h = values_admitted number columns fields row h
+    tested true true h = cc h
+    tested false late h = cc h
+
+-- a row that columns admit has a value for each
+admitted-length : (columns : List Column) (row : List Value) → admits_values columns row ≡ true → length row ≡ length columns
+admitted-length [] [] e = refl
+admitted-length [] (value ∷ row) e = cc e
+admitted-length (column ∷ columns) [] e = cc e
+admitted-length (column ∷ columns) (value ∷ row) e = ap (λ (n : ℕ). suc n) (admitted-length columns row (and_right (admits_value column value) (admits_values columns row) e))
+
+pub row-length : (number : ℕ) (columns : List Column) (fields : List (List ℕ)) (row : List Value) → row_of_record number columns fields ≡ Ok row → length row ≡ length columns
+row-length number columns fields row e = admitted-length columns row (row_admitted number columns fields row e)
+
+-- the rows of a record and of those behind it
+pub rows_from-next : (columns : List Column) (number : ℕ) (fields : List (List ℕ)) (row : List Value) (records more : List (List (List ℕ)))
+    → records ≡ fields ∷ more → row_of_record number columns fields ≡ Ok row → rows_from columns number records ≡ with_row row (rows_from columns (number + 1) more)
+unfolding rows_from
+rows_from-next columns number fields row records more e r = rw (e, r) refl
+
+pub rows_from-fault : (columns : List Column) (number : ℕ) (fields : List (List ℕ)) (more : List (List (List ℕ))) (fault : Fault)
+    → row_of_record number columns fields ≡ Err fault → rows_from columns number (fields ∷ more) ≡ Err fault
+unfolding rows_from
+rows_from-fault columns number fields more fault r = rw r refl
+
+pub rows_from-end : (columns : List Column) (number : ℕ) (records : List (List (List ℕ))) → records ≡ [] → rows_from columns number records ≡ Ok []
+unfolding rows_from
+rows_from-end columns number records e = rw e refl
+
+pub ruleset rows_of_records = (rows_from-next, rows_from-fault, rows_from-end, row-length)
+
+-- a keeper that was led through the rows so far of a whole, of which those of the records to come are left
+unfoldable pub LedSoFar : {K : Type 0} → (K → List (List Value) → K → Type 0) → K → K → Result (List (List Value)) Fault → List Column → ℕ → List (List (List ℕ)) → Type 0
+LedSoFar led start now whole columns number records = (before : List (List Value)) × led start before now × (whole ≡ behind before (rows_from columns number records))
+
+pub led-nothing : {K : Type 0} (led : K → List (List Value) → K → Type 0) (start : K) (columns : List Column) (records : List (List (List ℕ)))
+    → led start [] start → LedSoFar led start start (rows_from columns 1 records) columns 1 records
+unfolding LedSoFar
+led-nothing led start columns records h = ([], h, behind-nothing (rows_from columns 1 records))
+
+pub led-next : {K : Type 0} (led : K → List (List Value) → K → Type 0) (start old new : K) (whole : Result (List (List Value)) Fault) (columns : List Column) (number : ℕ) (records more : List (List (List ℕ))) (row : List Value)
+    → LedSoFar led start old whole columns number records → rows_from columns number records ≡ with_row row (rows_from columns (number + 1) more)
+    → ((first : K) (before : List (List Value)) → led first before old → led first (before ++ row ∷ []) new)
+    → LedSoFar led start new whole columns (number + 1) more
+unfolding LedSoFar
+led-next led start old new whole columns number records more row h e step =
+    (h.0 ++ row ∷ [], step start h.0 h.1, h.2 ∙ ap (behind h.0) e ∙ behind-cons h.0 row (rows_from columns (number + 1) more))
+
+pub led-fault : {K : Type 0} (led : K → List (List Value) → K → Type 0) (start now : K) (whole : Result (List (List Value)) Fault) (columns : List Column) (number : ℕ) (records : List (List (List ℕ))) (fault : Fault)
+    → LedSoFar led start now whole columns number records → rows_from columns number records ≡ Err fault → whole ≡ Err fault
+unfolding LedSoFar
+led-fault led start now whole columns number records fault h e = h.2 ∙ ap (behind h.0) e
+
+pub led-all : {K : Type 0} (led : K → List (List Value) → K → Type 0) (start now : K) (whole : Result (List (List Value)) Fault) (columns : List Column) (number : ℕ) (records : List (List (List ℕ)))
+    → LedSoFar led start now whole columns number records → rows_from columns number records ≡ Ok [] → IsOkAnd whole (λ rows. led start rows now)
+unfolding LedSoFar
+led-all led start now whole columns number records h e = rw (h.2 ∙ ap (behind h.0) e ∙ ap Ok (append-nil h.0)) h.1
+
+pub ruleset so_far = (led-nothing, led-next, led-fault, led-all)
+
+-- the heading, and the rows behind it
+pub rows_behind-none : (columns : List Column) (records : List (List (List ℕ))) → records ≡ [] → rows_behind columns records ≡ Err (at_record 201 0)
+unfolding rows_behind
+rows_behind-none columns records e = rw e refl
+
+pub rows_behind-other : (columns : List Column) (heading : List (List ℕ)) (more : List (List (List ℕ))) → is_heading columns heading ≡ false
+    → rows_behind columns (heading ∷ more) ≡ Err (at_record 202 0)
+unfolding rows_behind
+rows_behind-other columns heading more h = rw h refl
+
+pub rows_behind-rows : (columns : List Column) (records more : List (List (List ℕ))) (heading : List (List ℕ)) → records ≡ heading ∷ more → is_heading columns heading ≡ true
+    → rows_behind columns records ≡ rows_from columns 1 more
+unfolding rows_behind
+rows_behind-rows columns records more heading e h = rw (e, h) refl
+
+pub ruleset behind_heading = (rows_behind-none, rows_behind-other, rows_behind-rows)
+
+-- what is handed of the rows behind the heading is what is handed of the rows
+pub hands_behind : {K : Type 0} (led : K → List (List Value) → K → Type 0) (start now : K) (columns : List Column) (records more : List (List (List ℕ))) (result : Result (Unit {0}) Fault)
+    → rows_behind columns records ≡ rows_from columns 1 more → Hands led (rows_from columns 1 more) start now result → Hands led (rows_behind columns records) start now result
+hands_behind led start now columns records more result e handed = rw e handed
+
+-- columns admit each row of a text
+abbrev AreAdmitted : List Column → Result (List (List Value)) Fault → Type 0
+AreAdmitted columns rows = IfOk rows (λ rows. IsTrue (list_all (admits_values columns) rows))
+
+first_admitted : (columns : List Column) (row : List Value) (more : Result (List (List Value)) Fault) → admits_values columns row ≡ true → AreAdmitted columns more
+    → AreAdmitted columns (more >>= λ rows. Ok (row ∷ rows))
+first_admitted columns row (Ok rows) first all = rw first all
+first_admitted columns row (Err fault) first all = tt
+
+record_admitted : (columns : List Column) (number : ℕ) (fields : List (List ℕ)) (row : Result (List Value) Fault) (more : Result (List (List Value)) Fault)
+    → row_of_record number columns fields ≡ row → AreAdmitted columns more → AreAdmitted columns (row >>= λ first. more >>= λ rows. Ok (first ∷ rows))
+record_admitted columns number fields (Ok row) more e all = first_admitted columns row more (row_admitted number columns fields row e) all
+record_admitted columns number fields (Err fault) more e all = tt
+
+rows_admitted : (columns : List Column) (records : List (List (List ℕ))) (number : ℕ) → AreAdmitted columns (rows_from columns number records)
+unfolding rows_from
+rows_admitted columns [] number = refl
+rows_admitted columns (fields ∷ more) number =
+    record_admitted columns number fields (row_of_record number columns fields) (rows_from columns (number + 1) more) refl (rows_admitted columns more (number + 1))
+
+heading_admitted : (columns : List Column) (other : Bool) (rows : Result (List (List Value)) Fault) → AreAdmitted columns rows → AreAdmitted columns (refused_if other (at_record 202 0) rows)
+heading_admitted columns true rows all = tt
+heading_admitted columns false rows all = all
+
+pub text_admitted : (columns : List Column) (records : List (List (List ℕ))) → IfOk (rows_behind columns records) (λ rows. IsTrue (list_all (admits_values columns) rows))
+unfolding rows_behind
+text_admitted columns [] = tt
+text_admitted columns (heading ∷ more) = heading_admitted columns (not (is_heading columns heading)) (rows_from columns 1 more) (rows_admitted columns more 1)

@@ -1,0 +1,28 @@
+-- Each turn puts one more value behind those so far.
+use Rattle.std.proofs.Common.{◌∙◌, sym, ap, Err}
+use Rattle.std.proofs.lemmas.List.{drop_all}
+use Rattle.std.proofs.lemmas.Result.{err_from_is_err_and}
+use Rattle.bw_csv.proofs.FieldLemmas.{drop-column, drop-field_at, drop-no_field, values-next, values-fault, values-short, values-end}
+use Rattle.bw_csv.proofs.row.read_values.Goals as goal
+
+pub returns-in_default-clause-values : goal.returns-in_default-clause-values
+returns-in_default-clause-values c = λ _.
+    let column = drop-column _ _ _ c.loop-i-test.true c.index-columns-i.is in
+    let none = drop-no_field _ c.loop-i.i (sym c.in_default.ensures.value) in
+    c.loop-i.invariant ∙ values-short _ _ _ _ _ _ column none ∙ ap Err (sym c.at_record.ensures)
+
+pub returns-in_err-value-clause-values : goal.returns-in_err-value-clause-values
+returns-in_err-value-clause-values c =
+    let p = err_from_is_err_and c.from_residual.result c.from_residual.ensures.1 in
+    let column = drop-column _ _ _ c.loop-i-test.true c.index-columns-i.is in
+    let field = drop-field_at _ c.loop-i.i _ (sym c.in-Some.ensures.value) in
+    rw (p.1, p.2) (λ aside. c.loop-i.invariant ∙ values-fault _ _ _ _ _ _ _ _ _ column field (c.in_err-value.ensures.value aside))
+
+pub loop-i-preserved : goal.loop-i-preserved
+loop-i-preserved c =
+    let column = drop-column _ _ _ c.loop-i-test.true c.index-columns-i.is in
+    let field = drop-field_at _ c.loop-i.i _ (sym c.in-Some.ensures.value) in
+    rw c.in_ok-push.ensures.items (c.loop-i.invariant ∙ values-next _ _ _ _ _ _ _ _ _ column field c.in_ok-value.ensures.value)
+
+pub returns-clause-values : goal.returns-clause-values
+returns-clause-values c = c.loop-i.invariant ∙ values-end _ _ _ _ (drop_all c.loop-i.i c.args.columns.now c.loop-i-test.false)

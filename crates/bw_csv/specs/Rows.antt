@@ -1,0 +1,121 @@
+-- The rows that a CSV text spells under columns, or the first fault in it. How bytes are cut into records and fields is
+-- the csv crate's.
+use Rattle.std.specs.Prelude.{◌≡◌, ◌+◌, ◌-◌, ◌^◌, ℕ, ℤ, Bool, true, false, List, [], ◌∷◌, ◌||◌, ◌&&◌, not, ◌==◌, length, Option, Some, None, Result, Ok, Err, IsOkAnd, IsTrue, if◌then◌else◌, codes, int_le, nat_le, nat_lt, slice_index, drop, take}
+use Rattle.std.specs.List.{prefix_len, suffix_len}
+use Rattle.csv.specs.Reading.{records, strip_bom, default_config}
+use Rattle.bw_model.specs.declared.column.Column.{Column}
+use Rattle.bw_model.specs.declared.fault.Fault.{Fault}
+use Rattle.bw_model.specs.Fault.{at_record, is_memory, ◌>>=◌, refused_if}
+use Rattle.bw_model.specs.Number.{are_digits, number_of}
+use Rattle.bw_model.specs.Row.{Value}
+use Rattle.bw_model.specs.Text.{same_text}
+
+-- a space or a tab
+abbrev pub is_blank : ℕ → Bool
+is_blank c = (c == 32) || (c == 9)
+
+-- a field without the blanks at its front, without those at its end, and without both
+abbrev pub without_front_blanks : List ℕ → List ℕ
+without_front_blanks field = drop (prefix_len is_blank field) field
+
+abbrev pub without_end_blanks : List ℕ → List ℕ
+without_end_blanks field = take (length field - suffix_len is_blank field) field
+
+abbrev pub without_blanks : List ℕ → List ℕ
+without_blanks field = without_end_blanks (without_front_blanks field)
+
+-- a number that 64 bits hold, where they do, within the bounds of a column, or the fault of the record of this number
+abbrev pub within_bounds : ℕ → Column → Option ℤ → Result Value Fault
+within_bounds number column None = Err (at_record 205 number)
+within_bounds number column (Some n) = refused_if (not (int_le column.lo n && int_le n column.hi)) (at_record 205 number) (Ok (Some n))
+
+-- what a sign and digits spell: one digit or more, and then a number within the bounds of the column
+abbrev pub number_value : ℕ → Column → Bool → List ℕ → Result Value Fault
+number_value number column is_negative digits =
+    refused_if (not (are_digits digits)) (at_record 204 number) (within_bounds number column (number_of is_negative digits))
+
+-- a text that begins with a minus sign, which is byte 45, or a plus sign, byte 43
+abbrev pub is_minus : List ℕ → Bool
+is_minus text = slice_index text 0 == 45
+
+abbrev pub is_plus : List ℕ → Bool
+is_plus text = slice_index text 0 == 43
+
+-- a text without its sign, where it has one
+abbrev pub unsigned : List ℕ → List ℕ
+unsigned text = if is_minus text || is_plus text then drop 1 text else text
+
+-- a text that says nothing, or NULL in any case
+abbrev pub is_null_text : List ℕ → Bool
+is_null_text text = (length text == 0) || same_text text (codes "NULL")
+
+-- what a text without blanks spells: null, where the column takes it, or an optional sign and then a number
+abbrev pub text_value : ℕ → Column → List ℕ → Result Value Fault
+text_value number column text =
+    if is_null_text text then refused_if (not column.nullable) (at_record 206 number) (Ok None)
+    else number_value number column (is_minus text) (unsigned text)
+
+-- the value of a field in a column of the record of this number, or its fault
+unfoldable pub value_of_field : ℕ → Column → List ℕ → Result Value Fault
+value_of_field number column field = text_value number column (without_blanks field)
+
+-- the values of the fields, from the left, or the first fault among them
+unfoldable pub values_of_fields : ℕ → List Column → List (List ℕ) → Result (List Value) Fault
+values_of_fields number [] fields = Ok []
+values_of_fields number (column ∷ columns) [] = Err (at_record 203 number)
+values_of_fields number (column ∷ columns) (field ∷ fields) =
+    value_of_field number column field >>= λ value. values_of_fields number columns fields >>= λ values. Ok (value ∷ values)
+
+-- the row of a record, or the first fault in it: the number of its fields, a row past 2^24, and then its fields
+unfoldable pub row_of_record : ℕ → List Column → List (List ℕ) → Result (List Value) Fault
+row_of_record number columns fields =
+    refused_if (not (length fields == length columns)) (at_record 203 number)
+    (refused_if (nat_lt (2 ^ 24) number) (at_record 207 number)
+    (values_of_fields number columns fields))
+
+-- a row, and the rows behind it
+abbrev pub with_row : List Value → Result (List (List Value)) Fault → Result (List (List Value)) Fault
+with_row row more = more >>= λ rows. Ok (row ∷ rows)
+
+-- the rows of records, the first of which has this number
+unfoldable pub rows_from : List Column → ℕ → List (List (List ℕ)) → Result (List (List Value)) Fault
+rows_from columns number [] = Ok []
+rows_from columns number (fields ∷ more) =
+    row_of_record number columns fields >>= λ row. with_row row (rows_from columns (number + 1) more)
+
+-- the fields are the names of the columns in order, ignoring case
+unfoldable pub is_heading : List Column → List (List ℕ) → Bool
+is_heading [] [] = true
+is_heading [] (field ∷ fields) = false
+is_heading (column ∷ columns) [] = false
+is_heading (column ∷ columns) (field ∷ fields) = same_text column.name (without_blanks field) && is_heading columns fields
+
+-- the rows of records, the first of which is the heading and has number 0
+unfoldable pub rows_behind : List Column → List (List (List ℕ)) → Result (List (List Value)) Fault
+rows_behind columns [] = Err (at_record 201 0)
+rows_behind columns (heading ∷ more) = refused_if (not (is_heading columns heading)) (at_record 202 0) (rows_from columns 1 more)
+
+-- the rows that a text spells, behind a byte order mark where it has one, or the first fault in it
+abbrev pub rows_of : List Column → List ℕ → Result (List (List Value)) Fault
+rows_of columns text = rows_behind columns (records default_config (strip_bom text))
+
+-- want of memory, or an error of the reader's own (209), which no rule of the rows foresees
+abbrev pub is_aside : Fault → Bool
+is_aside fault = is_memory fault || (fault.code == 209)
+
+-- one of 201 to 209, or want of memory
+abbrev pub is_rows_code : ℕ → Bool
+is_rows_code code = (nat_le 201 code && nat_le code 209) || (code == 801)
+
+abbrev pub IsRowsFault : Fault → Type 0
+IsRowsFault fault = IsTrue (is_rows_code fault.code)
+
+-- What a call answered is what is expected, but for the faults that are set aside.
+abbrev pub GivesButAside : {A B : Type 0} → (A → B) → Result A Fault → Result B Fault → Type 0
+GivesButAside view (Ok x) expected = expected ≡ Ok (view x)
+GivesButAside view (Err fault) expected = is_aside fault ≡ false → expected ≡ Err fault
+
+-- A keeper was led through the rows that are expected, or the fault is the one that is, but for those set aside.
+abbrev pub Hands : {K : Type 0} → (K → List (List Value) → K → Type 0) → Result (List (List Value)) Fault → K → K → Result (Unit {0}) Fault → Type 0
+Hands led expected old new (Ok x) = IsOkAnd expected (λ rows. led old rows new)
+Hands led expected old new (Err fault) = is_aside fault ≡ false → expected ≡ Err fault

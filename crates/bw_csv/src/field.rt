@@ -1,0 +1,108 @@
+//! The value that a field spells.
+ghost use Rattle.std.specs.Prelude.{◌≡◌, ℕ, ◌<◌, ◌≤◌, length, IfErr};
+ghost use Rattle.bw_model.specs.Fault.{at_record};
+ghost use Rattle.bw_model.specs.Row.{Value};
+ghost use Rattle.bw_csv.specs.Rows.{is_blank, without_front_blanks, without_end_blanks, without_blanks, is_null_text, is_minus, unsigned, number_value, value_of_field, GivesButAside, IsRowsFault};
+
+use bw_model::{Column, Fault, Place, Value, are_digits, code, is_same_text, whole_number};
+
+/// The value that a field spells in a column, or its fault: no whole number (204), a null in a column that has
+/// none (206), or a number outside the column's bounds (205).
+#[tactic(auto, unfolding(crate::specs::Rows::value_of_field))]
+pub(crate) fn value_of(column: &Column, field: &[u8], number: u32) -> Result<Value, Fault>
+    ensures value { GivesButAside (λ value. value) result (value_of_field number column.now field.now) }
+    ensures fault { IfErr result IsRowsFault }
+{
+    let text = without_blanks(field);
+    if !is_null_text(text) {
+        return number_of(column, is_minus(text), unsigned(text), number);
+    }
+    if column.nullable {
+        Ok(None)
+    } else {
+        Err(at_record(code::NULL_NOT_ALLOWED, number))
+    }
+}
+
+/// The number that a sign and digits spell in a column.
+fn number_of(column: &Column, is_negative: bool, digits: &[u8], number: u32) -> Result<Value, Fault>
+    ensures value { GivesButAside (λ value. value) result (number_value number column.now is_negative digits.now) }
+    ensures fault { IfErr result IsRowsFault }
+{
+    if !are_digits(digits) {
+        return Err(at_record(code::NOT_A_NUMBER, number));
+    }
+    match whole_number(is_negative, digits) {
+        Some(n) if column.lo <= n && n <= column.hi => Ok(Some(n)),
+        _ => Err(at_record(code::OUT_OF_RANGE, number)),
+    }
+}
+
+/// Whether a field without blanks says nothing, or NULL in any case.
+fn is_null_text(text: &[u8]) -> bool
+    ensures { result ≡ is_null_text text.now }
+{
+    text.is_empty() || is_same_text(text, b"NULL")
+}
+
+/// Whether a text begins with a minus sign.
+fn is_minus(text: &[u8]) -> bool
+    ensures { result ≡ is_minus text.now }
+{
+    !text.is_empty() && text[0] == b'-'
+}
+
+/// A text without its sign, where it has one.
+fn unsigned(text: &[u8]) -> &[u8]
+    ensures { result.now ≡ unsigned text.now }
+{
+    if !text.is_empty() && (text[0] == b'-' || text[0] == b'+') {
+        &text[1..]
+    } else {
+        text
+    }
+}
+
+/// A field without the spaces and tabs at both ends.
+pub(crate) fn without_blanks(field: &[u8]) -> &[u8]
+    ensures { result.now ≡ without_blanks field.now }
+{
+    without_end_blanks(without_front_blanks(field))
+}
+
+fn without_front_blanks(field: &[u8]) -> &[u8]
+    ensures { result.now ≡ without_front_blanks field.now }
+{
+    for i in 0..field.len() {
+        if !is_blank(field[i]) {
+            return &field[i..];
+        }
+    }
+    &[]
+}
+
+fn without_end_blanks(field: &[u8]) -> &[u8]
+    ensures { result.now ≡ without_end_blanks field.now }
+{
+    let mut end = field.len();
+    while end > 0 && is_blank(field[end - 1]) {
+        end -= 1;
+    }
+    &field[..end]
+}
+
+fn is_blank(c: u8) -> bool
+    ensures { result ≡ is_blank c }
+{
+    c == b' ' || c == b'\t'
+}
+
+/// A fault that stands at a record.
+pub(crate) fn at_record(code: u16, number: u32) -> Fault
+    ensures { result ≡ at_record code number }
+{
+    Fault {
+        code,
+        place: Place::Rec(number),
+    }
+}

@@ -1,0 +1,56 @@
+//! The records of a text, one at a time.
+ghost use Rattle.std.specs.Prelude.{◌≡◌, [], ◌∷◌, true, false, IfOk, IfErr, IsTrue};
+ghost use Rattle.csv.specs.Reading.{records, strip_bom, default_config};
+ghost use Rattle.csv.specs.Records.{fields_of};
+ghost use Rattle.bw_csv.specs.Records.{IsOpen, coming, fields_in};
+ghost use Rattle.bw_csv.specs.Rows.{IsRowsFault, is_aside};
+
+use crate::field::at_record;
+use bw_model::{Fault, code};
+use csv::{ByteRecord, ErrorKind, Reader, ReaderBuilder};
+use std::alloc::Global;
+
+/// The records of a text, of which one is read at a time.
+#[derive(Drop)]
+pub(crate) struct Records<'a> {
+    reader: Reader<&'a [u8]>,
+    /// The record that was read last.
+    pub(crate) fields: ByteRecord,
+}
+
+impl<'a> Records<'a> {
+    /// The records of a whole text, behind a byte order mark where it has one.
+    #[tactic(auto, unfolding(crate::specs::Records::coming, crate::specs::Records::IsOpen))]
+    pub(crate) fn new(alloc: Global, text: &'a [u8]) -> Self
+        ensures open { IsOpen result }
+        ensures coming { coming result ≡ records default_config (strip_bom text.now) }
+    {
+        let reader = ReaderBuilder::new()
+            .has_headers(false)
+            .flexible(true)
+            .from_reader(alloc, text);
+        Records {
+            reader,
+            fields: ByteRecord::new(alloc),
+        }
+    }
+
+    /// Reads the next record, which has this number, or answers that there is none. An `Err` is want of memory,
+    /// or an error of the reader's own (209), and then nothing more is read.
+    pub(crate) fn next(&mut self, number: u32) -> Result<bool, Fault>
+        requires { IsOpen self.old }
+        ensures some { IfOk result (λ found. found ≡ true → coming self.old ≡ fields_in self.new ∷ coming self.new) }
+        ensures open { IfOk result (λ found. found ≡ true → IsOpen self.new) }
+        ensures none { IfOk result (λ found. found ≡ false → coming self.old ≡ []) }
+        ensures aside { IfErr result (λ fault. is_aside fault ≡ true) }
+        ensures fault { IfErr result IsRowsFault }
+    {
+        match self.reader.read_byte_record(&mut self.fields) {
+            Ok(found) => Ok(found),
+            Err(error) => match error.kind() {
+                ErrorKind::OutOfMemory => Err(Fault::new(code::OUT_OF_MEMORY)),
+                _ => Err(at_record(code::CSV_FAULT, number)),
+            },
+        }
+    }
+}

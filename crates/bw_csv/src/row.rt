@@ -1,0 +1,112 @@
+//! The row of a record.
+ghost use Rattle.std.specs.Prelude.{◌≡◌, ◌≤◌, ◌+◌, ◌^◌, [], true, false, length, Ok, Err, OnOk, IfOk, IfErr};
+ghost use Rattle.csv.specs.Records.{fields_of};
+ghost use Rattle.bw_model.specs.Row.{values_of};
+ghost use Rattle.bw_csv.specs.Records.{IsOpen, coming};
+ghost use Rattle.bw_csv.specs.Rows.{is_aside, is_heading, row_of_record, rows_behind, rows_from, with_row, values_of_fields, GivesButAside, IsRowsFault};
+
+use crate::field::{at_record, value_of, without_blanks};
+use crate::records::Records;
+use crate::rows::MOST_ROWS;
+use bw_model::{Column, Fault, Row, code};
+use csv::ByteRecord;
+
+/// Reads the heading, which is the first record: refuses a text without a record (201), and other names (202).
+#[tactic(auto, using(crate::proofs::RowLemmas::behind_heading))]
+pub(crate) fn read_heading(columns: &[Column], records: &mut Records<'_>) -> Result<(), Fault>
+    requires { IsOpen records.old }
+    ensures open { OnOk result (IsOpen records.new) }
+    ensures rows { OnOk result (rows_behind columns.now (coming records.old) ≡ rows_from columns.now 1 (coming records.new)) }
+    ensures heading { IfErr result (λ fault. is_aside fault ≡ false → rows_behind columns.now (coming records.old) ≡ Err fault) }
+    ensures fault { IfErr result IsRowsFault }
+{
+    if !records.next(0)? {
+        return Err(at_record(code::NO_HEADING, 0));
+    }
+    if !is_heading(columns, &records.fields) {
+        return Err(at_record(code::HEADING, 0));
+    }
+    Ok(())
+}
+
+/// Whether the fields of a record are the names of the columns in order, ignoring case.
+fn is_heading(columns: &[Column], fields: &ByteRecord) -> bool
+    ensures { result ≡ is_heading columns.now (fields_of fields.now) }
+{
+    for (i, column) in columns.iter().enumerate() {
+        let Some(field) = fields.get(i) else {
+            return false;
+        };
+        if !column.name.is(without_blanks(field)) {
+            return false;
+        }
+    }
+    fields.len() == columns.len()
+}
+
+/// Puts the row of the next record, which has this number, into `row`, in the place of what that was, or answers
+/// that there is no record. An `Err` is the first fault in the record: the number of its fields (203), a row past
+/// 2^24 (207), and then its fields from the left; or it is want of memory, or an error of the reader's own (209).
+#[tactic(auto, using(crate::proofs::RowLemmas::rows_of_records))]
+pub(crate) fn read_row(
+    columns: &[Column],
+    records: &mut Records<'_>,
+    number: u32,
+    row: &mut Row,
+) -> Result<bool, Fault>
+    requires { IsOpen records.old }
+    ensures some { IfOk result (λ found. found ≡ true → rows_from columns.now number (coming records.old) ≡ with_row (values_of row.new) (rows_from columns.now (number + 1) (coming records.new))) }
+    ensures open { IfOk result (λ found. found ≡ true → IsOpen records.new × (number ≤ 2 ^ 24) × (length (values_of row.new) ≡ length columns.now)) }
+    ensures none { IfOk result (λ found. found ≡ false → rows_from columns.now number (coming records.old) ≡ Ok []) }
+    ensures row { IfErr result (λ fault. is_aside fault ≡ false → rows_from columns.now number (coming records.old) ≡ Err fault) }
+    ensures fault { IfErr result IsRowsFault }
+{
+    if !records.next(number)? {
+        return Ok(false);
+    }
+    read_record(columns, &records.fields, number, row)?;
+    Ok(true)
+}
+
+/// Puts the row of a record into `row`.
+#[tactic(auto, unfolding(crate::specs::Rows::row_of_record))]
+fn read_record(
+    columns: &[Column],
+    fields: &ByteRecord,
+    number: u32,
+    row: &mut Row,
+) -> Result<(), Fault>
+    ensures row { OnOk result (row_of_record number columns.now (fields_of fields.now) ≡ Ok (values_of row.new)) }
+    ensures first { IfErr result (λ fault. is_aside fault ≡ false → row_of_record number columns.now (fields_of fields.now) ≡ Err fault) }
+    ensures within { OnOk result (number ≤ 2 ^ 24) }
+    ensures fault { IfErr result IsRowsFault }
+{
+    if fields.len() != columns.len() {
+        return Err(at_record(code::RECORD_LENGTH, number));
+    }
+    if number > MOST_ROWS {
+        return Err(at_record(code::TOO_MANY_ROWS, number));
+    }
+    read_values(columns, fields, number, row)
+}
+
+/// Puts the values of the fields into `row`, one a column.
+fn read_values(
+    columns: &[Column],
+    fields: &ByteRecord,
+    number: u32,
+    row: &mut Row,
+) -> Result<(), Fault>
+    ensures values { GivesButAside (λ _. values_of row.new) result (values_of_fields number columns.now (fields_of fields.now)) }
+    ensures fault { IfErr result IsRowsFault }
+{
+    row.values.clear();
+    for (i, column) in columns.iter().enumerate() {
+        let Some(field) = fields.get(i) else {
+            return Err(at_record(code::RECORD_LENGTH, number));
+        };
+        let value = value_of(column, field, number)?;
+        row.values.push(value)?;
+    }
+    Ok(())
+}

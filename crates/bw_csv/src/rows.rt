@@ -1,0 +1,99 @@
+//! The rows that a CSV text spells under a schema, one at a time.
+//!
+//! The first record is the heading: the names of the schema's columns in order, ignoring case. Each record
+//! after it is a row. Spaces and tabs at both ends of a field are dropped; what is then empty, or `NULL` in
+//! any case, is null, and anything else must be a sign or none and one digit or more. How the bytes are cut
+//! into records and fields is the `csv` crate's, which drops one byte order mark at the start.
+ghost use Rattle.std.specs.Prelude.{◌≡◌, ◌+◌, ◌<◌, ◌^◌, ℕ, List, [], ◌∷◌, ◌++◌, length, OnOk, IfOk, IfErr, IsTrue, vec_len};
+ghost use Rattle.std.specs.List.{list_all};
+ghost use Rattle.bw_model.specs.Column.{admits_values};
+ghost use Rattle.bw_model.specs.declared.column.Column.{Column};
+ghost use Rattle.bw_model.specs.Fault.{no_memory};
+ghost use Rattle.bw_model.specs.Row.{Value, values_of};
+ghost use Rattle.bw_csv.specs.Records.{IsOpen, coming};
+ghost use Rattle.bw_csv.specs.Rows.{rows_of, rows_from, Hands, IsRowsFault};
+
+use crate::records::Records;
+use crate::row::{read_heading, read_row};
+use bw_model::{Column, Fault, Row, Schema, Value};
+use std::alloc::Global;
+
+/// A table has at most this many rows.
+pub const MOST_ROWS: u32 = 1 << 24;
+
+/// Who is handed the rows of a text, one after another.
+pub trait Keeper {
+    /// How many values each row has.
+    ghost width: { Self → ℕ };
+
+    /// How many rows it has been handed.
+    ghost rows: { Self → ℕ };
+
+    /// The first keeper, handed these rows, becomes the second.
+    ghost led: { Self → List (List Value) → Self → Type 0 };
+
+    /// Takes the next row. An `Err`, which is want of memory, ends the reading.
+    fn take(&mut self, row: &Row) -> Result<(), Fault>
+        requires wide { length (values_of row.now) ≡ width self.old }
+        requires room { rows self.old < 2 ^ 24 }
+        ensures width { OnOk result (width self.new ≡ width self.old) }
+        ensures rows { OnOk result (rows self.new ≡ rows self.old + 1) }
+        ensures led { OnOk result ((start : Self) → (before : List (List Value)) → led start before self.old
+            → led start (before ++ values_of row.now ∷ []) self.new) }
+        ensures only_memory { IfErr result (λ fault. fault ≡ no_memory) };
+}
+
+/// Hands the rows of a CSV text to a keeper, in order.
+///
+/// Refuses at the first record that is wrong: a text without one (201), a heading of other names (202); then
+/// for each row its number of fields (203), a row past 2^24 (207), and its fields from the left: no whole
+/// number (204), a null in a column that has none (206), or a number outside the column's bounds (205). 209 is
+/// any other error of the reader, at the record that it read. The heading is record 0.
+#[tactic(auto, using(crate::proofs::RowLemmas::hands_behind))]
+pub fn read_rows<K: Keeper>(
+    alloc: Global,
+    schema: &Schema,
+    text: &[u8],
+    keeper: &mut K,
+) -> Result<(), Fault>
+    requires wide { K.width keeper.old ≡ vec_len schema.now.columns }
+    requires fresh { K.rows keeper.old ≡ 0 }
+    requires starts { K.led keeper.old [] keeper.old }
+    ensures handed { Hands K.led (rows_of schema.now.columns.items text.now) keeper.old keeper.new result }
+    ensures fault { IfErr result IsRowsFault }
+{
+    let mut records = Records::new(alloc, text);
+    read_heading(&schema.columns, &mut records)?;
+    let mut row = Row {
+        values: Vec::with_capacity(alloc, schema.columns.len())?,
+    };
+    hand_rows(&schema.columns, &mut records, &mut row, keeper)
+}
+
+/// Hands the rows of the records to come, the first of which has number 1, to a keeper, in order.
+#[tactic(auto, using(crate::proofs::RowLemmas::so_far))]
+fn hand_rows<K: Keeper>(
+    columns: &[Column],
+    records: &mut Records<'_>,
+    row: &mut Row,
+    keeper: &mut K,
+) -> Result<(), Fault>
+    requires open { IsOpen records.old }
+    requires wide { K.width keeper.old ≡ length columns.now }
+    requires fresh { K.rows keeper.old ≡ 0 }
+    requires starts { K.led keeper.old [] keeper.old }
+    ensures handed { Hands K.led (rows_from columns.now 1 (coming records.old)) keeper.old keeper.new result }
+    ensures fault { IfErr result IsRowsFault }
+{
+    let mut number = 1;
+    'rows: while read_row(columns, records, number, row)? {
+        keeper.take(row)?;
+        number += 1;
+    }
+    Ok(())
+}
+
+/// Columns admit each row of a text.
+pub fn rows_are_admitted()
+    ensures { (columns : List Column) (text : List ℕ) → IfOk (rows_of columns text) (λ rows. IsTrue (list_all (admits_values columns) rows)) }
+{}

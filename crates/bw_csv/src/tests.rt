@@ -1,0 +1,133 @@
+//! What texts spell, and the first fault in them, written by hand.
+ghost use Rattle.std.specs.Prelude.{⊤};
+
+use crate::field::{at_record, value_of, without_blanks};
+use crate::{Keeper, read_rows};
+use bw_model::{Fault, Row, Schema, Value};
+use std::alloc::Global;
+use std::test::Fail;
+
+/// Keeps the values of the rows that it is handed, one row after another.
+#[derive(Drop)]
+struct Kept {
+    width: usize,
+    rows: u32,
+    values: Vec<Value>,
+}
+
+impl Keeper for Kept {
+    ghost width = { λ kept. kept.width };
+
+    ghost rows = { λ kept. kept.rows };
+
+    ghost led = { λ _ _ _. ⊤ };
+
+    fn take(&mut self, row: &Row) -> Result<(), Fault> {
+        self.rows += 1;
+        self.values.extend_from_slice(&row.values)?;
+        Ok(())
+    }
+}
+
+/// Column `a`, from 0 to 9 or null, and column `b`, from -5 to 5 and never null.
+const TABLE: &[u8] = b"TABLE t\nCOLUMN a 0 9\nCOLUMN b -5 5 NOT NULL\n";
+
+/// The values of the rows of a text, one row after another.
+fn values_in(alloc: Global, text: &[u8]) -> Result<Vec<Value>, Fault> {
+    let schema = Schema::parse(alloc, TABLE)?;
+    let mut kept = Kept {
+        width: schema.columns.len(),
+        rows: 0,
+        values: Vec::new(alloc),
+    };
+    read_rows(alloc, &schema, text, &mut kept)?;
+    Ok(kept.values)
+}
+
+#[test]
+fn rows(rt: HostRuntime) -> Result<(), Fail> {
+    let two = [Some(1), Some(2), None, Some(-5)];
+    for text in [
+        "a,b\n1,2\n,-5\n",
+        "\u{FEFF}a,b\r\n1,2\r\nNULL,-5",
+        "\n A ,\tB\n\n\n\"1\",+02\nnuLL ,\" -5\t\"\n\n",
+    ] {
+        let values = values_in(rt.alloc(), text.as_bytes())?;
+        assert_eq!(rt; values.as_slice(), two.as_slice(), "{text:?}");
+    }
+    let long = values_in(rt.alloc(), b"a,b\n0000000000000000000000007,-0\n")?;
+    assert_eq!(rt; long.as_slice(), [Some(7), Some(0)].as_slice());
+    assert!(rt; values_in(rt.alloc(), b"a,b\n")?.is_empty());
+    Ok(())
+}
+
+#[test]
+fn first_faults(rt: HostRuntime) -> Result<(), Fail> {
+    for (text, code, number) in [
+        ("", 201, 0),
+        ("\n\r\n", 201, 0),
+        ("\u{FEFF}", 201, 0),
+        ("a\n", 202, 0),
+        ("a,c\n1\n", 202, 0),
+        ("a,b,c\n", 202, 0),
+        ("\u{FEFF}\u{FEFF}a,b\n", 202, 0),
+        ("b,a\n", 202, 0),
+        ("a,b\n1,2\n1\n", 203, 2),
+        ("a,b\nx,2,3\n", 203, 1),
+        ("a,b\nx,\n", 204, 1),
+        ("a,b\n10,x\n", 205, 1),
+        ("a,b\n-1,2\n", 205, 1),
+        ("a,b\n1,-6\n", 205, 1),
+        ("a,b\n1,NULL\n", 206, 1),
+        ("a,b\n1,\t \n", 206, 1),
+        ("a,b\n99999999999999999999,1\n", 205, 1),
+        ("a,b\n1,2\n1,2\n1,6\n1\n", 205, 3),
+        ("a,b\n1, \n1\n", 206, 1),
+    ] {
+        let fault = values_in(rt.alloc(), text.as_bytes()).err();
+        assert_eq!(rt; fault, Some(at_record(code, number)), "{text:?}");
+    }
+    Ok(())
+}
+
+#[test]
+fn fields(rt: HostRuntime) -> Result<(), Fail> {
+    let schema = Schema::parse(rt.alloc(), TABLE)?;
+    for (field, want) in [
+        ("7", Ok(Some(7))),
+        ("+7", Ok(Some(7))),
+        (" \t 07 \t", Ok(Some(7))),
+        ("", Ok(None)),
+        ("\t", Ok(None)),
+        ("nUlL", Ok(None)),
+        ("-", Err(204)),
+        ("+", Err(204)),
+        ("--1", Err(204)),
+        ("- 1", Err(204)),
+        ("1 1", Err(204)),
+        ("1.0", Err(204)),
+        ("NULLS", Err(204)),
+        ("-NULL", Err(204)),
+        ("10", Err(205)),
+    ] {
+        for column in schema.columns.iter().take(1) {
+            let value = value_of(column, field.as_bytes(), 3);
+            assert_eq!(rt; value, want.map_err(|code| at_record(code, 3)), "{field:?}");
+        }
+    }
+    Ok(())
+}
+
+#[test]
+fn blanks(rt: HostRuntime) {
+    for (field, want) in [
+        ("", ""),
+        (" \t", ""),
+        ("a b", "a b"),
+        ("\t a", "a"),
+        ("a\t ", "a"),
+        ("\u{A0}a\n", "\u{A0}a\n"),
+    ] {
+        assert_eq!(rt; without_blanks(field.as_bytes()), want.as_bytes());
+    }
+}
