@@ -4,9 +4,8 @@
 
 use csv::{ByteRecord, Error, ReaderBuilder};
 use std::alloc::Global;
-use std::env;
-use std::fs;
 use std::process::ExitCode;
+use std::{env, fs};
 
 fn main(rt: HostRuntime) -> ExitCode {
     let Ok(mut words) = env::args(&rt) else {

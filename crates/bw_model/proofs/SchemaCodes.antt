@@ -40,16 +40,16 @@ unfolding columns_on
 columns_so before [] = tt
 columns_so before (line ∷ lines) =
     then_so (column_on (shape_names before) line) (λ column. columns_on (before ++ column ∷ []) lines)
-        (column_so (shape_names before) line.number (column_words line.words)) (λ column. columns_so (before ++ column ∷ []) lines)
+    (column_so (shape_names before) line.number (column_words line.words)) (λ column. columns_so (before ++ column ∷ []) lines)
 
 lines_so : (lines : List NumberedWords) (end : ℕ) → IfErr (schema_on lines end) IsSchemaFault
 unfolding schema_on
 lines_so [] end = refl
 lines_so (line ∷ lines) end =
     then_so (table_on line) (λ name. columns_on [] lines >>= λ columns. with_columns name end columns)
-        (table_so line.number (table_words line.words))
-        (λ name. then_so (columns_on [] lines) (λ columns. with_columns name end columns) (columns_so [] lines)
-            (λ columns. refused_so (is_empty columns) (at_line 105 end) (Ok (record { name = name; columns = columns })) refl tt))
+    (table_so line.number (table_words line.words))
+    (λ name. then_so (columns_on [] lines) (λ columns. with_columns name end columns) (columns_so [] lines)
+    (λ columns. refused_so (is_empty columns) (at_line 105 end) (Ok (record { name = name; columns = columns })) refl tt))
 
 text_so : (text : List ℕ) → IfErr (schema_of text) IsSchemaFault
 unfolding schema_of
