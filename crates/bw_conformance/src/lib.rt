@@ -1,5 +1,5 @@
-//! Tests that cross crates: calls of `bw_shell` over sources and sinks in memory, with outcomes that were worked
-//! out by hand. Nothing stands on this crate.
+//! Tests that cross crates: calls of `bw_shell` over sources and sinks in memory, and conditions of statements over
+//! rows in memory, with outcomes that were worked out by hand. Nothing stands on this crate.
 //!
 //! Read `direct.rt`, which is a table of statements with what they answer.
 #![tactic(auto)]
@@ -14,5 +14,7 @@ mod direct;
 mod faults;
 #[cfg(test)]
 mod outcome;
+#[cfg(test)]
+mod rows_in_memory;
 #[cfg(test)]
 mod scarcity;
