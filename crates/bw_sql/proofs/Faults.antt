@@ -15,7 +15,8 @@ use Rattle.bw_sql.specs.Frontier.{Stands, IsFirst, asked_for, at_token, at_sign,
 use Rattle.bw_sql.specs.Grammar.{StatementIs}
 use Rattle.bw_sql.specs.Reading.{Halt, ◌>>=◌, statement_at}
 use Rattle.bw_sql.specs.Refusal.{number}
-use Rattle.bw_sql.specs.Statement.{Answers, IsRead, IsFault, Spells, token_refused, end_refused, byte_refused, fault_at, judged, spot_from, tokens_of}
+use Rattle.bw_sql.specs.Judged.{Answers, IsRead, fault_at, judged, spot_from}
+use Rattle.bw_sql.specs.Statement.{IsFault, Spells, token_refused, end_refused, byte_refused, tokens_of}
 use Rattle.bw_sql.specs.Token.{Lexeme}
 use Rattle.bw_sql.proofs.Frontiers.{FirstFault, first_fault, end_least, beyond}
 use Rattle.bw_sql.proofs.Machine.{Symbol, AStatement, step, run, all_may_end, Halted}

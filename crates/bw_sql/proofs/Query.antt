@@ -9,7 +9,8 @@ use Rattle.bw_sql.specs.Asked.{Asked, asked}
 use Rattle.bw_sql.specs.Cut.{IsCut, Spot}
 use Rattle.bw_sql.specs.Grammar.{IsQuery}
 use Rattle.bw_sql.specs.Reading.{Halt, statement_at}
-use Rattle.bw_sql.specs.Statement.{Answers, IsRead, Spells, judged, tokens_of}
+use Rattle.bw_sql.specs.Judged.{Answers, IsRead, judged}
+use Rattle.bw_sql.specs.Statement.{Spells, tokens_of}
 use Rattle.bw_sql.specs.Token.{Lexeme}
 use Rattle.bw_sql.proofs.OneCut.{one_cut_of}
 use Rattle.bw_sql.proofs.Sound.{query_spelled}

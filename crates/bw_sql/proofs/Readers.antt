@@ -11,7 +11,8 @@ use Rattle.bw_sql.specs.Cut.{IsCut, spots}
 use Rattle.bw_sql.specs.Reader.{Reads}
 use Rattle.bw_sql.specs.Asked.{asked}
 use Rattle.bw_sql.specs.Reading.{statement_at}
-use Rattle.bw_sql.specs.Statement.{Answers, IsFaultOf, judged, tokens_of}
+use Rattle.bw_sql.specs.Judged.{Answers, IsFaultOf, judged}
+use Rattle.bw_sql.specs.Statement.{tokens_of}
 use Rattle.bw_sql.specs.Token.{lexeme, lexemes}
 
 tokens_are : (items : List Placed) → tokens_of (spots items) ≡ lexemes items

@@ -5,6 +5,7 @@ pub mod Demand
 pub mod Frontier
 pub mod Grammar
 pub mod Items
+pub mod Judged
 pub mod Lexer
 pub mod Piece
 pub mod Reader

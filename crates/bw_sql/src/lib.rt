@@ -24,9 +24,10 @@ ghost use Rattle.bw_sql.specs.Asked.{Asked, asked};
 ghost use Rattle.bw_sql.specs.Cut.{IsCut, Spot, spots};
 ghost use Rattle.bw_sql.specs.Grammar.{IsQuery};
 ghost use Rattle.bw_sql.specs.Items.{AreOfOneKind};
+ghost use Rattle.bw_sql.specs.Judged.{Answers, IsFaultOf};
 ghost use Rattle.bw_sql.specs.Reading.{statement_at};
 ghost use Rattle.bw_sql.specs.Refusal.{IsStatementFault};
-ghost use Rattle.bw_sql.specs.Statement.{Answers, IsFault, IsFaultOf, Spells};
+ghost use Rattle.bw_sql.specs.Statement.{IsFault, Spells};
 ghost use Rattle.bw_sql.specs.Token.{Lexeme};
 
 mod condition;

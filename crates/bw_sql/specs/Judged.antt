@@ -1,0 +1,48 @@
+-- What a text is read as by the reading functions, or the fault at which they stop.
+use Rattle.std.specs.Prelude.{◌≡◌, ℕ, ◌-◌, List, length, Option, Some, None, Result, Ok, Err, false, slice_get}
+use Rattle.bw_model.specs.declared.fault.Fault.{Fault}
+use Rattle.bw_model.specs.declared.query.Query.{Query}
+use Rattle.bw_model.specs.declared.schema.Schema.{Schema}
+use Rattle.bw_model.specs.Fault.{at_byte, no_memory, is_memory}
+use Rattle.bw_sql.specs.declared.reader.Refusal.{Refusal}
+use Rattle.bw_sql.specs.declared.reader.Stop.{Stop}
+use Rattle.bw_sql.specs.declared.reader.Stop.TheVariants.{Refused, OutOfMemory}
+use Rattle.bw_sql.specs.Asked.{Asked, asked}
+use Rattle.bw_sql.specs.Cut.{IsCut, Spot}
+use Rattle.bw_sql.specs.Reading.{Halt, statement_at}
+use Rattle.bw_sql.specs.Refusal.{number}
+use Rattle.bw_sql.specs.Statement.{tokens_of}
+
+-- A refusal stands at its token. Behind the last token the byte that begins no piece comes first (401), and
+-- else the refusal stands at the end.
+abbrev pub fault_at : Option Spot → Option ℕ → ℕ → Refusal → Fault
+fault_at (Some spot) stop end why = at_byte (number why) spot.at
+fault_at None (Some at) end why = at_byte 401 at
+fault_at None None end why = at_byte (number why) end
+
+-- the token from which on so many are left
+abbrev pub spot_from : ℕ → List Spot → Option Spot
+spot_from left tokens = slice_get tokens (length tokens - left)
+
+-- what was read, once all tokens were cut, or the fault
+abbrev pub judged : List Spot → Option ℕ → ℕ → Result Asked Halt → Result Asked Fault
+judged tokens None end (Ok query) = Ok query
+judged tokens (Some at) end (Ok query) = Err (at_byte 401 at)
+judged tokens stop end (Err halt) = Err (fault_at (spot_from halt.left tokens) stop end halt.why)
+
+-- a text is read as what its tokens give
+pub record IsRead (schema : Schema) (text : List ℕ) (outcome : Result Asked Fault) : Type 0 where
+  pub tokens : List Spot
+  pub stop : Option ℕ
+  pub cut : IsCut 0 text tokens stop
+  pub is : outcome ≡ judged tokens stop (length text) (statement_at schema (tokens_of tokens))
+
+-- the answer is what the text is read as, want of memory aside
+abbrev pub Answers : Schema → List ℕ → Result Query Fault → Type 0
+Answers schema text (Ok query) = IsRead schema text (Ok (asked query))
+Answers schema text (Err fault) = is_memory fault ≡ false → IsRead schema text (Err fault)
+
+-- the fault of a reader that stopped
+abbrev pub IsFaultOf : List Spot → Option ℕ → ℕ → Stop → Fault → Type 0
+IsFaultOf tokens stop end (Refused why left) fault = fault ≡ fault_at (spot_from left tokens) stop end why
+IsFaultOf tokens stop end OutOfMemory fault = fault ≡ no_memory
