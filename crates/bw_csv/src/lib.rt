@@ -15,4 +15,4 @@ mod rows;
 #[cfg(test)]
 mod tests;
 
-pub use rows::{Keeper, MOST_ROWS, read_rows, rows_are_admitted};
+pub use rows::{Keeper, MAX_ROWS, read_rows, rows_are_admitted};

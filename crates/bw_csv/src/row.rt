@@ -7,7 +7,7 @@ ghost use Rattle.bw_csv.specs.Rows.{is_aside, is_heading, row_of_record, rows_be
 
 use crate::field::{at_record, value_of, without_blanks};
 use crate::records::Records;
-use crate::rows::MOST_ROWS;
+use crate::rows::MAX_ROWS;
 use bw_model::{Column, Fault, Row, code};
 use csv::ByteRecord;
 
@@ -84,7 +84,7 @@ fn read_record(
     if fields.len() != columns.len() {
         return Err(at_record(code::RECORD_LENGTH, number));
     }
-    if number > MOST_ROWS {
+    if number > MAX_ROWS {
         return Err(at_record(code::TOO_MANY_ROWS, number));
     }
     read_values(columns, fields, number, row)

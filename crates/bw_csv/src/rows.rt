@@ -19,7 +19,7 @@ use bw_model::{Column, Fault, Row, Schema, Value};
 use std::alloc::Global;
 
 /// A table has at most this many rows.
-pub const MOST_ROWS: u32 = 1 << 24;
+pub const MAX_ROWS: u32 = 1 << 24;
 
 /// Who is handed the rows of a text, one after another.
 pub trait Keeper {

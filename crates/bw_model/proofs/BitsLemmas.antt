@@ -21,7 +21,7 @@ code_in_span lo hi n within = grind (arith, ints)
 pub value_of_distance : (lo hi n : ℤ) → (int_le lo n && int_le n hi) ≡ true → lo +ℤ pos (unsigned_abs (n -ℤ lo)) ≡ n
 value_of_distance lo hi n within = grind (arith, ints)
 
-bit_worth : (bit k : ℕ) → bit < 2 → cond (bit == 1) k 0 ≡ bit * k
+pub bit_worth : (bit k : ℕ) → bit < 2 → cond (bit == 1) k 0 ≡ bit * k
 bit_worth zero k lt = omega arith
 bit_worth (suc zero) k lt = omega arith
 bit_worth (suc (suc bit)) k lt = absurd (omega arith)

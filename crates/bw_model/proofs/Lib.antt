@@ -1,6 +1,7 @@
 pub mod BitsLemmas
 pub mod CondLemmas
 pub mod DigitLemmas
+pub mod GroupLemmas
 pub mod LineLemmas
 pub mod Numbers
 pub mod PlaceLemmas
@@ -8,5 +9,6 @@ pub mod SameLemmas
 pub mod SchemaCodes
 pub mod SchemaLemmas
 pub mod SchemaSpelling
+pub mod StoredLemmas
 pub mod TreeLemmas
 pub mod VariableLemmas

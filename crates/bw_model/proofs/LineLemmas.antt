@@ -77,6 +77,11 @@ pub count_more : (n : ℕ) (lines : List (List ℕ)) (line : List ℕ) (rest : L
 count_more n lines line rest e = rw e (omega arith)
 
 -- an empty text has no lines
+pub cut_nothing : (text : List ℕ) → length text ≡ 0 → cut_lines text ≡ []
+unfolding cut_lines
+cut_nothing [] e = refl
+cut_nothing (c ∷ cs) e = absurd (omega arith)
+
 pub nothing_in : (n : ℕ) (text : List ℕ) → length text ≡ 0 → (numbered_from n (cut_lines text) ≡ []) × (n + length (cut_lines text) ≡ n)
 unfolding numbered_from cut_lines
 nothing_in n [] e = (refl, omega arith)

@@ -1,11 +1,12 @@
 -- Decimal digits, one more at a time.
-use Rattle.std.proofs.Common.{◌≡◌, ℕ, ◌+◌, ◌-◌, ◌*◌, ◌^◌, ◌<◌, List, [], length, take, min, get_or, refl, arith}
-use Rattle.std.proofs.lemmas.List.Sums.{fold_more}
+use Rattle.std.proofs.Common.{◌≡◌, ◌∙◌, ap, sym, ℕ, ◌+◌, ◌-◌, ◌*◌, ◌^◌, ◌<◌, ◌≤◌, List, [], ◌∷◌, ◌++◌, fold, length, take, drop, min, get_or, refl, arith}
+use Rattle.std.proofs.lemmas.List.{take-append-drop}
+use Rattle.std.proofs.lemmas.List.Sums.{fold_more, fold-append}
 use Rattle.std.proofs.Common.{ℤ, pos, ◌-ℤ◌, cond, true, false, Option, Some, None, FitsSigned, w64, leb, ltb}
 use Rattle.std.proofs.lemmas.Int.{ints}
 use Rattle.std.specs.Option.{SomeIff}
 use Rattle.std.proofs.lemmas.Bool.{le-leb, lt-leb, lt-ltb, le-ltb}
-use Rattle.bw_model.specs.Number.{decimal}
+use Rattle.bw_model.specs.Number.{decimal, where_64_bits_hold}
 
 pub decimal-nothing : 0 ≡ min (decimal []) (2 ^ 64 - 1)
 unfolding decimal
@@ -35,3 +36,26 @@ positive_is (Some v) m n e h =
     let within : ltb n (2 ^ 63) ≡ true = lt-ltb _ _ (omega (arith, ints, h.0)) in
     let same : v ≡ pos n = omega (arith, ints, h.0, h.1) in
     rw (within, same) refl
+
+-- more digits spell no less
+fold_grows : (n : ℕ) (digits : List ℕ) → n ≤ fold (λ n digit. 10 * n + (digit - 48)) n digits
+fold_grows n [] = omega arith
+fold_grows n (digit ∷ digits) = omega (arith, fold_grows (10 * n + (digit - 48)) digits)
+
+decimal_of_front : (digits : List ℕ) (i : ℕ) → decimal (take i digits) ≤ decimal digits
+unfolding decimal
+decimal_of_front digits i =
+    let step : ℕ → ℕ → ℕ = λ n digit. 10 * n + (digit - 48) in
+    let whole : fold step 0 (take i digits ++ drop i digits) ≡ fold step (fold step 0 (take i digits)) (drop i digits) = fold-append step 0 (take i digits) (drop i digits) in
+    let same : take i digits ++ drop i digits ≡ digits = take-append-drop i digits in
+    let all : fold step 0 digits ≡ fold step (fold step 0 (take i digits)) (drop i digits) = ap (fold step 0) (sym same) ∙ whole in
+    omega (arith, fold_grows (fold step 0 (take i digits)) (drop i digits))
+
+-- where the digits so far and one more spell too much, all do
+pub too_much : (digits : List ℕ) (i n : ℕ) → i < length digits → n ≡ decimal (take i digits) → 2 ^ 64 ≤ 10 * n + (get_or digits i 0 - 48) → None ≡ where_64_bits_hold (decimal digits)
+too_much digits i n lt is over =
+    let past : ltb (decimal digits) (2 ^ 64) ≡ false = le-ltb _ _ (omega (arith, decimal_more digits i lt, decimal_of_front digits (i + 1))) in
+    rw past refl
+
+pub enough : (n : ℕ) → n < 2 ^ 64 → Some n ≡ where_64_bits_hold n
+enough n lt = let within : ltb n (2 ^ 64) ≡ true = lt-ltb _ _ lt in rw within refl

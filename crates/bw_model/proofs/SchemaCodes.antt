@@ -1,13 +1,13 @@
 -- What is refused of a schema text is refused by one of its own faults.
-use Rattle.std.proofs.Common.{◌≡◌, ℕ, List, [], ◌∷◌, ◌++◌, Bool, true, false, not, Option, Some, None, Result, Ok, Err, refl, sym, subst, IfErr, nat_le, nat_lt, length}
+use Rattle.std.proofs.Common.{◌≡◌, ◌∙◌, ap, ◌&&◌, ◌||◌, ℕ, List, [], ◌∷◌, ◌++◌, Bool, true, false, not, Option, Some, None, Result, Ok, Err, refl, subst, IfErr, nat_le, nat_lt, length}
 use Rattle.std.specs.List.{list_any}
-use Rattle.std.proofs.lemmas.Bool.{eqb-true}
+use Rattle.std.proofs.Math.Bool.{or-true}
 use Rattle.bw_model.specs.declared.fault.Fault.{Fault}
 use Rattle.bw_model.specs.declared.schema.Schema.{Schema}
 use Rattle.bw_model.specs.Fault.{Gives, is_memory, ◌>>=◌, refused_if, at_line, nowhere}
 use Rattle.bw_model.specs.Lines.{NumberedWords, lines_in, end_in, whole, is_empty}
 use Rattle.bw_model.specs.Name.{is_name}
-use Rattle.bw_model.specs.SchemaText.{ColumnShape, SchemaShape, schema_shape, shape_names, is_range, column_words, table_words, table_on, named_table, column_on, next_column, after_room, columns_on, with_columns, schema_on, schema_of, is_schema_code, IsSchemaFault}
+use Rattle.bw_model.specs.SchemaText.{ColumnShape, SchemaShape, schema_shape, shape_names, is_range, column_words, table_words, table_on, named_table, column_on, next_column, after_room, columns_on, with_columns, schema_on, schema_of, IsSchemaFault}
 use Rattle.bw_model.specs.Text.{same_text}
 
 refused_so : {A : Type 0} (b : Bool) (fault : Fault) (next : Result A Fault) → IsSchemaFault fault → IfErr next IsSchemaFault
@@ -61,7 +61,7 @@ refused_by given fault e h = subst (λ r. IfErr r IsSchemaFault) e h
 
 -- 801 is one of them
 memory_so : (fault : Fault) → is_memory fault ≡ true → IsSchemaFault fault
-memory_so fault e = subst (λ code. is_schema_code code ≡ true) (sym (eqb-true fault.code 801 e)) refl
+memory_so fault e = ap (λ b. (nat_le 101 fault.code && nat_le fault.code 106) || b) e ∙ or-true (nat_le 101 fault.code && nat_le fault.code 106)
 
 fault_by : (memory : Bool) (text : List ℕ) (fault : Fault) → is_memory fault ≡ memory → (is_memory fault ≡ false → schema_of text ≡ Err fault) → IsSchemaFault fault
 fault_by true text fault m given = memory_so fault m

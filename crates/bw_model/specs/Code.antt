@@ -1,5 +1,6 @@
 -- Codes: a value's distance from its column's least, and how many binary digits it takes.
-use Rattle.std.specs.Prelude.{ℕ, ℤ, pos, ◌+◌, ◌/◌, ◌+ℤ◌, ◌-ℤ◌, max, ◌&&◌, List, map, length, slice_index, slice_index_or, Option, Some, None, if◌then◌else◌, int_le, unsigned_abs}
+use Rattle.std.specs.Prelude.{ℕ, ℤ, Bool, pos, ◌==◌, unwrap_or, ◌+◌, ◌/◌, ◌+ℤ◌, ◌-ℤ◌, max, ◌&&◌, List, map, length, slice_index, slice_index_or, Option, Some, None, if◌then◌else◌, int_le, unsigned_abs}
+use Rattle.std.specs.Int.{bit_at}
 use Rattle.std.specs.Int.Digits.{digits_of}
 use Rattle.bw_model.specs.declared.column.Column.{Column}
 use Rattle.bw_model.specs.Row.{Value}
@@ -21,6 +22,14 @@ code_of column (Some n) =
 -- the value of a code
 abbrev pub value_of_code : Column → ℕ → ℤ
 value_of_code column code = column.lo +ℤ pos code
+
+-- the code of a value as it is stored, in which null is 0
+abbrev pub stored_code : Column → Value → ℕ
+stored_code column value = unwrap_or (code_of column value) 0
+
+-- bit 0 of a number is the least
+abbrev pub has_bit : ℕ → ℕ → Bool
+has_bit n bit = bit_at n bit == 1
 
 -- the same of the column of this number, from 0
 abbrev pub span_at : List Column → ℕ → ℕ

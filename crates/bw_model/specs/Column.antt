@@ -1,10 +1,16 @@
 -- Columns, and the rows that they admit.
-use Rattle.std.specs.Prelude.{ℕ, Bool, true, false, List, [], ◌∷◌, map, Some, None, ◌&&◌, int_le}
+use Rattle.std.specs.Prelude.{ℕ, Bool, true, false, List, [], ◌∷◌, map, Option, Some, None, ◌&&◌, int_le}
+use Rattle.std.specs.List.{position}
 use Rattle.bw_model.specs.declared.column.Column.{Column}
 use Rattle.bw_model.specs.Row.{Value}
+use Rattle.bw_model.specs.Text.{same_text}
 
 abbrev pub names_of : List Column → List (List ℕ)
 names_of columns = map (λ column. column.name) columns
+
+-- the number of the column of this name, ignoring case
+unfoldable pub column_named : List Column → List ℕ → Option ℕ
+column_named columns text = position (λ column. same_text column.name text) columns
 
 -- a column admits null where it is nullable, and the numbers from lo to hi
 abbrev pub admits_value : Column → Value → Bool

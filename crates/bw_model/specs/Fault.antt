@@ -1,5 +1,5 @@
 -- Refusals: a fault, and what a call that may run out of memory gives.
-use Rattle.std.specs.Prelude.{◌≡◌, ℕ, Bool, ◌==◌, true, false, List, [], ◌++◌, codes, Result, Ok, Err}
+use Rattle.std.specs.Prelude.{◌≡◌, ℕ, Bool, ◌==◌, ◌&&◌, true, false, List, [], ◌++◌, codes, Result, Ok, Err}
 use Rattle.std.specs.Fmt.{decimal}
 use Rattle.bw_model.specs.declared.fault.Fault.{Fault}
 use Rattle.bw_model.specs.declared.fault.Place.{Place}
@@ -29,9 +29,16 @@ place_text (Rec at) = codes " at record " ++ decimal at
 abbrev pub no_memory : Fault
 no_memory = nowhere 801
 
--- the fault tells of want of memory, which no rule of a format foresees
+-- the fault stands nowhere
+abbrev pub stands_nowhere : Place → Bool
+stands_nowhere Nowhere = true
+stands_nowhere (Byte at) = false
+stands_nowhere (Line at) = false
+stands_nowhere (Rec at) = false
+
+-- the fault is want of memory, which no rule of a format foresees
 abbrev pub is_memory : Fault → Bool
-is_memory fault = fault.code == 801
+is_memory fault = (fault.code == 801) && stands_nowhere fault.place
 
 -- an answer or the first fault, and then what follows from the answer
 infixl 10 ◌>>=◌

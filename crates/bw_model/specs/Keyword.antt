@@ -1,8 +1,7 @@
 -- The reserved words of the query language.
-use Rattle.std.specs.Prelude.{ℕ, Bool, List, Option, codes, find, is_some}
+use Rattle.std.specs.Prelude.{ℕ, Bool, List, [], ◌∷◌, Option, codes, find, is_some}
 use Rattle.bw_model.specs.declared.keyword.Keyword.{Keyword}
 use Rattle.bw_model.specs.declared.keyword.Keyword.TheVariants as word
-use Rattle.bw_model.specs.declared.keyword.TheConstants.{KEYWORDS}
 use Rattle.bw_model.specs.Text.{same_text}
 
 -- a reserved word in capitals
@@ -25,9 +24,15 @@ spelling word.True = codes "TRUE"
 spelling word.Unknown = codes "UNKNOWN"
 spelling word.Where = codes "WHERE"
 
+-- the seventeen reserved words
+abbrev pub reserved_words : List Keyword
+reserved_words =
+    word.And ∷ word.Between ∷ word.Count ∷ word.False ∷ word.From ∷ word.In ∷ word.Is ∷ word.Max ∷ word.Min ∷ word.Not
+    ∷ word.Null ∷ word.Or ∷ word.Select ∷ word.Sum ∷ word.True ∷ word.Unknown ∷ word.Where ∷ []
+
 -- the reserved word that a text is, ignoring case
 unfoldable pub keyword_of : List ℕ → Option Keyword
-keyword_of text = find (λ word. same_text (spelling word) text) KEYWORDS
+keyword_of text = find (λ word. same_text (spelling word) text) reserved_words
 
 abbrev pub is_reserved : List ℕ → Bool
 is_reserved text = is_some (keyword_of text)

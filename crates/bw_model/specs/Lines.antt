@@ -70,6 +70,9 @@ lines_in unread = numbered_from unread.number (cut_lines unread.text)
 abbrev pub end_in : Unread → ℕ
 end_in unread = unread.number + length (cut_lines unread.text)
 
--- a whole text
+-- a text whose first line has a number, and a whole text
+abbrev pub from_line : ℕ → List ℕ → Unread
+from_line number text = record { number = number; text = text }
+
 abbrev pub whole : List ℕ → Unread
-whole text = record { number = 1; text = text }
+whole text = from_line 1 text

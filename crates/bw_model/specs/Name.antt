@@ -3,10 +3,11 @@ use Rattle.std.specs.Prelude.{ℕ, Bool, true, List, [], ◌∷◌, length, ◌&
 use Rattle.std.specs.List.{list_any}
 use Rattle.bw_model.specs.Text.{same_text, is_word}
 use Rattle.bw_model.specs.Keyword.{is_reserved}
+use Rattle.bw_model.specs.Limits.{longest_name}
 
 -- a name is a word of at most 63 bytes that isn't reserved
 unfoldable pub is_name : List ℕ → Bool
-is_name text = is_word text && nat_le (length text) 63 && not (is_reserved text)
+is_name text = is_word text && nat_le (length text) longest_name && not (is_reserved text)
 
 -- no name comes twice, ignoring case
 unfoldable pub are_apart : List (List ℕ) → Bool

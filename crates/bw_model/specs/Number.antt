@@ -15,6 +15,14 @@ text_is_empty (c ∷ cs) = false
 abbrev pub are_digits : List ℕ → Bool
 are_digits text = not (text_is_empty text) && list_all is_ascii_digit text
 
+-- the number that a text spells where it is digits and nothing else, with any number of leading zeros, and 64 bits
+-- without a sign hold it: they hold the numbers below 2^64
+abbrev pub where_64_bits_hold : ℕ → Option ℕ
+where_64_bits_hold n = if nat_lt n (2 ^ 64) then Some n else None
+
+unfoldable pub natural_of : List ℕ → Option ℕ
+natural_of text = if are_digits text then where_64_bits_hold (decimal text) else None
+
 -- the number of a sign and digits, where 64 bits hold it: they hold the numbers from -2^63 to 2^63 - 1
 unfoldable pub number_of : Bool → List ℕ → Option ℤ
 number_of true digits = if nat_le (decimal digits) (2 ^ 63) then Some (pos 0 -ℤ pos (decimal digits)) else None

@@ -5,7 +5,8 @@ use Rattle.bw_model.specs.declared.fault.Fault.{Fault}
 use Rattle.bw_model.specs.declared.column.Column.{Column}
 use Rattle.bw_model.specs.declared.parse.Words.{Words}
 use Rattle.bw_model.specs.declared.schema.Schema.{Schema}
-use Rattle.bw_model.specs.Fault.{nowhere, at_line, ◌>>=◌, refused_if}
+use Rattle.bw_model.specs.Fault.{nowhere, at_line, is_memory, ◌>>=◌, refused_if}
+use Rattle.bw_model.specs.Limits.{longest_schema, most_columns}
 use Rattle.bw_model.specs.Lines.{NumberedWords, is_empty, lines_in, end_in, whole}
 use Rattle.bw_model.specs.Name.{is_name, are_apart}
 use Rattle.bw_model.specs.Number.{are_digits, number_of}
@@ -96,7 +97,7 @@ after_room before line column =
 abbrev pub next_column : List (List ℕ) → ℕ → Option ColumnShape → Result ColumnShape Fault
 next_column before line None = Err (at_line 101 line)
 next_column before line (Some column) =
-    refused_if (nat_le 64 (length before)) (at_line 105 line) (after_room before line column)
+    refused_if (nat_le most_columns (length before)) (at_line 105 line) (after_room before line column)
 
 abbrev pub column_on : List (List ℕ) → NumberedWords → Result ColumnShape Fault
 column_on before line = next_column before line.number (column_words line.words)
@@ -119,7 +120,7 @@ schema_on (line ∷ lines) end = table_on line >>= λ name. columns_on [] lines 
 
 -- what a schema text says, or the first fault in it: its length, and then its lines
 unfoldable pub schema_of : List ℕ → Result SchemaShape Fault
-schema_of text = refused_if (nat_lt 65536 (length text)) (nowhere 106) (schema_on (lines_in (whole text)) (end_in (whole text)))
+schema_of text = refused_if (nat_lt longest_schema (length text)) (nowhere 106) (schema_on (lines_in (whole text)) (end_in (whole text)))
 
 -- the words of a line spell a column
 abbrev pub SpellsColumn : NumberedWords → ColumnShape → Type 0
@@ -134,16 +135,16 @@ SpellsSchema (line ∷ lines) schema =
     × IsTrue (is_name schema.name)
     × AllZip SpellsColumn lines schema.columns
     × (1 ≤ length schema.columns)
-    × (length schema.columns ≤ 64)
+    × (length schema.columns ≤ most_columns)
     × IsTrue (are_apart (shape_names schema.columns))
 
 -- a text of at most 65,536 bytes whose lines spell a schema
 abbrev pub IsSchemaText : List ℕ → SchemaShape → Type 0
-IsSchemaText text schema = (length text ≤ 65536) × SpellsSchema (lines_in (whole text)) schema
+IsSchemaText text schema = (length text ≤ longest_schema) × SpellsSchema (lines_in (whole text)) schema
 
 -- one of 101 to 106, or want of memory
-abbrev pub is_schema_code : ℕ → Bool
-is_schema_code code = (nat_le 101 code && nat_le code 106) || (code == 801)
+abbrev pub is_schema_fault : Fault → Bool
+is_schema_fault fault = (nat_le 101 fault.code && nat_le fault.code 106) || is_memory fault
 
 abbrev pub IsSchemaFault : Fault → Type 0
-IsSchemaFault fault = IsTrue (is_schema_code fault.code)
+IsSchemaFault fault = IsTrue (is_schema_fault fault)

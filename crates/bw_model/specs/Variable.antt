@@ -1,10 +1,9 @@
 -- Variables: the bits of a row, numbered from 0 over the whole schema, and rows as assignments of them.
-use Rattle.std.specs.Prelude.{ℕ, zero, suc, ◌+◌, ◌-◌, ◌^◌, Bool, false, List, [], ◌∷◌, ◌++◌, map, take, sum_by, slice_index_or, Option, Some, None, unwrap_or, if◌then◌else◌, ◌&&◌, ◌==◌}
-use Rattle.std.specs.Int.{bit_at}
+use Rattle.std.specs.Prelude.{ℕ, zero, suc, ◌+◌, ◌-◌, ◌^◌, Bool, false, List, [], ◌∷◌, ◌++◌, map, take, sum_by, slice_index_or, Option, Some, None, if◌then◌else◌, ◌&&◌}
 use Rattle.bw_model.specs.declared.column.Column.{Column}
 use Rattle.bw_model.specs.Row.{Value}
 use Rattle.bw_model.specs.Truth.{is_null}
-use Rattle.bw_model.specs.Code.{width_of, width_at, code_of, value_of_code, value_at}
+use Rattle.bw_model.specs.Code.{width_of, width_at, value_of_code, value_at, stored_code, has_bit}
 
 -- For each column in order come first its null variable, where it is nullable, and then its bits from the top
 -- to bit 0.
@@ -46,12 +45,12 @@ assignment_of bits variable = slice_index_or bits variable false
 -- so many low bits of a number, from the top
 abbrev pub low_bits : ℕ → ℕ → List Bool
 low_bits zero n = []
-low_bits (suc bits) n = (bit_at n bits == 1) ∷ low_bits bits n
+low_bits (suc bits) n = has_bit n bits ∷ low_bits bits n
 
 -- the bits of a value: a null has null bit 1 and code bits 0
 abbrev pub value_bits : Column → Value → List Bool
 value_bits column value =
-    (if column.nullable then is_null value ∷ [] else []) ++ low_bits (width_of column) (unwrap_or (code_of column value) 0)
+    (if column.nullable then is_null value ∷ [] else []) ++ low_bits (width_of column) (stored_code column value)
 
 -- the bits of a row, one a variable
 abbrev pub bits_of : List Column → List Value → List Bool

@@ -2,7 +2,7 @@
 ghost use Rattle.std.specs.Prelude.{◌≡◌, ℕ, ℤ, Some, ◌+◌, ◌<◌, ◌≤◌, ◌^◌, length, max, IfSome};
 ghost use Rattle.std.specs.Int.Digits.{digits_of};
 ghost use Rattle.bw_model.specs.Row.{values_of};
-ghost use Rattle.bw_model.specs.Column.{admits_value, admits_values};
+ghost use Rattle.bw_model.specs.Column.{admits_value, admits_values, column_named};
 ghost use Rattle.bw_model.specs.Code.{span_of, width_of, code_of, value_of_code, span_at, width_at, slices_at, code_at, value_at};
 
 use crate::column::Column;
@@ -26,6 +26,16 @@ impl Schema {
             rest = others;
         }
         rest.is_empty()
+    }
+
+    /// The number of the column of a name, from 0, ignoring the case of ASCII letters; none where no column
+    /// has it.
+    #[tactic(auto, unfolding(crate::specs::Column::column_named))]
+    pub fn column_named(&self, name: &[u8]) -> Option<usize>
+        ensures named { result ≡ column_named self.now.columns.items name.now }
+        ensures there { IfSome result (λ col. col < length self.now.columns.items) }
+    {
+        self.columns.iter().position(|column| column.name.is(name))
     }
 
     /// How many binary digits a column's codes have: those of the greatest code, 1 to 63.

@@ -1,6 +1,6 @@
 //! Copies: equal values in memory of their own.
-ghost use Rattle.std.specs.Prelude.{◌≡◌, IfOk, IsOkUnless, List, map};
-ghost use Rattle.bw_model.specs.Cond.{truth_of};
+ghost use Rattle.std.specs.Prelude.{◌≡◌, ℕ, IfOk, IsOkUnless, List, map};
+ghost use Rattle.bw_model.specs.Cond.{truth_of, names_within, is_whole};
 ghost use Rattle.bw_model.specs.CondTree.{tree_of};
 ghost use Rattle.bw_model.specs.Row.{Value};
 ghost use Rattle.bw_model.specs.Fault.{no_memory};
@@ -56,10 +56,13 @@ impl Schema {
 }
 
 impl Cond {
-    /// A law: conditions with the same tree have the same truth on every row.
-    pub fn same_truth(&self, other: &Cond)
+    /// A law: conditions with the same tree have the same truth on every row, name the same columns, and
+    /// are whole both or neither.
+    pub fn same_meaning(&self, other: &Cond)
         requires { tree_of self.now ≡ tree_of other.now }
-        ensures { (row : List Value) → truth_of row self.now ≡ truth_of row other.now }
+        ensures truth { (row : List Value) → truth_of row self.now ≡ truth_of row other.now }
+        ensures columns { (n : ℕ) → names_within n self.now ≡ names_within n other.now }
+        ensures whole { is_whole self.now ≡ is_whole other.now }
     {}
 
     /// An equal condition.

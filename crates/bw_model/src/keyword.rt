@@ -1,4 +1,4 @@
-ghost use Rattle.std.specs.Prelude.{◌≡◌};
+ghost use Rattle.std.specs.Prelude.{◌≡◌, Some};
 ghost use Rattle.bw_model.specs.Text.{same_text};
 ghost use Rattle.bw_model.specs.Keyword.{spelling, keyword_of};
 
@@ -72,6 +72,11 @@ impl Keyword {
             Keyword::Where => b"WHERE",
         }
     }
+
+    /// A law: each reserved word is the one that its spelling spells.
+    pub fn is_of_its_spelling(self)
+        ensures { keyword_of (spelling self) ≡ Some self }
+    {}
 
     /// The reserved word that a text is, ignoring the case of ASCII letters.
     #[tactic(auto, unfolding(crate::specs::Keyword::keyword_of))]

@@ -1,10 +1,10 @@
 //! Texts by lines: a line ends at a line feed or at the text's end, with a carriage return before it or
 //! without; its words stand between spaces and tabs; a line without words, or whose first word begins with
 //! `#`, is skipped, but counted.
-ghost use Rattle.std.specs.Prelude.{◌≡◌, ◌<◌, ◌^◌, [], ◌∷◌, IfOk, IfSome, IfNone, OnOk, map, filter, not, length};
+ghost use Rattle.std.specs.Prelude.{◌≡◌, ◌+◌, ◌<◌, ◌^◌, [], ◌∷◌, IfOk, IfSome, IfNone, OnOk, map, filter, not, length};
 ghost use Rattle.std.specs.List.{position, slice_split};
 ghost use Rattle.std.specs.Str.Lines.{strip_carriage_return};
-ghost use Rattle.bw_model.specs.Lines.{cut_lines, is_line_feed, is_blank, words_of, is_empty, is_skipped, line_of, lines_in, end_in, whole};
+ghost use Rattle.bw_model.specs.Lines.{cut_lines, is_line_feed, is_blank, words_of, is_empty, is_skipped, line_of, lines_in, end_in, whole, from_line};
 
 use std::alloc::{AllocError, Global};
 use std::marker::Model;
@@ -44,11 +44,41 @@ impl<'a> Lines<'a> {
         Lines { text, number: 1 }
     }
 
+    /// The lines of a part of a text, the first of which has this number.
+    pub fn from_line(number: u64, text: &'a [u8]) -> Self
+        requires { number + length text.now < 2 ^ 64 }
+        ensures { result ≡ from_line number text.now }
+    {
+        Lines { text, number }
+    }
+
+    /// The text that is still to be read.
+    pub fn unread(&self) -> &'a [u8]
+        ensures { result.now ≡ self.now.text }
+    {
+        self.text
+    }
+
     /// The number of the line that is read next. Once there is none, it is that of a fault at the end.
     pub fn number(&self) -> u64
         ensures { result ≡ self.now.number }
     {
         self.number
+    }
+
+    /// The next line as it stands, without its line feed, or none at the end of the text. It takes no memory.
+    pub fn cut_line(&mut self) -> Option<&'a [u8]>
+        ensures line { IfSome result (λ line. cut_lines self.old.text ≡ line.now ∷ cut_lines self.new.text) }
+        ensures number { IfSome result (λ line. self.new.number ≡ self.old.number + 1) }
+        ensures none { IfNone result ((cut_lines self.old.text ≡ []) × (self.new ≡ self.old)) }
+    {
+        if self.text.is_empty() {
+            return None;
+        }
+        let (line, rest) = split_line(self.text);
+        self.text = rest;
+        self.number += 1;
+        Some(line)
     }
 
     /// The next line that says something, or none at the end of the text.

@@ -2,7 +2,7 @@
 ghost use Rattle.std.specs.Prelude.{◌≡◌, ◌^◌, ◌-◌, min};
 ghost use Rattle.std.specs.List.{list_all};
 ghost use Rattle.std.specs.Char.{is_ascii_digit};
-ghost use Rattle.bw_model.specs.Number.{decimal, are_digits, number_of};
+ghost use Rattle.bw_model.specs.Number.{decimal, are_digits, number_of, natural_of, where_64_bits_hold};
 
 /// Whether a text is one digit or more, and nothing else.
 pub fn are_digits(text: &[u8]) -> bool
@@ -21,6 +21,37 @@ pub fn whole_number(is_negative: bool, digits: &[u8]) -> Option<i64>
     } else {
         0i64.checked_add_unsigned(magnitude)
     }
+}
+
+/// The whole number that a text of decimal digits spells, with any number of leading zeros; none where the text
+/// is another one, or the number isn't below 2^64.
+#[tactic(auto, unfolding(crate::specs::Number::natural_of))]
+pub fn natural_number(text: &[u8]) -> Option<u64>
+    ensures { result ≡ natural_of text.now }
+{
+    if are_digits(text) {
+        number_of_digits(text)
+    } else {
+        None
+    }
+}
+
+/// What digits spell, where it is below 2^64.
+fn number_of_digits(digits: &[u8]) -> Option<u64>
+    ensures { result ≡ where_64_bits_hold (decimal digits.now) }
+{
+    let mut number: u64 = 0;
+    for digit in digits {
+        let units = u64::from(digit.saturating_sub(b'0'));
+        let Some(tenfold) = number.checked_mul(10) else {
+            return None;
+        };
+        let Some(more) = tenfold.checked_add(units) else {
+            return None;
+        };
+        number = more;
+    }
+    Some(number)
 }
 
 fn are_all_digits(text: &[u8]) -> bool

@@ -18,10 +18,10 @@ use crate::text::is_same_text;
 use std::alloc::Global;
 
 /// The longest schema text has this many bytes.
-pub const LONGEST_SCHEMA: usize = 65_536;
+pub const MAX_SCHEMA_LEN: usize = 65_536;
 
 /// A table has at most this many columns.
-pub const MOST_COLUMNS: usize = 64;
+pub const MAX_COLUMNS: usize = 64;
 
 impl Schema {
     /// Reads a schema text.
@@ -49,7 +49,7 @@ impl Schema {
 fn read_schema(alloc: Global, text: &[u8]) -> Result<Schema, Fault>
     ensures { Gives schema_shape result (schema_of text.now) }
 {
-    if text.len() > LONGEST_SCHEMA {
+    if text.len() > MAX_SCHEMA_LEN {
         return Err(Fault::new(code::SCHEMA_TOO_LONG));
     }
     let mut lines = Lines::new(text);
@@ -198,7 +198,7 @@ fn column_of(alloc: Global, line: &Line, before: &[Column]) -> Result<Column, Fa
     let Some(words) = words_of_column(line.words.as_slice()) else {
         return Err(at_line(code::SCHEMA_FORM, line.number));
     };
-    if before.len() >= MOST_COLUMNS {
+    if before.len() >= MAX_COLUMNS {
         return Err(at_line(code::COLUMN_COUNT, line.number));
     }
     if !is_name(words.name) {

@@ -1,14 +1,13 @@
 //! The variables of a schema: the null bits and code bits of a row, numbered from 0.
-ghost use Rattle.std.specs.Prelude.{◌≡◌, ◌==◌, ◌*◌, ◌<◌, ◌≤◌, ℕ, Some, length, unwrap_or, IsTrue};
-ghost use Rattle.std.specs.Int.{bit_at};
+ghost use Rattle.std.specs.Prelude.{◌≡◌, ◌+◌, ◌*◌, ◌/◌, ◌%◌, ◌^◌, ◌<◌, ◌≤◌, ℕ, List, Some, length, IsTrue};
 ghost use Rattle.bw_model.specs.Column.{admits_values};
-ghost use Rattle.bw_model.specs.Code.{width_at, code_at};
+ghost use Rattle.bw_model.specs.Code.{width_at, slices_at, has_bit};
+ghost use Rattle.bw_model.specs.Stored.{stored_at, number_spelled, byte_of, byte_spelled, no_bits};
 ghost use Rattle.bw_model.specs.Truth.{is_null};
 ghost use Rattle.bw_model.specs.Variable.{Assignment, variables_of, null_variable, bit_variable, assignment_of, bits_of, row_of, value_assigned};
-ghost use Rattle.bw_model.specs.Row.{values_of, value_in};
+ghost use Rattle.bw_model.specs.Row.{Value, value_in};
 
 use crate::column::Column;
-use crate::row::Row;
 use crate::schema::Schema;
 
 impl Schema {
@@ -39,23 +38,43 @@ impl Schema {
     }
 
     /// A law: the row that the bits of an admitted row spell is that row.
-    pub fn bits_spell_row(&self, row: &Row)
-        requires { IsTrue (admits_values self.now.columns.items (values_of row.now)) }
-        ensures { row_of self.now.columns.items
-            (assignment_of (bits_of self.now.columns.items (values_of row.now))) ≡ values_of row.now }
+    pub fn bits_spell_row(&self)
+        ensures { (values : List Value) → IsTrue (admits_values self.now.columns.items values)
+            → row_of self.now.columns.items (assignment_of (bits_of self.now.columns.items values)) ≡ values }
     {}
 
     /// A law: where the bits of an admitted row stand.
-    pub fn bits_stand_at_variables(&self, row: &Row, col: usize)
-        requires admitted { IsTrue (admits_values self.now.columns.items (values_of row.now)) }
-        requires column { col < length self.now.columns.items }
-        ensures count { length (bits_of self.now.columns.items (values_of row.now)) ≡ variables_of self.now.columns.items }
-        ensures null { (variable : ℕ) → null_variable self.now.columns.items col ≡ Some variable
-            → assignment_of (bits_of self.now.columns.items (values_of row.now)) variable
-            ≡ is_null (value_in (values_of row.now) col) }
-        ensures code { (bit : ℕ) → bit < width_at self.now.columns.items col
-            → assignment_of (bits_of self.now.columns.items (values_of row.now)) (bit_variable self.now.columns.items col bit)
-            ≡ (bit_at (unwrap_or (code_at self.now.columns.items col (value_in (values_of row.now) col)) 0) bit == 1) }
+    pub fn bits_stand_at_variables(&self, col: usize)
+        requires { col < length self.now.columns.items }
+        ensures count { (values : List Value) → IsTrue (admits_values self.now.columns.items values)
+            → length (bits_of self.now.columns.items values) ≡ variables_of self.now.columns.items }
+        ensures null { (values : List Value) (variable : ℕ) → IsTrue (admits_values self.now.columns.items values)
+            → null_variable self.now.columns.items col ≡ Some variable
+            → assignment_of (bits_of self.now.columns.items values) variable ≡ is_null (value_in values col) }
+        ensures code { (values : List Value) (bit : ℕ) → IsTrue (admits_values self.now.columns.items values)
+            → bit < width_at self.now.columns.items col
+            → assignment_of (bits_of self.now.columns.items values) (bit_variable self.now.columns.items col bit)
+            ≡ has_bit (stored_at self.now.columns.items col (value_in values col)) bit }
+    {}
+
+    /// A law: the numbers that the bits of an admitted row spell, and the bytes of its stored codes among them.
+    pub fn bits_spell_stored_codes(&self, col: usize)
+        requires { col < length self.now.columns.items }
+        ensures below { (values : List Value) → IsTrue (admits_values self.now.columns.items values)
+            → stored_at self.now.columns.items col (value_in values col) < 2 ^ width_at self.now.columns.items col }
+        ensures bits { (values : List Value) (start count : ℕ) → IsTrue (admits_values self.now.columns.items values)
+            → start + count ≤ width_at self.now.columns.items col
+            → number_spelled self.now.columns.items col start count (assignment_of (bits_of self.now.columns.items values))
+            ≡ stored_at self.now.columns.items col (value_in values col) / 2 ^ start % 2 ^ count }
+        ensures bytes { (values : List Value) (slice : ℕ) → IsTrue (admits_values self.now.columns.items values)
+            → slice < slices_at self.now.columns.items col
+            → byte_spelled self.now.columns.items col slice (assignment_of (bits_of self.now.columns.items values))
+            ≡ byte_of slice (stored_at self.now.columns.items col (value_in values col)) }
+    {}
+
+    /// A law: an assignment of zeros spells the number 0 everywhere.
+    pub fn no_bits_spell_zero(&self)
+        ensures { (col start count : ℕ) → number_spelled self.now.columns.items col start count no_bits ≡ 0 }
     {}
 
     /// A law: the value that the row of an assignment has in a column.

@@ -10,12 +10,12 @@ use crate::answer::answer_text;
 use crate::input::{Input, read_limited};
 use crate::output::write_whole;
 use bw_file::{Sink, Source};
-use bw_model::{Fault, LONGEST_SCHEMA, Schema, code};
+use bw_model::{Fault, MAX_SCHEMA_LEN, Schema, code};
 use bw_sql::parse;
 use std::alloc::Global;
 
 /// A CSV text has at most this many bytes.
-pub const LONGEST_CSV: u64 = 1 << 30;
+pub const MAX_CSV_LEN: u64 = 1 << 30;
 
 /// Answers a statement over the rows of a CSV text, under the schema of a schema text, and writes the answer
 /// as CSV text: a heading record and then the records, fields joined by commas and each record ended by a
@@ -39,9 +39,9 @@ pub fn direct<S: Source, C: Source, K: Sink>(
     // What went out is the text of the answer by what came of the sources, or nothing, where that is a fault. A source
     // that wasn't reached, or whose text found no memory, stands as one that found no memory.
     ensures answer { (schema csv : Result (Option (List ℕ)) Fault) × (given : Result (List ℕ) Fault)
-        × Came LONGEST_SCHEMA (S.to_come schema_source.old) (S.to_come schema_source.new)
+        × Came MAX_SCHEMA_LEN (S.to_come schema_source.old) (S.to_come schema_source.new)
         (S.failures schema_source.old) (S.failures schema_source.new) schema
-        × Came LONGEST_CSV (C.to_come csv_source.old) (C.to_come csv_source.new)
+        × Came MAX_CSV_LEN (C.to_come csv_source.old) (C.to_come csv_source.new)
         (C.failures csv_source.old) (C.failures csv_source.new) csv
         × IsAnswer schema sql.now csv given
         × Went is_aside (K.taken sink.old) (K.taken sink.new) (K.failures sink.old) (K.failures sink.new) given result }
@@ -61,11 +61,11 @@ pub fn direct<S: Source, C: Source, K: Sink>(
 fn read_schema<S: Source>(alloc: Global, source: &mut S) -> Result<Schema, Fault>
     requires { S.failures source.old < 2 ^ 64 - 1 }
     ensures told { (came : Result (Option (List ℕ)) Fault)
-        × Came LONGEST_SCHEMA (S.to_come source.old) (S.to_come source.new) (S.failures source.old) (S.failures source.new) came
+        × Came MAX_SCHEMA_LEN (S.to_come source.old) (S.to_come source.new) (S.failures source.old) (S.failures source.new) came
         × SchemaTold came result }
     ensures fault { IfErr result (λ fault. is_write_fault fault ≡ false) }
 {
-    match read_limited(alloc, source, LONGEST_SCHEMA as u64)? {
+    match read_limited(alloc, source, MAX_SCHEMA_LEN as u64)? {
         Input::Whole(text) => Schema::parse(alloc, &text),
         Input::Over => Err(Fault::new(code::SCHEMA_TOO_LONG)),
     }
@@ -74,11 +74,11 @@ fn read_schema<S: Source>(alloc: Global, source: &mut S) -> Result<Schema, Fault
 fn read_csv<C: Source>(alloc: Global, source: &mut C) -> Result<Vec<u8>, Fault>
     requires { C.failures source.old < 2 ^ 64 - 1 }
     ensures told { (came : Result (Option (List ℕ)) Fault)
-        × Came LONGEST_CSV (C.to_come source.old) (C.to_come source.new) (C.failures source.old) (C.failures source.new) came
+        × Came MAX_CSV_LEN (C.to_come source.old) (C.to_come source.new) (C.failures source.old) (C.failures source.new) came
         × CsvTold came result }
     ensures fault { IfErr result (λ fault. is_write_fault fault ≡ false) }
 {
-    match read_limited(alloc, source, LONGEST_CSV)? {
+    match read_limited(alloc, source, MAX_CSV_LEN)? {
         Input::Whole(text) => Ok(text),
         Input::Over => Err(Fault::new(code::CSV_TOO_LONG)),
     }

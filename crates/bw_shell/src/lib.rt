@@ -17,7 +17,7 @@ mod listing;
 mod output;
 mod totals;
 
-pub use csv_query::{LONGEST_CSV, direct};
+pub use csv_query::{MAX_CSV_LEN, direct};
 pub use input::{Input, read_limited};
 pub use lines::report;
 pub use output::write_whole;

@@ -10,7 +10,7 @@ pub returns-then-has_name-clause-column : goal.returns-then-has_name-clause-colu
 returns-then-has_name-clause-column c = λ _.
     let words : column_words (line_of c.args.line.now).words ≡ Some (words_shape c.in-Some.words) =
     rw (← c.as_slice.ensures.value) (sym c.in-Some.ensures) in
-    column_on-twice c.args.before.now (line_of c.args.line.now) (words_shape c.in-Some.words) words c.if-before-ge-MOST_COLUMNS.false
+    column_on-twice c.args.before.now (line_of c.args.line.now) (words_shape c.in-Some.words) words c.if-before-ge-MAX_COLUMNS.false
     (sym c.is_name.ensures ∙ c.if-not-is_name.false) (sym c.has_name.ensures ∙ c.if-has_name.true)
     ∙ ap Err (sym c.at_line-then-has_name.ensures)
 
@@ -22,7 +22,7 @@ returns-then-not-is_range-clause-column c = λ _.
     let hi_fits : FitsSigned w64 c.in-Some.words.hi = search rules in
     let lo : to_z w64 (of_z w64 c.in-Some.words.lo) ≡ c.in-Some.words.lo = to_z-of_z w64 _ lo_fits in
     let hi : to_z w64 (of_z w64 c.in-Some.words.hi) ≡ c.in-Some.words.hi = to_z-of_z w64 _ hi_fits in
-    column_on-range c.args.before.now (line_of c.args.line.now) (words_shape c.in-Some.words) words c.if-before-ge-MOST_COLUMNS.false
+    column_on-range c.args.before.now (line_of c.args.line.now) (words_shape c.in-Some.words) words c.if-before-ge-MAX_COLUMNS.false
     (sym c.is_name.ensures ∙ c.if-not-is_name.false) (sym c.has_name.ensures ∙ c.if-has_name.false) (ap2 is_range (sym lo) (sym hi) ∙ (sym c.is_range.ensures.test ∙ c.if-not-is_range.true))
     ∙ ap Err (sym c.at_line-then-not-is_range.ensures)
 
@@ -34,7 +34,7 @@ returns-clause-column c =
     let hi_fits : FitsSigned w64 c.in-Some.words.hi = search rules in
     let lo : to_z w64 (of_z w64 c.in-Some.words.lo) ≡ c.in-Some.words.lo = to_z-of_z w64 _ lo_fits in
     let hi : to_z w64 (of_z w64 c.in-Some.words.hi) ≡ c.in-Some.words.hi = to_z-of_z w64 _ hi_fits in
-    let taken = column_on-taken c.args.before.now (line_of c.args.line.now) (words_shape c.in-Some.words) words c.if-before-ge-MOST_COLUMNS.false
+    let taken = column_on-taken c.args.before.now (line_of c.args.line.now) (words_shape c.in-Some.words) words c.if-before-ge-MAX_COLUMNS.false
     (sym c.is_name.ensures ∙ c.if-not-is_name.false) (sym c.has_name.ensures ∙ c.if-has_name.false) (ap2 is_range (sym lo) (sym hi) ∙ (sym c.is_range.ensures.test ∙ c.if-not-is_range.false)) in
     taken ∙ ap Ok (same_shape _ _ _ _ _ _ c.in-Some.words.nullable (sym c.in_ok-new.ensures) (sym lo) (sym hi))
 

@@ -29,13 +29,13 @@ loop-columns-preserved c =
       end = c.loop-columns.invariant.end ∙ sym c.in_ok-line.ensures.end;
     })
 
-pub returns-then-text-gt-LONGEST_SCHEMA : goal.returns-then-text-gt-LONGEST_SCHEMA
-returns-then-text-gt-LONGEST_SCHEMA c = λ _. schema_of-long c.args.text.now c.if-text-gt-LONGEST_SCHEMA.true ∙ ap Err (sym c.new.ensures)
+pub returns-then-text-gt-MAX_SCHEMA_LEN : goal.returns-then-text-gt-MAX_SCHEMA_LEN
+returns-then-text-gt-MAX_SCHEMA_LEN c = λ _. schema_of-long c.args.text.now c.if-text-gt-MAX_SCHEMA_LEN.true ∙ ap Err (sym c.new.ensures)
 
 pub returns-in_default : goal.returns-in_default
 returns-in_default c = λ _.
     let none = rw c.in_default.is at c.in_ok-first.ensures.none in
-    schema_of-lines c.args.text.now c.if-text-gt-LONGEST_SCHEMA.false
+    schema_of-lines c.args.text.now c.if-text-gt-MAX_SCHEMA_LEN.false
     ∙ ap (λ u. schema_on (lines_in u) (end_in u)) (sym c.new-lines.ensures)
     ∙ schema_on-nothing _ _ none.0
     ∙ ap (λ (n : ℕ). Err (at_line 101 n)) (none.1 ∙ sym c.number.ensures)
@@ -46,7 +46,7 @@ returns-in_err-name c =
     let p = err_from_is_err_and c.from_residual-in_err-name.result c.from_residual-in_err-name.ensures.1 in
     let first = rw c.in-Some.is at c.in_ok-first.ensures.line in
     rw (p.1, p.2) (λ aside.
-    schema_of-first c.args.text.now c.new-lines.result _ _ (Err c.in_err-name.field-0.0) c.if-text-gt-LONGEST_SCHEMA.false c.new-lines.ensures first (c.in_err-name.ensures aside))
+    schema_of-first c.args.text.now c.new-lines.result _ _ (Err c.in_err-name.field-0.0) c.if-text-gt-MAX_SCHEMA_LEN.false c.new-lines.ensures first (c.in_err-name.ensures aside))
 
 pub returns-in_err-column : goal.returns-in_err-column
 returns-in_err-column c =
@@ -56,7 +56,7 @@ returns-in_err-column c =
     let before = c.loop-columns.columns.items in
     rw (p.1, p.2) (λ aside.
     let column : column_on (names_of before) (line_of c.in-Some-2.line) ≡ Err c.in_err-column.field-0.0 = rw (← c.deref.ensures.value) (c.in_err-column.ensures.column aside) in
-    schema_of-first c.args.text.now c.new-lines.result _ _ (Ok c.in_ok-name.name) c.if-text-gt-LONGEST_SCHEMA.false c.new-lines.ensures first c.in_ok-name.ensures
+    schema_of-first c.args.text.now c.new-lines.result _ _ (Ok c.in_ok-name.name) c.if-text-gt-MAX_SCHEMA_LEN.false c.new-lines.ensures first c.in_ok-name.ensures
     ∙ ap (λ r. r >>= λ columns. with_columns c.in_ok-name.name (end_in c.new-lines.result) columns)
     (c.loop-columns.invariant.told ∙ columns_on-next before _ _ _ _ line column))
 
@@ -66,7 +66,7 @@ returns-then-is_empty c = λ _.
     let none = rw c.in_default-2.is at c.in_ok-line.ensures.none in
     let before = c.loop-columns.columns.items in
     let empty : length before ≡ 0 = sym c.loop-columns.columns.ok.0 ∙ eqb-true _ _ (sym c.is_empty.ensures ∙ c.if-is_empty.true) in
-    schema_of-first c.args.text.now c.new-lines.result _ _ (Ok c.in_ok-name.name) c.if-text-gt-LONGEST_SCHEMA.false c.new-lines.ensures first c.in_ok-name.ensures
+    schema_of-first c.args.text.now c.new-lines.result _ _ (Ok c.in_ok-name.name) c.if-text-gt-MAX_SCHEMA_LEN.false c.new-lines.ensures first c.in_ok-name.ensures
     ∙ ap (λ r. r >>= λ columns. with_columns c.in_ok-name.name (end_in c.new-lines.result) columns)
     (c.loop-columns.invariant.told ∙ columns_on-nothing before _ none.0)
     ∙ with_columns-none before c.in_ok-name.name (end_in c.new-lines.result) empty
@@ -79,7 +79,7 @@ returns c =
     let none = rw c.in_default-2.is at c.in_ok-line.ensures.none in
     let before = c.loop-columns.columns.items in
     let some : length before ≢ 0 = λ e. eqb-false _ _ (sym c.is_empty.ensures ∙ c.if-is_empty.false) (c.loop-columns.columns.ok.0 ∙ e) in
-    schema_of-first c.args.text.now c.new-lines.result _ _ (Ok c.in_ok-name.name) c.if-text-gt-LONGEST_SCHEMA.false c.new-lines.ensures first c.in_ok-name.ensures
+    schema_of-first c.args.text.now c.new-lines.result _ _ (Ok c.in_ok-name.name) c.if-text-gt-MAX_SCHEMA_LEN.false c.new-lines.ensures first c.in_ok-name.ensures
     ∙ ap (λ r. r >>= λ columns. with_columns c.in_ok-name.name (end_in c.new-lines.result) columns)
     (c.loop-columns.invariant.told ∙ columns_on-nothing before _ none.0)
     ∙ with_columns-some before c.in_ok-name.name (end_in c.new-lines.result) some

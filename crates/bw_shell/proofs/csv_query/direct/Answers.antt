@@ -1,7 +1,7 @@
 -- Each exit, by what its calls told.
 use Rattle.std.proofs.lemmas.Result.{err_from_is_err_and}
-use Rattle.bw_model.specs.declared.parse.TheConstants.{LONGEST_SCHEMA}
-use Rattle.bw_shell.specs.declared.csv_query.TheConstants.{LONGEST_CSV}
+use Rattle.bw_model.specs.declared.parse.TheConstants.{MAX_SCHEMA_LEN}
+use Rattle.bw_shell.specs.declared.csv_query.TheConstants.{MAX_CSV_LEN}
 use Rattle.bw_shell.proofs.DirectExits.{schema_exit, statement_exit, csv_exit, text_exit, unread_schema, never_read, wrote_nothing, went_out, query_read, statement_writes_nothing, rows_write_nothing}
 use Rattle.bw_shell.proofs.csv_query.direct.Goals as goal
 
@@ -9,7 +9,7 @@ pub returns-in_err-schema-clause-answer : goal.returns-in_err-schema-clause-answ
 returns-in_err-schema-clause-answer g c =
     let p = err_from_is_err_and c.from_residual.result c.from_residual.ensures.1 in
     let told = c.in_err-schema.ensures.told in
-    rw (p.1, p.2) (schema_exit _ _ c.args.sql.now _ told.0 c.in_err-schema.field-0.0 told.1 (never_read LONGEST_CSV (g.C.Source.to_come c.args.csv_source.now) _) told.2
+    rw (p.1, p.2) (schema_exit _ _ c.args.sql.now _ told.0 c.in_err-schema.field-0.0 told.1 (never_read MAX_CSV_LEN (g.C.Source.to_come c.args.csv_source.now) _) told.2
     (λ given is. wrote_nothing _ _ c.in_err-schema.field-0.0 given c.in_err-schema.ensures.fault is))
 
 pub returns-in_err-query-clause-answer : goal.returns-in_err-query-clause-answer
@@ -18,7 +18,7 @@ returns-in_err-query-clause-answer g c =
     let told = c.in_ok-schema.ensures.told in
     let fault = c.in_err-query.field-0.0 in
     rw (p.1, p.2) (statement_exit _ _ c.args.sql.now _ told.0 c.in_ok-schema.schema fault told.1
-    (unread_schema LONGEST_SCHEMA _ _ _ _ told.0 c.in_ok-schema.schema told.1 told.2) (never_read LONGEST_CSV (g.C.Source.to_come c.args.csv_source.now) _) told.2
+    (unread_schema MAX_SCHEMA_LEN _ _ _ _ told.0 c.in_ok-schema.schema told.1 told.2) (never_read MAX_CSV_LEN (g.C.Source.to_come c.args.csv_source.now) _) told.2
     c.in_err-query.ensures.too_long c.in_err-query.ensures.first
     (λ given is. wrote_nothing _ _ fault given (statement_writes_nothing fault c.in_err-query.ensures.fault) is))
 

@@ -1,0 +1,44 @@
+//! Laws of groups, lanes and selections, for the crates that scan a table group by group.
+ghost use Rattle.std.specs.Prelude.{◌≡◌, ◌+◌, ◌-◌, ◌/◌, ◌<◌, ◌≤◌, ◌++◌, ℕ, Bool, List, [], ◌∷◌, map, length, take, drop, slice_index_or, All};
+ghost use Rattle.bw_model.specs.declared.cond.Cond.{Cond};
+ghost use Rattle.bw_model.specs.declared.column.Column.{Column};
+ghost use Rattle.bw_model.specs.Row.{Value};
+ghost use Rattle.bw_model.specs.Groups.{group_size, groups_of, together, lanes_of};
+ghost use Rattle.bw_model.specs.Selection.{positions_from, positions_of, picked, selection, selected, kept};
+ghost use Rattle.bw_model.specs.Stored.{no_bits};
+ghost use Rattle.bw_model.specs.Variable.{assignment_of, bits_of};
+
+/// A law: a table is its first 512 rows and then the groups of the rows behind them, and groups put together
+/// are the table.
+pub fn groups_make_the_table()
+    ensures size { group_size ≡ 512 }
+    ensures nothing { let none : List (List Value) = [] in groups_of none ≡ [] }
+    ensures first { (rows : List (List Value)) → 0 < length rows
+        → groups_of rows ≡ take group_size rows ∷ groups_of (drop group_size rows) }
+    ensures table { (rows : List (List Value)) → together (groups_of rows) ≡ rows }
+    ensures count { (rows : List (List Value)) → length (groups_of rows) ≡ (length rows + 511) / 512 }
+    ensures sizes { (rows : List (List Value)) → All (λ group. (1 ≤ length group) × (length group ≤ group_size)) (groups_of rows) }
+{}
+
+/// A law: a group has 512 lanes, which are the assignments of its rows and then zeros.
+pub fn lanes_are_rows_and_zeros()
+    ensures count { (columns : List Column) (rows : List (List Value)) → length rows ≤ group_size
+        → length (lanes_of columns rows) ≡ group_size }
+    ensures row { (columns : List Column) (rows : List (List Value)) (lane : ℕ) → lane < length rows
+        → slice_index_or (lanes_of columns rows) lane no_bits ≡ assignment_of (bits_of columns (slice_index_or rows lane [])) }
+    ensures padding { (columns : List Column) (rows : List (List Value)) (lane : ℕ) → length rows ≤ lane
+        → slice_index_or (lanes_of columns rows) lane no_bits ≡ no_bits }
+{}
+
+/// A law: the rows that a condition keeps are those whose bit is 1, and those that stand at the positions that
+/// it selects; and selections are put together as groups are.
+pub fn kept_rows_are_selected()
+    ensures bits { (cond : Cond) (rows : List (List Value)) → kept cond rows ≡ picked (selection cond rows) rows }
+    ensures positions { (cond : Cond) (rows : List (List Value))
+        → kept cond rows ≡ map (λ position. slice_index_or rows position []) (selected cond rows) }
+    ensures kept { (cond : Cond) (front back : List (List Value)) → kept cond (front ++ back) ≡ kept cond front ++ kept cond back }
+    ensures joined { (front back : List Bool) (position : ℕ)
+        → positions_from position (front ++ back) ≡ positions_from position front ++ positions_from (position + length front) back }
+    ensures picked { (front back : List Bool) (rows others : List (List Value)) → length front ≡ length rows
+        → picked (front ++ back) (rows ++ others) ≡ picked front rows ++ picked back others }
+{}
