@@ -108,7 +108,7 @@ rows_from-end columns number records e = rw e refl
 
 pub ruleset rows_of_records = (rows_from-next, rows_from-fault, rows_from-end, row-length)
 
--- a keeper that was led through the rows so far of a whole, of which those of the records to come are left
+-- a taker that was led through the rows so far of a whole, of which those of the records to come are left
 unfoldable pub LedSoFar : {K : Type 0} → (K → List (List Value) → K → Type 0) → K → K → Result (List (List Value)) Fault → List Column → ℕ → List (List (List ℕ)) → Type 0
 LedSoFar led start now whole columns number records = (before : List (List Value)) × led start before now × (whole ≡ behind before (rows_from columns number records))
 

@@ -5,7 +5,10 @@ use Rattle.std.specs.List.{prefix_len, suffix_len}
 use Rattle.csv.specs.Reading.{records, strip_bom, default_config}
 use Rattle.bw_model.specs.declared.column.Column.{Column}
 use Rattle.bw_model.specs.declared.fault.Fault.{Fault}
+use Rattle.bw_model.specs.declared.fault.Place.{Place}
+use Rattle.bw_model.specs.declared.fault.Place.TheVariants.{Nowhere, Byte, Line, Rec}
 use Rattle.bw_model.specs.Fault.{at_record, is_memory, ◌>>=◌, refused_if}
+use Rattle.bw_model.specs.Limits.{most_rows}
 use Rattle.bw_model.specs.Number.{are_digits, number_of}
 use Rattle.bw_model.specs.Row.{Value}
 use Rattle.bw_model.specs.Text.{same_text}
@@ -70,7 +73,7 @@ values_of_fields number (column ∷ columns) (field ∷ fields) =
 unfoldable pub row_of_record : ℕ → List Column → List (List ℕ) → Result (List Value) Fault
 row_of_record number columns fields =
     refused_if (not (length fields == length columns)) (at_record 203 number)
-    (refused_if (nat_lt (2 ^ 24) number) (at_record 207 number)
+    (refused_if (nat_lt most_rows number) (at_record 207 number)
     (values_of_fields number columns fields))
 
 -- a row, and the rows behind it
@@ -99,23 +102,44 @@ rows_behind columns (heading ∷ more) = refused_if (not (is_heading columns hea
 abbrev pub rows_of : List Column → List ℕ → Result (List (List Value)) Fault
 rows_of columns text = rows_behind columns (records default_config (strip_bom text))
 
--- want of memory, or an error of the reader's own (209), which no rule of the rows foresees
-abbrev pub is_aside : Fault → Bool
-is_aside fault = is_memory fault || (fault.code == 209)
+-- the place is a record, and the record of this number
+unfoldable pub is_any_record : Place → Bool
+is_any_record Nowhere = false
+is_any_record (Byte at) = false
+is_any_record (Line at) = false
+is_any_record (Rec at) = true
 
--- one of 201 to 209, or want of memory
-abbrev pub is_rows_code : ℕ → Bool
-is_rows_code code = (nat_le 201 code && nat_le code 209) || (code == 801)
+abbrev pub is_record : ℕ → Place → Bool
+is_record number Nowhere = false
+is_record number (Byte at) = false
+is_record number (Line at) = false
+is_record number (Rec at) = at == number
+
+-- want of memory, or an error of the reader's own at a record (209), which no rule of the rows foresees
+abbrev pub is_aside : Fault → Bool
+is_aside fault = is_memory fault || ((fault.code == 209) && is_any_record fault.place)
+
+-- one of 201 to 208, or one that is set aside
+abbrev pub is_rows_fault : Fault → Bool
+is_rows_fault fault = (nat_le 201 fault.code && nat_le fault.code 208) || is_aside fault
 
 abbrev pub IsRowsFault : Fault → Type 0
-IsRowsFault fault = IsTrue (is_rows_code fault.code)
+IsRowsFault fault = IsTrue (is_rows_fault fault)
+
+-- an error of the reader's own stands at the record of this number
+abbrev pub stands_at : ℕ → Fault → Bool
+stands_at number fault = not (fault.code == 209) || is_record number fault.place
+
+-- an error of the reader's own stands at the heading, or at the record behind those whose rows were handed over
+abbrev pub stands_behind : ℕ → Fault → Bool
+stands_behind rows fault = stands_at 0 fault || stands_at (rows + 1) fault
 
 -- What a call answered is what is expected, but for the faults that are set aside.
 abbrev pub GivesButAside : {A B : Type 0} → (A → B) → Result A Fault → Result B Fault → Type 0
 GivesButAside view (Ok x) expected = expected ≡ Ok (view x)
 GivesButAside view (Err fault) expected = is_aside fault ≡ false → expected ≡ Err fault
 
--- A keeper was led through the rows that are expected, or the fault is the one that is, but for those set aside.
+-- A taker was led through the rows that are expected, or the fault is the one that is, but for those set aside.
 abbrev pub Hands : {K : Type 0} → (K → List (List Value) → K → Type 0) → Result (List (List Value)) Fault → K → K → Result (Unit {0}) Fault → Type 0
 Hands led expected old new (Ok x) = IsOkAnd expected (λ rows. led old rows new)
 Hands led expected old new (Err fault) = is_aside fault ≡ false → expected ≡ Err fault

@@ -1,10 +1,9 @@
 //! The value that a field spells.
-ghost use Rattle.std.specs.Prelude.{◌≡◌, ℕ, ◌<◌, ◌≤◌, length, IfErr};
-ghost use Rattle.bw_model.specs.Fault.{at_record};
+ghost use Rattle.std.specs.Prelude.{◌≡◌, ℕ, ◌<◌, ◌≤◌, length, IfErr, IsTrue};
 ghost use Rattle.bw_model.specs.Row.{Value};
-ghost use Rattle.bw_csv.specs.Rows.{is_blank, without_front_blanks, without_end_blanks, without_blanks, is_null_text, is_minus, unsigned, number_value, value_of_field, GivesButAside, IsRowsFault};
+ghost use Rattle.bw_csv.specs.Rows.{is_blank, without_front_blanks, without_end_blanks, without_blanks, is_null_text, is_minus, unsigned, number_value, value_of_field, GivesButAside, IsRowsFault, stands_at};
 
-use bw_model::{Column, Fault, Place, Value, are_digits, code, is_same_text, whole_number};
+use bw_model::{Column, Fault, Value, are_digits, code, is_same_text, whole_number};
 
 /// The value that a field spells in a column, or its fault: no whole number (204), a null in a column that has
 /// none (206), or a number outside the column's bounds (205).
@@ -12,6 +11,7 @@ use bw_model::{Column, Fault, Place, Value, are_digits, code, is_same_text, whol
 pub(crate) fn value_of(column: &Column, field: &[u8], number: u32) -> Result<Value, Fault>
     ensures value { GivesButAside (λ value. value) result (value_of_field number column.now field.now) }
     ensures fault { IfErr result IsRowsFault }
+    ensures place { IfErr result (λ fault. IsTrue (stands_at number fault)) }
 {
     let text = without_blanks(field);
     if !is_null_text(text) {
@@ -20,7 +20,7 @@ pub(crate) fn value_of(column: &Column, field: &[u8], number: u32) -> Result<Val
     if column.nullable {
         Ok(None)
     } else {
-        Err(at_record(code::NULL_NOT_ALLOWED, number))
+        Err(Fault::at_record(code::NULL_NOT_ALLOWED, number))
     }
 }
 
@@ -28,13 +28,14 @@ pub(crate) fn value_of(column: &Column, field: &[u8], number: u32) -> Result<Val
 fn number_of(column: &Column, is_negative: bool, digits: &[u8], number: u32) -> Result<Value, Fault>
     ensures value { GivesButAside (λ value. value) result (number_value number column.now is_negative digits.now) }
     ensures fault { IfErr result IsRowsFault }
+    ensures place { IfErr result (λ fault. IsTrue (stands_at number fault)) }
 {
     if !are_digits(digits) {
-        return Err(at_record(code::NOT_A_NUMBER, number));
+        return Err(Fault::at_record(code::NOT_A_NUMBER, number));
     }
     match whole_number(is_negative, digits) {
         Some(n) if column.lo <= n && n <= column.hi => Ok(Some(n)),
-        _ => Err(at_record(code::OUT_OF_RANGE, number)),
+        _ => Err(Fault::at_record(code::OUT_OF_RANGE, number)),
     }
 }
 
@@ -95,14 +96,4 @@ fn is_blank(c: u8) -> bool
     ensures { result ≡ is_blank c }
 {
     c == b' ' || c == b'\t'
-}
-
-/// A fault that stands at a record.
-pub(crate) fn at_record(code: u16, number: u32) -> Fault
-    ensures { result ≡ at_record code number }
-{
-    Fault {
-        code,
-        place: Place::Rec(number),
-    }
 }

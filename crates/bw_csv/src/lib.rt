@@ -1,6 +1,6 @@
 //! The rows that a CSV text spells under a schema.
 //!
-//! The contract that the crates above use is that of [`read_rows`]: a text's rows are handed to a [`Keeper`],
+//! The contract that the crates above use is that of [`read_rows`]: a text's rows are handed to a [`RowTaker`],
 //! one after another, in one pass, or the first fault in the text is answered. What the rows of a text are is
 //! said once, in `specs/Rows.antt`, over the records that the `csv` crate defines for its bytes.
 //!
@@ -15,4 +15,4 @@ mod rows;
 #[cfg(test)]
 mod tests;
 
-pub use rows::{Keeper, MAX_ROWS, read_rows, rows_are_admitted};
+pub use rows::{MAX_ROWS, RowTaker, read_rows, rows_are_admitted};

@@ -3,9 +3,8 @@ ghost use Rattle.std.specs.Prelude.{◌≡◌, [], ◌∷◌, true, false, IfOk,
 ghost use Rattle.csv.specs.Reading.{records, strip_bom, default_config};
 ghost use Rattle.csv.specs.Records.{fields_of};
 ghost use Rattle.bw_csv.specs.Records.{IsOpen, coming, fields_in};
-ghost use Rattle.bw_csv.specs.Rows.{IsRowsFault, is_aside};
+ghost use Rattle.bw_csv.specs.Rows.{IsRowsFault, is_aside, stands_at};
 
-use crate::field::at_record;
 use bw_model::{Fault, code};
 use csv::{ByteRecord, ErrorKind, Reader, ReaderBuilder};
 use std::alloc::Global;
@@ -37,6 +36,7 @@ impl<'a> Records<'a> {
 
     /// Reads the next record, which has this number, or answers that there is none. An `Err` is want of memory,
     /// or an error of the reader's own (209), and then nothing more is read.
+    #[tactic(auto, unfolding(crate::specs::Rows::is_any_record))]
     pub(crate) fn next(&mut self, number: u32) -> Result<bool, Fault>
         requires { IsOpen self.old }
         ensures some { IfOk result (λ found. found ≡ true → coming self.old ≡ fields_in self.new ∷ coming self.new) }
@@ -44,12 +44,13 @@ impl<'a> Records<'a> {
         ensures none { IfOk result (λ found. found ≡ false → coming self.old ≡ []) }
         ensures aside { IfErr result (λ fault. is_aside fault ≡ true) }
         ensures fault { IfErr result IsRowsFault }
+        ensures place { IfErr result (λ fault. IsTrue (stands_at number fault)) }
     {
         match self.reader.read_byte_record(&mut self.fields) {
             Ok(found) => Ok(found),
             Err(error) => match error.kind() {
                 ErrorKind::OutOfMemory => Err(Fault::new(code::OUT_OF_MEMORY)),
-                _ => Err(at_record(code::CSV_FAULT, number)),
+                _ => Err(Fault::at_record(code::CSV_FAULT, number)),
             },
         }
     }

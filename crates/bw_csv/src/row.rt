@@ -1,11 +1,11 @@
 //! The row of a record.
-ghost use Rattle.std.specs.Prelude.{◌≡◌, ◌≤◌, ◌+◌, ◌^◌, [], true, false, length, Ok, Err, OnOk, IfOk, IfErr};
+ghost use Rattle.std.specs.Prelude.{◌≡◌, ◌≤◌, ◌+◌, ◌^◌, [], true, false, length, Ok, Err, OnOk, IfOk, IfErr, IsTrue};
 ghost use Rattle.csv.specs.Records.{fields_of};
 ghost use Rattle.bw_model.specs.Row.{values_of};
 ghost use Rattle.bw_csv.specs.Records.{IsOpen, coming};
-ghost use Rattle.bw_csv.specs.Rows.{is_aside, is_heading, row_of_record, rows_behind, rows_from, with_row, values_of_fields, GivesButAside, IsRowsFault};
+ghost use Rattle.bw_csv.specs.Rows.{is_aside, is_heading, row_of_record, rows_behind, rows_from, with_row, values_of_fields, GivesButAside, IsRowsFault, stands_at};
 
-use crate::field::{at_record, value_of, without_blanks};
+use crate::field::{value_of, without_blanks};
 use crate::records::Records;
 use crate::rows::MAX_ROWS;
 use bw_model::{Column, Fault, Row, code};
@@ -19,12 +19,13 @@ pub(crate) fn read_heading(columns: &[Column], records: &mut Records<'_>) -> Res
     ensures rows { OnOk result (rows_behind columns.now (coming records.old) ≡ rows_from columns.now 1 (coming records.new)) }
     ensures heading { IfErr result (λ fault. is_aside fault ≡ false → rows_behind columns.now (coming records.old) ≡ Err fault) }
     ensures fault { IfErr result IsRowsFault }
+    ensures place { IfErr result (λ fault. IsTrue (stands_at 0 fault)) }
 {
     if !records.next(0)? {
-        return Err(at_record(code::NO_HEADING, 0));
+        return Err(Fault::at_record(code::NO_HEADING, 0));
     }
     if !is_heading(columns, &records.fields) {
-        return Err(at_record(code::HEADING, 0));
+        return Err(Fault::at_record(code::HEADING, 0));
     }
     Ok(())
 }
@@ -60,6 +61,7 @@ pub(crate) fn read_row(
     ensures none { IfOk result (λ found. found ≡ false → rows_from columns.now number (coming records.old) ≡ Ok []) }
     ensures row { IfErr result (λ fault. is_aside fault ≡ false → rows_from columns.now number (coming records.old) ≡ Err fault) }
     ensures fault { IfErr result IsRowsFault }
+    ensures place { IfErr result (λ fault. IsTrue (stands_at number fault)) }
 {
     if !records.next(number)? {
         return Ok(false);
@@ -80,12 +82,13 @@ fn read_record(
     ensures first { IfErr result (λ fault. is_aside fault ≡ false → row_of_record number columns.now (fields_of fields.now) ≡ Err fault) }
     ensures within { OnOk result (number ≤ 2 ^ 24) }
     ensures fault { IfErr result IsRowsFault }
+    ensures place { IfErr result (λ fault. IsTrue (stands_at number fault)) }
 {
     if fields.len() != columns.len() {
-        return Err(at_record(code::RECORD_LENGTH, number));
+        return Err(Fault::at_record(code::RECORD_LENGTH, number));
     }
     if number > MAX_ROWS {
-        return Err(at_record(code::TOO_MANY_ROWS, number));
+        return Err(Fault::at_record(code::TOO_MANY_ROWS, number));
     }
     read_values(columns, fields, number, row)
 }
@@ -99,11 +102,12 @@ fn read_values(
 ) -> Result<(), Fault>
     ensures values { GivesButAside (λ _. values_of row.new) result (values_of_fields number columns.now (fields_of fields.now)) }
     ensures fault { IfErr result IsRowsFault }
+    ensures place { IfErr result (λ fault. IsTrue (stands_at number fault)) }
 {
     row.values.clear();
     for (i, column) in columns.iter().enumerate() {
         let Some(field) = fields.get(i) else {
-            return Err(at_record(code::RECORD_LENGTH, number));
+            return Err(Fault::at_record(code::RECORD_LENGTH, number));
         };
         let value = value_of(column, field, number)?;
         row.values.push(value)?;

@@ -11,7 +11,7 @@ ghost use Rattle.bw_model.specs.declared.column.Column.{Column};
 ghost use Rattle.bw_model.specs.Fault.{no_memory};
 ghost use Rattle.bw_model.specs.Row.{Value, values_of};
 ghost use Rattle.bw_csv.specs.Records.{IsOpen, coming};
-ghost use Rattle.bw_csv.specs.Rows.{rows_of, rows_from, Hands, IsRowsFault};
+ghost use Rattle.bw_csv.specs.Rows.{rows_of, rows_from, Hands, IsRowsFault, stands_at, stands_behind};
 
 use crate::records::Records;
 use crate::row::{read_heading, read_row};
@@ -22,14 +22,14 @@ use std::alloc::Global;
 pub const MAX_ROWS: u32 = 1 << 24;
 
 /// Who is handed the rows of a text, one after another.
-pub trait Keeper {
+pub trait RowTaker {
     /// How many values each row has.
     ghost width: { Self → ℕ };
 
     /// How many rows it has been handed.
     ghost rows: { Self → ℕ };
 
-    /// The first keeper, handed these rows, becomes the second.
+    /// The first taker, handed these rows, becomes the second.
     ghost led: { Self → List (List Value) → Self → Type 0 };
 
     /// Takes the next row. An `Err`, which is want of memory, ends the reading.
@@ -43,51 +43,53 @@ pub trait Keeper {
         ensures only_memory { IfErr result (λ fault. fault ≡ no_memory) };
 }
 
-/// Hands the rows of a CSV text to a keeper, in order.
+/// Hands the rows of a CSV text to a taker, in order.
 ///
 /// Refuses at the first record that is wrong: a text without one (201), a heading of other names (202); then
 /// for each row its number of fields (203), a row past 2^24 (207), and its fields from the left: no whole
 /// number (204), a null in a column that has none (206), or a number outside the column's bounds (205). 209 is
 /// any other error of the reader, at the record that it read. The heading is record 0.
 #[tactic(auto, using(crate::proofs::RowLemmas::hands_behind))]
-pub fn read_rows<K: Keeper>(
+pub fn read_rows<K: RowTaker>(
     alloc: Global,
     schema: &Schema,
     text: &[u8],
-    keeper: &mut K,
+    taker: &mut K,
 ) -> Result<(), Fault>
-    requires wide { K.width keeper.old ≡ vec_len schema.now.columns }
-    requires fresh { K.rows keeper.old ≡ 0 }
-    requires starts { K.led keeper.old [] keeper.old }
-    ensures handed { Hands K.led (rows_of schema.now.columns.items text.now) keeper.old keeper.new result }
+    requires wide { K.width taker.old ≡ vec_len schema.now.columns }
+    requires fresh { K.rows taker.old ≡ 0 }
+    requires starts { K.led taker.old [] taker.old }
+    ensures handed { Hands K.led (rows_of schema.now.columns.items text.now) taker.old taker.new result }
     ensures fault { IfErr result IsRowsFault }
+    ensures place { IfErr result (λ fault. IsTrue (stands_behind (K.rows taker.new) fault)) }
 {
     let mut records = Records::new(alloc, text);
     read_heading(&schema.columns, &mut records)?;
     let mut row = Row {
         values: Vec::with_capacity(alloc, schema.columns.len())?,
     };
-    hand_rows(&schema.columns, &mut records, &mut row, keeper)
+    hand_rows(&schema.columns, &mut records, &mut row, taker)
 }
 
-/// Hands the rows of the records to come, the first of which has number 1, to a keeper, in order.
+/// Hands the rows of the records to come, the first of which has number 1, to a taker, in order.
 #[tactic(auto, using(crate::proofs::RowLemmas::so_far))]
-fn hand_rows<K: Keeper>(
+fn hand_rows<K: RowTaker>(
     columns: &[Column],
     records: &mut Records<'_>,
     row: &mut Row,
-    keeper: &mut K,
+    taker: &mut K,
 ) -> Result<(), Fault>
     requires open { IsOpen records.old }
-    requires wide { K.width keeper.old ≡ length columns.now }
-    requires fresh { K.rows keeper.old ≡ 0 }
-    requires starts { K.led keeper.old [] keeper.old }
-    ensures handed { Hands K.led (rows_from columns.now 1 (coming records.old)) keeper.old keeper.new result }
+    requires wide { K.width taker.old ≡ length columns.now }
+    requires fresh { K.rows taker.old ≡ 0 }
+    requires starts { K.led taker.old [] taker.old }
+    ensures handed { Hands K.led (rows_from columns.now 1 (coming records.old)) taker.old taker.new result }
     ensures fault { IfErr result IsRowsFault }
+    ensures place { IfErr result (λ fault. IsTrue (stands_at (K.rows taker.new + 1) fault)) }
 {
     let mut number = 1;
     'rows: while read_row(columns, records, number, row)? {
-        keeper.take(row)?;
+        taker.take(row)?;
         number += 1;
     }
     Ok(())

@@ -2,7 +2,7 @@
 ghost use Rattle.std.specs.Prelude.{⊤};
 
 use crate::field::{at_record, value_of, without_blanks};
-use crate::{Keeper, read_rows};
+use crate::{RowTaker, read_rows};
 use bw_model::{Fault, Row, Schema, Value};
 use std::alloc::Global;
 use std::test::Fail;
@@ -15,7 +15,7 @@ struct Kept {
     values: Vec<Value>,
 }
 
-impl Keeper for Kept {
+impl RowTaker for Kept {
     ghost width = { λ kept. kept.width };
 
     ghost rows = { λ kept. kept.rows };

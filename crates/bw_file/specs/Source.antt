@@ -1,8 +1,19 @@
 -- What came of a source that a call read to its end, or until it passed a limit.
-use Rattle.std.specs.Prelude.{◌≡◌, ℕ, ◌+◌, ◌≤◌, List, length, Option, Some, None, IfSome, Result, Ok, Err, MatchBool}
+use Rattle.std.specs.Prelude.{◌≡◌, ◌==◌, ◌&&◌, ◌||◌, Bool, ℕ, ◌+◌, ◌<◌, ◌≤◌, List, length, Option, Some, None, IfSome, Result, Ok, Err, MatchBool}
 use Rattle.std.specs.Io.KnownBytes.{Consumes, IsAtEnd}
 use Rattle.bw_model.specs.declared.fault.Fault.{Fault}
-use Rattle.bw_model.specs.Fault.{nowhere, no_memory, is_memory}
+use Rattle.bw_model.specs.Fault.{nowhere, no_memory, is_memory, stands_nowhere}
+
+-- a failed read, and what a call that only reads refuses by: a failed read or want of memory
+abbrev pub is_read_fault : Fault → Bool
+is_read_fault fault = (fault.code == 701) && stands_nowhere fault.place
+
+abbrev pub is_input_fault : Fault → Bool
+is_input_fault fault = is_memory fault || is_read_fault fault
+
+-- a device's count of failures rose, and so the call answered this fault
+abbrev pub EndsWith : {T : Type 0} → Fault → ℕ → ℕ → Result T Fault → Type 0
+EndsWith fault before after result = before < after → result ≡ Err fault
 
 -- all bytes to come, where they are known, came, and there were no more than the limit
 abbrev pub GaveAll : ℕ → Option (List ℕ) → Option (List ℕ) → List ℕ → Type 0

@@ -1,5 +1,5 @@
 ghost use Rattle.std.specs.Prelude.{◌≡◌, Some};
-ghost use Rattle.bw_model.specs.Fault.{no_memory, nowhere, place_text};
+ghost use Rattle.bw_model.specs.Fault.{no_memory, nowhere, at_byte, at_line, at_record, place_text};
 
 use std::alloc::{AllocError, AllocFailed};
 use std::fmt;
@@ -102,6 +102,36 @@ impl Fault {
         Fault {
             code,
             place: Place::Nowhere,
+        }
+    }
+
+    /// A fault that stands at a byte, from 0.
+    pub const fn at_byte(code: u16, at: u64) -> Self
+        ensures { result ≡ at_byte code at }
+    {
+        Fault {
+            code,
+            place: Place::Byte(at),
+        }
+    }
+
+    /// A fault that stands at a line, from 1.
+    pub const fn at_line(code: u16, line: u64) -> Self
+        ensures { result ≡ at_line code line }
+    {
+        Fault {
+            code,
+            place: Place::Line(line),
+        }
+    }
+
+    /// A fault that stands at a record, of which the heading is record 0.
+    pub const fn at_record(code: u16, record: u32) -> Self
+        ensures { result ≡ at_record code «record» }
+    {
+        Fault {
+            code,
+            place: Place::Rec(record),
         }
     }
 }

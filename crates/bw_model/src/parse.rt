@@ -3,13 +3,13 @@
 ghost use Rattle.std.specs.Prelude.{◌≡◌, ◌<◌, Ok, false, map, length, option_map, pos, ◌≤ℤ◌, ◌<ℤ◌, ◌-ℤ◌, ◌^◌, IfOk, IfErr, IsTrue};
 ghost use Rattle.std.specs.List.{list_any};
 ghost use Rattle.bw_model.specs.Column.{names_of};
-ghost use Rattle.bw_model.specs.Fault.{Gives, at_line};
+ghost use Rattle.bw_model.specs.Fault.{Gives};
 ghost use Rattle.bw_model.specs.Lines.{line_of};
 ghost use Rattle.bw_model.specs.SchemaText.{schema_of, schema_shape, SchemaShape, IsSchemaText, IsSchemaFault, column_shape, column_words, with_bounds, are_not_null, column_on, table_on, is_range, bound_of, signed_digits, words_shape};
 ghost use Rattle.bw_model.specs.Text.{same_text};
 
 use crate::column::Column;
-use crate::fault::{Fault, Place, code};
+use crate::fault::{Fault, code};
 use crate::lines::{Line, Lines};
 use crate::name::{Name, is_name};
 use crate::number::{are_digits, whole_number};
@@ -54,7 +54,7 @@ fn read_schema(alloc: Global, text: &[u8]) -> Result<Schema, Fault>
     }
     let mut lines = Lines::new(text);
     let Some(first) = lines.next_line(alloc)? else {
-        return Err(at_line(code::SCHEMA_FORM, lines.number()));
+        return Err(Fault::at_line(code::SCHEMA_FORM, lines.number()));
     };
     let name = table_of(alloc, &first)?;
     let mut columns: Vec<Column> = Vec::new(alloc);
@@ -63,18 +63,9 @@ fn read_schema(alloc: Global, text: &[u8]) -> Result<Schema, Fault>
         columns.push(column)?;
     }
     if columns.is_empty() {
-        return Err(at_line(code::COLUMN_COUNT, lines.number()));
+        return Err(Fault::at_line(code::COLUMN_COUNT, lines.number()));
     }
     Ok(Schema { name, columns })
-}
-
-fn at_line(code: u16, line: u64) -> Fault
-    ensures { result ≡ at_line code line }
-{
-    Fault {
-        code,
-        place: Place::Line(line),
-    }
 }
 
 /// The table's name, of the line `TABLE name`.
@@ -83,13 +74,13 @@ fn table_of(alloc: Global, line: &Line) -> Result<Name, Fault>
     ensures { Gives (λ name. name) result (table_on (line_of line.now)) }
 {
     let [keyword, name] = line.words.as_slice() else {
-        return Err(at_line(code::SCHEMA_FORM, line.number));
+        return Err(Fault::at_line(code::SCHEMA_FORM, line.number));
     };
     if !is_same_text(keyword, b"TABLE") {
-        return Err(at_line(code::SCHEMA_FORM, line.number));
+        return Err(Fault::at_line(code::SCHEMA_FORM, line.number));
     }
     if !is_name(name) {
-        return Err(at_line(code::SCHEMA_NAME, line.number));
+        return Err(Fault::at_line(code::SCHEMA_NAME, line.number));
     }
     Ok(Name::new(alloc, name)?)
 }
@@ -196,19 +187,19 @@ fn column_of(alloc: Global, line: &Line, before: &[Column]) -> Result<Column, Fa
     ensures apart { IfOk result (λ column. list_any (λ name. same_text name column.name) (names_of before.now) ≡ false) }
 {
     let Some(words) = words_of_column(line.words.as_slice()) else {
-        return Err(at_line(code::SCHEMA_FORM, line.number));
+        return Err(Fault::at_line(code::SCHEMA_FORM, line.number));
     };
     if before.len() >= MAX_COLUMNS {
-        return Err(at_line(code::COLUMN_COUNT, line.number));
+        return Err(Fault::at_line(code::COLUMN_COUNT, line.number));
     }
     if !is_name(words.name) {
-        return Err(at_line(code::SCHEMA_NAME, line.number));
+        return Err(Fault::at_line(code::SCHEMA_NAME, line.number));
     }
     if has_name(before, words.name) {
-        return Err(at_line(code::NAME_TWICE, line.number));
+        return Err(Fault::at_line(code::NAME_TWICE, line.number));
     }
     if !is_range(words.lo, words.hi) {
-        return Err(at_line(code::SCHEMA_RANGE, line.number));
+        return Err(Fault::at_line(code::SCHEMA_RANGE, line.number));
     }
     Ok(Column {
         name: Name::new(alloc, words.name)?,

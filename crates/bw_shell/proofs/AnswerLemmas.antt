@@ -15,7 +15,8 @@ use Rattle.bw_model.specs.Total.{is_aggregate, total}
 use Rattle.bw_rowwise.specs.Accumulator.{Tally, tally_of}
 use Rattle.bw_csv.specs.Rows.{rows_of, GivesButAside, is_aside}
 use Rattle.bw_sql.specs.Items.{AreOfOneKind}
-use Rattle.bw_shell.specs.Answer.{answer_of, csv_text, heading_of, kept, listed, lists_rows, meaning, of_rows, record_text, spelled, totalled}
+use Rattle.bw_model.specs.Selection.{kept}
+use Rattle.bw_shell.specs.Answer.{answer_of, csv_text, heading_of, listed, lists_rows, meaning, of_rows, record_text, value_text, totalled}
 use Rattle.bw_shell.specs.Led.{TotalsRows}
 use Rattle.bw_shell.specs.declared.totals.Totals.{Totals}
 use Rattle.bw_shell.proofs.TotalsLemmas.{both}
@@ -71,23 +72,23 @@ all_aggregates [] e = refl
 all_aggregates (item ∷ items) e = let parts = both (is_aggregate item) (list_all is_aggregate items) e in rw (parts.0, all_aggregates items parts.1) refl
 
 -- the record of totals over the rows that are kept
-spelled_totals : (items : List Item) (rows : List (List Value)) → map (λ (tally : Tally). spelled tally.answer) (map (λ item. tally_of item rows) items) ≡ map (λ item. spelled (total item rows)) items
+spelled_totals : (items : List Item) (rows : List (List Value)) → map (λ (tally : Tally). value_text tally.answer) (map (λ item. tally_of item rows) items) ≡ map (λ item. value_text (total item rows)) items
 spelled_totals [] rows = refl
-spelled_totals (item ∷ items) rows = ap (λ (l : List (List ℕ)). spelled (total item rows) ∷ l) (spelled_totals items rows)
+spelled_totals (item ∷ items) rows = ap (λ (l : List (List ℕ)). value_text (total item rows) ∷ l) (spelled_totals items rows)
 
 pub totals_fields : (query start : Query) (tallies : List Tally) (rows : List (List Value)) → list_all is_aggregate query.items.items ≡ true → start ≡ query
-    → tallies ≡ map (λ item. tally_of item (kept start rows)) (filter is_aggregate start.items.items)
-    → map (λ (tally : Tally). spelled tally.answer) tallies ≡ totalled query rows
+    → tallies ≡ map (λ item. tally_of item (kept start.cond rows)) (filter is_aggregate start.items.items)
+    → map (λ (tally : Tally). value_text tally.answer) tallies ≡ totalled query rows
 totals_fields query start tallies rows all same is =
-    let those : tallies ≡ map (λ item. tally_of item (kept query rows)) query.items.items =
-    is ∙ ap (λ (q : Query). map (λ item. tally_of item (kept q rows)) (filter is_aggregate q.items.items)) same
-    ∙ ap (λ (items : List Item). map (λ item. tally_of item (kept query rows)) items) (all_aggregates query.items.items all) in
-    ap (map (λ (tally : Tally). spelled tally.answer)) those ∙ spelled_totals query.items.items (kept query rows)
+    let those : tallies ≡ map (λ item. tally_of item (kept query.cond rows)) query.items.items =
+    is ∙ ap (λ (q : Query). map (λ item. tally_of item (kept q.cond rows)) (filter is_aggregate q.items.items)) same
+    ∙ ap (λ (items : List Item). map (λ item. tally_of item (kept query.cond rows)) items) (all_aggregates query.items.items all) in
+    ap (map (λ (tally : Tally). value_text tally.answer)) those ∙ spelled_totals query.items.items (kept query.cond rows)
 
 -- there are as many totals as items
 pub totals_count : (old new : Totals) (rows : Result (List (List Value)) Fault) (query : Query) → list_all is_aggregate query.items.items ≡ true → old.query.now ≡ query
     → IsOkAnd rows (λ those. TotalsRows old those new) → length new.totals.items ≡ length query.items.items
 totals_count old new (Err fault) query all same led = absurd led
 totals_count old new (Ok rows) query all same led =
-    ap length led.totals ∙ length-map (filter is_aggregate old.query.now.items.items) (λ item. tally_of item (kept old.query.now rows))
+    ap length led.totals ∙ length-map (filter is_aggregate old.query.now.items.items) (λ item. tally_of item (kept old.query.now.cond rows))
     ∙ ap (λ (q : Query). length (filter is_aggregate q.items.items)) same ∙ ap length (all_aggregates query.items.items all)

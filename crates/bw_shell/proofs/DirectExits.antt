@@ -1,21 +1,20 @@
 -- Where an answer straight from a CSV text ends: at the schema, at the statement, at the CSV, in its rows, or when its
 -- text goes out.
-use Rattle.std.proofs.Common.{◌≡◌, ℕ, ◌<◌, ◌≤◌, List, length, Bool, true, false, ◌||◌, ◌==◌, nat_lt, Option, Some, None, Result, Ok, Err, refl, sym, subst, ◌∙◌, ap}
+use Rattle.std.proofs.Common.{◌≡◌, ℕ, ◌<◌, ◌≤◌, List, length, Bool, true, false, ◌&&◌, ◌||◌, ◌==◌, nat_lt, Option, Some, None, Result, Ok, Err, refl, sym, subst, ◌∙◌, ap}
 use Rattle.std.specs.Prelude.{MatchBool, IsOkAnd}
 use Rattle.std.specs.Io.KnownBytes.{Appends, Keeps}
 use Rattle.std.proofs.lemmas.Bool.{eqb-true, ltb-true, ltb-false}
 use Rattle.bw_model.specs.declared.fault.Fault.{Fault}
 use Rattle.bw_model.specs.declared.query.Query.{Query}
 use Rattle.bw_model.specs.declared.schema.Schema.{Schema}
-use Rattle.bw_model.specs.Fault.{at_byte, no_memory, is_memory, ◌>>=◌}
-use Rattle.bw_csv.specs.Rows.{is_aside, is_rows_code, IsRowsFault}
+use Rattle.bw_model.specs.Fault.{no_memory, is_memory, ◌>>=◌}
+use Rattle.bw_csv.specs.Rows.{is_aside, is_any_record, is_rows_fault, IsRowsFault}
 use Rattle.bw_file.specs.Sink.{is_write_fault, TookPart, GoesOut, Went}
 use Rattle.bw_file.specs.Source.{Came}
-use Rattle.bw_sql.specs.Refusal.{is_statement_code, IsStatementFault}
-use Rattle.bw_sql.specs.Asked.{asked}
-use Rattle.bw_sql.specs.Statement.{IsFault, Spells}
+use Rattle.bw_sql.specs.Refusal.{is_statement_fault, IsStatementFault}
+use Rattle.bw_sql.specs.Statement.{IsReadAs, Parses}
 use Rattle.bw_shell.specs.Answer.{answer_of}
-use Rattle.bw_shell.specs.Direct.{IsSchemaFrom, SchemaTold, CsvTold, IsReadAs, IsQueryFrom, IsAnswer, csv_from, answer_from}
+use Rattle.bw_shell.specs.Direct.{IsSchemaFrom, SchemaTold, CsvTold, IsAnswer, csv_from, answer_from}
 
 -- what came of a source, and the text of an answer, or a fault
 abbrev Arrival : Type 0
@@ -66,7 +65,7 @@ wrote_nothing old count fault given other is =
     (λ w. absurd (cc (w, other)), λ w. (keeps_itself old, kept, is))
 
 aside_memory : (fault : Fault) → is_memory fault ≡ true → is_aside fault ≡ true
-aside_memory fault m = ap (λ b. b || (fault.code == 209)) m
+aside_memory fault m = ap (λ b. b || ((fault.code == 209) && is_any_record fault.place)) m
 
 memory_is_aside : (fault : Fault) (given : Given) → is_memory fault ≡ true → IsFaultOf fault given
 memory_is_aside fault given m other = absurd (cc (aside_memory fault m, other))
@@ -91,50 +90,34 @@ pub schema_exit : (P Q : Arrival → Type 0) (sql : List ℕ) (W : Given → Typ
     → P came → Q unread → SchemaTold came (Err fault) → ((given : Given) → IsFaultOf fault given → W given) → Answered P Q sql W
 schema_exit P Q sql W came fault p q told w = schema_exit_by P Q sql W came fault (is_memory fault) refl p q told w
 
--- what the parser answered is what the statement is read as, want of memory aside
-query_from_by : (schema : Schema) (sql : List ℕ) (outcome : Result Query Fault) (long : Bool) → nat_lt 65536 (length sql) ≡ long
-    → (65536 < length sql → outcome ≡ Err (at_byte 407 65536)) → (length sql ≤ 65536 → IsReadAs schema sql outcome)
-    → MatchBool long (outcome ≡ Err (at_byte 407 65536)) (IsReadAs schema sql outcome)
-query_from_by schema sql outcome true e long short = long (ltb-true 65536 (length sql) e)
-query_from_by schema sql outcome false e long short = short (ltb-false 65536 (length sql) e)
-
-pub query_read : (schema : Schema) (sql : List ℕ) (query : Query)
-    → (65536 < length sql → Ok query ≡ Err (at_byte 407 65536)) → Spells schema sql (asked query) → IsQueryFrom schema sql (Ok query)
-query_read schema sql query long spelled = query_from_by schema sql (Ok query) (nat_lt 65536 (length sql)) refl long (λ h. spelled)
-
-query_refused : (schema : Schema) (sql : List ℕ) (fault : Fault) → is_memory fault ≡ false
-    → (65536 < length sql → refused_query fault ≡ Err (at_byte 407 65536)) → (length sql ≤ 65536 → is_memory fault ≡ false → IsFault schema sql fault) → IsQueryFrom schema sql (Err fault)
-query_refused schema sql fault m long short =
-    query_from_by schema sql (Err fault) (nat_lt 65536 (length sql)) refl long (λ h. short h m)
-
 -- the statement was refused
 statement_exit_by : (P Q : Arrival → Type 0) (sql : List ℕ) (W : Given → Type 0) (came : Arrival) (schema : Schema) (fault : Fault) (memory : Bool)
     → is_memory fault ≡ memory → P came → P unread → Q unread → IsSchemaFrom came (Ok schema)
-    → (65536 < length sql → refused_query fault ≡ Err (at_byte 407 65536)) → (length sql ≤ 65536 → is_memory fault ≡ false → IsFault schema sql fault)
+    → Parses schema sql (Err fault)
     → ((given : Given) → IsFaultOf fault given → W given) → Answered P Q sql W
-statement_exit_by P Q sql W came schema fault true m p none q from long short w =
+statement_exit_by P Q sql W came schema fault true m p none q from read w =
     let given : Given = Err no_memory in
     let outcome : Result Schema Fault = Err no_memory in
     let refused : outcome ≡ Err no_memory = refl in
     let is : given ≡ Err no_memory = refl in
     (unread, unread, given, none, q, (outcome, refused, is), w given (memory_is_aside fault given m))
-statement_exit_by P Q sql W came schema fault false m p none q from long short w =
+statement_exit_by P Q sql W came schema fault false m p none q from read w =
     let given : Given = Err fault in
     let statement : Result Query Fault = Err fault in
     let outcome : Result Schema Fault = Ok schema in
     let is : given ≡ answer_from schema statement unread = refl in
     let same : given ≡ Err fault = refl in
-    (came, unread, given, p, q, (outcome, from, (statement, query_refused schema sql fault m long short, is)), w given (λ other. same))
+    (came, unread, given, p, q, (outcome, from, (statement, read m, is)), w given (λ other. same))
 
 pub statement_exit : (P Q : Arrival → Type 0) (sql : List ℕ) (W : Given → Type 0) (came : Arrival) (schema : Schema) (fault : Fault)
     → P came → P unread → Q unread → IsSchemaFrom came (Ok schema)
-    → (65536 < length sql → refused_query fault ≡ Err (at_byte 407 65536)) → (length sql ≤ 65536 → is_memory fault ≡ false → IsFault schema sql fault)
+    → Parses schema sql (Err fault)
     → ((given : Given) → IsFaultOf fault given → W given) → Answered P Q sql W
 statement_exit P Q sql W came schema fault = statement_exit_by P Q sql W came schema fault (is_memory fault) refl
 
 -- a statement was read
 answered : (P Q : Arrival → Type 0) (sql : List ℕ) (W : Given → Type 0) (came csv : Arrival) (schema : Schema) (query : Query)
-    → P came → Q csv → IsSchemaFrom came (Ok schema) → IsQueryFrom schema sql (Ok query) → W (answer_from schema (Ok query) csv) → Answered P Q sql W
+    → P came → Q csv → IsSchemaFrom came (Ok schema) → IsReadAs schema sql (Ok query) → W (answer_from schema (Ok query) csv) → Answered P Q sql W
 answered P Q sql W came csv schema query p q from read w =
     let statement : Result Query Fault = Ok query in
     let outcome : Result Schema Fault = Ok schema in
@@ -149,14 +132,14 @@ csv_fault_by schema query csv fault true m told other = memory_is_aside fault (a
 csv_fault_by schema query csv fault false m told other = ap (λ bytes. bytes >>= λ text. answer_of schema.columns.items query text) told
 
 pub csv_exit : (P Q : Arrival → Type 0) (sql : List ℕ) (W : Given → Type 0) (came csv : Arrival) (schema : Schema) (query : Query) (fault : Fault)
-    → P came → Q csv → IsSchemaFrom came (Ok schema) → IsQueryFrom schema sql (Ok query) → CsvTold csv (Err fault)
+    → P came → Q csv → IsSchemaFrom came (Ok schema) → IsReadAs schema sql (Ok query) → CsvTold csv (Err fault)
     → ((given : Given) → IsFaultOf fault given → W given) → Answered P Q sql W
 csv_exit P Q sql W came csv schema query fault p q from read told w =
     answered P Q sql W came csv schema query p q from read (w (answer_from schema (Ok query) csv) (csv_fault_by schema query csv fault (is_memory fault) refl told))
 
 -- the CSV came, and what the rest of the call answered is the answer's text or fault
 pub text_exit : (P Q : Arrival → Type 0) (sql : List ℕ) (W : Given → Type 0) (came csv : Arrival) (schema : Schema) (query : Query) (bytes : List ℕ)
-    → P came → Q csv → IsSchemaFrom came (Ok schema) → IsQueryFrom schema sql (Ok query) → csv ≡ Ok (Some bytes)
+    → P came → Q csv → IsSchemaFrom came (Ok schema) → IsReadAs schema sql (Ok query) → csv ≡ Ok (Some bytes)
     → W (answer_of schema.columns.items query bytes) → Answered P Q sql W
 text_exit P Q sql W came csv schema query bytes p q from read told w =
     answered P Q sql W came (Ok (Some bytes)) schema query p (subst Q told q) from read w
@@ -169,13 +152,15 @@ went_out old new before after text given (Err fault) is goes =
     let write : is_write_fault fault ≡ true = ap is_write_fault goes.0 in
     (λ w. (goes.0, subst (λ g. IsOkAnd g (TookPart old new)) (sym is) goes.1, goes.2), λ other. absurd (cc (write, other)))
 
--- faults of a statement and of rows are no failed writes
-other_code : (allowed : ℕ → Bool) (fault : Fault) (write : Bool) → is_write_fault fault ≡ write → allowed fault.code ≡ true → allowed 702 ≡ false → write ≡ false
-other_code allowed fault true e is none = absurd (cc (sym is ∙ ap allowed (eqb-true fault.code 702 e) ∙ none))
-other_code allowed fault false e is none = refl
+-- faults of a statement and of rows are no failed writes, whatever their places
+other_fault : (allowed : Fault → Bool) (fault : Fault) (write : Bool) → is_write_fault fault ≡ write → allowed fault ≡ true
+    → allowed (record { code = 702; place = fault.place }) ≡ false → write ≡ false
+other_fault allowed fault true e is none =
+    absurd (cc (sym is ∙ ap (λ code. allowed (record { code = code; place = fault.place })) (eqb-true fault.code 702 e) ∙ none))
+other_fault allowed fault false e is none = refl
 
 pub statement_writes_nothing : (fault : Fault) → IsStatementFault fault → is_write_fault fault ≡ false
-statement_writes_nothing fault is = other_code is_statement_code fault (is_write_fault fault) refl is refl
+statement_writes_nothing fault is = other_fault is_statement_fault fault (is_write_fault fault) refl is refl
 
 pub rows_write_nothing : (fault : Fault) → IsRowsFault fault → is_write_fault fault ≡ false
-rows_write_nothing fault is = other_code is_rows_code fault (is_write_fault fault) refl is refl
+rows_write_nothing fault is = other_fault is_rows_fault fault (is_write_fault fault) refl is refl

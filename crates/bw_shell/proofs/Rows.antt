@@ -10,7 +10,8 @@ use Rattle.bw_model.specs.declared.query.Item.TheVariants.{Plain, CountAll, Coun
 use Rattle.bw_model.specs.declared.query.Query.{Query}
 use Rattle.bw_model.specs.Cond.{is_kept}
 use Rattle.bw_model.specs.Row.{Value, value_in}
-use Rattle.bw_shell.specs.Answer.{csv_text, field_of, kept, listed, lists_rows, record_text, spelled}
+use Rattle.bw_model.specs.Selection.{kept}
+use Rattle.bw_shell.specs.Answer.{csv_text, field_of, listed, lists_rows, record_text, value_text}
 use Rattle.bw_shell.specs.Draft.{Holds, is_begun}
 use Rattle.bw_shell.specs.Led.{ListsRows}
 use Rattle.bw_shell.specs.declared.listing.Listing.{Listing}
@@ -22,7 +23,7 @@ fields_more row items i within = ap (filter_map (field_of row)) (take_more items
 
 -- a column has a field
 pub field_more : (row : List Value) (items : List Item) (i column : ℕ) → i < length items → get_or items i (Plain 0) ≡ Plain column → (value : Value) → value ≡ value_in row column
-    → filter_map (field_of row) (take i items) ++ spelled value ∷ [] ≡ filter_map (field_of row) (take (i + 1) items)
+    → filter_map (field_of row) (take i items) ++ value_text value ∷ [] ≡ filter_map (field_of row) (take (i + 1) items)
 field_more row items i column within here value same = rw (fields_more row items i within, here, same) refl
 
 -- no other item has one
@@ -71,7 +72,7 @@ pub ruleset one_row = (text_of_kept, text_with_dropped)
 kept_more : (query : Query) (before : List (List Value)) (row : List Value) → listed query (before ++ row ∷ []) ≡ listed query before ++ listed query (row ∷ [])
 kept_more query before row =
     ap (map (λ (r : List Value). filter_map (field_of r) query.items.items)) (filter-append (is_kept query.cond) before (row ∷ []))
-    ∙ map-append (λ (r : List Value). filter_map (field_of r) query.items.items) (kept query before) (kept query (row ∷ []))
+    ∙ map-append (λ (r : List Value). filter_map (field_of r) query.items.items) (kept query.cond before) (kept query.cond (row ∷ []))
 
 text_more : (records more : List (List (List ℕ))) → csv_text (records ++ more) ≡ csv_text records ++ csv_text more
 unfolding csv_text

@@ -1,5 +1,5 @@
 -- What a query means over a table's rows, after SQL-92, and the CSV text of it.
-use Rattle.std.specs.Prelude.{ℕ, Bool, true, false, List, [], ◌∷◌, ◌++◌, map, filter, Option, Some, None, Result, Ok, codes, slice_index_or, if◌then◌else◌}
+use Rattle.std.specs.Prelude.{ℕ, Bool, true, false, List, [], ◌∷◌, ◌++◌, map, Option, Some, None, Result, Ok, codes, slice_index_or, if◌then◌else◌}
 use Rattle.std.specs.List.{filter_map, flat_map, join_with_byte}
 use Rattle.std.specs.Fmt.{signed_decimal}
 use Rattle.bw_model.specs.declared.column.Column.{Column}
@@ -8,16 +8,16 @@ use Rattle.bw_model.specs.declared.query.Item.{Item}
 use Rattle.bw_model.specs.declared.query.Item.TheVariants.{Plain, CountAll, Count, Sum, Min, Max}
 use Rattle.bw_model.specs.declared.query.Query.{Query}
 use Rattle.bw_model.specs.Column.{names_of}
-use Rattle.bw_model.specs.Cond.{is_kept}
 use Rattle.bw_model.specs.Fault.{◌>>=◌}
 use Rattle.bw_model.specs.Row.{Value, value_in}
+use Rattle.bw_model.specs.Selection.{kept}
 use Rattle.bw_model.specs.Total.{total}
 use Rattle.bw_csv.specs.Rows.{rows_of}
 
 -- a number in decimal, and null as NULL
-abbrev pub spelled : Value → List ℕ
-spelled None = codes "NULL"
-spelled (Some n) = signed_decimal n
+abbrev pub value_text : Value → List ℕ
+value_text None = codes "NULL"
+value_text (Some n) = signed_decimal n
 
 -- the heading of an item: a column's name in its own spelling, or the aggregate
 abbrev pub call_of : List ℕ → List ℕ → List ℕ
@@ -43,23 +43,19 @@ lists_rows (Max column ∷ items) = false
 
 -- the field of a row for an item, which only a column has
 abbrev pub field_of : List Value → Item → Option (List ℕ)
-field_of row (Plain column) = Some (spelled (value_in row column))
+field_of row (Plain column) = Some (value_text (value_in row column))
 field_of row CountAll = None
 field_of row (Count column) = None
 field_of row (Sum column) = None
 field_of row (Min column) = None
 field_of row (Max column) = None
 
--- the rows on which the condition is TRUE
-abbrev pub kept : Query → List (List Value) → List (List Value)
-kept query rows = filter (is_kept query.cond) rows
-
 -- a record for each row that is kept, and the one record of totals over them
 abbrev pub listed : Query → List (List Value) → List (List (List ℕ))
-listed query rows = map (λ row. filter_map (field_of row) query.items.items) (kept query rows)
+listed query rows = map (λ row. filter_map (field_of row) query.items.items) (kept query.cond rows)
 
 abbrev pub totalled : Query → List (List Value) → List (List ℕ)
-totalled query rows = map (λ item. spelled (total item (kept query rows))) query.items.items
+totalled query rows = map (λ item. value_text (total item (kept query.cond rows))) query.items.items
 
 abbrev pub records_of : Query → List (List Value) → List (List (List ℕ))
 records_of query rows = if lists_rows query.items.items then listed query rows else totalled query rows ∷ []

@@ -1,13 +1,12 @@
 -- What an answer straight from a CSV text is to be, by what came of the schema's source and of the CSV's.
-use Rattle.std.specs.Prelude.{◌≡◌, ℕ, List, length, nat_lt, Option, Some, None, Result, Ok, Err, MatchBool, Vec}
+use Rattle.std.specs.Prelude.{◌≡◌, ◌&&◌, ◌||◌, Bool, ℕ, List, nat_le, Option, Some, None, Result, Ok, Err, MatchBool, Vec}
 use Rattle.std.specs.declared.alloc.Global.{Global}
 use Rattle.bw_model.specs.declared.fault.Fault.{Fault}
 use Rattle.bw_model.specs.declared.query.Query.{Query}
 use Rattle.bw_model.specs.declared.schema.Schema.{Schema}
-use Rattle.bw_model.specs.Fault.{nowhere, at_byte, no_memory, is_memory, ◌>>=◌}
+use Rattle.bw_model.specs.Fault.{nowhere, no_memory, is_memory, ◌>>=◌}
 use Rattle.bw_model.specs.SchemaText.{schema_of, schema_shape, IsSchemaText}
-use Rattle.bw_sql.specs.Asked.{asked}
-use Rattle.bw_sql.specs.Statement.{IsFault, Spells}
+use Rattle.bw_sql.specs.Statement.{IsReadAs}
 use Rattle.bw_shell.specs.Answer.{answer_of}
 
 -- the schema that what came spells, or the fault: a failed read, a text past the limit, or the text's first fault
@@ -23,14 +22,6 @@ abbrev pub SchemaTold : Result (Option (List ℕ)) Fault → Result Schema Fault
 SchemaTold came (Ok schema) = IsSchemaFrom came (Ok schema)
 SchemaTold came (Err fault) = MatchBool (is_memory fault) (came ≡ Err no_memory) (IsSchemaFrom came (Err fault))
 
--- the query that a statement spells under a schema, or its first fault, which for one that is too long is 407
-abbrev pub IsReadAs : Schema → List ℕ → Result Query Fault → Type 0
-IsReadAs schema sql (Ok query) = Spells schema sql (asked query)
-IsReadAs schema sql (Err fault) = IsFault schema sql fault
-
-abbrev pub IsQueryFrom : Schema → List ℕ → Result Query Fault → Type 0
-IsQueryFrom schema sql outcome = MatchBool (nat_lt 65536 (length sql)) (outcome ≡ Err (at_byte 407 65536)) (IsReadAs schema sql outcome)
-
 -- the bytes that came of a CSV, or the fault: a failed read, or a text past the limit
 abbrev pub csv_from : Result (Option (List ℕ)) Fault → Result (List ℕ) Fault
 csv_from (Ok (Some text)) = Ok text
@@ -41,13 +32,17 @@ abbrev pub CsvTold : Result (Option (List ℕ)) Fault → Result (Vec ℕ Global
 CsvTold came (Ok bytes) = came ≡ Ok (Some bytes.items)
 CsvTold came (Err fault) = MatchBool (is_memory fault) (came ≡ Err no_memory) (csv_from came ≡ Err fault)
 
+-- a fault of a schema text or of a statement, which is answered before the CSV is read
+abbrev pub is_before_csv : Fault → Bool
+is_before_csv fault = (nat_le 101 fault.code && nat_le fault.code 106) || (nat_le 401 fault.code && nat_le fault.code 408)
+
 -- the text of the answer to a statement that was read, or the first fault behind it
 abbrev pub answer_from : Schema → Result Query Fault → Result (Option (List ℕ)) Fault → Result (List ℕ) Fault
 answer_from schema statement csv = statement >>= λ query. csv_from csv >>= λ text. answer_of schema.columns.items query text
 
 -- The text of the answer, or the first fault in the order of the schema, the statement and the CSV.
 abbrev pub IsAnswerUnder : Result Schema Fault → List ℕ → Result (Option (List ℕ)) Fault → Result (List ℕ) Fault → Type 0
-IsAnswerUnder (Ok schema) sql csv given = (statement : Result Query Fault) × IsQueryFrom schema sql statement × (given ≡ answer_from schema statement csv)
+IsAnswerUnder (Ok schema) sql csv given = (statement : Result Query Fault) × IsReadAs schema sql statement × (given ≡ answer_from schema statement csv)
 IsAnswerUnder (Err fault) sql csv given = given ≡ Err fault
 
 abbrev pub IsAnswer : Result (Option (List ℕ)) Fault → List ℕ → Result (Option (List ℕ)) Fault → Result (List ℕ) Fault → Type 0

@@ -1,5 +1,6 @@
 -- What a refused call tells its caller.
-use Rattle.std.specs.Prelude.{◌≡◌, ℕ, nat_lt, if◌then◌else◌, List, ◌++◌, codes, Option, Result}
+use Rattle.std.specs.Prelude.{◌≡◌, ◌==◌, ℕ, Bool, false, nat_lt, if◌then◌else◌, List, ◌++◌, codes, Option, Result}
+use Rattle.std.specs.List.{list_any}
 use Rattle.bw_model.specs.declared.fault.Fault.{Fault}
 use Rattle.bw_file.specs.Sink.{GoesOut}
 
@@ -9,9 +10,12 @@ abbrev pub status_of : Fault → ℕ
 status_of fault =
     if nat_lt fault.code 600 then 3 else (if nat_lt fault.code 700 then 4 else (if nat_lt fault.code 800 then 5 else 6))
 
--- a line that begins with `bw: `
+-- one line that begins with `bw: `: its only line feed, byte 10, is at its end
+abbrev pub has_line_feed : List ℕ → Bool
+has_line_feed text = list_any (λ c. c == 10) text
+
 abbrev pub IsLine : List ℕ → Type 0
-IsLine line = (words : List ℕ) × (line ≡ codes "bw: " ++ (words ++ codes "\n"))
+IsLine line = (words : List ℕ) × (has_line_feed words ≡ false) × (line ≡ codes "bw: " ++ (words ++ codes "\n"))
 
 -- a line went out to a sink, or a part of it up to a failed write
 abbrev pub PrintsLine : Option (List ℕ) → Option (List ℕ) → ℕ → ℕ → Type 0

@@ -2,7 +2,7 @@
 //! null as `NULL`.
 ghost use Rattle.std.specs.Prelude.{◌≡◌, ℕ, [], ◌∷◌, ◌++◌, List, IsTrue, OnOk, IfOk, IfErr};
 ghost use Rattle.bw_model.specs.Fault.{no_memory};
-ghost use Rattle.bw_shell.specs.Answer.{record_text, spelled};
+ghost use Rattle.bw_shell.specs.Answer.{record_text, value_text};
 ghost use Rattle.bw_shell.specs.Field.{is_plain};
 ghost use Rattle.bw_shell.specs.Draft.{Drafts, Holds, is_begun};
 
@@ -45,7 +45,7 @@ impl CsvText {
     #[tactic(auto, using(crate::proofs::PlainFields::plain_numbers), unfolding(crate::specs::Field::is_plain))]
     pub fn push_number(&mut self, number: Option<i128>) -> Result<(), Fault>
         ensures field { OnOk result ((ended : List ℕ) → (fields : List (List ℕ)) → Holds self.old ended fields
-            → Holds self.new ended (fields ++ spelled number ∷ [])) }
+            → Holds self.new ended (fields ++ value_text number ∷ [])) }
         ensures only_memory { IfErr result (λ fault. fault ≡ no_memory) }
     {
         match number {

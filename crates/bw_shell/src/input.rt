@@ -1,6 +1,7 @@
 //! Whole inputs, read from a source up to a limit.
-ghost use Rattle.std.specs.Prelude.{◌+◌, ◌-◌, ◌^◌, ◌<◌};
-ghost use Rattle.bw_file.specs.Source.{Came, TookAtMost};
+ghost use Rattle.std.specs.Prelude.{◌+◌, ◌-◌, ◌^◌, ◌<◌, IfErr, IsTrue};
+ghost use Rattle.bw_model.specs.Fault.{nowhere};
+ghost use Rattle.bw_file.specs.Source.{Came, TookAtMost, EndsWith, is_input_fault};
 ghost use Rattle.bw_shell.specs.Input.{arrival};
 
 use bw_file::{Failed, Source};
@@ -28,6 +29,8 @@ pub fn read_limited<S: Source>(alloc: Global, source: &mut S, limit: u64) -> Res
     ensures came { Came limit (S.to_come source.old) (S.to_come source.new)
         (S.failures source.old) (S.failures source.new) (arrival result) }
     ensures took { TookAtMost (limit + 1) (S.to_come source.old) (S.to_come source.new) }
+    ensures failed { EndsWith (nowhere 701) (S.failures source.old) (S.failures source.new) result }
+    ensures fault { IfErr result (λ fault. IsTrue (is_input_fault fault)) }
 {
     let most = limit as usize + 1;
     let mut piece = [0u8; PIECE];

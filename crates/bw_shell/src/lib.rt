@@ -8,16 +8,16 @@
 #![tactic(auto)]
 
 mod answer;
-mod csv_query;
 mod csv_text;
+mod direct_call;
 mod input;
 mod kept;
-mod lines;
 mod listing;
 mod output;
+mod reports;
 mod totals;
 
-pub use csv_query::{MAX_CSV_LEN, direct};
+pub use direct_call::{MAX_CSV_LEN, direct};
 pub use input::{Input, read_limited};
-pub use lines::report;
 pub use output::write_whole;
+pub use reports::report;

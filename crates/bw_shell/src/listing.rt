@@ -10,7 +10,7 @@ ghost use Rattle.bw_shell.specs.Draft.{Holds};
 
 use crate::csv_text::CsvText;
 use crate::kept::is_kept;
-use bw_csv::Keeper;
+use bw_csv::RowTaker;
 use bw_model::{Fault, Item, Query, Row};
 
 /// Takes rows of so many values, and adds a record to a text for each row on which the query's condition is
@@ -59,7 +59,7 @@ impl<'a> Listing<'a> {
     }
 }
 
-impl Keeper for Listing<'_> {
+impl RowTaker for Listing<'_> {
     ghost width = { λ listing. listing.width };
 
     ghost rows = { λ listing. listing.rows };

@@ -7,13 +7,14 @@ ghost use Rattle.bw_model.specs.Fault.{no_memory};
 ghost use Rattle.bw_model.specs.Row.{Value, values_of};
 ghost use Rattle.bw_model.specs.Total.{item_within, is_aggregate};
 ghost use Rattle.bw_rowwise.specs.Accumulator.{tally_of};
-ghost use Rattle.bw_shell.specs.Answer.{kept, record_text, spelled};
+ghost use Rattle.bw_model.specs.Selection.{kept};
+ghost use Rattle.bw_shell.specs.Answer.{record_text, value_text};
 ghost use Rattle.bw_shell.specs.Draft.{Holds};
 ghost use Rattle.bw_shell.specs.Totals.{is_of, has_room};
 
 use crate::csv_text::CsvText;
 use crate::kept::is_kept;
-use bw_csv::Keeper;
+use bw_csv::RowTaker;
 use bw_model::{Fault, Item, Query, Row};
 use bw_rowwise::Accumulator;
 use std::alloc::Global;
@@ -53,7 +54,7 @@ impl<'a> Totals<'a> {
     pub fn push_record(&self, text: &mut CsvText) -> Result<(), Fault>
         requires { 1 ≤ vec_len self.now.totals }
         ensures record { OnOk result ((ended : List ℕ) → Holds text.old ended []
-            → Holds text.new (ended ++ record_text (map (λ tally. spelled tally.answer) self.now.totals.items)) []) }
+            → Holds text.new (ended ++ record_text (map (λ tally. value_text tally.answer) self.now.totals.items)) []) }
         ensures only_memory { IfErr result (λ fault. fault ≡ no_memory) }
     {
         for total in &self.totals {
@@ -63,7 +64,7 @@ impl<'a> Totals<'a> {
     }
 }
 
-impl Keeper for Totals<'_> {
+impl RowTaker for Totals<'_> {
     ghost width = { λ totals. totals.width };
 
     ghost rows = { λ totals. totals.rows };
@@ -103,7 +104,7 @@ fn add_kept(totals: &mut [Accumulator], query: &Query, row: &Row)
     ensures counts { (rows : ℕ) → IsTrue (list_all (is_of (length (values_of row.now)) rows) totals.old)
         → IsTrue (list_all (is_of (length (values_of row.now)) (rows + 1)) totals.new) }
     ensures totals { (items : List Item) → (rows : List (List Value)) → totals.old ≡ map (λ item. tally_of item rows) items
-        → totals.new ≡ map (λ item. tally_of item (rows ++ kept query.now (values_of row.now ∷ []))) items }
+        → totals.new ≡ map (λ item. tally_of item (rows ++ kept query.now.cond (values_of row.now ∷ []))) items }
 {
     if !is_kept(&query.cond, row) {
         return;

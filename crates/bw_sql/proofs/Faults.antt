@@ -1,27 +1,30 @@
 -- The fault of a text.
-use Rattle.std.proofs.Common.{◌≡◌, ℕ, ◌-◌, ◌<◌, ◌≤◌, ◌⊎◌, inl, inr, true, false, if◌then◌else◌, ◌==◌, List, [], ◌∷◌, length, Option, Some, None, Result, Ok, Err, IfErr, slice_get, refl, sym, ◌∙◌, ap, subst, arith}
+use Rattle.std.proofs.Common.{◌≡◌, ℕ, ◌-◌, ◌<◌, ◌≤◌, ◌⊎◌, inl, inr, true, if◌then◌else◌, ◌==◌, List, [], ◌∷◌, length, Option, Some, None, Result, Ok, Err, slice_get, refl, sym, ◌∙◌, ap, subst, arith}
 use Rattle.std.proofs.lemmas.List.{append-nil, length-map}
+use Rattle.std.proofs.lemmas.Bool.{cases_lt}
 use Rattle.std.proofs.lemmas.Option.{slice_get_cases, slice_get_past, slice_get_within}
 use Rattle.bw_model.specs.declared.fault.Fault.{Fault}
 use Rattle.bw_model.specs.declared.query.Query.{Query}
 use Rattle.bw_model.specs.declared.schema.Schema.{Schema}
-use Rattle.bw_model.specs.Fault.{at_byte, is_memory}
+use Rattle.bw_model.specs.Fault.{at_byte}
 use Rattle.bw_sql.specs.declared.reader.Refusal.{Refusal}
 use Rattle.bw_sql.specs.declared.reader.Refusal.TheVariants.{Syntax, UnknownTable, UnknownColumn, Literal, MixedItems, Nesting}
-use Rattle.bw_sql.specs.Asked.{Asked}
+use Rattle.bw_sql.specs.Asked.{Asked, asked}
 use Rattle.bw_sql.specs.Cut.{IsCut, Spot}
 use Rattle.bw_sql.specs.Demand.{is_met}
 use Rattle.bw_sql.specs.Frontier.{Stands, IsFirst, asked_for, at_token, at_sign, at_end}
 use Rattle.bw_sql.specs.Grammar.{StatementIs}
+use Rattle.bw_sql.specs.Limits.{longest_statement}
 use Rattle.bw_sql.specs.Reading.{Halt, ◌>>=◌, statement_at}
 use Rattle.bw_sql.specs.Refusal.{number}
 use Rattle.bw_sql.specs.Judged.{Answers, IsRead, fault_at, judged, spot_from}
-use Rattle.bw_sql.specs.Statement.{IsFault, Spells, token_refused, end_refused, byte_refused, tokens_of}
+use Rattle.bw_sql.specs.Statement.{IsFault, IsRefusal, SpellsOrFails, Parses, Spells, too_long, refused, token_refused, end_refused, byte_refused, tokens_of}
 use Rattle.bw_sql.specs.Token.{Lexeme}
+use Rattle.bw_sql.proofs.Cutting.{cut_of_text}
 use Rattle.bw_sql.proofs.Frontiers.{FirstFault, first_fault, end_least, beyond}
 use Rattle.bw_sql.proofs.Machine.{Symbol, AStatement, step, run, all_may_end, Halted}
 use Rattle.bw_sql.proofs.OneCut.{one_cut_of}
-use Rattle.bw_sql.proofs.Query.{not_refused}
+use Rattle.bw_sql.proofs.Query.{not_refused, read_spelled}
 use Rattle.bw_sql.proofs.Stops.{asked_for_weaker, path_weaker}
 use Rattle.bw_sql.proofs.Runs.{bool_cases, statement_runs}
 use Rattle.bw_sql.proofs.Viable.{Path, here, there, path_spelled}
@@ -55,11 +58,11 @@ module _ (schema : Schema) (text : List ℕ) (tokens : List Spot) where
       omega (arith, length-map tokens (λ spot. spot.token), at_or_behind _ _ _ (end_least schema (tokens_of tokens) p.0 p.1 why place f.stands))
 
   refused_at_token : (stop : Option ℕ) (why : Refusal) (place : ℕ) (spot : Spot) → IsCut 0 text tokens stop → IsFirst schema (tokens_of tokens) why place → slice_get tokens place ≡ Some spot →
-      IsFault schema text (fault_at (slice_get tokens place) stop (length text) why)
+      IsRefusal schema text (fault_at (slice_get tokens place) stop (length text) why)
   refused_at_token stop why place spot cut f e = rw e (token_refused cut f e)
 
   refused_behind : (stop : Option ℕ) (why : Refusal) (place : ℕ) → IsCut 0 text tokens stop → IsFirst schema (tokens_of tokens) why place → slice_get tokens place ≡ None → length tokens ≤ place → place ≤ length tokens →
-      IsFault schema text (fault_at (slice_get tokens place) stop (length text) why)
+      IsRefusal schema text (fault_at (slice_get tokens place) stop (length text) why)
   refused_behind None why place cut f e h l =
       let syntax : why ≡ Syntax = only_syntax schema (tokens_of tokens) why place f.stands (omega (arith, length-map tokens (λ spot. spot.token))) in
       let end : place ≡ length tokens = omega arith in
@@ -67,18 +70,18 @@ module _ (schema : Schema) (text : List ℕ) (tokens : List Spot) where
       rw (e, syntax) (end_refused cut there)
   refused_behind (Some at) why place cut f e h l = rw e (byte_refused cut (λ other p g. omega (arith, at_or_behind _ _ _ (f.first other p g.stands))))
 
-  refused_somewhere : (stop : Option ℕ) (halt : Halt) → IsCut 0 text tokens stop → FirstFault schema (tokens_of tokens) halt → IsFault schema text (fault_at (spot_from halt.left tokens) stop (length text) halt.why)
+  refused_somewhere : (stop : Option ℕ) (halt : Halt) → IsCut 0 text tokens stop → FirstFault schema (tokens_of tokens) halt → IsRefusal schema text (fault_at (spot_from halt.left tokens) stop (length text) halt.why)
   refused_somewhere stop halt cut f =
       let index : length tokens - halt.left ≡ f.place = omega (arith, f.left, length-map tokens (λ spot. spot.token)) in
       let within : f.place ≤ length tokens = omega (arith, f.left, length-map tokens (λ spot. spot.token)) in
-      let there : IsFault schema text (fault_at (slice_get tokens f.place) stop (length text) halt.why) = elim (slice_get_cases tokens f.place).1 [
+      let there : IsRefusal schema text (fault_at (slice_get tokens f.place) stop (length text) halt.why) = elim (slice_get_cases tokens f.place).1 [
         | inl spot ↦ refused_at_token stop halt.why f.place spot.0 cut f.first spot.2
         | inr past ↦ refused_behind stop halt.why f.place cut f.first past.1 past.0 within
       ] in
-      subst (λ i. IsFault schema text (fault_at (slice_get tokens i) stop (length text) halt.why)) (sym index) there
+      subst (λ i. IsRefusal schema text (fault_at (slice_get tokens i) stop (length text) halt.why)) (sym index) there
 
   judged_fault : (stop : Option ℕ) (fault : Fault) (reading : Result Asked Halt) → IsCut 0 text tokens stop → statement_at schema (tokens_of tokens) ≡ reading → Err fault ≡ judged tokens stop (length text) reading →
-      IsFault schema text fault
+      IsRefusal schema text fault
   judged_fault None fault (Ok q) cut e f = cc
   judged_fault (Some at) fault (Ok q) cut e f = let same : fault ≡ at_byte 401 at = cc in rw same (byte_refused cut (read_all q e))
   judged_fault stop fault (Err halt) cut e f =
@@ -86,12 +89,21 @@ module _ (schema : Schema) (text : List ℕ) (tokens : List Spot) where
       rw same (refused_somewhere stop halt cut (first_fault schema (tokens_of tokens) halt e))
 
 -- what a text is refused for is its fault
-pub read_fault : (schema : Schema) (text : List ℕ) (fault : Fault) → IsRead schema text (Err fault) → IsFault schema text fault
-read_fault schema text fault r = judged_fault schema text r.tokens r.stop fault (statement_at schema (tokens_of r.tokens)) r.cut refl r.is
+pub read_fault : (schema : Schema) (text : List ℕ) → length text ≤ longest_statement → (fault : Fault) → IsRead schema text (Err fault) → IsFault schema text fault
+read_fault schema text short fault r = refused short (judged_fault schema text r.tokens r.stop fault (statement_at schema (tokens_of r.tokens)) r.cut refl r.is)
 
-pub err_is_fault : (schema : Schema) (text : List ℕ) (result : Result Query Fault) → Answers schema text result → IfErr result (λ fault. is_memory fault ≡ false → IsFault schema text fault)
-err_is_fault schema text (Ok query) exact = tt
-err_is_fault schema text (Err fault) exact = λ e. read_fault schema text fault (exact e)
+-- what the readers answer is what the text is read as
+pub parsed_by : (schema : Schema) (text : List ℕ) (result : Result Query Fault) → (longest_statement < length text → result ≡ Err (at_byte 407 longest_statement)) → (length text ≤ longest_statement → Answers schema text result) →
+    (length text ≤ longest_statement) ⊎ (longest_statement < length text) → Parses schema text result
+parsed_by schema text (Ok query) long exact (inl short) = read_spelled schema text short (asked query) (exact short)
+parsed_by schema text (Err fault) long exact (inl short) = λ e. read_fault schema text short fault (exact short e)
+parsed_by schema text result long exact (inr h) = rw (long h) (λ e. too_long h)
+
+pub parsed : (schema : Schema) (text : List ℕ) (result : Result Query Fault) → (longest_statement < length text → result ≡ Err (at_byte 407 longest_statement)) → (length text ≤ longest_statement → Answers schema text result) → Parses schema text result
+parsed schema text result long exact = parsed_by schema text result long exact (swapped (cases_lt longest_statement (length text))) where
+  swapped : {P Q : Type 0} → (P ⊎ Q) → (Q ⊎ P)
+  swapped (inl p) = inr p
+  swapped (inr q) = inl q
 
 -- The first fault is one.
 refusal_of : ℕ → Refusal
@@ -163,12 +175,12 @@ module _ (schema : Schema) (text : List ℕ) (tokens : List Spot) where
       let found : spot_from halt.left tokens ≡ None = spot_there halt g ∙ slice_get_past tokens g.place (h halt.why g.place g.first) in
       rw found refl
 
-fault_read : (schema : Schema) (text : List ℕ) (fault : Fault) → IsFault schema text fault → IsRead schema text (Err fault)
-fault_read schema text fault (token_refused {tokens = tokens} {stop = stop} {why = why} {place = place} {spot = spot} cut f s) =
+refusal_read : (schema : Schema) (text : List ℕ) (fault : Fault) → IsRefusal schema text fault → IsRead schema text (Err fault)
+refusal_read schema text fault (token_refused {tokens = tokens} {stop = stop} {why = why} {place = place} {spot = spot} cut f s) =
     record { tokens = tokens; stop = stop; cut = cut; is = token_read schema text tokens stop why place spot (statement_at schema (tokens_of tokens)) refl f s }
-fault_read schema text fault (end_refused {tokens = tokens} cut f) =
+refusal_read schema text fault (end_refused {tokens = tokens} cut f) =
     record { tokens = tokens; stop = None; cut = cut; is = end_read schema text tokens (statement_at schema (tokens_of tokens)) refl f }
-fault_read schema text fault (byte_refused {tokens = tokens} {at = at} cut h) =
+refusal_read schema text fault (byte_refused {tokens = tokens} {at = at} cut h) =
     record { tokens = tokens; stop = Some at; cut = cut; is = byte_read schema text tokens at (statement_at schema (tokens_of tokens)) refl h }
 
 -- a text is read in one way
@@ -179,8 +191,26 @@ read_same schema text a b r s =
     ∙ ap (λ stop. judged s.tokens stop (length text) (statement_at schema (tokens_of s.tokens))) same.stops_same ∙ sym s.is
 
 pub same_fault : (schema : Schema) (text : List ℕ) (fault other : Fault) → IsFault schema text fault → IsFault schema text other → fault ≡ other
-same_fault schema text fault other f g =
-    let both : ◌≡◌ {A = Result Asked Fault} (Err fault) (Err other) = read_same schema text (Err fault) (Err other) (fault_read schema text fault f) (fault_read schema text other g) in cc
+same_fault schema text fault other (too_long long) (too_long more) = refl
+same_fault schema text fault other (too_long long) (refused short g) = absurd (omega arith)
+same_fault schema text fault other (refused short f) (too_long long) = absurd (omega arith)
+same_fault schema text fault other (refused short f) (refused also g) =
+    let both : ◌≡◌ {A = Result Asked Fault} (Err fault) (Err other) = read_same schema text (Err fault) (Err other) (refusal_read schema text fault f) (refusal_read schema text other g) in cc
 
 pub spelled_or_refused : (schema : Schema) (text : List ℕ) (query : Asked) (fault : Fault) → Spells schema text query → IsFault schema text fault → ⊥
-spelled_or_refused schema text query fault s f = not_refused schema text query fault s (fault_read schema text fault f)
+spelled_or_refused schema text query fault s (too_long long) = absurd (omega (arith, s.short))
+spelled_or_refused schema text query fault s (refused short f) = not_refused schema text query fault s (refusal_read schema text fault f)
+
+-- a text that is cut is read
+read_by : (schema : Schema) (text : List ℕ) → length text ≤ longest_statement → (outcome : Result Asked Fault) → IsRead schema text outcome → SpellsOrFails schema text
+read_by schema text short (Ok query) r = inl (query, read_spelled schema text short query r)
+read_by schema text short (Err fault) r = inr (fault, read_fault schema text short fault r)
+
+pub query_or_fault_of : (schema : Schema) (text : List ℕ) → SpellsOrFails schema text
+query_or_fault_of schema text = go (cases_lt longest_statement (length text)) where
+  go : (longest_statement < length text) ⊎ (length text ≤ longest_statement) → SpellsOrFails schema text
+  go (inl long) = inr (at_byte 407 longest_statement, too_long long)
+  go (inr short) =
+      let cut = cut_of_text text in
+      read_by schema text short (judged cut.tokens cut.stop (length text) (statement_at schema (tokens_of cut.tokens)))
+      (record { tokens = cut.tokens; stop = cut.stop; cut = cut.cut; is = refl })

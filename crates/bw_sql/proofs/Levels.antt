@@ -4,7 +4,7 @@ use Rattle.bw_model.specs.declared.keyword.Keyword.TheVariants as word
 use Rattle.bw_model.specs.declared.schema.Schema.{Schema}
 use Rattle.bw_sql.specs.declared.reader.Refusal.TheVariants.{Nesting}
 use Rattle.bw_sql.specs.declared.token.Mark.TheVariants.{Open, Close}
-use Rattle.bw_sql.specs.Condition.{Not}
+use Rattle.bw_model.specs.CondTree.{Not}
 use Rattle.bw_sql.specs.Reading.{refuse, nested, factor_in, primary_in, test_in, condition_in, after_keyword, after_mark, mark_at, ◌>>=◌}
 use Rattle.bw_sql.specs.Token.{Lexeme}
 

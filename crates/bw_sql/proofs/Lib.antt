@@ -1,8 +1,7 @@
-pub mod Columns
 pub mod Cuts
+pub mod Cutting
 pub mod Faults
 pub mod Frontiers
-pub mod Joins
 pub mod Lengths
 pub mod Levels
 pub mod Machine
@@ -17,3 +16,4 @@ pub mod Sound
 pub mod Spelled
 pub mod Stops
 pub mod Viable
+pub mod Within

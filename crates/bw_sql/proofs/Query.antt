@@ -1,13 +1,13 @@
 -- From what the tokens are read as to what they spell.
-use Rattle.std.proofs.Common.{◌≡◌, ℕ, ◌≤◌, ◌<◌, Bool, true, false, nat_lt, List, length, Option, Some, None, Result, Ok, Err, IfOk, IfErr, refl, sym, ◌∙◌, ap}
-use Rattle.std.proofs.lemmas.Bool.{ltb-true, ltb-false}
+use Rattle.std.proofs.Common.{◌≡◌, ℕ, ◌≤◌, Bool, true, false, List, length, Option, Some, None, Result, Ok, Err, IfErr, refl, sym, ◌∙◌, ap}
 use Rattle.bw_model.specs.declared.fault.Fault.{Fault}
 use Rattle.bw_model.specs.declared.query.Query.{Query}
 use Rattle.bw_model.specs.declared.schema.Schema.{Schema}
 use Rattle.bw_model.specs.Fault.{is_memory}
-use Rattle.bw_sql.specs.Asked.{Asked, asked}
+use Rattle.bw_sql.specs.Asked.{Asked}
 use Rattle.bw_sql.specs.Cut.{IsCut, Spot}
 use Rattle.bw_sql.specs.Grammar.{IsQuery}
+use Rattle.bw_sql.specs.Limits.{longest_statement}
 use Rattle.bw_sql.specs.Reading.{Halt, statement_at}
 use Rattle.bw_sql.specs.Judged.{Answers, IsRead, judged}
 use Rattle.bw_sql.specs.Statement.{Spells, tokens_of}
@@ -19,18 +19,19 @@ use Rattle.bw_sql.proofs.Spelled.{query_read}
 pub same_query : (schema : Schema) (tokens : List Lexeme) (query other : Asked) → IsQuery schema tokens query → IsQuery schema tokens other → query ≡ other
 same_query schema tokens query other a b = let both : ◌≡◌ {A = Result Asked Halt} (Ok query) (Ok other) = sym (query_read schema tokens query a) ∙ query_read schema tokens other b in cc
 
-judged_ok : (schema : Schema) (text : List ℕ) (query : Asked) (tokens : List Spot) (stop : Option ℕ) (reading : Result Asked Halt) → IsCut 0 text tokens stop →
+judged_ok : (schema : Schema) (text : List ℕ) → length text ≤ longest_statement → (query : Asked) (tokens : List Spot) (stop : Option ℕ) (reading : Result Asked Halt) → IsCut 0 text tokens stop →
     statement_at schema (tokens_of tokens) ≡ reading → Ok query ≡ judged tokens stop (length text) reading → Spells schema text query
-judged_ok schema text query tokens None (Ok q) cut e f = let same : q ≡ query = cc in record {
+judged_ok schema text short query tokens None (Ok q) cut e f = let same : q ≡ query = cc in record {
+  short = short;
   tokens = tokens;
   cut = cut;
   spelled = query_spelled schema (tokens_of tokens) query (e ∙ ap Ok same);
 }
-judged_ok schema text query tokens (Some at) (Ok q) cut e f = cc
-judged_ok schema text query tokens stop (Err halt) cut e f = cc
+judged_ok schema text short query tokens (Some at) (Ok q) cut e f = cc
+judged_ok schema text short query tokens stop (Err halt) cut e f = cc
 
-pub read_spelled : (schema : Schema) (text : List ℕ) (query : Asked) → IsRead schema text (Ok query) → Spells schema text query
-read_spelled schema text query r = judged_ok schema text query r.tokens r.stop (statement_at schema (tokens_of r.tokens)) r.cut refl r.is
+pub read_spelled : (schema : Schema) (text : List ℕ) → length text ≤ longest_statement → (query : Asked) → IsRead schema text (Ok query) → Spells schema text query
+read_spelled schema text short query r = judged_ok schema text short query r.tokens r.stop (statement_at schema (tokens_of r.tokens)) r.cut refl r.is
 
 -- what is spelled isn't refused
 judged_too : (schema : Schema) (tokens others : List Spot) (stop : Option ℕ) (end : ℕ) (query : Asked) → tokens ≡ others → stop ≡ None → IsQuery schema (tokens_of others) query →
@@ -44,20 +45,10 @@ not_refused schema text query fault s r =
     let both : Err fault ≡ Ok query = r.is ∙ judged_too schema r.tokens s.tokens r.stop (length text) query same.tokens_same same.stops_same s.spelled in
     cc
 
-module _ (schema : Schema) (text : List ℕ) where
-  pub ok_spelled : (limit : ℕ) (fault : Fault) (result : Result Query Fault) → (limit < length text → result ≡ Err fault) → (length text ≤ limit → Answers schema text result) →
-      IfOk result (λ query. Spells schema text (asked query))
-  ok_spelled limit fault (Err other) long exact = tt
-  ok_spelled limit fault (Ok query) long exact = go (nat_lt limit (length text)) refl
-    where
-      go : (b : Bool) → nat_lt limit (length text) ≡ b → Spells schema text (asked query)
-      go true e = let refused : ◌≡◌ {A = Result Query Fault} (Ok query) (Err fault) = long (ltb-true limit (length text) e) in cc
-      go false e = read_spelled schema text (asked query) (exact (ltb-false limit (length text) e))
-
-  pub err_is_memory : (result : Result Query Fault) → Answers schema text result → (query : Asked) → Spells schema text query → IfErr result (λ fault. is_memory fault ≡ true)
-  err_is_memory (Ok query) exact q s = tt
-  err_is_memory (Err fault) exact q s = go (is_memory fault) refl
-    where
-      go : (b : Bool) → is_memory fault ≡ b → is_memory fault ≡ true
-      go true e = e
-      go false e = absurd (not_refused schema text q fault s (exact e))
+pub err_is_memory : (schema : Schema) (text : List ℕ) (result : Result Query Fault) → (length text ≤ longest_statement → Answers schema text result) → (query : Asked) → Spells schema text query → IfErr result (λ fault. is_memory fault ≡ true)
+err_is_memory schema text (Ok query) exact q s = tt
+err_is_memory schema text (Err fault) exact q s = go (is_memory fault) refl
+  where
+    go : (b : Bool) → is_memory fault ≡ b → is_memory fault ≡ true
+    go true e = e
+    go false e = absurd (not_refused schema text q fault s (exact s.short e))

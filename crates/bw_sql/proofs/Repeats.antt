@@ -1,9 +1,6 @@
 -- A loop that reads one thing after another reads what repeated gives.
-use Rattle.std.proofs.Common.{Bool, true, ◌≡◌, ℕ, zero, suc, ◌<◌, ◌≤◌, List, [], ◌∷◌, ◌++◌, length, Option, Some, None, Result, Ok, Err, refl, sym, ◌∙◌, ap, arith, append_assoc}
-use Rattle.std.specs.List.{list_all}
-use Rattle.std.proofs.lemmas.Bool.{and_from}
+use Rattle.std.proofs.Common.{◌≡◌, ℕ, zero, suc, ◌<◌, ◌≤◌, List, [], ◌∷◌, ◌++◌, length, Option, Some, None, Result, Ok, Err, refl, sym, ◌∙◌, ap, arith, append_assoc}
 use Rattle.std.proofs.lemmas.List.{append-nil}
-use Rattle.std.proofs.lemmas.List.Folds.{list_all-append}
 use Rattle.bw_sql.specs.declared.reader.Stop.{Stop}
 use Rattle.bw_sql.specs.declared.reader.Stop.TheVariants.{Refused, OutOfMemory}
 use Rattle.bw_sql.specs.Reader.{Halts}
@@ -79,6 +76,3 @@ pub halts_too : {A B : Type 0} (stop : Stop) (r : Result A Halt) (w : Result B H
     Halts stop r → ((halt : Halt) → r ≡ Err halt → w ≡ Err halt) → Halts stop w
 halts_too (Refused why left) r w h passes = passes _ h
 halts_too OutOfMemory r w h passes = tt
-
-pub list_all_push : {X : Type 0} (p : X → Bool) (xs ys : List X) (x : X) → ys ≡ xs ++ x ∷ [] → list_all p xs ≡ true → p x ≡ true → list_all p ys ≡ true
-list_all_push p xs ys x e h one = ap (list_all p) e ∙ list_all-append p xs (x ∷ []) ∙ and_from _ _ h (and_from _ _ one refl)

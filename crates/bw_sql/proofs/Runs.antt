@@ -14,8 +14,10 @@ use Rattle.bw_sql.specs.declared.items.Aggregate.TheVariants as aggregate
 use Rattle.bw_sql.specs.declared.reader.Refusal.TheVariants.{Syntax}
 use Rattle.bw_sql.specs.declared.token.Mark.TheVariants as mark
 use Rattle.bw_sql.specs.Asked.{Asked}
-use Rattle.bw_sql.specs.Condition.{Condition, Conditions, And, Or}
-use Rattle.bw_sql.specs.Demand.{Depth, column_named, is_met}
+use Rattle.bw_model.specs.CondTree.{CondTree, CondTrees, And, Or}
+use Rattle.bw_model.specs.Column.{column_named}
+use Rattle.bw_sql.specs.Demand.{Depth, is_met}
+use Rattle.bw_sql.specs.Limits.{deepest_nesting}
 use Rattle.bw_sql.specs.Reading.{Halt, Nested, ◌>>=◌, refuse, more_items, same_keyword, after_keyword, after_mark, keyword_at, mark_at, name_at, digits_at, sign_at, literal_at, column_at, table_at, operand_at, repeated, with_front, range_at, list_at, range_or_list_at, null_test_at, after_comparison, behind_comparison, predicate_at, truth_at, truth_test_at, primary_in, test_in, factor_in, joined, joined_behind, term_in, condition_in, nested, selection_at, end_at, after_aggregate, aggregated_at, aggregate_item, item_at, of_one_kind, next_item_at, items_at, statement_at}
 use Rattle.bw_sql.specs.Token.{Lexeme, Name, Digits, Reserved, Compare, Punct}
 use Rattle.bw_sql.proofs.Sound.{mark_is, word_is, not_too_deep, operand_shorter, next_item_shorter, factor_shorter, term_shorter}
@@ -62,7 +64,7 @@ module _ (schema : Schema) where
       (operand_at schema (t ∷ tokens) >>= λ x. run schema (behind ++ stack) x.1)
   unfolding run step decide all_may_end may_end is_met operand_at after_keyword after_mark column_at name_at literal_at sign_at digits_at
   operand_chosen behind stack passed (Reserved word.Null) tokens = refl
-  operand_chosen behind stack passed (Name text) tokens = option_cases (column_named schema text) (λ e. rw e refl) (λ n e. rw e refl)
+  operand_chosen behind stack passed (Name text) tokens = option_cases (column_named schema.columns.items text) (λ e. rw e refl) (λ n e. rw e refl)
   operand_chosen behind stack passed (Digits digits) tokens = option_cases (number_of false digits) (λ e. rw e refl) (λ n e. rw e refl)
   operand_chosen behind stack passed (Punct mark.Plus) (Digits digits ∷ tokens) = option_cases (number_of false digits) (λ e. rw e refl) (λ n e. rw e refl)
   operand_chosen behind stack passed (Punct mark.Minus) (Digits digits ∷ tokens) = option_cases (number_of true digits) (λ e. rw e refl) (λ n e. rw e refl)
@@ -101,9 +103,9 @@ module _ (schema : Schema) {A : Type 0} (tail : Symbol) (ones : List Symbol → 
       ∙ same (one next) _ _ (λ x f. tail_runs n stack x.1 (omega (arith, laws.shorter tokens next e, laws.one_shorter next x f)) ∙ sym (assoc (repeated n after one x.1) _ _))
       ∙ sym (ap (λ r. r >>= λ xs. run schema stack xs.1) (repeated_some n tokens next e) ∙ assoc (one next) _ _))
 
-module _ (schema : Schema) (tail : Symbol) (ones : List Symbol → List Symbol) (w : Keyword) (one : List Lexeme → Result (Condition × List Lexeme) Halt)
-    (laws : TailLaws schema tail ones (after_keyword w) one) (join : Conditions → Condition) where
-  joined_tail : (first : Condition) (stack : List Symbol) (tokens : List Lexeme) →
+module _ (schema : Schema) (tail : Symbol) (ones : List Symbol → List Symbol) (w : Keyword) (one : List Lexeme → Result (CondTree × List Lexeme) Halt)
+    (laws : TailLaws schema tail ones (after_keyword w) one) (join : CondTrees → CondTree) where
+  joined_tail : (first : CondTree) (stack : List Symbol) (tokens : List Lexeme) →
       run schema (tail ∷ stack) tokens ≡ (joined_behind w join one first (after_keyword w tokens) tokens >>= λ c. run schema stack c.1)
   joined_tail first stack tokens = option_cases (after_keyword w tokens)
       (λ e. laws.ends stack tokens e ∙ sym (ap (λ o. joined_behind w join one first o tokens >>= λ c. run schema stack c.1) e))
@@ -168,13 +170,13 @@ module _ (schema : Schema) where
   predicate_tail x stack (Reserved word.In ∷ tokens) = list_in_runs x stack tokens
   predicate_tail x stack _ = refl
 
-  test_tail : (depth : ℕ) (c : Condition) (stack : List Symbol) (tokens : List Lexeme) → run schema (TestTail depth ∷ stack) tokens ≡ (truth_test_at c tokens >>= λ c. run schema stack c.1)
+  test_tail : (depth : ℕ) (c : CondTree) (stack : List Symbol) (tokens : List Lexeme) → run schema (TestTail depth ∷ stack) tokens ≡ (truth_test_at c tokens >>= λ c. run schema stack c.1)
   unfolding run step decide all_may_end may_end truth_test_at after_keyword truth_at
   test_tail depth c stack (Reserved word.Is ∷ Reserved word.Not ∷ Reserved word.True ∷ tokens) = refl
   test_tail depth c stack (Reserved word.Is ∷ Reserved word.True ∷ tokens) = refl
   test_tail depth c stack _ = refl
 
-too_deep : (depth : ℕ) → 0 + depth ≡ 100 → nat_le (suc depth) 100 ≡ false
+too_deep : (depth : ℕ) → 0 + depth ≡ deepest_nesting → nat_le (suc depth) deepest_nesting ≡ false
 too_deep depth e = grind (arith, nat_tests)
 
 -- what stands one level deeper, behind `(` and behind NOT
@@ -186,7 +188,7 @@ record LevelRuns (schema : Schema) (depth : ℕ) (inner : Nested) : Type 0 where
       proceed (ask (is_met schema) (Depth (suc depth)) false (Ok (APrimary (suc depth) ∷ TestTail (suc depth) ∷ stack))) (length next) (λ s. run schema s next) ≡
       (inner.negated (Reserved word.Not ∷ next) next >>= λ c. run schema stack c.1)
 
-module _ (schema : Schema) (n depth : ℕ) (at : n + depth ≡ 100) (level : LevelRuns schema depth (nested schema n)) where
+module _ (schema : Schema) (n depth : ℕ) (at : n + depth ≡ deepest_nesting) (level : LevelRuns schema depth (nested schema n)) where
   primary_chosen : (behind stack : List Symbol) (passed : _) (t : Lexeme) (tokens : List Lexeme) →
       proceed (chosen (is_met schema) (primary_choice depth behind t) stack passed) (length tokens) (λ next. run schema next tokens) ≡
       (primary_in schema (nested schema n) (t ∷ tokens) >>= λ c. run schema (behind ++ stack) c.1)
@@ -262,14 +264,14 @@ module _ (schema : Schema) (n depth : ℕ) (at : n + depth ≡ 100) (level : Lev
   unfolding condition_in
   condition_runs stack tokens = joined_runs schema (TermTail depth) _ word.Or (term_in schema (nested schema n)) term_laws Or stack tokens
 
-level_runs : (schema : Schema) (n depth : ℕ) → n + depth ≡ 100 → LevelRuns schema depth (nested schema n)
+level_runs : (schema : Schema) (n depth : ℕ) → n + depth ≡ deepest_nesting → LevelRuns schema depth (nested schema n)
 unfolding nested is_met
 level_runs schema zero depth e = record {
   enclosed_runs = λ behind stack next. rw (too_deep depth e) refl;
   negated_runs = λ stack next. rw (too_deep depth e) refl;
 }
 level_runs schema (suc n) depth e =
-    let less : n + suc depth ≡ 100 = omega arith in
+    let less : n + suc depth ≡ deepest_nesting = omega arith in
     let level = level_runs schema n (suc depth) less in
     record {
       enclosed_runs = λ behind stack next. rw (not_too_deep n depth e) (condition_runs schema n (suc depth) less level (Closing ∷ behind ++ stack) next
@@ -281,7 +283,7 @@ level_runs schema (suc n) depth e =
 module _ (schema : Schema) where
   selection_runs : (stack : List Symbol) (tokens : List Lexeme) → run schema (ASelection ∷ stack) tokens ≡ (selection_at schema tokens >>= λ c. run schema stack c.1)
   unfolding run step decide all_may_end may_end selection_at after_keyword
-  selection_runs stack (Reserved word.Where ∷ tokens) = condition_runs schema 100 0 refl (level_runs schema 100 0 refl) stack tokens
+  selection_runs stack (Reserved word.Where ∷ tokens) = condition_runs schema deepest_nesting 0 refl (level_runs schema deepest_nesting 0 refl) stack tokens
   selection_runs stack _ = refl
 
   end_runs : (tokens : List Lexeme) → run schema (AnEnd ∷ []) tokens ≡ end_at tokens
@@ -297,13 +299,13 @@ module _ (schema : Schema) where
 
   column_runs : (stack : List Symbol) (tokens : List Lexeme) → run schema (AColumn ∷ stack) tokens ≡ (column_at schema tokens >>= λ c. run schema stack c.1)
   unfolding run step decide all_may_end may_end is_met column_at name_at
-  column_runs stack (Name text ∷ tokens) = option_cases (column_named schema text) (λ e. rw e refl) (λ n e. rw e refl)
+  column_runs stack (Name text ∷ tokens) = option_cases (column_named schema.columns.items text) (λ e. rw e refl) (λ n e. rw e refl)
   column_runs stack _ = refl
 
   counted_runs : (stack : List Symbol) (tokens : List Lexeme) → run schema (CountArgument ∷ stack) tokens ≡ (aggregated_at schema aggregate.Count tokens >>= λ item. run schema stack item.1)
   unfolding run step decide all_may_end may_end is_met aggregated_at after_mark column_at name_at
   counted_runs stack (Punct mark.Star ∷ tokens) = refl
-  counted_runs stack (Name text ∷ tokens) = option_cases (column_named schema text) (λ e. rw e refl) (λ n e. rw e refl)
+  counted_runs stack (Name text ∷ tokens) = option_cases (column_named schema.columns.items text) (λ e. rw e refl) (λ n e. rw e refl)
   counted_runs stack _ = refl
 
   abbrev argument : Aggregate → Symbol
@@ -327,10 +329,10 @@ module _ (schema : Schema) where
 
   next_item_runs : (first : Bool) (stack : List Symbol) (tokens : List Lexeme) → run schema (AnItem first ∷ stack) tokens ≡ (next_item_at schema first tokens >>= λ x. run schema stack x.1)
   unfolding run step decide all_may_end may_end is_met next_item_at of_one_kind item_at after_aggregate after_keyword column_at name_at
-  next_item_runs true stack (Name text ∷ tokens) = option_cases (column_named schema text) (λ e. rw e refl) (λ n e. rw e refl)
+  next_item_runs true stack (Name text ∷ tokens) = option_cases (column_named schema.columns.items text) (λ e. rw e refl) (λ n e. rw e refl)
   next_item_runs true stack (Reserved word.Count ∷ tokens) = refl
   next_item_runs true stack _ = refl
-  next_item_runs false stack (Name text ∷ tokens) = option_cases (column_named schema text) (λ e. rw e refl) (λ n e. rw e refl)
+  next_item_runs false stack (Name text ∷ tokens) = option_cases (column_named schema.columns.items text) (λ e. rw e refl) (λ n e. rw e refl)
   next_item_runs false stack (Reserved word.Count ∷ tokens) = aggregate_runs aggregate.Count stack (Reserved word.Count ∷ tokens) tokens
   next_item_runs false stack (Reserved word.Sum ∷ tokens) = aggregate_runs aggregate.Sum stack (Reserved word.Sum ∷ tokens) tokens
   next_item_runs false stack (Reserved word.Min ∷ tokens) = aggregate_runs aggregate.Min stack (Reserved word.Min ∷ tokens) tokens
@@ -367,7 +369,7 @@ module _ (schema : Schema) where
   list_runs : (stack : List Symbol) (tokens : List Lexeme) → run schema (ItemList ∷ stack) tokens ≡ (items_at schema tokens >>= λ xs. run schema stack xs.1)
   unfolding run step decide all_may_end may_end is_met items_at after_mark item_at after_aggregate after_keyword column_at name_at
   list_runs stack (Punct mark.Star ∷ tokens) = refl
-  list_runs stack (Name text ∷ tokens) = option_cases (column_named schema text) (λ e. rw e refl) (λ n e. rw e (more_items_run (Plain n) stack true tokens))
+  list_runs stack (Name text ∷ tokens) = option_cases (column_named schema.columns.items text) (λ e. rw e refl) (λ n e. rw e (more_items_run (Plain n) stack true tokens))
   list_runs stack (Reserved word.Count ∷ tokens) = first_aggregate aggregate.Count stack (Reserved word.Count ∷ tokens) tokens
   list_runs stack (Reserved word.Sum ∷ tokens) = first_aggregate aggregate.Sum stack (Reserved word.Sum ∷ tokens) tokens
   list_runs stack (Reserved word.Min ∷ tokens) = first_aggregate aggregate.Min stack (Reserved word.Min ∷ tokens) tokens

@@ -20,9 +20,11 @@ use Rattle.bw_sql.specs.declared.reader.Refusal.TheVariants.{Syntax, UnknownTabl
 use Rattle.bw_sql.specs.declared.token.Mark.{Mark}
 use Rattle.bw_sql.specs.declared.token.Mark.TheVariants as mark
 use Rattle.bw_sql.specs.Asked.{Asked}
-use Rattle.bw_sql.specs.Condition.{Condition, And, Or}
-use Rattle.bw_sql.specs.Demand.{IsTable, IsColumn, Fits, OfOneKind, column_named, column_number, column_or_first, is_met, signed}
+use Rattle.bw_model.specs.CondTree.{CondTree, And, Or}
+use Rattle.bw_model.specs.Column.{column_named}
+use Rattle.bw_sql.specs.Demand.{IsTable, IsColumn, Fits, OfOneKind, column_number, column_or_first, is_met, signed}
 use Rattle.bw_sql.specs.Grammar.{TruthIs, OperandIs, MoreOperands, RangeIs, PredicateIs, ConditionIs, MoreTerms, TermIs, MoreFactors, FactorIs, TestIs, PrimaryIs, ItemIs, MoreItems, ItemsAre, SelectionIs, EndIs, IsQuery, true_word, false_word, unknown_word, null, column, unsigned, plus, minus, last_operand, next_operand, between, among, comparison, range, not_range, is_null, is_not_null, terms, last_term, next_term, factors, last_factor, next_factor, test, not_test, primary, is, is_not, predicate, bracket, plain, count_all, count, sum, least, greatest, last_item, next_item, star, items, all_rows, rows_where, bare, semicolon, statement}
+use Rattle.bw_sql.specs.Limits.{deepest_nesting}
 use Rattle.bw_sql.specs.Piece.{mark_spelling}
 use Rattle.bw_sql.specs.Reading.{Halt, Nested, ◌>>=◌, refuse, wanted, begins_with_name, same_keyword, same_mark, after_keyword, after_mark, keyword_at, mark_at, name_at, digits_at, sign_at, literal_at, column_at, table_at, operand_at, repeated, with_front, range_or_list_at, null_test_at, after_comparison, behind_comparison, predicate_at, truth_at, truth_test_at, primary_in, test_in, factor_in, joined_behind, term_in, condition_in, nested, column_of, of_column, selection_at, end_at, after_aggregate, aggregated_at, item_at, of_one_kind, next_item_at, items_at, statement_at}
 use Rattle.bw_sql.specs.Token.{Lexeme, Name, Digits, Reserved, Compare, Punct}
@@ -114,11 +116,11 @@ truth_read _ = stops
 
 module _ (schema : Schema) where
   column_found : (tokens : List Lexeme) (text : List ℕ) (P : ℕ → Type 0) → (is_met schema (IsColumn text) ≡ true → P (column_number schema text)) →
-      Sound P (wanted (column_named schema text) UnknownColumn tokens)
+      Sound P (wanted (column_named schema.columns.items text) UnknownColumn tokens)
   unfolding is_met
-  column_found tokens text P given = go (column_named schema text) refl
+  column_found tokens text P given = go (column_named schema.columns.items text) refl
     where
-      go : (o : Option ℕ) → column_named schema text ≡ o → Sound P (wanted o UnknownColumn tokens)
+      go : (o : Option ℕ) → column_named schema.columns.items text ≡ o → Sound P (wanted o UnknownColumn tokens)
       go None e = stops
       go (Some n) e = gives (subst P (ap column_or_first e) (given (ap is_some e)))
 
@@ -180,7 +182,7 @@ record Deeper (schema : Schema) (depth : ℕ) (inner : Nested) : Type 0 where
   enclosed : (next : List Lexeme) → Sound (λ r. PrimaryIs schema (is_met schema) depth (Punct mark.Open ∷ next) r.1 r.0) (inner.enclosed (Punct mark.Open ∷ next) next)
   negated : (next : List Lexeme) → Sound (λ r. FactorIs schema (is_met schema) depth (Reserved word.Not ∷ next) r.1 r.0) (inner.negated (Reserved word.Not ∷ next) next)
 
-behind_test : {schema : Schema} {depth : ℕ} {tokens : List Lexeme} (c : Condition) (rest : List Lexeme) → PrimaryIs schema (is_met schema) depth tokens rest c →
+behind_test : {schema : Schema} {depth : ℕ} {tokens : List Lexeme} (c : CondTree) (rest : List Lexeme) → PrimaryIs schema (is_met schema) depth tokens rest c →
     Sound (λ r. TestIs schema (is_met schema) depth tokens r.1 r.0) (truth_test_at c rest)
 unfolding truth_test_at after_keyword
 behind_test c (Reserved word.Is ∷ Reserved word.Not ∷ rest) p = bind _ (truth_read rest) (λ t q. gives (is_not p q))
@@ -208,7 +210,7 @@ module _ (schema : Schema) (depth : ℕ) (inner : Nested) (deeper : Deeper schem
   factors_read (suc n) (Reserved word.And ∷ tokens) = bind _ (factor_read tokens) (λ c p. bind _ (factors_read n c.1) (λ cs q. gives (next_factor p q)))
   factors_read (suc n) tokens = gives last_factor
 
-  behind_factor : (tokens : List Lexeme) (c : Condition) (rest : List Lexeme) → FactorIs schema (is_met schema) depth tokens rest c →
+  behind_factor : (tokens : List Lexeme) (c : CondTree) (rest : List Lexeme) → FactorIs schema (is_met schema) depth tokens rest c →
       Sound (λ r. TermIs schema (is_met schema) depth tokens r.1 r.0) (joined_behind word.And And (factor_in schema inner) c (after_keyword word.And rest) rest)
   unfolding after_keyword
   behind_factor tokens c (Reserved word.And ∷ next) p =
@@ -225,7 +227,7 @@ module _ (schema : Schema) (depth : ℕ) (inner : Nested) (deeper : Deeper schem
   terms_read (suc n) (Reserved word.Or ∷ tokens) = bind _ (term_read tokens) (λ c p. bind _ (terms_read n c.1) (λ cs q. gives (next_term p q)))
   terms_read (suc n) tokens = gives last_term
 
-  behind_term : (tokens : List Lexeme) (c : Condition) (rest : List Lexeme) → TermIs schema (is_met schema) depth tokens rest c →
+  behind_term : (tokens : List Lexeme) (c : CondTree) (rest : List Lexeme) → TermIs schema (is_met schema) depth tokens rest c →
       Sound (λ r. ConditionIs schema (is_met schema) depth tokens r.1 r.0) (joined_behind word.Or Or (term_in schema inner) c (after_keyword word.Or rest) rest)
   unfolding after_keyword
   behind_term tokens c (Reserved word.Or ∷ next) p =
@@ -236,14 +238,14 @@ module _ (schema : Schema) (depth : ℕ) (inner : Nested) (deeper : Deeper schem
   unfolding condition_in
   condition_read tokens = bind _ (term_read tokens) (λ c p. behind_term tokens c.0 c.1 p)
 
-pub not_too_deep : (n depth : ℕ) → suc n + depth ≡ 100 → nat_le (suc depth) 100 ≡ true
+pub not_too_deep : (n depth : ℕ) → suc n + depth ≡ deepest_nesting → nat_le (suc depth) deepest_nesting ≡ true
 not_too_deep n depth e = grind (arith, nat_tests)
 
-deeper_in : (schema : Schema) (n depth : ℕ) → n + depth ≡ 100 → Deeper schema depth (nested schema n)
+deeper_in : (schema : Schema) (n depth : ℕ) → n + depth ≡ deepest_nesting → Deeper schema depth (nested schema n)
 unfolding nested is_met
 deeper_in schema zero depth e = record { enclosed = λ next. stops; negated = λ next. stops }
 deeper_in schema (suc n) depth e =
-    let less : n + suc depth ≡ 100 = omega arith in
+    let less : n + suc depth ≡ deepest_nesting = omega arith in
     let deeper = deeper_in schema n (suc depth) less in
     record {
       enclosed = λ next. bind _ (condition_read schema (suc depth) (nested schema n) deeper next) (λ c p. bind _ (mark_read mark.Close c.1)
@@ -316,7 +318,7 @@ module _ (schema : Schema) where
 
   selection_read : (tokens : List Lexeme) → Sound (λ r. SelectionIs schema (is_met schema) tokens r.1 r.0) (selection_at schema tokens)
   unfolding selection_at after_keyword
-  selection_read (Reserved word.Where ∷ tokens) = over (condition_read schema 0 (nested schema 100) (deeper_in schema 100 0 refl) tokens) (λ c p. rows_where p)
+  selection_read (Reserved word.Where ∷ tokens) = over (condition_read schema 0 (nested schema deepest_nesting) (deeper_in schema deepest_nesting 0 refl) tokens) (λ c p. rows_where p)
   selection_read tokens = gives all_rows
 
   end_read : (tokens : List Lexeme) → Sound (λ ended. EndIs tokens) (end_at tokens)
@@ -351,13 +353,13 @@ module _ (schema : Schema) where
       (subst (Sound (λ r. (kind : Bool) × (is_met schema (OfOneKind first kind) ≡ true) × ItemIs schema (is_met schema) kind tokens r.1 r.0)) e (next_item_read schema first tokens)) in
       omega (arith, item_length schema (is_met schema) p.2)
 
-  pub factor_shorter : (n depth : ℕ) → n + depth ≡ 100 → (tokens : List Lexeme) (x : Condition × List Lexeme) → factor_in schema (nested schema n) tokens ≡ Ok x → length x.1 ≤ length tokens
+  pub factor_shorter : (n depth : ℕ) → n + depth ≡ deepest_nesting → (tokens : List Lexeme) (x : CondTree × List Lexeme) → factor_in schema (nested schema n) tokens ≡ Ok x → length x.1 ≤ length tokens
   factor_shorter n depth h tokens x e =
       let p = given_of (λ r. FactorIs schema (is_met schema) depth tokens r.1 r.0) x
       (subst (Sound (λ r. FactorIs schema (is_met schema) depth tokens r.1 r.0)) e (factor_read schema depth (nested schema n) (deeper_in schema n depth h) tokens)) in
       omega (arith, factor_length schema (is_met schema) p)
 
-  pub term_shorter : (n depth : ℕ) → n + depth ≡ 100 → (tokens : List Lexeme) (x : Condition × List Lexeme) → term_in schema (nested schema n) tokens ≡ Ok x → length x.1 ≤ length tokens
+  pub term_shorter : (n depth : ℕ) → n + depth ≡ deepest_nesting → (tokens : List Lexeme) (x : CondTree × List Lexeme) → term_in schema (nested schema n) tokens ≡ Ok x → length x.1 ≤ length tokens
   term_shorter n depth h tokens x e =
       let p = given_of (λ r. TermIs schema (is_met schema) depth tokens r.1 r.0) x
       (subst (Sound (λ r. TermIs schema (is_met schema) depth tokens r.1 r.0)) e (term_read schema depth (nested schema n) (deeper_in schema n depth h) tokens)) in

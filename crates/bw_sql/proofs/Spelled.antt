@@ -11,9 +11,11 @@ use Rattle.bw_sql.specs.declared.reader.Refusal.TheVariants.{UnknownTable, Unkno
 use Rattle.bw_sql.specs.declared.token.Mark.TheVariants as mark
 use Rattle.bw_model.specs.Text.{same_text}
 use Rattle.bw_sql.specs.Asked.{Asked}
-use Rattle.bw_sql.specs.Condition.{Condition}
-use Rattle.bw_sql.specs.Demand.{Demand, IsTable, IsColumn, Fits, OfOneKind, Depth, column_named, column_number, column_or_first, is_met, refusal, signed}
+use Rattle.bw_model.specs.CondTree.{CondTree}
+use Rattle.bw_model.specs.Column.{column_named}
+use Rattle.bw_sql.specs.Demand.{Demand, IsTable, IsColumn, Fits, OfOneKind, Depth, column_number, column_or_first, is_met, refusal, signed}
 use Rattle.bw_sql.specs.Grammar.{TruthIs, OperandIs, MoreOperands, RangeIs, PredicateIs, ConditionIs, MoreTerms, TermIs, MoreFactors, FactorIs, TestIs, PrimaryIs, ItemIs, MoreItems, ItemsAre, SelectionIs, EndIs, StatementIs, IsQuery, true_word, false_word, unknown_word, null, column, unsigned, plus, minus, last_operand, next_operand, between, among, comparison, range, not_range, is_null, is_not_null, terms, last_term, next_term, factors, last_factor, next_factor, test, not_test, primary, is, is_not, predicate, bracket, plain, count_all, count, sum, least, greatest, last_item, next_item, star, items, all_rows, rows_where, bare, semicolon, statement}
+use Rattle.bw_sql.specs.Limits.{deepest_nesting}
 use Rattle.bw_sql.specs.Reading.{Halt, ◌>>=◌, refuse, wanted, begins_with_name, after_keyword, after_mark, keyword_at, mark_at, name_at, digits_at, sign_at, literal_at, column_at, table_at, operand_at, repeated, range_or_list_at, null_test_at, after_comparison, predicate_at, truth_at, truth_test_at, primary_in, test_in, factor_in, term_in, condition_in, nested, selection_at, end_at, after_aggregate, aggregated_at, item_at, of_one_kind, next_item_at, items_at, statement_at}
 use Rattle.bw_sql.specs.Token.{Lexeme, Name}
 use Rattle.bw_sql.proofs.Lengths.{operand_length, term_length, factor_length, item_length}
@@ -34,7 +36,7 @@ unfolding number_of
 fitting true digits n e = some_or_none (nat_le (decimal digits) (2 ^ 63)) (signed true digits) n e
 fitting false digits n e = some_or_none (nat_lt (decimal digits) (2 ^ 63)) (signed false digits) n e
 
-too_deep : (depth : ℕ) → 0 + depth ≡ 100 → nat_le (suc depth) 100 ≡ false
+too_deep : (depth : ℕ) → 0 + depth ≡ deepest_nesting → nat_le (suc depth) deepest_nesting ≡ false
 too_deep depth e = grind (arith, nat_tests)
 
 -- Behind a test no IS comes, behind a term no AND, and behind a condition no OR.
@@ -65,11 +67,11 @@ module _ (schema : Schema) (met : Demand → Bool) where
   and_then f (excused d left m u e) o = excused d left m u (ap (λ r. r >>= f) e)
 
   column_wanted : (text : List ℕ) (tokens : List Lexeme) → met (IsColumn text) ≡ true →
-      Outcome schema met (wanted (column_named schema text) UnknownColumn tokens) (column_number schema text)
+      Outcome schema met (wanted (column_named schema.columns.items text) UnknownColumn tokens) (column_number schema text)
   unfolding is_met
-  column_wanted text tokens m = go (column_named schema text) refl
+  column_wanted text tokens m = go (column_named schema.columns.items text) refl
     where
-      go : (o : Option ℕ) → column_named schema text ≡ o → Outcome schema met (wanted (column_named schema text) UnknownColumn tokens) (column_number schema text)
+      go : (o : Option ℕ) → column_named schema.columns.items text ≡ o → Outcome schema met (wanted (column_named schema.columns.items text) UnknownColumn tokens) (column_number schema text)
       go None e = excused (IsColumn text) (length tokens) m (ap is_some e) (ap (λ o. wanted o UnknownColumn tokens) e)
       go (Some n) e = reads (ap (λ o. wanted o UnknownColumn tokens) e ∙ ap Ok (sym (ap column_or_first e)))
 
@@ -99,12 +101,12 @@ module _ (schema : Schema) (met : Demand → Bool) where
   operands_read (next_operand x xs) (suc n) h e =
       and_then _ (operand_read x) (and_then _ (operands_read xs n (omega (arith, operand_length schema met x)) e) (reads refl))
 
-  range_read : {tokens rest : List Lexeme} {x : Operand} {c : Condition} → RangeIs schema met x tokens rest c → Outcome schema met (range_or_list_at schema x tokens) (c, rest)
+  range_read : {tokens rest : List Lexeme} {x : Operand} {c : CondTree} → RangeIs schema met x tokens rest c → Outcome schema met (range_or_list_at schema x tokens) (c, rest)
   unfolding range_or_list_at after_keyword after_mark keyword_at mark_at
   range_read (between y z) = and_then _ (operand_read y) (and_then _ (operand_read z) (reads refl))
   range_read (among {others = others} y ys) = and_then _ (operand_read y) (and_then _ (and_then _ (operands_read ys (length others) (omega arith) refl) (reads refl)) (reads refl))
 
-  predicate_read : {tokens rest : List Lexeme} {c : Condition} → PredicateIs schema met tokens rest c → Outcome schema met (predicate_at schema tokens) (c, rest)
+  predicate_read : {tokens rest : List Lexeme} {c : CondTree} → PredicateIs schema met tokens rest c → Outcome schema met (predicate_at schema tokens) (c, rest)
   unfolding predicate_at after_comparison after_keyword null_test_at keyword_at
   predicate_read (comparison x y) = and_then _ (operand_read x) (and_then _ (operand_read y) (reads refl))
   predicate_read (range x (between y z)) = and_then _ (operand_read x) (range_read (between y z))
@@ -122,30 +124,30 @@ module _ (schema : Schema) (met : Demand → Bool) where
   operand_begins (plus m) = (refl, refl)
   operand_begins (minus m) = (refl, refl)
 
-  predicate_begins : {tokens rest : List Lexeme} {c : Condition} → PredicateIs schema met tokens rest c → (after_mark mark.Open tokens ≡ None) × (after_keyword word.Not tokens ≡ None)
+  predicate_begins : {tokens rest : List Lexeme} {c : CondTree} → PredicateIs schema met tokens rest c → (after_mark mark.Open tokens ≡ None) × (after_keyword word.Not tokens ≡ None)
   predicate_begins (comparison x y) = operand_begins x
   predicate_begins (range x y) = operand_begins x
   predicate_begins (not_range x y) = operand_begins x
   predicate_begins (is_null x) = operand_begins x
   predicate_begins (is_not_null x) = operand_begins x
 
-  primary_begins : {depth : ℕ} {tokens rest : List Lexeme} {c : Condition} → PrimaryIs schema met depth tokens rest c → after_keyword word.Not tokens ≡ None
+  primary_begins : {depth : ℕ} {tokens rest : List Lexeme} {c : CondTree} → PrimaryIs schema met depth tokens rest c → after_keyword word.Not tokens ≡ None
   unfolding after_keyword
   primary_begins (predicate c) = (predicate_begins c).1
   primary_begins (bracket m c) = refl
 
-  test_begins : {depth : ℕ} {tokens rest : List Lexeme} {c : Condition} → TestIs schema met depth tokens rest c → after_keyword word.Not tokens ≡ None
+  test_begins : {depth : ℕ} {tokens rest : List Lexeme} {c : CondTree} → TestIs schema met depth tokens rest c → after_keyword word.Not tokens ≡ None
   test_begins (primary c) = primary_begins c
   test_begins (is c t) = primary_begins c
   test_begins (is_not c t) = primary_begins c
 
   -- what may follow a test and a term
-  factors_begin : {depth : ℕ} {tokens rest : List Lexeme} {cs : List Condition} → MoreFactors schema met depth tokens rest cs → after_keyword word.Is rest ≡ None → after_keyword word.Is tokens ≡ None
+  factors_begin : {depth : ℕ} {tokens rest : List Lexeme} {cs : List CondTree} → MoreFactors schema met depth tokens rest cs → after_keyword word.Is rest ≡ None → after_keyword word.Is tokens ≡ None
   unfolding after_keyword
   factors_begin last_factor e = e
   factors_begin (next_factor c cs) e = refl
 
-  terms_begin : {depth : ℕ} {tokens rest : List Lexeme} {cs : List Condition} → MoreTerms schema met depth tokens rest cs → TermEnds rest → TermEnds tokens
+  terms_begin : {depth : ℕ} {tokens rest : List Lexeme} {cs : List CondTree} → MoreTerms schema met depth tokens rest cs → TermEnds rest → TermEnds tokens
   unfolding after_keyword
   terms_begin last_term e = e
   terms_begin (next_term c cs) e = record { is_ends = refl; and_ends = refl }
@@ -153,7 +155,7 @@ module _ (schema : Schema) (met : Demand → Bool) where
   mutual
     unfolding condition_in term_in factor_in test_in primary_in truth_test_at repeated after_keyword after_mark mark_at nested is_met
 
-    condition_read : {depth : ℕ} {tokens rest : List Lexeme} {c : Condition} → ConditionIs schema met depth tokens rest c → (n : ℕ) → n + depth ≡ 100 → ConditionEnds rest →
+    condition_read : {depth : ℕ} {tokens rest : List Lexeme} {c : CondTree} → ConditionIs schema met depth tokens rest c → (n : ℕ) → n + depth ≡ deepest_nesting → ConditionEnds rest →
         Outcome schema met (condition_in schema (nested schema n) tokens) (c, rest)
     condition_read (terms c last_term) n h e = and_then _ (term_read c n h e.term_ends) (rw e.or_ends (reads refl))
     condition_read (terms c (next_term {others = others} d ds)) n h e =
@@ -161,7 +163,7 @@ module _ (schema : Schema) (met : Demand → Bool) where
         (and_then _ (term_read d n h (terms_begin ds e.term_ends))
         (and_then _ (and_then _ (terms_read ds n h (length others) (omega arith) e) (reads refl)) (reads refl)))
 
-    terms_read : {depth : ℕ} {tokens rest : List Lexeme} {cs : List Condition} → MoreTerms schema met depth tokens rest cs → (n : ℕ) → n + depth ≡ 100 → (fuel : ℕ) → length tokens ≤ fuel → ConditionEnds rest →
+    terms_read : {depth : ℕ} {tokens rest : List Lexeme} {cs : List CondTree} → MoreTerms schema met depth tokens rest cs → (n : ℕ) → n + depth ≡ deepest_nesting → (fuel : ℕ) → length tokens ≤ fuel → ConditionEnds rest →
         Outcome schema met (repeated fuel (after_keyword word.Or) (term_in schema (nested schema n)) tokens) (cs, rest)
     terms_read last_term n h zero l e = reads refl
     terms_read last_term n h (suc fuel) l e = rw e.or_ends (reads refl)
@@ -169,7 +171,7 @@ module _ (schema : Schema) (met : Demand → Bool) where
     terms_read (next_term c cs) n h (suc fuel) l e =
         and_then _ (term_read c n h (terms_begin cs e.term_ends)) (and_then _ (terms_read cs n h fuel (omega (arith, term_length schema met c)) e) (reads refl))
 
-    term_read : {depth : ℕ} {tokens rest : List Lexeme} {c : Condition} → TermIs schema met depth tokens rest c → (n : ℕ) → n + depth ≡ 100 → TermEnds rest →
+    term_read : {depth : ℕ} {tokens rest : List Lexeme} {c : CondTree} → TermIs schema met depth tokens rest c → (n : ℕ) → n + depth ≡ deepest_nesting → TermEnds rest →
         Outcome schema met (term_in schema (nested schema n) tokens) (c, rest)
     term_read (factors c last_factor) n h e = and_then _ (factor_read c n h e.is_ends) (rw e.and_ends (reads refl))
     term_read (factors c (next_factor {others = others} d ds)) n h e =
@@ -177,7 +179,7 @@ module _ (schema : Schema) (met : Demand → Bool) where
         (and_then _ (factor_read d n h (factors_begin ds e.is_ends))
         (and_then _ (and_then _ (factors_read ds n h (length others) (omega arith) e) (reads refl)) (reads refl)))
 
-    factors_read : {depth : ℕ} {tokens rest : List Lexeme} {cs : List Condition} → MoreFactors schema met depth tokens rest cs → (n : ℕ) → n + depth ≡ 100 → (fuel : ℕ) → length tokens ≤ fuel → TermEnds rest →
+    factors_read : {depth : ℕ} {tokens rest : List Lexeme} {cs : List CondTree} → MoreFactors schema met depth tokens rest cs → (n : ℕ) → n + depth ≡ deepest_nesting → (fuel : ℕ) → length tokens ≤ fuel → TermEnds rest →
         Outcome schema met (repeated fuel (after_keyword word.And) (factor_in schema (nested schema n)) tokens) (cs, rest)
     factors_read last_factor n h zero l e = reads refl
     factors_read last_factor n h (suc fuel) l e = rw e.and_ends (reads refl)
@@ -185,23 +187,23 @@ module _ (schema : Schema) (met : Demand → Bool) where
     factors_read (next_factor c cs) n h (suc fuel) l e =
         and_then _ (factor_read c n h (factors_begin cs e.is_ends)) (and_then _ (factors_read cs n h fuel (omega (arith, factor_length schema met c)) e) (reads refl))
 
-    factor_read : {depth : ℕ} {tokens rest : List Lexeme} {c : Condition} → FactorIs schema met depth tokens rest c → (n : ℕ) → n + depth ≡ 100 → after_keyword word.Is rest ≡ None →
+    factor_read : {depth : ℕ} {tokens rest : List Lexeme} {c : CondTree} → FactorIs schema met depth tokens rest c → (n : ℕ) → n + depth ≡ deepest_nesting → after_keyword word.Is rest ≡ None →
         Outcome schema met (factor_in schema (nested schema n) tokens) (c, rest)
     factor_read (test c) n h e = rw (test_begins c) (test_read c n h e)
     factor_read (not_test {depth = depth} {tokens = tokens} m c) zero h e = excused (Depth (suc depth)) (suc (length tokens)) m (too_deep depth h) refl
-    factor_read (not_test {depth = depth} m c) (suc n) h e = let deeper : n + suc depth ≡ 100 = omega arith in and_then _ (test_read c n deeper e) (reads refl)
+    factor_read (not_test {depth = depth} m c) (suc n) h e = let deeper : n + suc depth ≡ deepest_nesting = omega arith in and_then _ (test_read c n deeper e) (reads refl)
 
-    test_read : {depth : ℕ} {tokens rest : List Lexeme} {c : Condition} → TestIs schema met depth tokens rest c → (n : ℕ) → n + depth ≡ 100 → after_keyword word.Is rest ≡ None →
+    test_read : {depth : ℕ} {tokens rest : List Lexeme} {c : CondTree} → TestIs schema met depth tokens rest c → (n : ℕ) → n + depth ≡ deepest_nesting → after_keyword word.Is rest ≡ None →
         Outcome schema met (test_in schema (nested schema n) tokens) (c, rest)
     test_read (primary c) n h e = and_then _ (primary_read c n h) (rw e (reads refl))
     test_read (is c t) n h e = and_then _ (primary_read c n h) (rw (truth_no_not t, truth_read t) (reads refl))
     test_read (is_not c t) n h e = and_then _ (primary_read c n h) (rw (truth_read t) (reads refl))
 
-    primary_read : {depth : ℕ} {tokens rest : List Lexeme} {c : Condition} → PrimaryIs schema met depth tokens rest c → (n : ℕ) → n + depth ≡ 100 →
+    primary_read : {depth : ℕ} {tokens rest : List Lexeme} {c : CondTree} → PrimaryIs schema met depth tokens rest c → (n : ℕ) → n + depth ≡ deepest_nesting →
         Outcome schema met (primary_in schema (nested schema n) tokens) (c, rest)
     primary_read (predicate c) n h = rw (predicate_begins c).0 (predicate_read c)
     primary_read (bracket {depth = depth} {tokens = tokens} m c) zero h = excused (Depth (suc depth)) (suc (length tokens)) m (too_deep depth h) refl
-    primary_read (bracket {depth = depth} m c) (suc n) h = let deeper : n + suc depth ≡ 100 = omega arith in
+    primary_read (bracket {depth = depth} m c) (suc n) h = let deeper : n + suc depth ≡ deepest_nesting = omega arith in
         and_then _ (condition_read c n deeper (record { term_ends = record { is_ends = refl; and_ends = refl }; or_ends = refl })) (reads refl)
 
   item_read : {kind : Bool} {tokens rest : List Lexeme} {item : Item} → ItemIs schema met kind tokens rest item → Outcome schema met (item_at schema tokens) (item, rest)
@@ -262,10 +264,10 @@ module _ (schema : Schema) (met : Demand → Bool) where
   end_read bare = refl
   end_read semicolon = refl
 
-  selection_read : {tokens last : List Lexeme} {c : Condition} → SelectionIs schema met tokens last c → EndIs last → Outcome schema met (selection_at schema tokens) (c, last)
+  selection_read : {tokens last : List Lexeme} {c : CondTree} → SelectionIs schema met tokens last c → EndIs last → Outcome schema met (selection_at schema tokens) (c, last)
   unfolding selection_at after_keyword
   selection_read all_rows e = rw (end_ends e).0 (reads refl)
-  selection_read (rows_where c) e = condition_read c 100 refl (end_ends e).1
+  selection_read (rows_where c) e = condition_read c deepest_nesting refl (end_ends e).1
 
   table_read : {table : List ℕ} {rest : List Lexeme} → met (IsTable table) ≡ true → Outcome schema met (table_at schema (Name table ∷ rest)) rest
   unfolding table_at name_at is_met

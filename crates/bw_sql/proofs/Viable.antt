@@ -18,8 +18,9 @@ use Rattle.bw_model.specs.Number.{decimal, number_of}
 use Rattle.bw_model.specs.Text.{same_text}
 use Rattle.bw_sql.specs.declared.token.Mark.TheVariants as mark
 use Rattle.bw_sql.specs.Asked.{Asked}
-use Rattle.bw_sql.specs.Condition.{Condition, Always, Cmp, Between, IsNull, Test, Not, Among, And, Or}
-use Rattle.bw_sql.specs.Demand.{Demand, IsTable, IsColumn, Fits, OfOneKind, column_named, column_number, every_column, is_met, refusal, signed}
+use Rattle.bw_model.specs.CondTree.{CondTree, Always, Cmp, Between, IsNull, Test, Not, Among, And, Or}
+use Rattle.bw_model.specs.Column.{column_named}
+use Rattle.bw_sql.specs.Demand.{Demand, IsTable, IsColumn, Fits, OfOneKind, column_number, every_column, is_met, refusal, signed}
 use Rattle.bw_sql.specs.Frontier.{Viable}
 use Rattle.bw_sql.specs.Grammar.{OperandIs, MoreOperands, RangeIs, PredicateIs, ConditionIs, MoreTerms, MoreFactors, FactorIs, TestIs, PrimaryIs, ItemIs, MoreItems, ItemsAre, SelectionIs, EndIs, StatementIs, joined, true_word, false_word, unknown_word, null, column, unsigned, plus, minus, last_operand, next_operand, between, among, comparison, range, not_range, is_null, is_not_null, terms, last_term, next_term, factors, last_factor, next_factor, test, not_test, primary, is, is_not, predicate, bracket, plain, count_all, count, sum, least, greatest, last_item, next_item, star, items, all_rows, rows_where, bare, semicolon, statement}
 use Rattle.bw_sql.specs.Reading.{same_keyword}
@@ -35,25 +36,25 @@ module _ (schema : Schema) (met : Demand → Bool) where
   Means Closing tokens rest = tokens ≡ Punct mark.Close ∷ rest
   Means AnOperand tokens rest = (x : Operand) × OperandIs schema met tokens rest x
   Means (SignedDigits is_negative) tokens rest = (digits : List ℕ) × (met (Fits is_negative digits) ≡ true) × (tokens ≡ Digits digits ∷ rest)
-  Means PredicateTail tokens rest = (before : List Lexeme) (x : Operand) → OperandIs schema met before tokens x → (c : Condition) × PredicateIs schema met before rest c
-  Means RangeTail tokens rest = (x : Operand) → (c : Condition) × RangeIs schema met x tokens rest c
-  Means NullTail tokens rest = (before : List Lexeme) (x : Operand) → OperandIs schema met before (Reserved word.Is ∷ tokens) x → (c : Condition) × PredicateIs schema met before rest c
-  Means NotNullTail tokens rest = (before : List Lexeme) (x : Operand) → OperandIs schema met before (Reserved word.Is ∷ Reserved word.Not ∷ tokens) x → (c : Condition) × PredicateIs schema met before rest c
+  Means PredicateTail tokens rest = (before : List Lexeme) (x : Operand) → OperandIs schema met before tokens x → (c : CondTree) × PredicateIs schema met before rest c
+  Means RangeTail tokens rest = (x : Operand) → (c : CondTree) × RangeIs schema met x tokens rest c
+  Means NullTail tokens rest = (before : List Lexeme) (x : Operand) → OperandIs schema met before (Reserved word.Is ∷ tokens) x → (c : CondTree) × PredicateIs schema met before rest c
+  Means NotNullTail tokens rest = (before : List Lexeme) (x : Operand) → OperandIs schema met before (Reserved word.Is ∷ Reserved word.Not ∷ tokens) x → (c : CondTree) × PredicateIs schema met before rest c
   Means OperandTail tokens rest = (xs : List Operand) × MoreOperands schema met tokens rest xs
-  Means (AFactor depth) tokens rest = (c : Condition) × FactorIs schema met depth tokens rest c
-  Means (APrimary depth) tokens rest = (c : Condition) × PrimaryIs schema met depth tokens rest c
-  Means (TestTail depth) tokens rest = (before : List Lexeme) (c : Condition) → PrimaryIs schema met depth before tokens c → (d : Condition) × TestIs schema met depth before rest d
-  Means (TruthTail depth) tokens rest = (before : List Lexeme) (c : Condition) → PrimaryIs schema met depth before (Reserved word.Is ∷ tokens) c → (d : Condition) × TestIs schema met depth before rest d
-  Means (NotTruthTail depth) tokens rest = (before : List Lexeme) (c : Condition) → PrimaryIs schema met depth before (Reserved word.Is ∷ Reserved word.Not ∷ tokens) c → (d : Condition) × TestIs schema met depth before rest d
-  Means (FactorTail depth) tokens rest = (cs : List Condition) × MoreFactors schema met depth tokens rest cs
-  Means (TermTail depth) tokens rest = (cs : List Condition) × MoreTerms schema met depth tokens rest cs
+  Means (AFactor depth) tokens rest = (c : CondTree) × FactorIs schema met depth tokens rest c
+  Means (APrimary depth) tokens rest = (c : CondTree) × PrimaryIs schema met depth tokens rest c
+  Means (TestTail depth) tokens rest = (before : List Lexeme) (c : CondTree) → PrimaryIs schema met depth before tokens c → (d : CondTree) × TestIs schema met depth before rest d
+  Means (TruthTail depth) tokens rest = (before : List Lexeme) (c : CondTree) → PrimaryIs schema met depth before (Reserved word.Is ∷ tokens) c → (d : CondTree) × TestIs schema met depth before rest d
+  Means (NotTruthTail depth) tokens rest = (before : List Lexeme) (c : CondTree) → PrimaryIs schema met depth before (Reserved word.Is ∷ Reserved word.Not ∷ tokens) c → (d : CondTree) × TestIs schema met depth before rest d
+  Means (FactorTail depth) tokens rest = (cs : List CondTree) × MoreFactors schema met depth tokens rest cs
+  Means (TermTail depth) tokens rest = (cs : List CondTree) × MoreTerms schema met depth tokens rest cs
   Means ItemList tokens rest = (xs : List Item) × ItemsAre schema met tokens rest xs
   Means (ItemTail first) tokens rest = (xs : List Item) × MoreItems schema met first tokens rest xs
   Means (AnItem first) tokens rest = (kind : Bool) × (item : Item) × (met (OfOneKind first kind) ≡ true) × ItemIs schema met kind tokens rest item
   Means CountArgument tokens rest = (after : List Lexeme) → rest ≡ Punct mark.Close ∷ after → (item : Item) × ItemIs schema met false (Reserved word.Count ∷ Punct mark.Open ∷ tokens) after item
   Means AColumn tokens rest = (text : List ℕ) × (met (IsColumn text) ≡ true) × (tokens ≡ Name text ∷ rest)
   Means ATable tokens rest = (text : List ℕ) × (met (IsTable text) ≡ true) × (tokens ≡ Name text ∷ rest)
-  Means ASelection tokens rest = (c : Condition) × SelectionIs schema met tokens rest c
+  Means ASelection tokens rest = (c : CondTree) × SelectionIs schema met tokens rest c
   Means AnEnd tokens rest = rest ≡ [] → EndIs tokens
   Means AStatement tokens rest = rest ≡ [] → (q : Asked) × StatementIs schema met tokens q
 
@@ -87,7 +88,7 @@ module _ (schema : Schema) (met : Demand → Bool) where
   operand_fair s behind _ k = tt
 
   primary_fair : (s : Symbol) (depth : ℕ) (behind : List Symbol) (t : Lexeme) →
-      ((more middle rest : List Lexeme) (c : Condition) → PrimaryIs schema met depth (t ∷ more) middle c → Sequence behind middle rest → Means s (t ∷ more) rest) →
+      ((more middle rest : List Lexeme) (c : CondTree) → PrimaryIs schema met depth (t ∷ more) middle c → Sequence behind middle rest → Means s (t ∷ more) rest) →
       Fair s t (primary_choice depth behind t)
   primary_fair s depth behind (Punct mark.Open) k = λ m more rest q.
       let f = q.1.1 in
@@ -113,11 +114,11 @@ module _ (schema : Schema) (met : Demand → Bool) where
       let i = q.2.1 q.2.2.0 q.2.2.1 in
       (q.2.2.0, i.0, subst (λ t. ItemIs schema met false (Reserved word.Count ∷ t) q.2.2.0 i.0) (sym q.1) i.1, q.2.2.2)
 
-  between_fair : (x : Operand) (more rest : List Lexeme) → Sequence (AnOperand ∷ AWord word.And ∷ AnOperand ∷ []) more rest → (c : Condition) × RangeIs schema met x (Reserved word.Between ∷ more) rest c
+  between_fair : (x : Operand) (more rest : List Lexeme) → Sequence (AnOperand ∷ AWord word.And ∷ AnOperand ∷ []) more rest → (c : CondTree) × RangeIs schema met x (Reserved word.Between ∷ more) rest c
   between_fair x more rest q =
       (Between x q.1.0 q.2.2.1.0, between (subst (λ t. OperandIs schema met more t q.1.0) q.2.1 q.1.1) (subst (λ t. OperandIs schema met q.2.0 t q.2.2.1.0) q.2.2.2 q.2.2.1.1))
 
-  in_fair : (x : Operand) (more rest : List Lexeme) → Sequence (Opening ∷ AnOperand ∷ OperandTail ∷ Closing ∷ []) more rest → (c : Condition) × RangeIs schema met x (Reserved word.In ∷ more) rest c
+  in_fair : (x : Operand) (more rest : List Lexeme) → Sequence (Opening ∷ AnOperand ∷ OperandTail ∷ Closing ∷ []) more rest → (c : CondTree) × RangeIs schema met x (Reserved word.In ∷ more) rest c
   in_fair x more rest q =
       let y = q.2.1 in
       let ys = q.2.2.1 in
@@ -154,23 +155,23 @@ module _ (schema : Schema) (met : Demand → Bool) where
   fair AnOperand t = operand_fair AnOperand [] t (λ more middle rest x o q. (x, subst (λ r. OperandIs schema met (t ∷ more) r x) q o))
   fair (SignedDigits is_negative) (Digits digits) = λ m rest. (digits, m, refl)
   fair PredicateTail (Compare op) = λ more rest q before x o. (Cmp op x q.1.0, comparison o (subst (λ r. OperandIs schema met more r q.1.0) q.2 q.1.1))
-  fair PredicateTail (Reserved word.Is) = λ more rest q before x o. subst (λ r. (c : Condition) × PredicateIs schema met before r c) q.2 (q.1 before x o)
+  fair PredicateTail (Reserved word.Is) = λ more rest q before x o. subst (λ r. (c : CondTree) × PredicateIs schema met before r c) q.2 (q.1 before x o)
   fair PredicateTail (Reserved word.Not) = λ more rest q before x o. let p = q.1 x in (Not p.0, not_range o (subst (λ r. RangeIs schema met x more r p.0) q.2 p.1))
   fair PredicateTail (Reserved word.Between) = λ more rest q before x o. let p = between_fair x more rest q in (p.0, range o p.1)
   fair PredicateTail (Reserved word.In) = λ more rest q before x o. let p = in_fair x more rest q in (p.0, range o p.1)
   fair RangeTail (Reserved word.Between) = λ more rest q x. between_fair x more rest q
   fair RangeTail (Reserved word.In) = λ more rest q x. in_fair x more rest q
   fair NullTail (Reserved word.Null) = λ more rest q before x o. (IsNull x, subst (λ r. PredicateIs schema met before r (IsNull x)) q (is_null o))
-  fair NullTail (Reserved word.Not) = λ more rest q before x o. subst (λ r. (c : Condition) × PredicateIs schema met before r c) q.2 (q.1 before x o)
+  fair NullTail (Reserved word.Not) = λ more rest q before x o. subst (λ r. (c : CondTree) × PredicateIs schema met before r c) q.2 (q.1 before x o)
   fair NotNullTail (Reserved word.Null) = λ more rest q before x o. (Not (IsNull x), subst (λ r. PredicateIs schema met before r (Not (IsNull x))) q (is_not_null o))
   fair OperandTail (Punct mark.Comma) = λ more rest q. (q.1.0 ∷ q.2.1.0, subst (λ r. MoreOperands schema met (Punct mark.Comma ∷ more) r (q.1.0 ∷ q.2.1.0)) q.2.2 (next_operand q.1.1 q.2.1.1))
   fair OperandTail t = λ tokens. ([], last_operand)
   fair (AFactor depth) (Reserved word.Not) = λ m more rest q. let e = q.2.1 more q.1.0 q.1.1 in (Not e.0, subst (λ r. FactorIs schema met depth (Reserved word.Not ∷ more) r (Not e.0)) q.2.2 (not_test m e.1))
   fair (AFactor depth) t = primary_fair (AFactor depth) depth (TestTail depth ∷ []) t (λ more middle rest c p q. let e = q.1 (t ∷ more) c p in (e.0, subst (λ r. FactorIs schema met depth (t ∷ more) r e.0) q.2 (test e.1)))
   fair (APrimary depth) t = primary_fair (APrimary depth) depth [] t (λ more middle rest c p q. (c, subst (λ r. PrimaryIs schema met depth (t ∷ more) r c) q p))
-  fair (TestTail depth) (Reserved word.Is) = λ more rest q before c p. subst (λ r. (d : Condition) × TestIs schema met depth before r d) q.2 (q.1 before c p)
+  fair (TestTail depth) (Reserved word.Is) = λ more rest q before c p. subst (λ r. (d : CondTree) × TestIs schema met depth before r d) q.2 (q.1 before c p)
   fair (TestTail depth) t = λ tokens before c p. (c, primary p)
-  fair (TruthTail depth) (Reserved word.Not) = λ more rest q before c p. subst (λ r. (d : Condition) × TestIs schema met depth before r d) q.2 (q.1 before c p)
+  fair (TruthTail depth) (Reserved word.Not) = λ more rest q before c p. subst (λ r. (d : CondTree) × TestIs schema met depth before r d) q.2 (q.1 before c p)
   fair (TruthTail depth) (Reserved word.True) = λ more rest q before c p. (Test c Yes, subst (λ r. TestIs schema met depth before r (Test c Yes)) q (is p true_word))
   fair (TruthTail depth) (Reserved word.False) = λ more rest q before c p. (Test c No, subst (λ r. TestIs schema met depth before r (Test c No)) q (is p false_word))
   fair (TruthTail depth) (Reserved word.Unknown) = λ more rest q before c p. (Test c Unknown, subst (λ r. TestIs schema met depth before r (Test c Unknown)) q (is p unknown_word))

@@ -2,12 +2,12 @@
 use Rattle.std.specs.Prelude.{List}
 use Rattle.bw_model.specs.declared.query.Item.{Item}
 use Rattle.bw_model.specs.declared.query.Query.{Query}
-use Rattle.bw_sql.specs.Condition.{Condition, condition}
+use Rattle.bw_model.specs.CondTree.{CondTree, tree_of}
 
 -- a query as its items and its condition
 pub record Asked : Type 0 where
   pub items : List Item
-  pub cond : Condition
+  pub cond : CondTree
 
 abbrev pub asked : Query → Asked
-asked query = record { items = query.items.items; cond = condition query.cond }
+asked query = record { items = query.items.items; cond = tree_of query.cond }

@@ -1,13 +1,15 @@
 -- What a statement has to meet beside the productions of the grammar.
 use Rattle.std.specs.Prelude.{ℕ, ℤ, pos, ◌-ℤ◌, Bool, true, false, not, List, map, length, Option, Some, None, is_some, nat_le}
-use Rattle.std.specs.List.{position, range_with_len}
+use Rattle.std.specs.List.{range_with_len}
 use Rattle.bw_model.specs.declared.query.Item.{Item}
 use Rattle.bw_model.specs.declared.query.Item.TheVariants.{Plain}
 use Rattle.bw_model.specs.declared.schema.Schema.{Schema}
+use Rattle.bw_model.specs.Column.{column_named}
 use Rattle.bw_model.specs.Number.{decimal, number_of}
 use Rattle.bw_model.specs.Text.{same_text}
 use Rattle.bw_sql.specs.declared.reader.Refusal.{Refusal}
 use Rattle.bw_sql.specs.declared.reader.Refusal.TheVariants.{UnknownTable, UnknownColumn, Literal, MixedItems, Nesting}
+use Rattle.bw_sql.specs.Limits.{deepest_nesting}
 
 -- The name of a table is the schema's, the name of a column is that of one of its columns, 64 bits hold the
 -- number of a sign and digits, an item is of the kind of the first (both kinds said by whether they are plain
@@ -19,10 +21,6 @@ pub data Demand : Type 0 where
   OfOneKind : Bool → Bool → Demand
   Depth : ℕ → Demand
 
--- the number of the column of this name, ignoring case
-unfoldable pub column_named : Schema → List ℕ → Option ℕ
-column_named schema text = position (λ column. same_text column.name text) schema.columns.items
-
 -- every column, in the order of the schema
 abbrev pub every_column : Schema → List Item
 every_column schema = map Plain (range_with_len 0 (length schema.columns.items))
@@ -31,13 +29,13 @@ abbrev pub same_kind : Bool → Bool → Bool
 same_kind true is_plain = is_plain
 same_kind false is_plain = not is_plain
 
--- whether a demand is met under a schema: brackets and NOT nest at most 100 deep
+-- whether a demand is met under a schema
 unfoldable pub is_met : Schema → Demand → Bool
 is_met schema (IsTable text) = same_text schema.name text
-is_met schema (IsColumn text) = is_some (column_named schema text)
+is_met schema (IsColumn text) = is_some (column_named schema.columns.items text)
 is_met schema (Fits is_negative digits) = is_some (number_of is_negative digits)
 is_met schema (OfOneKind first other) = same_kind first other
-is_met schema (Depth depth) = nat_le depth 100
+is_met schema (Depth depth) = nat_le depth deepest_nesting
 
 -- why a statement is refused that doesn't meet a demand
 abbrev pub refusal : Demand → Refusal
@@ -53,7 +51,7 @@ column_or_first (Some column) = column
 column_or_first None = 0
 
 abbrev pub column_number : Schema → List ℕ → ℕ
-column_number schema text = column_or_first (column_named schema text)
+column_number schema text = column_or_first (column_named schema.columns.items text)
 
 -- the number that a sign and digits spell
 abbrev pub signed : Bool → List ℕ → ℤ

@@ -13,7 +13,7 @@ use Rattle.bw_model.specs.declared.query.Item.TheVariants.{Plain, CountAll, Coun
 use Rattle.bw_model.specs.declared.schema.Schema.{Schema}
 use Rattle.bw_sql.specs.declared.token.Mark.TheVariants as mark
 use Rattle.bw_sql.specs.Asked.{Asked}
-use Rattle.bw_sql.specs.Condition.{Condition, Conditions, Always, Cmp, Between, Among, IsNull, And, Or, Not, Test, conditions}
+use Rattle.bw_model.specs.CondTree.{CondTree, CondTrees, Always, Cmp, Between, Among, IsNull, And, Or, Not, Test, trees_of}
 use Rattle.bw_sql.specs.Demand.{Demand, IsTable, IsColumn, Fits, OfOneKind, Depth, column_number, every_column, is_met, signed}
 use Rattle.bw_sql.specs.Token.{Lexeme, Name, Digits, Reserved, Compare, Punct}
 
@@ -24,9 +24,9 @@ pub data TruthIs : List Lexeme → List Lexeme → Truth → Type 0 where
   unknown_word : {rest : List Lexeme} → TruthIs (Reserved word.Unknown ∷ rest) rest Unknown
 
 -- one part alone is that part, and several are joined
-abbrev pub joined : (Conditions → Condition) → Condition → List Condition → Condition
+abbrev pub joined : (CondTrees → CondTree) → CondTree → List CondTree → CondTree
 joined join first [] = first
-joined join first (c ∷ others) = join (conditions (first ∷ c ∷ others))
+joined join first (c ∷ others) = join (trees_of (first ∷ c ∷ others))
 
 -- operand = name | [ + | - ] digits | NULL
 pub data OperandIs (schema : Schema) (met : Demand → Bool) : List Lexeme → List Lexeme → Operand → Type 0 where
@@ -48,7 +48,7 @@ pub data MoreOperands (schema : Schema) (met : Demand → Bool) : List Lexeme �
       MoreOperands schema met (Punct mark.Comma ∷ tokens) rest (x ∷ xs)
 
 -- BETWEEN operand AND operand | IN ( operand { , operand } ), said of an operand x
-pub data RangeIs (schema : Schema) (met : Demand → Bool) (x : Operand) : List Lexeme → List Lexeme → Condition → Type 0 where
+pub data RangeIs (schema : Schema) (met : Demand → Bool) (x : Operand) : List Lexeme → List Lexeme → CondTree → Type 0 where
   between : {low high rest : List Lexeme} {y z : Operand} →
       OperandIs schema met low (Reserved word.And ∷ high) y → OperandIs schema met high rest z →
       RangeIs schema met x (Reserved word.Between ∷ low) rest (Between x y z)
@@ -57,14 +57,14 @@ pub data RangeIs (schema : Schema) (met : Demand → Bool) (x : Operand) : List 
       RangeIs schema met x (Reserved word.In ∷ Punct mark.Open ∷ first) rest (Among x (y ∷ ys))
 
 -- predicate = operand compare operand | operand [ NOT ] BETWEEN .. | operand [ NOT ] IN .. | operand IS [ NOT ] NULL
-pub data PredicateIs (schema : Schema) (met : Demand → Bool) : List Lexeme → List Lexeme → Condition → Type 0 where
+pub data PredicateIs (schema : Schema) (met : Demand → Bool) : List Lexeme → List Lexeme → CondTree → Type 0 where
   comparison : {tokens other rest : List Lexeme} {x y : Operand} {op : Op} →
       OperandIs schema met tokens (Compare op ∷ other) x → OperandIs schema met other rest y →
       PredicateIs schema met tokens rest (Cmp op x y)
-  range : {tokens bounds rest : List Lexeme} {x : Operand} {c : Condition} →
+  range : {tokens bounds rest : List Lexeme} {x : Operand} {c : CondTree} →
       OperandIs schema met tokens bounds x → RangeIs schema met x bounds rest c →
       PredicateIs schema met tokens rest c
-  not_range : {tokens bounds rest : List Lexeme} {x : Operand} {c : Condition} →
+  not_range : {tokens bounds rest : List Lexeme} {x : Operand} {c : CondTree} →
       OperandIs schema met tokens (Reserved word.Not ∷ bounds) x → RangeIs schema met x bounds rest c →
       PredicateIs schema met tokens rest (Not c)
   is_null : {tokens rest : List Lexeme} {x : Operand} →
@@ -77,54 +77,54 @@ pub data PredicateIs (schema : Schema) (met : Demand → Bool) : List Lexeme →
 -- Conditions, inside of so many brackets and NOTs.
 mutual
   -- cond = term { OR term }
-  pub data ConditionIs (schema : Schema) (met : Demand → Bool) : ℕ → List Lexeme → List Lexeme → Condition → Type 0 where
-    terms : {depth : ℕ} {tokens others rest : List Lexeme} {c : Condition} {cs : List Condition} →
+  pub data ConditionIs (schema : Schema) (met : Demand → Bool) : ℕ → List Lexeme → List Lexeme → CondTree → Type 0 where
+    terms : {depth : ℕ} {tokens others rest : List Lexeme} {c : CondTree} {cs : List CondTree} →
         TermIs schema met depth tokens others c → MoreTerms schema met depth others rest cs →
         ConditionIs schema met depth tokens rest (joined Or c cs)
 
   -- { OR term }
-  pub data MoreTerms (schema : Schema) (met : Demand → Bool) : ℕ → List Lexeme → List Lexeme → List Condition → Type 0 where
+  pub data MoreTerms (schema : Schema) (met : Demand → Bool) : ℕ → List Lexeme → List Lexeme → List CondTree → Type 0 where
     last_term : {depth : ℕ} {rest : List Lexeme} → MoreTerms schema met depth rest rest []
-    next_term : {depth : ℕ} {tokens others rest : List Lexeme} {c : Condition} {cs : List Condition} →
+    next_term : {depth : ℕ} {tokens others rest : List Lexeme} {c : CondTree} {cs : List CondTree} →
         TermIs schema met depth tokens others c → MoreTerms schema met depth others rest cs →
         MoreTerms schema met depth (Reserved word.Or ∷ tokens) rest (c ∷ cs)
 
   -- term = factor { AND factor }
-  pub data TermIs (schema : Schema) (met : Demand → Bool) : ℕ → List Lexeme → List Lexeme → Condition → Type 0 where
-    factors : {depth : ℕ} {tokens others rest : List Lexeme} {c : Condition} {cs : List Condition} →
+  pub data TermIs (schema : Schema) (met : Demand → Bool) : ℕ → List Lexeme → List Lexeme → CondTree → Type 0 where
+    factors : {depth : ℕ} {tokens others rest : List Lexeme} {c : CondTree} {cs : List CondTree} →
         FactorIs schema met depth tokens others c → MoreFactors schema met depth others rest cs →
         TermIs schema met depth tokens rest (joined And c cs)
 
   -- { AND factor }
-  pub data MoreFactors (schema : Schema) (met : Demand → Bool) : ℕ → List Lexeme → List Lexeme → List Condition → Type 0 where
+  pub data MoreFactors (schema : Schema) (met : Demand → Bool) : ℕ → List Lexeme → List Lexeme → List CondTree → Type 0 where
     last_factor : {depth : ℕ} {rest : List Lexeme} → MoreFactors schema met depth rest rest []
-    next_factor : {depth : ℕ} {tokens others rest : List Lexeme} {c : Condition} {cs : List Condition} →
+    next_factor : {depth : ℕ} {tokens others rest : List Lexeme} {c : CondTree} {cs : List CondTree} →
         FactorIs schema met depth tokens others c → MoreFactors schema met depth others rest cs →
         MoreFactors schema met depth (Reserved word.And ∷ tokens) rest (c ∷ cs)
 
   -- factor = [ NOT ] test
-  pub data FactorIs (schema : Schema) (met : Demand → Bool) : ℕ → List Lexeme → List Lexeme → Condition → Type 0 where
-    test : {depth : ℕ} {tokens rest : List Lexeme} {c : Condition} →
+  pub data FactorIs (schema : Schema) (met : Demand → Bool) : ℕ → List Lexeme → List Lexeme → CondTree → Type 0 where
+    test : {depth : ℕ} {tokens rest : List Lexeme} {c : CondTree} →
         TestIs schema met depth tokens rest c → FactorIs schema met depth tokens rest c
-    not_test : {depth : ℕ} {tokens rest : List Lexeme} {c : Condition} → IsTrue (met (Depth (suc depth))) →
+    not_test : {depth : ℕ} {tokens rest : List Lexeme} {c : CondTree} → IsTrue (met (Depth (suc depth))) →
         TestIs schema met (suc depth) tokens rest c → FactorIs schema met depth (Reserved word.Not ∷ tokens) rest (Not c)
 
   -- test = primary [ IS [ NOT ] ( TRUE | FALSE | UNKNOWN ) ]
-  pub data TestIs (schema : Schema) (met : Demand → Bool) : ℕ → List Lexeme → List Lexeme → Condition → Type 0 where
-    primary : {depth : ℕ} {tokens rest : List Lexeme} {c : Condition} →
+  pub data TestIs (schema : Schema) (met : Demand → Bool) : ℕ → List Lexeme → List Lexeme → CondTree → Type 0 where
+    primary : {depth : ℕ} {tokens rest : List Lexeme} {c : CondTree} →
         PrimaryIs schema met depth tokens rest c → TestIs schema met depth tokens rest c
-    is : {depth : ℕ} {tokens value rest : List Lexeme} {c : Condition} {t : Truth} →
+    is : {depth : ℕ} {tokens value rest : List Lexeme} {c : CondTree} {t : Truth} →
         PrimaryIs schema met depth tokens (Reserved word.Is ∷ value) c → TruthIs value rest t →
         TestIs schema met depth tokens rest (Test c t)
-    is_not : {depth : ℕ} {tokens value rest : List Lexeme} {c : Condition} {t : Truth} →
+    is_not : {depth : ℕ} {tokens value rest : List Lexeme} {c : CondTree} {t : Truth} →
         PrimaryIs schema met depth tokens (Reserved word.Is ∷ Reserved word.Not ∷ value) c → TruthIs value rest t →
         TestIs schema met depth tokens rest (Not (Test c t))
 
   -- primary = ( cond ) | predicate
-  pub data PrimaryIs (schema : Schema) (met : Demand → Bool) : ℕ → List Lexeme → List Lexeme → Condition → Type 0 where
-    predicate : {depth : ℕ} {tokens rest : List Lexeme} {c : Condition} →
+  pub data PrimaryIs (schema : Schema) (met : Demand → Bool) : ℕ → List Lexeme → List Lexeme → CondTree → Type 0 where
+    predicate : {depth : ℕ} {tokens rest : List Lexeme} {c : CondTree} →
         PredicateIs schema met tokens rest c → PrimaryIs schema met depth tokens rest c
-    bracket : {depth : ℕ} {tokens rest : List Lexeme} {c : Condition} → IsTrue (met (Depth (suc depth))) →
+    bracket : {depth : ℕ} {tokens rest : List Lexeme} {c : CondTree} → IsTrue (met (Depth (suc depth))) →
         ConditionIs schema met (suc depth) tokens (Punct mark.Close ∷ rest) c →
         PrimaryIs schema met depth (Punct mark.Open ∷ tokens) rest c
 
@@ -159,9 +159,9 @@ pub data ItemsAre (schema : Schema) (met : Demand → Bool) : List Lexeme → Li
       ItemsAre schema met tokens rest (item ∷ items)
 
 -- [ WHERE cond ]
-pub data SelectionIs (schema : Schema) (met : Demand → Bool) : List Lexeme → List Lexeme → Condition → Type 0 where
+pub data SelectionIs (schema : Schema) (met : Demand → Bool) : List Lexeme → List Lexeme → CondTree → Type 0 where
   all_rows : {rest : List Lexeme} → SelectionIs schema met rest rest Always
-  rows_where : {tokens rest : List Lexeme} {c : Condition} → ConditionIs schema met 0 tokens rest c →
+  rows_where : {tokens rest : List Lexeme} {c : CondTree} → ConditionIs schema met 0 tokens rest c →
       SelectionIs schema met (Reserved word.Where ∷ tokens) rest c
 
 -- [ ; ] and the end

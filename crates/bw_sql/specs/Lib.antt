@@ -1,5 +1,4 @@
 pub mod Asked
-pub mod Condition
 pub mod Cut
 pub mod Demand
 pub mod Frontier
@@ -7,6 +6,7 @@ pub mod Grammar
 pub mod Items
 pub mod Judged
 pub mod Lexer
+pub mod Limits
 pub mod Piece
 pub mod Reader
 pub mod Reading

@@ -16,14 +16,16 @@ use Rattle.bw_model.specs.Keyword.{spelling}
 use Rattle.bw_model.specs.Number.{number_of}
 use Rattle.bw_model.specs.Text.{same_text}
 use Rattle.bw_sql.specs.Asked.{Asked}
-use Rattle.bw_sql.specs.Condition.{Condition, Conditions, Always, Cmp, Between, Among, IsNull, And, Or, Not, Test, conditions}
+use Rattle.bw_model.specs.CondTree.{CondTree, CondTrees, Always, Cmp, Between, Among, IsNull, And, Or, Not, Test, trees_of}
 use Rattle.bw_sql.specs.declared.items.Aggregate.{Aggregate}
 use Rattle.bw_sql.specs.declared.items.Aggregate.TheVariants as aggregate
 use Rattle.bw_sql.specs.declared.reader.Refusal.{Refusal}
 use Rattle.bw_sql.specs.declared.reader.Refusal.TheVariants.{Syntax, UnknownTable, UnknownColumn, Literal, MixedItems, Nesting}
 use Rattle.bw_sql.specs.declared.token.Mark.{Mark}
 use Rattle.bw_sql.specs.declared.token.Mark.TheVariants as mark
-use Rattle.bw_sql.specs.Demand.{column_named, every_column}
+use Rattle.bw_model.specs.Column.{column_named}
+use Rattle.bw_sql.specs.Demand.{every_column}
+use Rattle.bw_sql.specs.Limits.{deepest_nesting}
 use Rattle.bw_sql.specs.Piece.{mark_spelling}
 use Rattle.bw_sql.specs.Token.{Lexeme, Name, Digits, Reserved, Compare, Punct}
 
@@ -113,7 +115,7 @@ literal_at tokens = do
 unfoldable pub column_at : Schema → List Lexeme → Result (ℕ × List Lexeme) Halt
 column_at schema tokens = do
   name ← name_at tokens
-  column ← wanted (column_named schema name.0) UnknownColumn tokens
+  column ← wanted (column_named schema.columns.items name.0) UnknownColumn tokens
   Ok (column, name.1)
 
 unfoldable pub table_at : Schema → List Lexeme → Result (List Lexeme) Halt
@@ -170,14 +172,14 @@ abbrev pub more_operands : Schema → List Lexeme → Result (List Operand × Li
 more_operands schema tokens = repeated (length tokens) (after_mark mark.Comma) (operand_at schema) tokens
 
 -- what follows an operand: a range behind BETWEEN, or a list behind IN
-abbrev pub range_at : Schema → Operand → List Lexeme → Result (Condition × List Lexeme) Halt
+abbrev pub range_at : Schema → Operand → List Lexeme → Result (CondTree × List Lexeme) Halt
 range_at schema x tokens = do
   low ← operand_at schema tokens
   rest ← keyword_at word.And low.1
   high ← operand_at schema rest
   Ok (Between x low.0 high.0, high.1)
 
-abbrev pub list_at : Schema → Operand → List Lexeme → Result (Condition × List Lexeme) Halt
+abbrev pub list_at : Schema → Operand → List Lexeme → Result (CondTree × List Lexeme) Halt
 list_at schema x tokens = do
   rest ← keyword_at word.In tokens
   rest ← mark_at mark.Open rest
@@ -186,15 +188,15 @@ list_at schema x tokens = do
   rest ← mark_at mark.Close items.1
   Ok (Among x items.0, rest)
 
-abbrev pub range_or_list_behind : Option (List Lexeme) → Schema → Operand → List Lexeme → Result (Condition × List Lexeme) Halt
+abbrev pub range_or_list_behind : Option (List Lexeme) → Schema → Operand → List Lexeme → Result (CondTree × List Lexeme) Halt
 range_or_list_behind (Some next) schema x tokens = range_at schema x next
 range_or_list_behind None schema x tokens = list_at schema x tokens
 
-unfoldable pub range_or_list_at : Schema → Operand → List Lexeme → Result (Condition × List Lexeme) Halt
+unfoldable pub range_or_list_at : Schema → Operand → List Lexeme → Result (CondTree × List Lexeme) Halt
 range_or_list_at schema x tokens = range_or_list_behind (after_keyword word.Between tokens) schema x tokens
 
 -- [ NOT ] NULL behind IS
-abbrev pub null_behind : Option (List Lexeme) → Operand → List Lexeme → Result (Condition × List Lexeme) Halt
+abbrev pub null_behind : Option (List Lexeme) → Operand → List Lexeme → Result (CondTree × List Lexeme) Halt
 null_behind (Some next) x tokens = do
   rest ← keyword_at word.Null next
   Ok (Not (IsNull x), rest)
@@ -202,7 +204,7 @@ null_behind None x tokens = do
   rest ← keyword_at word.Null tokens
   Ok (IsNull x, rest)
 
-unfoldable pub null_test_at : Operand → List Lexeme → Result (Condition × List Lexeme) Halt
+unfoldable pub null_test_at : Operand → List Lexeme → Result (CondTree × List Lexeme) Halt
 null_test_at x tokens = null_behind (after_keyword word.Not tokens) x tokens
 
 unfoldable pub after_comparison : List Lexeme → Option (Op × List Lexeme)
@@ -214,23 +216,23 @@ after_comparison (Reserved found ∷ tokens) = None
 after_comparison (Punct found ∷ tokens) = None
 
 -- what follows the first operand of a predicate
-abbrev pub behind_not : Schema → Operand → Option (List Lexeme) → List Lexeme → Result (Condition × List Lexeme) Halt
+abbrev pub behind_not : Schema → Operand → Option (List Lexeme) → List Lexeme → Result (CondTree × List Lexeme) Halt
 behind_not schema x (Some next) tokens = do
   c ← range_or_list_at schema x next
   Ok (Not c.0, c.1)
 behind_not schema x None tokens = range_or_list_at schema x tokens
 
-abbrev pub behind_is : Schema → Operand → Option (List Lexeme) → List Lexeme → Result (Condition × List Lexeme) Halt
+abbrev pub behind_is : Schema → Operand → Option (List Lexeme) → List Lexeme → Result (CondTree × List Lexeme) Halt
 behind_is schema x (Some next) tokens = null_test_at x next
 behind_is schema x None tokens = behind_not schema x (after_keyword word.Not tokens) tokens
 
-abbrev pub behind_comparison : Schema → Operand → Option (Op × List Lexeme) → List Lexeme → Result (Condition × List Lexeme) Halt
+abbrev pub behind_comparison : Schema → Operand → Option (Op × List Lexeme) → List Lexeme → Result (CondTree × List Lexeme) Halt
 behind_comparison schema x (Some next) tokens = do
   y ← operand_at schema next.1
   Ok (Cmp next.0 x y.0, y.1)
 behind_comparison schema x None tokens = behind_is schema x (after_keyword word.Is tokens) tokens
 
-unfoldable pub predicate_at : Schema → List Lexeme → Result (Condition × List Lexeme) Halt
+unfoldable pub predicate_at : Schema → List Lexeme → Result (CondTree × List Lexeme) Halt
 predicate_at schema tokens = do
   x ← operand_at schema tokens
   behind_comparison schema x.0 (after_comparison x.1) x.1
@@ -245,7 +247,7 @@ behind_true None None None tokens = refuse Syntax tokens
 unfoldable pub truth_at : List Lexeme → Result (Truth × List Lexeme) Halt
 truth_at tokens = behind_true (after_keyword word.True tokens) (after_keyword word.False tokens) (after_keyword word.Unknown tokens) tokens
 
-abbrev pub tested : Condition → Option (List Lexeme) → List Lexeme → Result (Condition × List Lexeme) Halt
+abbrev pub tested : CondTree → Option (List Lexeme) → List Lexeme → Result (CondTree × List Lexeme) Halt
 tested c (Some next) tokens = do
   t ← truth_at next
   Ok (Not (Test c t.0), t.1)
@@ -253,57 +255,57 @@ tested c None tokens = do
   t ← truth_at tokens
   Ok (Test c t.0, t.1)
 
-abbrev pub truth_behind : Condition → Option (List Lexeme) → List Lexeme → Result (Condition × List Lexeme) Halt
+abbrev pub truth_behind : CondTree → Option (List Lexeme) → List Lexeme → Result (CondTree × List Lexeme) Halt
 truth_behind c (Some next) tokens = tested c (after_keyword word.Not next) next
 truth_behind c None tokens = Ok (c, tokens)
 
-unfoldable pub truth_test_at : Condition → List Lexeme → Result (Condition × List Lexeme) Halt
+unfoldable pub truth_test_at : CondTree → List Lexeme → Result (CondTree × List Lexeme) Halt
 truth_test_at c tokens = truth_behind c (after_keyword word.Is tokens) tokens
 
 -- what stands one level deeper: a condition behind `(`, and a test behind NOT, given the tokens from the mark
 -- or word on and those behind it
 pub record Nested : Type 0 where
-  pub enclosed : List Lexeme → List Lexeme → Result (Condition × List Lexeme) Halt
-  pub negated : List Lexeme → List Lexeme → Result (Condition × List Lexeme) Halt
+  pub enclosed : List Lexeme → List Lexeme → Result (CondTree × List Lexeme) Halt
+  pub negated : List Lexeme → List Lexeme → Result (CondTree × List Lexeme) Halt
 
-abbrev pub primary_behind : Schema → Nested → Option (List Lexeme) → List Lexeme → Result (Condition × List Lexeme) Halt
+abbrev pub primary_behind : Schema → Nested → Option (List Lexeme) → List Lexeme → Result (CondTree × List Lexeme) Halt
 primary_behind schema inner (Some next) tokens = inner.enclosed tokens next
 primary_behind schema inner None tokens = predicate_at schema tokens
 
-unfoldable pub primary_in : Schema → Nested → List Lexeme → Result (Condition × List Lexeme) Halt
+unfoldable pub primary_in : Schema → Nested → List Lexeme → Result (CondTree × List Lexeme) Halt
 primary_in schema inner tokens = primary_behind schema inner (after_mark mark.Open tokens) tokens
 
-unfoldable pub test_in : Schema → Nested → List Lexeme → Result (Condition × List Lexeme) Halt
+unfoldable pub test_in : Schema → Nested → List Lexeme → Result (CondTree × List Lexeme) Halt
 test_in schema inner tokens = do
   c ← primary_in schema inner tokens
   truth_test_at c.0 c.1
 
-abbrev pub factor_behind : Schema → Nested → Option (List Lexeme) → List Lexeme → Result (Condition × List Lexeme) Halt
+abbrev pub factor_behind : Schema → Nested → Option (List Lexeme) → List Lexeme → Result (CondTree × List Lexeme) Halt
 factor_behind schema inner (Some next) tokens = inner.negated tokens next
 factor_behind schema inner None tokens = test_in schema inner tokens
 
-unfoldable pub factor_in : Schema → Nested → List Lexeme → Result (Condition × List Lexeme) Halt
+unfoldable pub factor_in : Schema → Nested → List Lexeme → Result (CondTree × List Lexeme) Halt
 factor_in schema inner tokens = factor_behind schema inner (after_keyword word.Not tokens) tokens
 
 -- one part, or two and more that a word joins
-abbrev pub joined_behind : Keyword → (Conditions → Condition) → (List Lexeme → Result (Condition × List Lexeme) Halt) → Condition →
-    Option (List Lexeme) → List Lexeme → Result (Condition × List Lexeme) Halt
+abbrev pub joined_behind : Keyword → (CondTrees → CondTree) → (List Lexeme → Result (CondTree × List Lexeme) Halt) → CondTree →
+    Option (List Lexeme) → List Lexeme → Result (CondTree × List Lexeme) Halt
 joined_behind word join one first None tokens = Ok (first, tokens)
 joined_behind word join one first (Some next) tokens = do
   second ← one next
   parts ← with_front (first ∷ second.0 ∷ []) (repeated (length second.1) (after_keyword word) one second.1)
-  Ok (join (conditions parts.0), parts.1)
+  Ok (join (trees_of parts.0), parts.1)
 
-abbrev pub joined : Keyword → (Conditions → Condition) → (List Lexeme → Result (Condition × List Lexeme) Halt) → List Lexeme →
-    Result (Condition × List Lexeme) Halt
+abbrev pub joined : Keyword → (CondTrees → CondTree) → (List Lexeme → Result (CondTree × List Lexeme) Halt) → List Lexeme →
+    Result (CondTree × List Lexeme) Halt
 joined word join one tokens = do
   first ← one tokens
   joined_behind word join one first.0 (after_keyword word first.1) first.1
 
-unfoldable pub term_in : Schema → Nested → List Lexeme → Result (Condition × List Lexeme) Halt
+unfoldable pub term_in : Schema → Nested → List Lexeme → Result (CondTree × List Lexeme) Halt
 term_in schema inner tokens = joined word.And And (factor_in schema inner) tokens
 
-unfoldable pub condition_in : Schema → Nested → List Lexeme → Result (Condition × List Lexeme) Halt
+unfoldable pub condition_in : Schema → Nested → List Lexeme → Result (CondTree × List Lexeme) Halt
 condition_in schema inner tokens = joined word.Or Or (term_in schema inner) tokens
 
 -- so many levels of nesting are left
@@ -322,12 +324,12 @@ nested schema (suc n) = record {
     Ok (Not c.0, c.1);
 }
 
--- the condition behind WHERE, where it comes: brackets and NOT nest 100 deep
-abbrev pub behind_where : Schema → Option (List Lexeme) → List Lexeme → Result (Condition × List Lexeme) Halt
+-- the condition behind WHERE, where it comes
+abbrev pub behind_where : Schema → Option (List Lexeme) → List Lexeme → Result (CondTree × List Lexeme) Halt
 behind_where schema None tokens = Ok (Always, tokens)
-behind_where schema (Some rest) tokens = condition_in schema (nested schema 100) rest
+behind_where schema (Some rest) tokens = condition_in schema (nested schema deepest_nesting) rest
 
-unfoldable pub selection_at : Schema → List Lexeme → Result (Condition × List Lexeme) Halt
+unfoldable pub selection_at : Schema → List Lexeme → Result (CondTree × List Lexeme) Halt
 selection_at schema tokens = behind_where schema (after_keyword word.Where tokens) tokens
 
 -- the end of a statement, behind a semicolon, where it comes

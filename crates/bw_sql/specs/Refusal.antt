@@ -1,8 +1,9 @@
 -- The numbers of a statement's faults.
-use Rattle.std.specs.Prelude.{ℕ, Bool, IsTrue, ◌&&◌, ◌||◌, ◌==◌, nat_le}
+use Rattle.std.specs.Prelude.{ℕ, Bool, IsTrue, ◌&&◌, ◌||◌, nat_le}
 use Rattle.bw_sql.specs.declared.reader.Refusal.{Refusal}
 use Rattle.bw_sql.specs.declared.reader.Refusal.TheVariants.{Syntax, UnknownTable, UnknownColumn, Literal, MixedItems, Nesting}
 use Rattle.bw_model.specs.declared.fault.Fault.{Fault}
+use Rattle.bw_model.specs.Fault.{is_memory}
 
 abbrev pub number : Refusal → ℕ
 number Syntax = 402
@@ -13,8 +14,8 @@ number MixedItems = 406
 number Nesting = 408
 
 -- one of 401 to 408, or want of memory
-abbrev pub is_statement_code : ℕ → Bool
-is_statement_code code = (nat_le 401 code && nat_le code 408) || (code == 801)
+abbrev pub is_statement_fault : Fault → Bool
+is_statement_fault fault = (nat_le 401 fault.code && nat_le fault.code 408) || is_memory fault
 
 abbrev pub IsStatementFault : Fault → Type 0
-IsStatementFault fault = IsTrue (is_statement_code fault.code)
+IsStatementFault fault = IsTrue (is_statement_fault fault)

@@ -9,10 +9,8 @@
 //! ```
 //!
 //! A single part isn't wrapped. Each `(` and each NOT is one level of nesting, and `levels` are left.
-ghost use Rattle.std.specs.Prelude.{◌≡◌, ◌<◌, ◌≤◌, ℕ, length, map, IfOk, IsTrue, vec_len};
-ghost use Rattle.std.specs.List.{list_all};
-ghost use Rattle.bw_model.specs.Cond.{names_within, is_whole};
-ghost use Rattle.bw_sql.specs.Condition.{And, Or, Test, condition, conditions};
+ghost use Rattle.std.specs.Prelude.{◌≡◌, ◌<◌, ◌≤◌, length, map, IfOk};
+ghost use Rattle.bw_model.specs.CondTree.{And, Or, Test, tree_of, trees_of};
 ghost use Rattle.bw_sql.specs.Reader.{Reads};
 ghost use Rattle.bw_sql.specs.Reading.{after_keyword, condition_in, factor_in, nested, primary_in, repeated, term_in, test_in, truth_at, truth_test_at, with_front};
 ghost use Rattle.bw_sql.specs.Token.{lexemes};
@@ -25,17 +23,15 @@ use std::alloc::{AllocError, Global};
 
 /// The condition that has to come.
 #[cycle(condition)]
-#[tactic(auto, unfolding(crate::specs::Reading::condition_in, bw_model::specs::Cond::names_within, bw_model::specs::Cond::is_whole, crate::specs::Condition::condition))]
+#[tactic(auto, unfolding(crate::specs::Reading::condition_in, bw_model::specs::CondTree::tree_of))]
 pub fn condition<'t>(
     alloc: Global,
     schema: &Schema,
     levels: usize,
     tokens: &'t [Placed<'t>],
 ) -> Result<(Cond, &'t [Placed<'t>]), Stop>
-    ensures read { Reads (λ read. (condition read.0, lexemes read.1.now)) result (condition_in schema.now (nested schema.now levels) (lexemes tokens.now)) }
+    ensures read { Reads (λ read. (tree_of read.0, lexemes read.1.now)) result (condition_in schema.now (nested schema.now levels) (lexemes tokens.now)) }
     ensures shorter { IfOk result (λ read. length read.1.now ≤ length tokens.now) }
-    ensures columns { IfOk result (λ read. IsTrue (names_within (vec_len schema.now.columns) read.0)) }
-    ensures whole { IfOk result (λ read. IsTrue (is_whole read.0)) }
 {
     let (first, rest) = term(alloc, schema, levels, tokens)?;
     let Some(next) = after_keyword(Keyword::Or, rest) else {
@@ -56,14 +52,9 @@ fn more_terms<'t>(
     mut parts: Vec<Cond>,
     tokens: &'t [Placed<'t>],
 ) -> Result<(Vec<Cond>, &'t [Placed<'t>]), Stop>
-    requires columns { IsTrue (list_all (names_within (vec_len schema.now.columns)) parts.items) }
-    requires whole { IsTrue (list_all is_whole parts.items) }
-    ensures read { Reads (λ read. (map condition read.0.items, lexemes read.1.now)) result
-        (with_front (map condition parts.items) (repeated (length (lexemes tokens.now)) (after_keyword Keyword.Or) (term_in schema.now (nested schema.now levels)) (lexemes tokens.now))) }
+    ensures read { Reads (λ read. (map tree_of read.0.items, lexemes read.1.now)) result
+        (with_front (map tree_of parts.items) (repeated (length (lexemes tokens.now)) (after_keyword Keyword.Or) (term_in schema.now (nested schema.now levels)) (lexemes tokens.now))) }
     ensures shorter { IfOk result (λ read. length read.1.now ≤ length tokens.now) }
-    ensures columns { IfOk result (λ read. IsTrue (list_all (names_within (vec_len schema.now.columns)) read.0.items)) }
-    ensures whole { IfOk result (λ read. IsTrue (list_all is_whole read.0.items)) }
-    ensures longer { IfOk result (λ read. vec_len parts ≤ vec_len read.0) }
 {
     let mut left = Left { tokens };
     while let Some(next) = after_keyword(Keyword::Or, left.tokens) {
@@ -76,17 +67,15 @@ fn more_terms<'t>(
 
 /// The term that has to come.
 #[cycle(condition)]
-#[tactic(auto, unfolding(crate::specs::Reading::term_in, bw_model::specs::Cond::names_within, bw_model::specs::Cond::is_whole, crate::specs::Condition::condition))]
+#[tactic(auto, unfolding(crate::specs::Reading::term_in, bw_model::specs::CondTree::tree_of))]
 fn term<'t>(
     alloc: Global,
     schema: &Schema,
     levels: usize,
     tokens: &'t [Placed<'t>],
 ) -> Result<(Cond, &'t [Placed<'t>]), Stop>
-    ensures read { Reads (λ read. (condition read.0, lexemes read.1.now)) result (term_in schema.now (nested schema.now levels) (lexemes tokens.now)) }
+    ensures read { Reads (λ read. (tree_of read.0, lexemes read.1.now)) result (term_in schema.now (nested schema.now levels) (lexemes tokens.now)) }
     ensures shorter { IfOk result (λ read. length read.1.now ≤ length tokens.now) }
-    ensures columns { IfOk result (λ read. IsTrue (names_within (vec_len schema.now.columns) read.0)) }
-    ensures whole { IfOk result (λ read. IsTrue (is_whole read.0)) }
 {
     let (first, rest) = factor(alloc, schema, levels, tokens)?;
     let Some(next) = after_keyword(Keyword::And, rest) else {
@@ -107,14 +96,9 @@ fn more_factors<'t>(
     mut parts: Vec<Cond>,
     tokens: &'t [Placed<'t>],
 ) -> Result<(Vec<Cond>, &'t [Placed<'t>]), Stop>
-    requires columns { IsTrue (list_all (names_within (vec_len schema.now.columns)) parts.items) }
-    requires whole { IsTrue (list_all is_whole parts.items) }
-    ensures read { Reads (λ read. (map condition read.0.items, lexemes read.1.now)) result
-        (with_front (map condition parts.items) (repeated (length (lexemes tokens.now)) (after_keyword Keyword.And) (factor_in schema.now (nested schema.now levels)) (lexemes tokens.now))) }
+    ensures read { Reads (λ read. (map tree_of read.0.items, lexemes read.1.now)) result
+        (with_front (map tree_of parts.items) (repeated (length (lexemes tokens.now)) (after_keyword Keyword.And) (factor_in schema.now (nested schema.now levels)) (lexemes tokens.now))) }
     ensures shorter { IfOk result (λ read. length read.1.now ≤ length tokens.now) }
-    ensures columns { IfOk result (λ read. IsTrue (list_all (names_within (vec_len schema.now.columns)) read.0.items)) }
-    ensures whole { IfOk result (λ read. IsTrue (list_all is_whole read.0.items)) }
-    ensures longer { IfOk result (λ read. vec_len parts ≤ vec_len read.0) }
 {
     let mut left = Left { tokens };
     while let Some(next) = after_keyword(Keyword::And, left.tokens) {
@@ -127,17 +111,15 @@ fn more_factors<'t>(
 
 /// The factor that has to come.
 #[cycle(condition)]
-#[tactic(auto, unfolding(crate::specs::Reading::factor_in, bw_model::specs::Cond::names_within, bw_model::specs::Cond::is_whole, crate::specs::Condition::condition))]
+#[tactic(auto, unfolding(crate::specs::Reading::factor_in, bw_model::specs::CondTree::tree_of))]
 fn factor<'t>(
     alloc: Global,
     schema: &Schema,
     levels: usize,
     tokens: &'t [Placed<'t>],
 ) -> Result<(Cond, &'t [Placed<'t>]), Stop>
-    ensures read { Reads (λ read. (condition read.0, lexemes read.1.now)) result (factor_in schema.now (nested schema.now levels) (lexemes tokens.now)) }
+    ensures read { Reads (λ read. (tree_of read.0, lexemes read.1.now)) result (factor_in schema.now (nested schema.now levels) (lexemes tokens.now)) }
     ensures shorter { IfOk result (λ read. length read.1.now ≤ length tokens.now) }
-    ensures columns { IfOk result (λ read. IsTrue (names_within (vec_len schema.now.columns) read.0)) }
-    ensures whole { IfOk result (λ read. IsTrue (is_whole read.0)) }
 {
     let Some(next) = after_keyword(Keyword::Not, tokens) else {
         return test(alloc, schema, levels, tokens);
@@ -151,53 +133,45 @@ fn factor<'t>(
 
 /// The test that has to come.
 #[cycle(condition)]
-#[tactic(auto, unfolding(crate::specs::Reading::test_in, bw_model::specs::Cond::names_within, bw_model::specs::Cond::is_whole, crate::specs::Condition::condition))]
+#[tactic(auto, unfolding(crate::specs::Reading::test_in, bw_model::specs::CondTree::tree_of))]
 fn test<'t>(
     alloc: Global,
     schema: &Schema,
     levels: usize,
     tokens: &'t [Placed<'t>],
 ) -> Result<(Cond, &'t [Placed<'t>]), Stop>
-    ensures read { Reads (λ read. (condition read.0, lexemes read.1.now)) result (test_in schema.now (nested schema.now levels) (lexemes tokens.now)) }
+    ensures read { Reads (λ read. (tree_of read.0, lexemes read.1.now)) result (test_in schema.now (nested schema.now levels) (lexemes tokens.now)) }
     ensures shorter { IfOk result (λ read. length read.1.now ≤ length tokens.now) }
-    ensures columns { IfOk result (λ read. IsTrue (names_within (vec_len schema.now.columns) read.0)) }
-    ensures whole { IfOk result (λ read. IsTrue (is_whole read.0)) }
 {
     let (cond, rest) = primary(alloc, schema, levels, tokens)?;
     truth_test(alloc, cond, rest)
 }
 
 /// The condition that one of the parts holds.
-#[tactic(auto, unfolding(bw_model::specs::Cond::names_within, bw_model::specs::Cond::is_whole, crate::specs::Condition::condition))]
+#[tactic(auto, unfolding(bw_model::specs::CondTree::tree_of))]
 fn disjunction(parts: Vec<Cond>) -> Cond
-    ensures is { condition result ≡ Or (conditions (map condition parts.items)) }
-    ensures columns { (columns : ℕ) → names_within columns result ≡ list_all (names_within columns) parts.items }
-    ensures whole { 2 ≤ vec_len parts → is_whole result ≡ list_all is_whole parts.items }
+    ensures { tree_of result ≡ Or (trees_of (map tree_of parts.items)) }
 {
     Cond::Or(parts)
 }
 
 /// The condition that all parts hold.
-#[tactic(auto, unfolding(bw_model::specs::Cond::names_within, bw_model::specs::Cond::is_whole, crate::specs::Condition::condition))]
+#[tactic(auto, unfolding(bw_model::specs::CondTree::tree_of))]
 fn conjunction(parts: Vec<Cond>) -> Cond
-    ensures is { condition result ≡ And (conditions (map condition parts.items)) }
-    ensures columns { (columns : ℕ) → names_within columns result ≡ list_all (names_within columns) parts.items }
-    ensures whole { 2 ≤ vec_len parts → is_whole result ≡ list_all is_whole parts.items }
+    ensures { tree_of result ≡ And (trees_of (map tree_of parts.items)) }
 {
     Cond::And(parts)
 }
 
 /// The condition, or a test of its truth, where IS follows.
-#[tactic(auto, unfolding(crate::specs::Reading::truth_test_at, bw_model::specs::Cond::names_within, bw_model::specs::Cond::is_whole, crate::specs::Condition::condition))]
+#[tactic(auto, unfolding(crate::specs::Reading::truth_test_at, bw_model::specs::CondTree::tree_of))]
 fn truth_test<'t>(
     alloc: Global,
     cond: Cond,
     tokens: &'t [Placed<'t>],
 ) -> Result<(Cond, &'t [Placed<'t>]), Stop>
-    ensures read { Reads (λ read. (condition read.0, lexemes read.1.now)) result (truth_test_at (condition cond) (lexemes tokens.now)) }
+    ensures read { Reads (λ read. (tree_of read.0, lexemes read.1.now)) result (truth_test_at (tree_of cond) (lexemes tokens.now)) }
     ensures shorter { IfOk result (λ read. length read.1.now ≤ length tokens.now) }
-    ensures columns { IfOk result (λ read. (columns : ℕ) → names_within columns read.0 ≡ names_within columns cond) }
-    ensures whole { IfOk result (λ read. is_whole read.0 ≡ is_whole cond) }
 {
     let Some(next) = after_keyword(Keyword::Is, tokens) else {
         return Ok((cond, tokens));
@@ -212,11 +186,9 @@ fn truth_test<'t>(
 }
 
 /// The test whether a condition has a truth value.
-#[tactic(auto, unfolding(bw_model::specs::Cond::names_within, bw_model::specs::Cond::is_whole, crate::specs::Condition::condition))]
+#[tactic(auto, unfolding(bw_model::specs::CondTree::tree_of))]
 fn tested(alloc: Global, cond: Cond, t: Truth) -> Result<Cond, AllocError>
-    ensures is { IfOk result (λ tested. condition tested ≡ Test (condition cond) t) }
-    ensures columns { IfOk result (λ tested. (columns : ℕ) → names_within columns tested ≡ names_within columns cond) }
-    ensures whole { IfOk result (λ tested. is_whole tested ≡ is_whole cond) }
+    ensures { IfOk result (λ tested. tree_of tested ≡ Test (tree_of cond) t) }
 {
     Ok(Cond::Test(Box::new(alloc, cond)?, t))
 }
@@ -241,17 +213,15 @@ fn truth<'t>(tokens: &'t [Placed<'t>]) -> Result<(Truth, &'t [Placed<'t>]), Stop
 
 /// The predicate, or the condition in brackets, that has to come.
 #[cycle(condition)]
-#[tactic(auto, unfolding(crate::specs::Reading::primary_in, bw_model::specs::Cond::names_within, bw_model::specs::Cond::is_whole, crate::specs::Condition::condition))]
+#[tactic(auto, unfolding(crate::specs::Reading::primary_in, bw_model::specs::CondTree::tree_of))]
 fn primary<'t>(
     alloc: Global,
     schema: &Schema,
     levels: usize,
     tokens: &'t [Placed<'t>],
 ) -> Result<(Cond, &'t [Placed<'t>]), Stop>
-    ensures read { Reads (λ read. (condition read.0, lexemes read.1.now)) result (primary_in schema.now (nested schema.now levels) (lexemes tokens.now)) }
+    ensures read { Reads (λ read. (tree_of read.0, lexemes read.1.now)) result (primary_in schema.now (nested schema.now levels) (lexemes tokens.now)) }
     ensures shorter { IfOk result (λ read. length read.1.now ≤ length tokens.now) }
-    ensures columns { IfOk result (λ read. IsTrue (names_within (vec_len schema.now.columns) read.0)) }
-    ensures whole { IfOk result (λ read. IsTrue (is_whole read.0)) }
 {
     let Some(next) = after_mark(Mark::Open, tokens) else {
         return predicate(alloc, schema, tokens);

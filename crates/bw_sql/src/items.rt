@@ -6,12 +6,9 @@
 //! ```
 //!
 //! The items of a list are all columns or all aggregates.
-ghost use Rattle.std.specs.Prelude.{true, false, is_some, OnOk, ◌≡◌, ◌<◌, ◌≤◌, length, IfOk, IfSome, IsTrue, vec_len};
-ghost use Rattle.std.specs.List.{list_all};
+ghost use Rattle.std.specs.Prelude.{is_some, ◌≡◌, ◌<◌, length, IfOk, IfSome};
 ghost use Rattle.std.specs.Option.{option_map};
-ghost use Rattle.bw_model.specs.Total.{item_within, is_aggregate};
 ghost use Rattle.bw_sql.specs.Demand.{every_column};
-ghost use Rattle.bw_sql.specs.Items.{AreOfOneKind, are_of_kind, is_of_kind};
 ghost use Rattle.bw_sql.specs.Reader.{Reads};
 ghost use Rattle.bw_sql.specs.Reading.{after_aggregate, aggregated_at, begins_with_name, item_at, items_at, more_items, next_item_at, of_column, of_one_kind, with_front};
 ghost use Rattle.bw_sql.specs.Token.{lexemes};
@@ -29,10 +26,7 @@ pub fn items<'t>(
     schema: &Schema,
     tokens: &'t [Placed<'t>],
 ) -> Result<(Vec<Item>, &'t [Placed<'t>]), Stop>
-    ensures read { Reads (λ read. (read.0.items, lexemes read.1.now)) result (items_at schema.now (lexemes tokens.now)) }
-    ensures columns { IfOk result (λ read. IsTrue (list_all (item_within (vec_len schema.now.columns)) read.0.items)) }
-    ensures some { IfOk result (λ read. 1 ≤ length read.0.items) }
-    ensures kinds { IfOk result (λ read. AreOfOneKind read.0.items) }
+    ensures { Reads (λ read. (read.0.items, lexemes read.1.now)) result (items_at schema.now (lexemes tokens.now)) }
 {
     if let Some(rest) = after_mark(Mark::Star, tokens) {
         return Ok((every_column(alloc, schema)?, rest));
@@ -58,13 +52,7 @@ fn more_items<'t>(
     mut items: Vec<Item>,
     tokens: &'t [Placed<'t>],
 ) -> Result<(Vec<Item>, &'t [Placed<'t>]), Stop>
-    requires columns { IsTrue (list_all (item_within (vec_len schema.now.columns)) items.items) }
-    requires some { 1 ≤ length items.items }
-    requires kinds { IsTrue (are_of_kind is_plain items.items) }
-    ensures read { Reads (λ read. (read.0.items, lexemes read.1.now)) result (with_front items.items (more_items schema.now is_plain (lexemes tokens.now))) }
-    ensures columns { IfOk result (λ read. IsTrue (list_all (item_within (vec_len schema.now.columns)) read.0.items)) }
-    ensures some { IfOk result (λ read. 1 ≤ length read.0.items) }
-    ensures kinds { IfOk result (λ read. IsTrue (are_of_kind is_plain read.0.items)) }
+    ensures { Reads (λ read. (read.0.items, lexemes read.1.now)) result (with_front items.items (more_items schema.now is_plain (lexemes tokens.now))) }
 {
     let mut left = Left { tokens };
     while let Some(next) = after_mark(Mark::Comma, left.tokens) {
@@ -84,8 +72,6 @@ fn next_item<'t>(
 ) -> Result<(Item, &'t [Placed<'t>]), Stop>
     ensures read { Reads (λ read. (read.0, lexemes read.1.now)) result (next_item_at schema.now is_plain (lexemes tokens.now)) }
     ensures shorter { IfOk result (λ read. length read.1.now < length tokens.now) }
-    ensures columns { IfOk result (λ read. IsTrue (item_within (vec_len schema.now.columns) read.0)) }
-    ensures kind { IfOk result (λ read. IsTrue (is_of_kind is_plain read.0)) }
 {
     of_one_kind(schema, is_plain, tokens)?;
     item(schema, tokens)
@@ -95,9 +81,7 @@ fn next_item<'t>(
 /// that isn't the schema's comes before.
 #[tactic(auto, unfolding(crate::specs::Reading::of_one_kind))]
 fn of_one_kind(schema: &Schema, is_plain: bool, tokens: &[Placed<'_>]) -> Result<(), Stop>
-    ensures read { Reads (λ same. same) result (of_one_kind schema.now is_plain (lexemes tokens.now)) }
-    ensures name { OnOk result (begins_with_name (lexemes tokens.now) ≡ true → is_plain ≡ true) }
-    ensures aggregate { OnOk result (is_some (after_aggregate (lexemes tokens.now)) ≡ true → begins_with_name (lexemes tokens.now) ≡ false → is_plain ≡ false) }
+    ensures { Reads (λ same. same) result (of_one_kind schema.now is_plain (lexemes tokens.now)) }
 {
     if begins_with_name(tokens) {
         if is_plain {
@@ -145,9 +129,6 @@ fn after_aggregate<'t>(tokens: &'t [Placed<'t>]) -> Option<(Aggregate, &'t [Plac
 fn item<'t>(schema: &Schema, tokens: &'t [Placed<'t>]) -> Result<(Item, &'t [Placed<'t>]), Stop>
     ensures read { Reads (λ read. (read.0, lexemes read.1.now)) result (item_at schema.now (lexemes tokens.now)) }
     ensures shorter { IfOk result (λ read. length read.1.now < length tokens.now) }
-    ensures columns { IfOk result (λ read. IsTrue (item_within (vec_len schema.now.columns) read.0)) }
-    ensures kind { IfOk result (λ read. IsTrue (is_of_kind (begins_with_name (lexemes tokens.now)) read.0)) }
-    ensures aggregate { OnOk result (begins_with_name (lexemes tokens.now) ≡ false → is_some (after_aggregate (lexemes tokens.now)) ≡ true) }
 {
     if begins_with_name(tokens) {
         let (column, rest) = column(schema, tokens)?;
@@ -171,8 +152,6 @@ fn aggregated<'t>(
 ) -> Result<(Item, &'t [Placed<'t>]), Stop>
     ensures read { Reads (λ read. (read.0, lexemes read.1.now)) result (aggregated_at schema.now aggregate (lexemes tokens.now)) }
     ensures shorter { IfOk result (λ read. length read.1.now < length tokens.now) }
-    ensures columns { IfOk result (λ read. IsTrue (item_within (vec_len schema.now.columns) read.0)) }
-    ensures kind { IfOk result (λ read. IsTrue (is_aggregate read.0)) }
 {
     if aggregate == Aggregate::Count
         && let Some(rest) = after_mark(Mark::Star, tokens)

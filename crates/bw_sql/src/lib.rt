@@ -1,12 +1,14 @@
 //! The parser of the query language, a profile of SQL-92.
 //!
 //! The contract that the crates above use is that of [`parse`]. A text is cut into tokens by the longest piece
-//! (`specs/Cut.antt`), in one way, as [`one_cut`] says. It is parsed exactly where its tokens spell a query by
-//! the grammar (`specs/Grammar.antt`), a relation by cases that knows no parser, and to that query, want of
-//! memory aside; a list of tokens spells at most one, as [`one_query`] says. Another text is refused for its
-//! fault: the first token with which no statement can go on, as far as the demands of the fault's number go
-//! (`specs/Frontier.antt`). A text has at most one fault, and none where it spells a query, as [`one_fault`]
-//! says. What is parsed names columns of the schema alone, and its lists are as long as `bw_model` wants them.
+//! (`specs/Cut.antt`), in one way, as [`one_cut`] says. It is parsed exactly where it isn't too long and its
+//! tokens spell a query by the grammar (`specs/Grammar.antt`), a relation by cases that knows no parser, and to
+//! that query, want of memory aside; a list of tokens spells at most one, as [`one_query`] says. Another text is
+//! refused for its fault: that it is too long, or else the first token with which no statement can go on, as
+//! far as the demands of the fault's number go (`specs/Frontier.antt`). A text has at most one fault, and none
+//! where it spells a query, as [`one_fault`] says, and it has one where it spells none, as
+//! [`query_or_fault`] says. What is parsed names columns of the schema alone, and its lists are as long as
+//! `bw_model` wants them: so it is with all that is spelled.
 //!
 //! The readers of this crate are proved against reading functions on lists of tokens (`specs/Reading.antt`),
 //! which read what the grammar spells and nothing else, as [`read_as_spelled`] says.
@@ -15,19 +17,20 @@
 //! the grammar.
 #![tactic(auto)]
 
-ghost use Rattle.std.specs.Prelude.{List, ℕ, Option, ◌≡◌, ◌<◌, ◌≤◌, length, IfOk, IfErr, IsTrue, IsFalse, vec_len};
+ghost use Rattle.std.specs.Prelude.{List, ℕ, Option, ◌≡◌, ◌<◌, ◌≤◌, length, IfOk, IfErr, IsTrue, vec_len};
 ghost use Rattle.std.specs.List.{list_all};
 ghost use Rattle.bw_model.specs.Fault.{at_byte, is_memory};
 ghost use Rattle.bw_model.specs.Cond.{names_within, is_whole};
 ghost use Rattle.bw_model.specs.Total.{item_within};
-ghost use Rattle.bw_sql.specs.Asked.{Asked, asked};
+ghost use Rattle.bw_sql.specs.Asked.{Asked};
 ghost use Rattle.bw_sql.specs.Cut.{IsCut, Spot, spots};
 ghost use Rattle.bw_sql.specs.Grammar.{IsQuery};
 ghost use Rattle.bw_sql.specs.Items.{AreOfOneKind};
 ghost use Rattle.bw_sql.specs.Judged.{Answers, IsFaultOf};
+ghost use Rattle.bw_sql.specs.Limits.{longest_statement};
 ghost use Rattle.bw_sql.specs.Reading.{statement_at};
 ghost use Rattle.bw_sql.specs.Refusal.{IsStatementFault};
-ghost use Rattle.bw_sql.specs.Statement.{IsFault, Spells};
+ghost use Rattle.bw_sql.specs.Statement.{IsFault, SpellsOrFails, Parses, Spells};
 ghost use Rattle.bw_sql.specs.Token.{Lexeme};
 
 mod condition;
@@ -61,10 +64,9 @@ pub const MAX_LEN: usize = 65_536;
 /// the first (406, at its first token), and a bracket or NOT that nests more than 100 deep (408). 801 is want
 /// of memory.
 pub fn parse(alloc: Global, schema: &Schema, text: &[u8]) -> Result<Query, Fault>
-    ensures too_long { MAX_LEN < length text.now → result ≡ Err (at_byte 407 MAX_LEN) }
-    ensures spelled { IfOk result (λ query. Spells schema.now text.now (asked query)) }
-    ensures refused { length text.now ≤ MAX_LEN → (query : Asked) → Spells schema.now text.now query → IfErr result (λ fault. IsTrue (is_memory fault)) }
-    ensures first { length text.now ≤ MAX_LEN → IfErr result (λ fault. IsFalse (is_memory fault) → IsFault schema.now text.now fault) }
+    ensures read { Parses schema.now text.now result }
+    ensures refused { (query : Asked) → Spells schema.now text.now query → IfErr result (λ fault. IsTrue (is_memory fault)) }
+    ensures too_long { longest_statement < length text.now → result ≡ Err (at_byte 407 longest_statement) }
     ensures columns { IfOk result (λ query. IsTrue (names_within (vec_len schema.now.columns) query.cond)) }
     ensures whole { IfOk result (λ query. IsTrue (is_whole query.cond)) }
     ensures items { IfOk result (λ query. IsTrue (list_all (item_within (vec_len schema.now.columns)) query.items.items)) }
@@ -77,13 +79,8 @@ pub fn parse(alloc: Global, schema: &Schema, text: &[u8]) -> Result<Query, Fault
 
 /// The query that a statement is read as, or the fault at which reading stopped.
 fn read(alloc: Global, schema: &Schema, text: &[u8]) -> Result<Query, Fault>
-    ensures too_long { MAX_LEN < length text.now → result ≡ Err (at_byte 407 MAX_LEN) }
-    ensures exact { length text.now ≤ MAX_LEN → Answers schema.now text.now result }
-    ensures columns { IfOk result (λ query. IsTrue (names_within (vec_len schema.now.columns) query.cond)) }
-    ensures whole { IfOk result (λ query. IsTrue (is_whole query.cond)) }
-    ensures items { IfOk result (λ query. IsTrue (list_all (item_within (vec_len schema.now.columns)) query.items.items)) }
-    ensures some { IfOk result (λ query. 1 ≤ length query.items.items) }
-    ensures kinds { IfOk result (λ query. AreOfOneKind query.items.items) }
+    ensures too_long { longest_statement < length text.now → result ≡ Err (at_byte 407 longest_statement) }
+    ensures exact { length text.now ≤ longest_statement → Answers schema.now text.now result }
     ensures fault { IfErr result IsStatementFault }
 {
     if text.len() > MAX_LEN {
@@ -119,6 +116,11 @@ pub fn one_query()
 pub fn one_fault()
     ensures one { (schema : Schema) (text : List ℕ) (fault other : Fault) → IsFault schema text fault → IsFault schema text other → fault ≡ other }
     ensures none_spelled { (schema : Schema) (text : List ℕ) (query : Asked) (fault : Fault) → Spells schema text query → IsFault schema text fault → ⊥ }
+{}
+
+/// Every text spells a query or has a fault.
+pub fn query_or_fault()
+    ensures { (schema : Schema) (text : List ℕ) → SpellsOrFails schema text }
 {}
 
 fn fault_at(code: u16, at: usize) -> Fault

@@ -1,7 +1,5 @@
 //! Operands of predicates, and the names of columns.
-ghost use Rattle.std.specs.Prelude.{◌≡◌, ◌<◌, length, IfOk, IfSome, IsTrue, vec_len};
-ghost use Rattle.bw_model.specs.Cond.{is_within};
-ghost use Rattle.bw_sql.specs.Demand.{column_named};
+ghost use Rattle.std.specs.Prelude.{◌≡◌, ◌<◌, length, IfOk};
 ghost use Rattle.bw_sql.specs.Reader.{Reads};
 ghost use Rattle.bw_sql.specs.Reading.{operand_at, column_at, begins_with_name};
 ghost use Rattle.bw_sql.specs.Token.{lexemes};
@@ -19,7 +17,6 @@ pub fn operand<'t>(
 ) -> Result<(Operand, &'t [Placed<'t>]), Stop>
     ensures read { Reads (λ read. (read.0, lexemes read.1.now)) result (operand_at schema.now (lexemes tokens.now)) }
     ensures shorter { IfOk result (λ read. length read.1.now < length tokens.now) }
-    ensures within { IfOk result (λ read. IsTrue (is_within (vec_len schema.now.columns) read.0)) }
 {
     if let Some(rest) = after_keyword(Keyword::Null, tokens) {
         return Ok((Operand::Null, rest));
@@ -40,10 +37,9 @@ pub fn column<'t>(
 ) -> Result<(usize, &'t [Placed<'t>]), Stop>
     ensures read { Reads (λ read. (read.0, lexemes read.1.now)) result (column_at schema.now (lexemes tokens.now)) }
     ensures shorter { IfOk result (λ read. length read.1.now < length tokens.now) }
-    ensures within { IfOk result (λ read. read.0 < vec_len schema.now.columns) }
 {
     let (text, rest) = name(tokens)?;
-    match column_named(schema, text) {
+    match schema.column_named(text) {
         Some(column) => Ok((column, rest)),
         None => Err(Stop::at(Refusal::UnknownColumn, tokens)),
     }
@@ -59,16 +55,4 @@ pub fn begins_with_name(tokens: &[Placed<'_>]) -> bool
         return true;
     }
     false
-}
-
-/// The number of the column of this name, ignoring the case of ASCII letters.
-#[tactic(auto, unfolding(crate::specs::Demand::column_named))]
-fn column_named(schema: &Schema, text: &[u8]) -> Option<usize>
-    ensures within { IfSome result (λ column. column < vec_len schema.now.columns) }
-    ensures named { result ≡ column_named schema.now text.now }
-{
-    schema
-        .columns
-        .iter()
-        .position(|column| column.name.is(text))
 }

@@ -10,11 +10,9 @@
 //! ```
 //!
 //! The NOT forms are the negation of the whole.
-ghost use Rattle.std.specs.Prelude.{◌≡◌, ℕ, ◌<◌, ◌≤◌, length, map, IfOk, IfSome, IsTrue, vec_len};
-ghost use Rattle.std.specs.List.{list_all};
+ghost use Rattle.std.specs.Prelude.{◌≡◌, ◌<◌, ◌≤◌, length, IfOk, IfSome};
 ghost use Rattle.std.specs.Option.{option_map};
-ghost use Rattle.bw_model.specs.Cond.{is_within, names_within, is_whole};
-ghost use Rattle.bw_sql.specs.Condition.{Not, condition};
+ghost use Rattle.bw_model.specs.CondTree.{Not, tree_of};
 ghost use Rattle.bw_sql.specs.Reader.{Reads};
 ghost use Rattle.bw_sql.specs.Reading.{predicate_at, after_comparison, null_test_at, range_or_list_at, with_front, more_operands};
 ghost use Rattle.bw_sql.specs.Token.{lexemes};
@@ -26,16 +24,14 @@ use bw_model::{Cond, Keyword, Op, Operand, Schema};
 use std::alloc::{AllocError, Global};
 
 /// The predicate that has to come.
-#[tactic(auto, unfolding(crate::specs::Reading::predicate_at, bw_model::specs::Cond::names_within, bw_model::specs::Cond::is_whole, crate::specs::Condition::condition))]
+#[tactic(auto, unfolding(crate::specs::Reading::predicate_at, bw_model::specs::CondTree::tree_of))]
 pub fn predicate<'t>(
     alloc: Global,
     schema: &Schema,
     tokens: &'t [Placed<'t>],
 ) -> Result<(Cond, &'t [Placed<'t>]), Stop>
-    ensures read { Reads (λ read. (condition read.0, lexemes read.1.now)) result (predicate_at schema.now (lexemes tokens.now)) }
+    ensures read { Reads (λ read. (tree_of read.0, lexemes read.1.now)) result (predicate_at schema.now (lexemes tokens.now)) }
     ensures shorter { IfOk result (λ read. length read.1.now ≤ length tokens.now) }
-    ensures columns { IfOk result (λ read. IsTrue (names_within (vec_len schema.now.columns) read.0)) }
-    ensures whole { IfOk result (λ read. IsTrue (is_whole read.0)) }
 {
     let (x, rest) = operand(schema, tokens)?;
     if let Some((op, next)) = after_comparison(rest) {
@@ -67,26 +63,22 @@ fn after_comparison<'t>(tokens: &'t [Placed<'t>]) -> Option<(Op, &'t [Placed<'t>
 }
 
 /// The negation of a condition.
-#[tactic(auto, unfolding(bw_model::specs::Cond::names_within, bw_model::specs::Cond::is_whole, crate::specs::Condition::condition))]
+#[tactic(auto, unfolding(bw_model::specs::CondTree::tree_of))]
 pub fn negation(alloc: Global, cond: Cond) -> Result<Cond, AllocError>
-    ensures is { IfOk result (λ negated. condition negated ≡ Not (condition cond)) }
-    ensures columns { IfOk result (λ negated. (columns : ℕ) → names_within columns negated ≡ names_within columns cond) }
-    ensures whole { IfOk result (λ negated. is_whole negated ≡ is_whole cond) }
+    ensures { IfOk result (λ negated. tree_of negated ≡ Not (tree_of cond)) }
 {
     Ok(Cond::Not(Box::new(alloc, cond)?))
 }
 
 /// The test for null whose `[ NOT ] NULL` has to come.
-#[tactic(auto, unfolding(crate::specs::Reading::null_test_at, bw_model::specs::Cond::names_within, bw_model::specs::Cond::is_whole, crate::specs::Condition::condition))]
+#[tactic(auto, unfolding(crate::specs::Reading::null_test_at, bw_model::specs::CondTree::tree_of))]
 fn null_test<'t>(
     alloc: Global,
     x: Operand,
     tokens: &'t [Placed<'t>],
 ) -> Result<(Cond, &'t [Placed<'t>]), Stop>
-    ensures read { Reads (λ read. (condition read.0, lexemes read.1.now)) result (null_test_at x (lexemes tokens.now)) }
+    ensures read { Reads (λ read. (tree_of read.0, lexemes read.1.now)) result (null_test_at x (lexemes tokens.now)) }
     ensures shorter { IfOk result (λ read. length read.1.now ≤ length tokens.now) }
-    ensures columns { IfOk result (λ read. (columns : ℕ) → names_within columns read.0 ≡ is_within columns x) }
-    ensures whole { IfOk result (λ read. IsTrue (is_whole read.0)) }
 {
     if let Some(next) = after_keyword(Keyword::Not, tokens) {
         let rest = keyword(Keyword::Null, next)?;
@@ -97,18 +89,15 @@ fn null_test<'t>(
 }
 
 /// What follows an operand: a range behind BETWEEN, or a list behind IN.
-#[tactic(auto, unfolding(crate::specs::Reading::range_or_list_at, bw_model::specs::Cond::names_within, bw_model::specs::Cond::is_whole, crate::specs::Condition::condition))]
+#[tactic(auto, unfolding(crate::specs::Reading::range_or_list_at, bw_model::specs::CondTree::tree_of))]
 fn range_or_list<'t>(
     alloc: Global,
     schema: &Schema,
     x: Operand,
     tokens: &'t [Placed<'t>],
 ) -> Result<(Cond, &'t [Placed<'t>]), Stop>
-    requires { IsTrue (is_within (vec_len schema.now.columns) x) }
-    ensures read { Reads (λ read. (condition read.0, lexemes read.1.now)) result (range_or_list_at schema.now x (lexemes tokens.now)) }
+    ensures read { Reads (λ read. (tree_of read.0, lexemes read.1.now)) result (range_or_list_at schema.now x (lexemes tokens.now)) }
     ensures shorter { IfOk result (λ read. length read.1.now ≤ length tokens.now) }
-    ensures columns { IfOk result (λ read. IsTrue (names_within (vec_len schema.now.columns) read.0)) }
-    ensures whole { IfOk result (λ read. IsTrue (is_whole read.0)) }
 {
     if let Some(next) = after_keyword(Keyword::Between, tokens) {
         let (low, rest) = operand(schema, next)?;
@@ -130,11 +119,8 @@ fn more_operands<'t>(
     mut items: Vec<Operand>,
     tokens: &'t [Placed<'t>],
 ) -> Result<(Vec<Operand>, &'t [Placed<'t>]), Stop>
-    requires { IsTrue (list_all (is_within (vec_len schema.now.columns)) items.items) }
     ensures read { Reads (λ read. (read.0.items, lexemes read.1.now)) result (with_front items.items (more_operands schema.now (lexemes tokens.now))) }
     ensures shorter { IfOk result (λ read. length read.1.now ≤ length tokens.now) }
-    ensures columns { IfOk result (λ read. IsTrue (list_all (is_within (vec_len schema.now.columns)) read.0.items)) }
-    ensures longer { IfOk result (λ read. vec_len items ≤ vec_len read.0) }
 {
     let mut left = Left { tokens };
     while let Some(next) = after_mark(Mark::Comma, left.tokens) {

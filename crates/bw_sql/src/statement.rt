@@ -3,13 +3,9 @@
 //! ```text
 //! query = SELECT list FROM name [ WHERE cond ] [ ; ]
 //! ```
-ghost use Rattle.std.specs.Prelude.{◌≡◌, ◌<◌, ◌≤◌, length, IfOk, IfSome, IsTrue, vec_len};
-ghost use Rattle.std.specs.List.{list_all};
-ghost use Rattle.bw_model.specs.Cond.{names_within, is_whole};
-ghost use Rattle.bw_model.specs.Total.{item_within};
+ghost use Rattle.std.specs.Prelude.{◌<◌};
 ghost use Rattle.bw_sql.specs.Reader.{Reads};
-ghost use Rattle.bw_sql.specs.Condition.{condition};
-ghost use Rattle.bw_sql.specs.Items.{AreOfOneKind};
+ghost use Rattle.bw_model.specs.CondTree.{tree_of};
 ghost use Rattle.bw_sql.specs.Asked.{asked};
 ghost use Rattle.bw_sql.specs.Reading.{end_at, selection_at, statement_at, table_at};
 ghost use Rattle.bw_sql.specs.Token.{lexemes};
@@ -27,12 +23,7 @@ const MAX_NESTING: usize = 100;
 /// The query that all the tokens spell under a schema.
 #[tactic(auto, unfolding(crate::specs::Reading::statement_at))]
 pub fn statement(alloc: Global, schema: &Schema, tokens: &[Placed<'_>]) -> Result<Query, Stop>
-    ensures read { Reads asked result (statement_at schema.now (lexemes tokens.now)) }
-    ensures columns { IfOk result (λ query. IsTrue (names_within (vec_len schema.now.columns) query.cond)) }
-    ensures whole { IfOk result (λ query. IsTrue (is_whole query.cond)) }
-    ensures items { IfOk result (λ query. IsTrue (list_all (item_within (vec_len schema.now.columns)) query.items.items)) }
-    ensures some { IfOk result (λ query. 1 ≤ length query.items.items) }
-    ensures kinds { IfOk result (λ query. AreOfOneKind query.items.items) }
+    ensures { Reads asked result (statement_at schema.now (lexemes tokens.now)) }
 {
     let rest = keyword(Keyword::Select, tokens)?;
     let (items, rest) = items(alloc, schema, rest)?;
@@ -57,15 +48,13 @@ fn table<'t>(schema: &Schema, tokens: &'t [Placed<'t>]) -> Result<&'t [Placed<'t
 }
 
 /// The condition behind WHERE, or none where WHERE doesn't come.
-#[tactic(auto, unfolding(crate::specs::Reading::selection_at, bw_model::specs::Cond::names_within, bw_model::specs::Cond::is_whole, crate::specs::Condition::condition))]
+#[tactic(auto, unfolding(crate::specs::Reading::selection_at, bw_model::specs::CondTree::tree_of))]
 fn selection<'t>(
     alloc: Global,
     schema: &Schema,
     tokens: &'t [Placed<'t>],
 ) -> Result<(Cond, &'t [Placed<'t>]), Stop>
-    ensures read { Reads (λ read. (condition read.0, lexemes read.1.now)) result (selection_at schema.now (lexemes tokens.now)) }
-    ensures columns { IfOk result (λ read. IsTrue (names_within (vec_len schema.now.columns) read.0)) }
-    ensures whole { IfOk result (λ read. IsTrue (is_whole read.0)) }
+    ensures { Reads (λ read. (tree_of read.0, lexemes read.1.now)) result (selection_at schema.now (lexemes tokens.now)) }
 {
     match after_keyword(Keyword::Where, tokens) {
         None => Ok((Cond::Always, tokens)),

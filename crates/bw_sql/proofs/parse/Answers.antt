@@ -1,13 +1,28 @@
 -- What is read is spelled, and what is spelled is read.
-use Rattle.bw_sql.proofs.Faults.{err_is_fault}
-use Rattle.bw_sql.proofs.Query.{ok_spelled, err_is_memory}
+use Rattle.std.proofs.Common.{◌∙◌}
+use Rattle.bw_model.proofs.SameLemmas.{names_within-tree_of, is_whole-tree_of}
+use Rattle.bw_sql.proofs.Faults.{parsed}
+use Rattle.bw_sql.proofs.Query.{err_is_memory}
+use Rattle.bw_sql.proofs.Within.{if_good}
 use Rattle.bw_sql.proofs.parse.Goals as goal
 
-pub returns-clause-spelled : goal.returns-clause-spelled
-returns-clause-spelled c = ok_spelled c.args.schema.now c.args.text.now 65536 _ c.read.result c.read.ensures.too_long c.read.ensures.exact
+pub returns-clause-read : goal.returns-clause-read
+returns-clause-read c = parsed c.args.schema.now c.args.text.now c.read.result c.read.ensures.too_long c.read.ensures.exact
 
 pub returns-clause-refused : goal.returns-clause-refused
-returns-clause-refused c short query spelled = err_is_memory c.args.schema.now c.args.text.now c.read.result (c.read.ensures.exact short) query spelled
+returns-clause-refused c = err_is_memory c.args.schema.now c.args.text.now c.read.result c.read.ensures.exact
 
-pub returns-clause-first : goal.returns-clause-first
-returns-clause-first c short = err_is_fault c.args.schema.now c.args.text.now c.read.result (c.read.ensures.exact short)
+pub returns-clause-columns : goal.returns-clause-columns
+returns-clause-columns c = if_good c.args.schema.now c.args.text.now c.read.result _ (returns-clause-read c) (λ query good. names_within-tree_of _ query.cond ∙ good.within)
+
+pub returns-clause-whole : goal.returns-clause-whole
+returns-clause-whole c = if_good c.args.schema.now c.args.text.now c.read.result _ (returns-clause-read c) (λ query good. is_whole-tree_of query.cond ∙ good.whole)
+
+pub returns-clause-items : goal.returns-clause-items
+returns-clause-items c = if_good c.args.schema.now c.args.text.now c.read.result _ (returns-clause-read c) (λ query good. good.items)
+
+pub returns-clause-some : goal.returns-clause-some
+returns-clause-some c = if_good c.args.schema.now c.args.text.now c.read.result _ (returns-clause-read c) (λ query good. good.some)
+
+pub returns-clause-kinds : goal.returns-clause-kinds
+returns-clause-kinds c = if_good c.args.schema.now c.args.text.now c.read.result _ (returns-clause-read c) (λ query good. good.kinds)

@@ -4,14 +4,14 @@ use Rattle.bw_csv.specs.Rows.{rows_from}
 use Rattle.bw_csv.proofs.RowLemmas.{LedSoFar}
 use Rattle.bw_csv.proofs.rows.hand_rows.Given as goal
 
--- the keeper was led through the rows so far, and the rows are those and then the rows of the records to come
+-- the taker was led through the rows so far, and the rows are those and then the rows of the records to come
 abbrev pub invariant-rows : goal.invariant-rows
 invariant-rows g l = record {
   reads : IsOpen l.records;
-  width : g.K.Keeper.width l.keeper ≡ length l.columns;
-  count : g.K.Keeper.rows l.keeper + 1 ≡ l.number;
+  width : g.K.RowTaker.width l.taker ≡ length l.columns;
+  count : g.K.RowTaker.rows l.taker + 1 ≡ l.number;
   within : l.number ≤ 2 ^ 24 + 1;
-  so_far : LedSoFar g.K.Keeper.led l.initial.keeper l.keeper (rows_from l.columns 1 (coming l.initial.records)) l.columns l.number (coming l.records);
+  so_far : LedSoFar g.K.RowTaker.led l.initial.taker l.taker (rows_from l.columns 1 (coming l.initial.records)) l.columns l.number (coming l.records);
 }
 
 abbrev pub decreases-rows : goal.decreases-rows

@@ -11,7 +11,7 @@ use Rattle.bw_shell.proofs.answer.text_of_totals.Goals as goal
 pub push_record-requires : goal.push_record-requires
 push_record-requires c =
     let size = totals_count _ _ (rows_of c.args.schema.now.columns.items c.args.csv.now) c.args.query.now c.requires.totals c.in_ok-totals.ensures.query c.in_ok-read_rows.ensures.handed in
-    omega (arith, size, c.requires.some, c.read_rows.new.keeper.totals.ok.0)
+    omega (arith, size, c.requires.some, c.read_rows.new.taker.totals.ok.0)
 
 pub returns-clause-text : goal.returns-clause-text
 returns-clause-text c = λ ended held.

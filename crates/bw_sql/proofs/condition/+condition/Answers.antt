@@ -1,15 +1,14 @@
 -- Brackets and NOT read one level deeper; each part goes behind those before it.
 use Rattle.std.proofs.Common.{◌<◌, [], ◌∷◌, length, map, Err, refl, sym, ◌∙◌, ap, subst, arith}
 use Rattle.std.proofs.lemmas.List.{map-append}
-use Rattle.std.proofs.lemmas.Result.{err_from_is_err_and, IfOk-weaker}
-use Rattle.bw_model.specs.Cond.{names_within, is_whole}
+use Rattle.std.proofs.lemmas.Result.{err_from_is_err_and}
 use Rattle.bw_model.specs.declared.keyword.Keyword.TheVariants.{And, Or}
 use Rattle.bw_sql.specs.declared.reader.Refusal.TheVariants.{Nesting}
-use Rattle.bw_sql.specs.Condition.{condition}
+use Rattle.bw_model.specs.CondTree.{tree_of}
 use Rattle.bw_sql.specs.Reading.{after_keyword, factor_in, nested, repeated, term_in, with_front}
 use Rattle.bw_sql.specs.Token.{lexemes}
 use Rattle.bw_sql.proofs.Levels.{factor_at_0, factor_deeper, primary_at_0, primary_deeper}
-use Rattle.bw_sql.proofs.Repeats.{Repeats, ends, halts, steps, halts_too, length-lexemes, list_all_push}
+use Rattle.bw_sql.proofs.Repeats.{Repeats, ends, halts, steps, halts_too, length-lexemes}
 use Rattle.bw_sql.proofs.condition.+condition.Goals as goal
 
 pub more_factors-returns-in_err-part-clause-read : goal.more_factors-returns-in_err-part-clause-read
@@ -24,13 +23,10 @@ more_factors-loop-next-preserved t c =
     let some : length c.in_ok-part.after.now < length c.loop-next.left.tokens.now = omega (arith, c.in-Some.ensures.shorter, c.in_ok-part.ensures.shorter) in
     record {
       shorter = omega (arith, c.in-Some.ensures.shorter, c.in_ok-part.ensures.shorter);
-      columns = list_all_push (names_within _) c.loop-next.parts.items c.push.new.self.items c.in_ok-part.part c.in_ok-push.ensures.items c.loop-next.invariant.columns c.in_ok-part.ensures.columns;
-      whole = list_all_push is_whole c.loop-next.parts.items c.push.new.self.items c.in_ok-part.part c.in_ok-push.ensures.items c.loop-next.invariant.whole c.in_ok-part.ensures.whole;
-      longer = omega (arith, c.in_ok-push.ensures.len);
       read = subst (λ parts. Repeats (after_keyword And) (factor_in c.args.schema.now (nested c.args.schema.now c.args.levels)) parts (length c.in_ok-part.after.now) (lexemes c.in_ok-part.after.now)
-          (with_front (map condition c.args.parts.items) (repeated (length (lexemes c.args.tokens.now)) (after_keyword And) (factor_in c.args.schema.now (nested c.args.schema.now c.args.levels)) (lexemes c.args.tokens.now))))
-          (sym (ap (map condition) c.in_ok-push.ensures.items ∙ map-append condition c.loop-next.parts.items (c.in_ok-part.part ∷ [])))
-          (steps (after_keyword And) (factor_in c.args.schema.now (nested c.args.schema.now c.args.levels)) _ _ _ _ _ _ (condition c.in_ok-part.part) c.loop-next.invariant.read (sym c.in-Some.ensures.is) c.in_ok-part.ensures.read _ some);
+          (with_front (map tree_of c.args.parts.items) (repeated (length (lexemes c.args.tokens.now)) (after_keyword And) (factor_in c.args.schema.now (nested c.args.schema.now c.args.levels)) (lexemes c.args.tokens.now))))
+          (sym (ap (map tree_of) c.in_ok-push.ensures.items ∙ map-append tree_of c.loop-next.parts.items (c.in_ok-part.part ∷ [])))
+          (steps (after_keyword And) (factor_in c.args.schema.now (nested c.args.schema.now c.args.levels)) _ _ _ _ _ _ (tree_of c.in_ok-part.part) c.loop-next.invariant.read (sym c.in-Some.ensures.is) c.in_ok-part.ensures.read _ some);
     }
 
 pub more_factors-returns-clause-read : goal.more_factors-returns-clause-read
@@ -48,23 +44,14 @@ more_terms-loop-next-preserved t c =
     let some : length c.in_ok-part.after.now < length c.loop-next.left.tokens.now = omega (arith, c.in-Some.ensures.shorter, c.in_ok-part.ensures.shorter) in
     record {
       shorter = omega (arith, c.in-Some.ensures.shorter, c.in_ok-part.ensures.shorter);
-      columns = list_all_push (names_within _) c.loop-next.parts.items c.push.new.self.items c.in_ok-part.part c.in_ok-push.ensures.items c.loop-next.invariant.columns c.in_ok-part.ensures.columns;
-      whole = list_all_push is_whole c.loop-next.parts.items c.push.new.self.items c.in_ok-part.part c.in_ok-push.ensures.items c.loop-next.invariant.whole c.in_ok-part.ensures.whole;
-      longer = omega (arith, c.in_ok-push.ensures.len);
       read = subst (λ parts. Repeats (after_keyword Or) (term_in c.args.schema.now (nested c.args.schema.now c.args.levels)) parts (length c.in_ok-part.after.now) (lexemes c.in_ok-part.after.now)
-          (with_front (map condition c.args.parts.items) (repeated (length (lexemes c.args.tokens.now)) (after_keyword Or) (term_in c.args.schema.now (nested c.args.schema.now c.args.levels)) (lexemes c.args.tokens.now))))
-          (sym (ap (map condition) c.in_ok-push.ensures.items ∙ map-append condition c.loop-next.parts.items (c.in_ok-part.part ∷ [])))
-          (steps (after_keyword Or) (term_in c.args.schema.now (nested c.args.schema.now c.args.levels)) _ _ _ _ _ _ (condition c.in_ok-part.part) c.loop-next.invariant.read (sym c.in-Some.ensures.is) c.in_ok-part.ensures.read _ some);
+          (with_front (map tree_of c.args.parts.items) (repeated (length (lexemes c.args.tokens.now)) (after_keyword Or) (term_in c.args.schema.now (nested c.args.schema.now c.args.levels)) (lexemes c.args.tokens.now))))
+          (sym (ap (map tree_of) c.in_ok-push.ensures.items ∙ map-append tree_of c.loop-next.parts.items (c.in_ok-part.part ∷ [])))
+          (steps (after_keyword Or) (term_in c.args.schema.now (nested c.args.schema.now c.args.levels)) _ _ _ _ _ _ (tree_of c.in_ok-part.part) c.loop-next.invariant.read (sym c.in-Some.ensures.is) c.in_ok-part.ensures.read _ some);
     }
 
 pub more_terms-returns-clause-read : goal.more_terms-returns-clause-read
 more_terms-returns-clause-read t c = ends (after_keyword Or) (term_in c.args.schema.now (nested c.args.schema.now c.args.levels)) _ _ _ _ c.loop-next.invariant.read (sym c.in_default.ensures.is)
-
-pub test-returns-clause-columns : goal.test-returns-clause-columns
-test-returns-clause-columns t c = IfOk-weaker c.truth_test.result _ _ (λ read h. h _ ∙ c.in_ok-cond.ensures.columns) c.truth_test.ensures.columns
-
-pub factor-returns-clause-columns : goal.factor-returns-clause-columns
-factor-returns-clause-columns t c = c.in_ok-negation.ensures.columns _ ∙ c.in_ok-cond.ensures.columns
 
 pub factor-returns-then-levels-eq0-clause-read : goal.factor-returns-then-levels-eq0-clause-read
 factor-returns-then-levels-eq0-clause-read t c =
@@ -80,7 +67,7 @@ factor-returns-in_err-cond-clause-read t c =
 pub factor-returns-clause-read : goal.factor-returns-clause-read
 factor-returns-clause-read t c =
     let e = factor_deeper c.args.schema.now (lexemes c.args.tokens.now) (lexemes c.in-Some.next.now) c.args.levels (omega arith) (sym c.in-Some.ensures.is) in
-    e ∙ (rw (c.in_ok-cond.ensures.read, c.in_ok-negation.ensures.is) refl)
+    e ∙ (rw (c.in_ok-cond.ensures.read, c.in_ok-negation.ensures) refl)
 
 pub primary-returns-then-levels-eq0-clause-read : goal.primary-returns-then-levels-eq0-clause-read
 primary-returns-then-levels-eq0-clause-read t c =

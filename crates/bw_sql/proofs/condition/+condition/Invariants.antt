@@ -1,9 +1,7 @@
 -- A condition is read level by level: brackets and NOT take one each.
-use Rattle.std.proofs.Common.{◌≡◌, ◌≤◌, ◌+◌, ◌*◌, true, length, map, vec_len}
-use Rattle.std.specs.List.{list_all}
-use Rattle.bw_model.specs.Cond.{names_within, is_whole}
+use Rattle.std.proofs.Common.{◌≤◌, ◌+◌, ◌*◌, length, map}
 use Rattle.bw_model.specs.declared.keyword.Keyword.TheVariants.{And, Or}
-use Rattle.bw_sql.specs.Condition.{condition}
+use Rattle.bw_model.specs.CondTree.{tree_of}
 use Rattle.bw_sql.specs.Reading.{after_keyword, factor_in, nested, repeated, term_in, with_front}
 use Rattle.bw_sql.specs.Token.{lexemes}
 use Rattle.bw_sql.proofs.Repeats.{Repeats}
@@ -33,11 +31,8 @@ decreases-condition l = 8 * l.levels + 6
 abbrev pub invariant-more_factors-loop-next : goal.invariant-more_factors-loop-next
 invariant-more_factors-loop-next l = record {
   shorter : length l.left.tokens.now ≤ length l.tokens;
-  columns : list_all (names_within (vec_len l.schema.columns)) l.parts.items ≡ true;
-  whole : list_all is_whole l.parts.items ≡ true;
-  longer : vec_len l.initial.parts ≤ vec_len l.parts;
-  read : Repeats (after_keyword And) (factor_in l.schema (nested l.schema l.levels)) (map condition l.parts.items) (length l.left.tokens.now) (lexemes l.left.tokens.now)
-      (with_front (map condition l.initial.parts.items) (repeated (length (lexemes l.tokens)) (after_keyword And) (factor_in l.schema (nested l.schema l.levels)) (lexemes l.tokens)));
+  read : Repeats (after_keyword And) (factor_in l.schema (nested l.schema l.levels)) (map tree_of l.parts.items) (length l.left.tokens.now) (lexemes l.left.tokens.now)
+      (with_front (map tree_of l.initial.parts.items) (repeated (length (lexemes l.tokens)) (after_keyword And) (factor_in l.schema (nested l.schema l.levels)) (lexemes l.tokens)));
 }
 
 abbrev pub decreases-more_factors-loop-next : goal.decreases-more_factors-loop-next
@@ -46,11 +41,8 @@ decreases-more_factors-loop-next l = length l.left.tokens.now
 abbrev pub invariant-more_terms-loop-next : goal.invariant-more_terms-loop-next
 invariant-more_terms-loop-next l = record {
   shorter : length l.left.tokens.now ≤ length l.tokens;
-  columns : list_all (names_within (vec_len l.schema.columns)) l.parts.items ≡ true;
-  whole : list_all is_whole l.parts.items ≡ true;
-  longer : vec_len l.initial.parts ≤ vec_len l.parts;
-  read : Repeats (after_keyword Or) (term_in l.schema (nested l.schema l.levels)) (map condition l.parts.items) (length l.left.tokens.now) (lexemes l.left.tokens.now)
-      (with_front (map condition l.initial.parts.items) (repeated (length (lexemes l.tokens)) (after_keyword Or) (term_in l.schema (nested l.schema l.levels)) (lexemes l.tokens)));
+  read : Repeats (after_keyword Or) (term_in l.schema (nested l.schema l.levels)) (map tree_of l.parts.items) (length l.left.tokens.now) (lexemes l.left.tokens.now)
+      (with_front (map tree_of l.initial.parts.items) (repeated (length (lexemes l.tokens)) (after_keyword Or) (term_in l.schema (nested l.schema l.levels)) (lexemes l.tokens)));
 }
 
 abbrev pub decreases-more_terms-loop-next : goal.decreases-more_terms-loop-next

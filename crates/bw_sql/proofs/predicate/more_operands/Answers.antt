@@ -1,11 +1,10 @@
 -- Each operand goes behind those before it.
 use Rattle.std.proofs.Common.{◌<◌, length, sym, subst, arith}
 use Rattle.std.proofs.lemmas.Result.{err_from_is_err_and}
-use Rattle.bw_model.specs.Cond.{is_within}
 use Rattle.bw_sql.specs.declared.token.Mark.TheVariants.{Comma}
 use Rattle.bw_sql.specs.Reading.{after_mark, operand_at, more_operands, with_front}
 use Rattle.bw_sql.specs.Token.{lexemes}
-use Rattle.bw_sql.proofs.Repeats.{Repeats, ends, halts, steps, halts_too, list_all_push}
+use Rattle.bw_sql.proofs.Repeats.{Repeats, ends, halts, steps, halts_too}
 use Rattle.bw_sql.proofs.predicate.more_operands.Goals as goal
 
 pub returns-in_err-item-clause-read : goal.returns-in_err-item-clause-read
@@ -20,8 +19,6 @@ loop-next-preserved c =
     let some : length c.in_ok-item.after.now < length c.loop-next.left.tokens.now = omega (arith, c.in-Some.ensures.shorter, c.in_ok-item.ensures.shorter) in
     record {
       shorter = omega (arith, c.in-Some.ensures.shorter, c.in_ok-item.ensures.shorter);
-      columns = list_all_push (is_within _) c.loop-next.items.items c.push.new.self.items c.in_ok-item.item c.in_ok-push.ensures.items c.loop-next.invariant.columns c.in_ok-item.ensures.within;
-      longer = omega (arith, c.in_ok-push.ensures.len);
       read = subst (λ items. Repeats (after_mark Comma) (operand_at c.args.schema.now) items (length c.in_ok-item.after.now) (lexemes c.in_ok-item.after.now)
           (with_front c.args.items.items (more_operands c.args.schema.now (lexemes c.args.tokens.now))))
           (sym c.in_ok-push.ensures.items)

@@ -3,7 +3,7 @@ use Rattle.std.proofs.Common.{◌≡◌, List, map, take, subst, arith}
 use Rattle.std.proofs.lemmas.List.{take_all}
 use Rattle.std.proofs.lemmas.Result.{on_ok_weaker}
 use Rattle.bw_rowwise.specs.Accumulator.{Tally}
-use Rattle.bw_shell.specs.Answer.{spelled}
+use Rattle.bw_shell.specs.Answer.{value_text}
 use Rattle.bw_shell.specs.Draft.{Holds}
 use Rattle.bw_shell.proofs.PlainFields.{begun_map}
 use Rattle.bw_shell.proofs.totals.Totals.push_record.Goals as goal
@@ -11,7 +11,7 @@ use Rattle.bw_shell.proofs.totals.Totals.push_record.Goals as goal
 pub returns-clause-record : goal.returns-clause-record
 returns-clause-record c =
     let totals = c.args.self.now.totals.items in
-    let field = λ (tally : Tally). spelled tally.answer in
+    let field = λ (tally : Tally). value_text tally.answer in
     let all : take c.loop-total.total-index totals ≡ totals = take_all c.loop-total.total-index totals (omega (arith, c.deref-total-items.ensures.len, c.args.self.now.totals.ok.0)) in
     on_ok_weaker c.end_record.result
     (λ ends ended held. ends ended (map field totals) (begun_map field totals (omega (arith, c.requires, c.args.self.now.totals.ok.0)))

@@ -5,10 +5,10 @@ use Rattle.std.proofs.lemmas.List.{with_items_is}
 use Rattle.bw_model.specs.Row.{Value, values_of}
 use Rattle.bw_model.specs.Total.{is_aggregate}
 use Rattle.bw_rowwise.specs.Accumulator.{Tally, tally_of}
-use Rattle.bw_shell.specs.Answer.{kept}
+use Rattle.bw_model.specs.Selection.{kept}
 use Rattle.bw_shell.specs.Totals.{is_of}
 use Rattle.bw_shell.proofs.TotalsLemmas.{kept_more}
-use Rattle.bw_shell.proofs.totals.TotalsKeeper.take.Goals as goal
+use Rattle.bw_shell.proofs.totals.TotalsRowTaker.take.Goals as goal
 
 pub invariant_of-self-clause-room : goal.invariant_of-self-clause-room
 invariant_of-self-clause-room c =
@@ -27,7 +27,7 @@ returns-clause-led c = λ start before led.
     let query = start.query.now in
     let items = filter is_aggregate query.items.items in
     let size : length after ≡ self.totals.len = c.add_kept.auto.totals ∙ c.deref_mut.ensures.len in
-    let added = c.add_kept.ensures.totals items (kept query before) (c.deref_mut.ensures.value ∙ led.totals) in
+    let added = c.add_kept.ensures.totals items (kept query.cond before) (c.deref_mut.ensures.value ∙ led.totals) in
     record {
       query = led.query;
       totals = with_items_is self.totals after size ∙ added

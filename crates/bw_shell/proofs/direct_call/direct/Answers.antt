@@ -1,15 +1,14 @@
 -- Each exit, by what its calls told.
 use Rattle.std.proofs.lemmas.Result.{err_from_is_err_and}
-use Rattle.bw_model.specs.declared.parse.TheConstants.{MAX_SCHEMA_LEN}
-use Rattle.bw_shell.specs.declared.csv_query.TheConstants.{MAX_CSV_LEN}
-use Rattle.bw_shell.proofs.DirectExits.{schema_exit, statement_exit, csv_exit, text_exit, unread_schema, never_read, wrote_nothing, went_out, query_read, statement_writes_nothing, rows_write_nothing}
-use Rattle.bw_shell.proofs.csv_query.direct.Goals as goal
+use Rattle.bw_model.specs.Limits.{longest_schema, longest_csv}
+use Rattle.bw_shell.proofs.DirectExits.{schema_exit, statement_exit, csv_exit, text_exit, unread_schema, never_read, wrote_nothing, went_out, statement_writes_nothing, rows_write_nothing}
+use Rattle.bw_shell.proofs.direct_call.direct.Goals as goal
 
 pub returns-in_err-schema-clause-answer : goal.returns-in_err-schema-clause-answer
 returns-in_err-schema-clause-answer g c =
     let p = err_from_is_err_and c.from_residual.result c.from_residual.ensures.1 in
     let told = c.in_err-schema.ensures.told in
-    rw (p.1, p.2) (schema_exit _ _ c.args.sql.now _ told.0 c.in_err-schema.field-0.0 told.1 (never_read MAX_CSV_LEN (g.C.Source.to_come c.args.csv_source.now) _) told.2
+    rw (p.1, p.2) (schema_exit _ _ c.args.sql.now _ told.0 c.in_err-schema.field-0.0 told.1 (never_read longest_csv (g.C.Source.to_come c.args.csv_source.now) _) told.2
     (λ given is. wrote_nothing _ _ c.in_err-schema.field-0.0 given c.in_err-schema.ensures.fault is))
 
 pub returns-in_err-query-clause-answer : goal.returns-in_err-query-clause-answer
@@ -18,8 +17,8 @@ returns-in_err-query-clause-answer g c =
     let told = c.in_ok-schema.ensures.told in
     let fault = c.in_err-query.field-0.0 in
     rw (p.1, p.2) (statement_exit _ _ c.args.sql.now _ told.0 c.in_ok-schema.schema fault told.1
-    (unread_schema MAX_SCHEMA_LEN _ _ _ _ told.0 c.in_ok-schema.schema told.1 told.2) (never_read MAX_CSV_LEN (g.C.Source.to_come c.args.csv_source.now) _) told.2
-    c.in_err-query.ensures.too_long c.in_err-query.ensures.first
+    (unread_schema longest_schema _ _ _ _ told.0 c.in_ok-schema.schema told.1 told.2) (never_read longest_csv (g.C.Source.to_come c.args.csv_source.now) _) told.2
+    c.in_err-query.ensures.read
     (λ given is. wrote_nothing _ _ fault given (statement_writes_nothing fault c.in_err-query.ensures.fault) is))
 
 pub returns-in_err-csv-clause-answer : goal.returns-in_err-csv-clause-answer
@@ -29,7 +28,7 @@ returns-in_err-csv-clause-answer g c =
     let csv = c.in_err-csv.ensures.told in
     let fault = c.in_err-csv.field-0.0 in
     rw (p.1, p.2) (csv_exit _ _ c.args.sql.now _ told.0 csv.0 c.in_ok-schema.schema c.in_ok-query.query fault told.1 csv.1 told.2
-    (query_read c.in_ok-schema.schema c.args.sql.now c.in_ok-query.query c.in_ok-query.ensures.too_long c.in_ok-query.ensures.spelled) csv.2
+    c.in_ok-query.ensures.read csv.2
     (λ given is. wrote_nothing _ _ fault given c.in_err-csv.ensures.fault is))
 
 pub returns-in_err-text-clause-answer : goal.returns-in_err-text-clause-answer
@@ -39,7 +38,7 @@ returns-in_err-text-clause-answer g c =
     let csv = c.in_ok-csv.ensures.told in
     let fault = c.in_err-text.field-0.0 in
     rw (p.1, p.2) (text_exit _ _ c.args.sql.now _ told.0 csv.0 c.in_ok-schema.schema c.in_ok-query.query c.deref.result.now told.1 csv.1 told.2
-    (query_read c.in_ok-schema.schema c.args.sql.now c.in_ok-query.query c.in_ok-query.ensures.too_long c.in_ok-query.ensures.spelled)
+    c.in_ok-query.ensures.read
     (rw c.deref.ensures.value csv.2)
     (wrote_nothing _ _ fault _ (rows_write_nothing fault c.in_err-text.ensures.fault) c.in_err-text.ensures.text))
 
@@ -48,6 +47,6 @@ returns-clause-answer g c =
     let told = c.in_ok-schema.ensures.told in
     let csv = c.in_ok-csv.ensures.told in
     text_exit _ _ c.args.sql.now _ told.0 csv.0 c.in_ok-schema.schema c.in_ok-query.query c.deref.result.now told.1 csv.1 told.2
-    (query_read c.in_ok-schema.schema c.args.sql.now c.in_ok-query.query c.in_ok-query.ensures.too_long c.in_ok-query.ensures.spelled)
+    c.in_ok-query.ensures.read
     (rw c.deref.ensures.value csv.2)
     (went_out _ _ _ _ c.in_ok-text.text.items _ c.write_whole.result c.in_ok-text.ensures.text (rw c.deref-2.ensures.value at c.write_whole.ensures))

@@ -4,7 +4,7 @@ use Rattle.bw_model.specs.Row.{values_of}
 use Rattle.bw_shell.specs.Answer.{csv_text, listed}
 use Rattle.bw_shell.specs.Draft.{Holds}
 use Rattle.bw_shell.proofs.Rows.{listed_more}
-use Rattle.bw_shell.proofs.listing.ListingKeeper.take.Goals as goal
+use Rattle.bw_shell.proofs.listing.ListingRowTaker.take.Goals as goal
 
 pub returns-clause-led : goal.returns-clause-led
 returns-clause-led c = λ start before led.

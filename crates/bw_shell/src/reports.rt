@@ -1,7 +1,7 @@
 //! Lines that a call prints beside its result, put together without memory.
-ghost use Rattle.std.specs.Prelude.{◌≡◌, ◌-◌, ◌^◌, ◌<◌};
+ghost use Rattle.std.specs.Prelude.{◌≡◌, ◌-◌, ◌^◌, ◌<◌, ◌≤◌, false, length};
 ghost use Rattle.std.specs.Fmt.InlineText.{inline_text};
-ghost use Rattle.bw_shell.specs.Report.{status_of, IsLine, PrintsLine};
+ghost use Rattle.bw_shell.specs.Report.{status_of, has_line_feed, IsLine, PrintsLine};
 
 use crate::output::write_whole;
 use bw_file::Sink;
@@ -34,8 +34,20 @@ fn line_of(fault: &Fault) -> InlineText<LINE>
     let words = InlineText::<WORDS>::of(*fault);
     InlineText::new()
         .and_str("bw: ", 4)
-        .and_str(words.as_str(), WORDS)
+        .and_str(on_one_line(words.as_str()), WORDS)
         .and_str("\n", 1)
+}
+
+/// A text that has no line feed as it is, and nothing of any other, of which no fault is shown.
+fn on_one_line(words: &str) -> &str
+    ensures feed { has_line_feed result.now ≡ false }
+    ensures shorter { length result.now ≤ length words.now }
+{
+    if words.as_bytes().contains(&b'\n') {
+        ""
+    } else {
+        words
+    }
 }
 
 /// Writes the line of a fault, as `bw: 404 unknown column at byte 7`, and gives the exit status, which a

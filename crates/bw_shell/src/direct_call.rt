@@ -1,10 +1,12 @@
 //! A query answered straight from a CSV text.
-ghost use Rattle.std.specs.Prelude.{◌≡◌, ◌-◌, ◌^◌, ◌<◌, ℕ, List, Option, Result, false, IfErr, OnOk};
+ghost use Rattle.std.specs.Prelude.{◌≡◌, ◌+◌, ◌-◌, ◌^◌, ◌<◌, ℕ, List, Option, Result, false, IfErr, IsTrue, OnOk};
 ghost use Rattle.bw_model.specs.declared.fault.Fault.{Fault};
 ghost use Rattle.bw_file.specs.Sink.{is_write_fault, Went};
-ghost use Rattle.bw_file.specs.Source.{Came};
+ghost use Rattle.bw_model.specs.Fault.{nowhere};
+ghost use Rattle.bw_model.specs.Limits.{longest_schema, longest_csv};
+ghost use Rattle.bw_file.specs.Source.{Came, TookAtMost, EndsWith};
 ghost use Rattle.bw_csv.specs.Rows.{is_aside};
-ghost use Rattle.bw_shell.specs.Direct.{IsAnswer, SchemaTold, CsvTold};
+ghost use Rattle.bw_shell.specs.Direct.{IsAnswer, SchemaTold, CsvTold, is_before_csv};
 
 use crate::answer::answer_text;
 use crate::input::{Input, read_limited};
@@ -39,12 +41,23 @@ pub fn direct<S: Source, C: Source, K: Sink>(
     // What went out is the text of the answer by what came of the sources, or nothing, where that is a fault. A source
     // that wasn't reached, or whose text found no memory, stands as one that found no memory.
     ensures answer { (schema csv : Result (Option (List ℕ)) Fault) × (given : Result (List ℕ) Fault)
-        × Came MAX_SCHEMA_LEN (S.to_come schema_source.old) (S.to_come schema_source.new)
+        × Came longest_schema (S.to_come schema_source.old) (S.to_come schema_source.new)
         (S.failures schema_source.old) (S.failures schema_source.new) schema
-        × Came MAX_CSV_LEN (C.to_come csv_source.old) (C.to_come csv_source.new)
+        × Came longest_csv (C.to_come csv_source.old) (C.to_come csv_source.new)
         (C.failures csv_source.old) (C.failures csv_source.new) csv
         × IsAnswer schema sql.now csv given
         × Went is_aside (K.taken sink.old) (K.taken sink.new) (K.failures sink.old) (K.failures sink.new) given result }
+
+    // Where a device failed, the call ends with that; and no more is taken of a source than one byte past its limit.
+    ensures schema_failed { EndsWith (nowhere 701) (S.failures schema_source.old) (S.failures schema_source.new) result }
+    ensures csv_failed { EndsWith (nowhere 701) (C.failures csv_source.old) (C.failures csv_source.new) result }
+    ensures sink_failed { EndsWith (nowhere 702) (K.failures sink.old) (K.failures sink.new) result }
+    ensures took { TookAtMost (longest_schema + 1) (S.to_come schema_source.old) (S.to_come schema_source.new)
+        × TookAtMost (longest_csv + 1) (C.to_come csv_source.old) (C.to_come csv_source.new) }
+
+    // Where the schema's source failed, or the schema or the statement is refused, the CSV's source is as it was.
+    ensures unread { S.failures schema_source.old < S.failures schema_source.new → csv_source.new ≡ csv_source.old }
+    ensures unneeded { IfErr result (λ fault. IsTrue (is_before_csv fault) → csv_source.new ≡ csv_source.old) }
 
     // Where it refuses, but for a write that failed, it has written nothing.
     ensures unwritten { IfErr result (λ fault. is_write_fault fault ≡ false
@@ -61,8 +74,10 @@ pub fn direct<S: Source, C: Source, K: Sink>(
 fn read_schema<S: Source>(alloc: Global, source: &mut S) -> Result<Schema, Fault>
     requires { S.failures source.old < 2 ^ 64 - 1 }
     ensures told { (came : Result (Option (List ℕ)) Fault)
-        × Came MAX_SCHEMA_LEN (S.to_come source.old) (S.to_come source.new) (S.failures source.old) (S.failures source.new) came
+        × Came longest_schema (S.to_come source.old) (S.to_come source.new) (S.failures source.old) (S.failures source.new) came
         × SchemaTold came result }
+    ensures took { TookAtMost (longest_schema + 1) (S.to_come source.old) (S.to_come source.new) }
+    ensures failed { EndsWith (nowhere 701) (S.failures source.old) (S.failures source.new) result }
     ensures fault { IfErr result (λ fault. is_write_fault fault ≡ false) }
 {
     match read_limited(alloc, source, MAX_SCHEMA_LEN as u64)? {
@@ -74,9 +89,12 @@ fn read_schema<S: Source>(alloc: Global, source: &mut S) -> Result<Schema, Fault
 fn read_csv<C: Source>(alloc: Global, source: &mut C) -> Result<Vec<u8>, Fault>
     requires { C.failures source.old < 2 ^ 64 - 1 }
     ensures told { (came : Result (Option (List ℕ)) Fault)
-        × Came MAX_CSV_LEN (C.to_come source.old) (C.to_come source.new) (C.failures source.old) (C.failures source.new) came
+        × Came longest_csv (C.to_come source.old) (C.to_come source.new) (C.failures source.old) (C.failures source.new) came
         × CsvTold came result }
+    ensures took { TookAtMost (longest_csv + 1) (C.to_come source.old) (C.to_come source.new) }
+    ensures failed { EndsWith (nowhere 701) (C.failures source.old) (C.failures source.new) result }
     ensures fault { IfErr result (λ fault. is_write_fault fault ≡ false) }
+    ensures later { IfErr result (λ fault. is_before_csv fault ≡ false) }
 {
     match read_limited(alloc, source, MAX_CSV_LEN)? {
         Input::Whole(text) => Ok(text),
