@@ -1,8 +1,9 @@
 //! The truth of a condition on a row, and the rows that it keeps.
-ghost use Rattle.std.specs.Prelude.{◌≡◌, length, map, filter, All, IsTrue, IfOk, IsOkUnless};
+ghost use Rattle.std.specs.Prelude.{◌≡◌, length, map, All, IsTrue, IfOk, IsOkUnless};
 ghost use Rattle.std.specs.List.{list_all};
 ghost use Rattle.bw_model.specs.Truth.{among, all_of, any_of};
-ghost use Rattle.bw_model.specs.Cond.{truth_of, is_kept, names_within, is_within, operand_value};
+ghost use Rattle.bw_model.specs.Cond.{truth_of, names_within, is_within, operand_value};
+ghost use Rattle.bw_model.specs.Selection.{kept};
 ghost use Rattle.bw_model.specs.Row.{values_of};
 ghost use Rattle.bw_model.specs.Fault.{no_memory};
 
@@ -36,7 +37,7 @@ pub fn truth(cond: &Cond, row: &Row) -> Truth
 /// condition names.
 pub fn select(alloc: Global, cond: &Cond, rows: &[Row]) -> Result<Vec<Row>, Fault>
     requires { All (λ row. IsTrue (names_within (length (values_of row)) cond.now)) rows.now }
-    ensures kept { IfOk result (λ kept. map values_of kept.items ≡ filter (is_kept cond.now) (map values_of rows.now)) }
+    ensures kept { IfOk result (λ copies. map values_of copies.items ≡ kept cond.now (map values_of rows.now)) }
     ensures only_memory { IsOkUnless result no_memory }
 {
     let mut kept = Vec::new(alloc);
