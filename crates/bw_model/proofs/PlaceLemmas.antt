@@ -12,7 +12,7 @@ use Rattle.bw_model.specs.Truth.{is_null}
 use Rattle.bw_model.specs.Code.{width_of, width_at, code_of, code_at, value_at, value_of_code}
 use Rattle.bw_model.specs.Variable.{null_count, variable_count, variables_of, is_nullable, first_variable, null_variable, bit_variable, Assignment, assignment_of, low_bits, value_bits, bits_of, spelled, row_from, row_of, value_assigned}
 use Rattle.bw_model.proofs.BitsLemmas.{both, given, length-value_bits, length_value_list}
-use Rattle.bw_model.proofs.VariableLemmas.{width_before_next}
+use Rattle.bw_model.proofs.VariableLemmas.{width_before_next, width_positive}
 
 -- as many bits as variables
 pub length-bits_of : (columns : List Column) (values : List Value) → admits_values columns values ≡ true → length (bits_of columns values) ≡ variables_of columns
@@ -100,12 +100,6 @@ value_in-row_from (c ∷ columns) bits first (suc column) lt =
     omega (arith, sum_by-cons variable_count c (take (suc column) columns), width_before_next columns column lt) in
     value_in-row_from columns bits (first + variable_count c) column lt
     ∙ ap₂ (λ k j. cond (is_nullable columns column && bits k) None (Some (value_at columns column (spelled bits j (width_at columns column))))) here bit
-
-width_positive : (columns : List Column) (column : ℕ) → column < length columns → 1 ≤ width_at columns column
-unfolding width_of
-width_positive [] column lt = absurd (omega arith)
-width_positive (c ∷ columns) zero lt = omega arith
-width_positive (c ∷ columns) (suc column) lt = width_positive columns column (omega arith)
 
 pub value_in-row_of : (columns : List Column) (bits : Assignment) (column : ℕ) → column < length columns → value_in (row_of columns bits) column ≡ value_assigned columns bits column
 value_in-row_of columns bits column lt =

@@ -1,9 +1,9 @@
 -- Where the variables of a column stand.
 use Rattle.std.proofs.Common.{◌≡◌, ℕ, zero, suc, ◌+◌, ◌<◌, ◌≤◌, List, [], ◌∷◌, length, take, arith, add-one}
-use Rattle.std.proofs.lemmas.List.Sums.{sum_by-cons}
+use Rattle.std.proofs.lemmas.List.Sums.{sum_by-cons, sum_by-take-drop}
 use Rattle.bw_model.specs.declared.column.Column.{Column}
-use Rattle.bw_model.specs.Code.{width_at}
-use Rattle.bw_model.specs.Variable.{variable_count, first_variable}
+use Rattle.bw_model.specs.Code.{width_of, width_at}
+use Rattle.bw_model.specs.Variable.{variable_count, variables_of, first_variable}
 
 -- a column's bits stand before the next column
 pub width_before_next : (columns : List Column) (column : ℕ) → column < length columns → width_at columns column ≤ first_variable columns (suc column)
@@ -11,6 +11,29 @@ width_before_next [] column lt = absurd (omega arith)
 width_before_next (c ∷ columns) zero lt = omega (arith, sum_by-cons variable_count c [])
 width_before_next (c ∷ columns) (suc column) lt =
     omega (arith, sum_by-cons variable_count c (take (suc column) columns), width_before_next columns column (omega arith))
+
+-- a column has bits
+pub width_positive : (columns : List Column) (column : ℕ) → column < length columns → 1 ≤ width_at columns column
+unfolding width_of
+width_positive [] column lt = absurd (omega arith)
+width_positive (c ∷ columns) zero lt = omega arith
+width_positive (c ∷ columns) (suc column) lt = width_positive columns column (omega arith)
+
+-- a column's bits stand between its first variable and the next column's
+pub first_variable_more : (columns : List Column) (column : ℕ) → column < length columns → first_variable columns column + width_at columns column ≤ first_variable columns (suc column)
+first_variable_more [] column lt = absurd (omega arith)
+first_variable_more (c ∷ columns) zero lt = omega (arith, sum_by-cons variable_count c [])
+first_variable_more (c ∷ columns) (suc column) lt =
+    omega (arith, sum_by-cons variable_count c (take (suc column) columns), sum_by-cons variable_count c (take column columns), first_variable_more columns column (omega arith))
+
+-- the variables of the first columns are among those of all
+pub first_variable_within : (columns : List Column) (column : ℕ) → first_variable columns column ≤ variables_of columns
+first_variable_within columns column = omega (arith, sum_by-take-drop variable_count columns column)
+
+-- where a column has a variable at all, the first one is below their number
+pub first_variable_below : (columns : List Column) (column : ℕ) → column < length columns → first_variable columns column < variables_of columns
+first_variable_below columns column lt =
+    omega (arith, first_variable_within columns (suc column), first_variable_more columns column lt, width_positive columns column lt)
 
 pub first_variable_next : (columns : List Column) (column : ℕ) → first_variable columns (column + 1) ≡ first_variable columns (suc column)
 first_variable_next columns column = rw add-one

@@ -1,5 +1,5 @@
 //! The variables of a schema: the null bits and code bits of a row, numbered from 0.
-ghost use Rattle.std.specs.Prelude.{◌≡◌, ◌+◌, ◌*◌, ◌/◌, ◌%◌, ◌^◌, ◌<◌, ◌≤◌, ℕ, List, Some, length, IsTrue};
+ghost use Rattle.std.specs.Prelude.{◌≡◌, ◌+◌, ◌*◌, ◌/◌, ◌%◌, ◌^◌, ◌<◌, ◌≤◌, ℕ, List, Some, IfSome, length, IsTrue};
 ghost use Rattle.bw_model.specs.Column.{admits_values};
 ghost use Rattle.bw_model.specs.Code.{width_at, slices_at, has_bit};
 ghost use Rattle.bw_model.specs.Stored.{stored_at, number_spelled, byte_of, byte_spelled, no_bits};
@@ -22,7 +22,8 @@ impl Schema {
     /// The null variable of a column, which comes before its bits.
     pub fn var_null(&self, col: usize) -> Option<u32>
         requires { col < length self.now.columns.items }
-        ensures { result ≡ null_variable self.now.columns.items col }
+        ensures variable { result ≡ null_variable self.now.columns.items col }
+        ensures below { IfSome result (λ variable. variable < variables_of self.now.columns.items) }
     {
         let first = count(&self.columns[..col]);
         self.columns[col].nullable.then_some(first)
@@ -32,7 +33,8 @@ impl Schema {
     pub fn var_bit(&self, col: usize, bit: u32) -> u32
         requires column { col < length self.now.columns.items }
         requires bit { bit < width_at self.now.columns.items col }
-        ensures { result ≡ bit_variable self.now.columns.items col bit }
+        ensures variable { result ≡ bit_variable self.now.columns.items col bit }
+        ensures below { result < variables_of self.now.columns.items }
     {
         count(&self.columns[..=col]) - 1 - bit
     }

@@ -1,0 +1,4 @@
+pub mod BitLemmas
+pub mod ByteLemmas
+pub mod MaskLemmas
+pub mod WordLemmas

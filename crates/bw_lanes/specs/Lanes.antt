@@ -1,0 +1,21 @@
+-- Planes and their lanes: 512 bits, one a row.
+use Rattle.std.specs.Prelude.{ℕ, ◌==◌, Bool, true, false, not, List, map}
+use Rattle.std.specs.Int.{bit_at}
+use Rattle.std.specs.List.{flat_map, range_with_len}
+
+-- so many bits of a number, the least first
+unfoldable pub bits_from_least : ℕ → ℕ → List Bool
+bits_from_least count n = map (λ i. bit_at n i == 1) (range_with_len 0 count)
+
+-- the lanes of a plane: the bits of its words of 64 bits, each from its least
+unfoldable pub lanes_of_words : List ℕ → List Bool
+lanes_of_words words = flat_map (bits_from_least 64) words
+
+-- the lanes of a plane that is kept as bytes: the bits of its bytes, each from its least
+unfoldable pub lanes_of_bytes : List ℕ → List Bool
+lanes_of_bytes bytes = flat_map (bits_from_least 8) bytes
+
+-- exactly one of two is true
+abbrev pub differ : Bool → Bool → Bool
+differ true y = not y
+differ false y = y

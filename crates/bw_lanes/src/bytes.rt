@@ -1,0 +1,64 @@
+//! One byte of each of 512 rows, compared with a byte, or one bit of it taken, by vectors of 64 bytes.
+ghost use Rattle.std.specs.Prelude.{◌≡◌, ◌==◌, ◌<◌, map, nat_lt};
+ghost use Rattle.std.specs.Int.{bit_at};
+ghost use Rattle.bw_lanes.specs.Lanes.{bits_from_least, lanes_of_words};
+
+use crate::plane::Plane;
+use std::simd::prelude::*;
+
+/// The rows whose byte is below c. Byte i is row i's.
+pub fn bytes_lt(bytes: &[u8; 512], c: u8) -> Plane
+    ensures { lanes_of_words result ≡ map (λ byte. nat_lt byte c) bytes.now }
+{
+    let mut words = [0; 8];
+    for word in 0..8 {
+        words[word] = lt(u8x64::from_slice(&bytes[64 * word..]), c);
+    }
+    words
+}
+
+/// The rows whose byte is c. Byte i is row i's.
+pub fn bytes_eq(bytes: &[u8; 512], c: u8) -> Plane
+    ensures { lanes_of_words result ≡ map (λ byte. byte == c) bytes.now }
+{
+    let mut words = [0; 8];
+    for word in 0..8 {
+        words[word] = eq(u8x64::from_slice(&bytes[64 * word..]), c);
+    }
+    words
+}
+
+/// The rows in whose byte a bit is 1, of which bit 0 is the least. Byte i is row i's.
+pub fn bytes_bit(bytes: &[u8; 512], bit: u32) -> Plane
+    requires { bit < 8 }
+    ensures { lanes_of_words result ≡ map (λ byte. bit_at byte bit == 1) bytes.now }
+{
+    let mut words = [0; 8];
+    for word in 0..8 {
+        words[word] = bit_of(u8x64::from_slice(&bytes[64 * word..]), bit);
+    }
+    words
+}
+
+/// A bit a byte: whether it is below c.
+fn lt(bytes: u8x64, c: u8) -> u64
+    ensures { bits_from_least 64 result ≡ map (λ byte. nat_lt byte c) bytes }
+{
+    bytes.simd_lt(u8x64::splat(c)).to_bitmask()
+}
+
+/// A bit a byte: whether it is c.
+fn eq(bytes: u8x64, c: u8) -> u64
+    ensures { bits_from_least 64 result ≡ map (λ byte. byte == c) bytes }
+{
+    bytes.simd_eq(u8x64::splat(c)).to_bitmask()
+}
+
+/// A bit of each byte.
+fn bit_of(bytes: u8x64, bit: u32) -> u64
+    requires { bit < 8 }
+    ensures { bits_from_least 64 result ≡ map (λ byte. bit_at byte bit == 1) bytes }
+{
+    let place = u8x64::splat(1 << bit);
+    (bytes & place).simd_eq(place).to_bitmask()
+}

@@ -1,0 +1,18 @@
+//! Kernels over 512 lanes, one a row: planes of bits and their words, and the bytes of 512 codes.
+//!
+//! The contract that the crates above use: each kernel is its plain definition in every lane, and counts are
+//! numbers of lanes that are 1. None takes memory, and none refuses.
+//!
+//! The layout is BitWeaving's vertical one (Li and Patel), whose words here are 64 bits, and ByteSlice's (Feng,
+//! Lo, Kao and Xu) for bytes. Read `plane.rt` first, and then `bytes.rt`.
+#![tactic(auto)]
+
+mod bytes;
+mod plane;
+mod stored;
+#[cfg(test)]
+mod tests;
+
+pub use bytes::{bytes_bit, bytes_eq, bytes_lt};
+pub use plane::{Plane, and, count, count_and, is_zero, mask, not, or, xor};
+pub use stored::{load, to_bytes};

@@ -1,0 +1,112 @@
+//! Planes: one bit of each of 512 rows, and the operations on them, by vectors of words.
+ghost use Rattle.std.specs.Prelude.{◌≡◌, ◌-◌, ◌≤◌, ◌++◌, ◌&&◌, ◌||◌, true, false, not, map, count_by, replicate, min};
+ghost use Rattle.std.specs.List.{flat_map, list_all};
+ghost use lib.Lanes.{zip2};
+ghost use Rattle.bw_lanes.specs.Lanes.{lanes_of_words, differ};
+
+use std::simd::prelude::*;
+
+/// One bit of each of 512 rows: row i's is bit i mod 64, the least first, of word i / 64.
+pub type Plane = [u64; 8];
+
+/// The first row of each word.
+const FIRST_ROWS: [u64; 8] = [0, 64, 128, 192, 256, 320, 384, 448];
+
+/// The lanes that are 1 in both.
+pub fn and(a: &Plane, b: &Plane) -> Plane
+    ensures { lanes_of_words result ≡ zip2 (λ x y. x && y) (lanes_of_words a.now) (lanes_of_words b.now) }
+{
+    (u64x8::from_array(*a) & u64x8::from_array(*b)).to_array()
+}
+
+/// The lanes that are 1 in either.
+pub fn or(a: &Plane, b: &Plane) -> Plane
+    ensures { lanes_of_words result ≡ zip2 (λ x y. x || y) (lanes_of_words a.now) (lanes_of_words b.now) }
+{
+    (u64x8::from_array(*a) | u64x8::from_array(*b)).to_array()
+}
+
+/// The lanes that differ.
+pub fn xor(a: &Plane, b: &Plane) -> Plane
+    ensures { lanes_of_words result ≡ zip2 differ (lanes_of_words a.now) (lanes_of_words b.now) }
+{
+    (u64x8::from_array(*a) ^ u64x8::from_array(*b)).to_array()
+}
+
+/// The lanes that are 0.
+pub fn not(plane: &Plane) -> Plane
+    ensures { lanes_of_words result ≡ map not (lanes_of_words plane.now) }
+{
+    inverted(u64x8::from_array(*plane)).to_array()
+}
+
+/// Whether all 512 lanes are 0.
+pub fn is_zero(plane: &Plane) -> bool
+    ensures { result ≡ list_all not (lanes_of_words plane.now) }
+{
+    has_no_one(u64x8::from_array(*plane))
+}
+
+/// How many lanes are 1.
+pub fn count(plane: &Plane) -> u32
+    ensures ones { result ≡ count_by (λ lane. lane) (lanes_of_words plane.now) }
+    ensures bound { result ≤ 512 }
+{
+    ones(u64x8::from_array(*plane)) as u32
+}
+
+/// How many lanes are 1 in both.
+pub fn count_and(a: &Plane, b: &Plane) -> u32
+    ensures ones { result ≡ count_by (λ lane. lane)
+        (zip2 (λ x y. x && y) (lanes_of_words a.now) (lanes_of_words b.now)) }
+    ensures bound { result ≤ 512 }
+{
+    count(&and(a, b))
+}
+
+/// The plane in which the first rows, so many, are 1, and the others 0.
+pub fn mask(rows: u32) -> Plane
+    requires { rows ≤ 512 }
+    ensures { lanes_of_words result ≡ replicate rows true ++ replicate (512 - rows) false }
+{
+    first_ones(rows_left(rows)).to_array()
+}
+
+/// The lanes that are 0.
+fn inverted(words: u64x8) -> u64x8
+    ensures { lanes_of_words result ≡ map not (lanes_of_words words) }
+{
+    !words
+}
+
+/// Whether no lane is 1.
+fn has_no_one(words: u64x8) -> bool
+    ensures { result ≡ list_all not (lanes_of_words words) }
+{
+    words.reduce_or() == 0
+}
+
+/// How many lanes are 1.
+fn ones(words: u64x8) -> u64
+    ensures ones { result ≡ count_by (λ lane. lane) (lanes_of_words words) }
+    ensures bound { result ≤ 512 }
+{
+    words.count_ones().strict_reduce_sum()
+}
+
+/// How many rows, of so many, are left for each word.
+fn rows_left(rows: u32) -> u64x8
+    requires { rows ≤ 512 }
+    ensures { result ≡ map (λ first. rows - first) FIRST_ROWS }
+{
+    u64x8::splat(rows as u64).saturating_sub(u64x8::from_array(FIRST_ROWS))
+}
+
+/// A word for each count: its lowest bits, so many and at most all, are 1, and the others 0.
+fn first_ones(counts: u64x8) -> u64x8
+    ensures { lanes_of_words result ≡ flat_map (λ n. replicate (min n 64) true ++ replicate (64 - n) false) counts }
+{
+    let ones = u64x8::splat(u64::MAX);
+    let some = !(ones << counts.simd_min(u64x8::splat(63)));
+    counts.simd_lt(u64x8::splat(64)).select(some, ones)
+}

@@ -1,0 +1,35 @@
+//! Planes as they are kept: 64 bytes, row i's bit being bit i mod 8, the least first, of byte i / 8.
+ghost use Rattle.std.specs.Prelude.{◌≡◌, ◌≤◌, length, take};
+ghost use Rattle.bw_lanes.specs.Lanes.{lanes_of_words, lanes_of_bytes};
+
+use crate::plane::Plane;
+use std::simd::prelude::*;
+
+/// The plane of the first 64 bytes.
+pub fn load(bytes: &[u8]) -> Plane
+    requires { 64 ≤ length bytes.now }
+    ensures { lanes_of_words result ≡ lanes_of_bytes (take 64 bytes.now) }
+{
+    words_of(u8x64::from_slice(bytes)).to_array()
+}
+
+/// The bytes of a plane.
+pub fn to_bytes(plane: &Plane) -> [u8; 64]
+    ensures { lanes_of_bytes result ≡ lanes_of_words plane.now }
+{
+    bytes_of(u64x8::from_array(*plane)).to_array()
+}
+
+/// The words of bytes, the least byte of each first.
+fn words_of(bytes: u8x64) -> u64x8
+    ensures { lanes_of_words result ≡ lanes_of_bytes bytes }
+{
+    u64x8::from_le_bytes(bytes)
+}
+
+/// The bytes of words, the least of each first.
+fn bytes_of(words: u64x8) -> u8x64
+    ensures { lanes_of_bytes result ≡ lanes_of_words words }
+{
+    words.to_le_bytes()
+}

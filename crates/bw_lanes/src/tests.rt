@@ -1,0 +1,64 @@
+//! Worked planes and bytes, and each kernel once.
+use crate::{
+    Plane, and, bytes_bit, bytes_eq, bytes_lt, count, count_and, is_zero, load, mask, not, or,
+    to_bytes, xor,
+};
+
+/// Bytes of which byte i is i mod 256.
+fn counted() -> [u8; 512] {
+    let mut bytes = [0; 512];
+    for i in 0..512usize {
+        bytes[i] = (i % 256) as u8;
+    }
+    bytes
+}
+
+#[test]
+fn bytes_are_compared(rt: HostRuntime) {
+    let bytes = counted();
+    assert_eq!(rt; count(&bytes_lt(&bytes, 0)), 0);
+    assert_eq!(rt; count(&bytes_lt(&bytes, 255)), 510);
+    assert_eq!(rt; count(&bytes_eq(&bytes, 0)), 2);
+    assert_eq!(rt; count(&bytes_bit(&bytes, 7)), 256);
+}
+
+#[test]
+fn masks_are_runs(rt: HostRuntime) {
+    assert_eq!(rt; mask(65), [u64::MAX, 1, 0, 0, 0, 0, 0, 0]);
+    assert_eq!(rt; mask(0), [0; 8]);
+    assert_eq!(rt; count(&mask(512)), 512);
+}
+
+#[test]
+fn zero_looks_at_each_lane(rt: HostRuntime) {
+    let last: Plane = [0, 0, 0, 0, 0, 0, 0, 1 << 63];
+    assert!(rt; !is_zero(&last));
+    assert!(rt; is_zero(&[0; 8]));
+}
+
+/// Words that look alike nowhere.
+const MIXED: Plane = [
+    0x0123_4567_89AB_CDEF,
+    0xFFFF_0000_FFFF_0000,
+    0,
+    u64::MAX,
+    0x8000_0000_0000_0001,
+    0xAAAA_AAAA_AAAA_AAAA,
+    0x0F0F_0F0F_0F0F_0F0F,
+    0x00FF_00FF_00FF_00FF,
+];
+
+#[test]
+fn planes_are_joined_and_kept(rt: HostRuntime) {
+    let first = mask(300);
+    let both = and(&MIXED, &first);
+    assert_eq!(rt; count(&both), count_and(&MIXED, &first));
+    assert_eq!(rt;
+        count(&or(&MIXED, &first)) + count(&both),
+        count(&MIXED) + 300
+    );
+    assert_eq!(rt; xor(&or(&MIXED, &first), &both), xor(&MIXED, &first));
+    assert_eq!(rt; count(&not(&MIXED)) + count(&MIXED), 512);
+    assert_eq!(rt; to_bytes(&MIXED)[0], 0xEF);
+    assert_eq!(rt; load(to_bytes(&MIXED).as_slice()), MIXED);
+}

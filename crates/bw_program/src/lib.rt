@@ -1,0 +1,15 @@
+//! Scan programs: short lists of instructions over registers of 512 lanes, which compute for each row of a
+//! segment whether it is selected.
+//!
+//! The contract that the crates above use: a [`Program`] is valid by its type, and what it does with the lanes of
+//! a segment is `specs/Machine.antt`, which speaks of assignments alone. A skip goes on at its target exactly
+//! where its register is 0 in every lane, as BitWeaving (Li and Patel) stops a comparison early.
+//!
+//! Read `instr.rt` first, and then `specs/Machine.antt`.
+#![tactic(auto)]
+
+mod instr;
+mod program;
+
+pub use instr::Instr;
+pub use program::Program;

@@ -1,0 +1,44 @@
+-- What a segment means: a table's name and columns, and at least 1 and at most 512 rows that the columns admit.
+use Rattle.std.specs.Prelude.{◌≡◌, ℕ, ◌≤◌, Bool, true, List, ◌++◌, ◌-◌, length, map, replicate, if◌then◌else◌}
+use Rattle.std.specs.List.{list_all}
+use Rattle.bw_model.specs.declared.column.Column.{Column}
+use Rattle.bw_model.specs.Row.{Value, value_in, values_of}
+use Rattle.bw_model.specs.Column.{admits_values}
+use Rattle.bw_model.specs.Groups.{group_size, lanes_of}
+use Rattle.bw_model.specs.Stored.{stored_at, byte_spelled}
+use Rattle.bw_model.specs.Truth.{is_null}
+use Rattle.bw_model.specs.declared.row.Row.{Row}
+use Rattle.bw_model.specs.declared.schema.Schema.{Schema}
+
+pub record Meaning : Type 0 where
+  pub name : List ℕ
+  pub columns : List Column
+  pub rows : List (List Value)
+
+-- the rows are those of one group, each admitted by the columns
+pub record IsGroup (meaning : Meaning) : Type 0 where
+  pub some : 1 ≤ length meaning.rows
+  pub few : length meaning.rows ≤ group_size
+  pub admitted : list_all (admits_values meaning.columns) meaning.rows ≡ true
+
+-- the bit of a variable in each of the group's 512 lanes
+abbrev pub variable_lanes : Meaning → ℕ → List Bool
+variable_lanes meaning variable = map (λ bits. bits variable) (lanes_of meaning.columns meaning.rows)
+
+-- the byte `slice` of a column's padded code in each of the lanes, of which byte 0 is the least
+abbrev pub byte_lanes : Meaning → ℕ → ℕ → List ℕ
+byte_lanes meaning column slice = map (byte_spelled meaning.columns column slice) (lanes_of meaning.columns meaning.rows)
+
+-- the code of a column in each of the lanes as it is stored, that of null and of padding rows being 0
+unfoldable pub code_lanes : Meaning → ℕ → List ℕ
+code_lanes meaning column =
+    map (λ row. stored_at meaning.columns column (value_in row column)) meaning.rows ++ replicate (group_size - length meaning.rows) 0
+
+-- in each of the lanes 1 where the column is null, and else 0
+unfoldable pub null_lanes : Meaning → ℕ → List ℕ
+null_lanes meaning column =
+    map (λ row. if is_null (value_in row column) then 1 else 0) meaning.rows ++ replicate (group_size - length meaning.rows) 0
+
+-- what rows of a table of this schema mean
+abbrev pub meaning_of : Schema → List Row → Meaning
+meaning_of schema rows = record { name = schema.name; columns = schema.columns.items; rows = map values_of rows }

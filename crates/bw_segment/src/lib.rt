@@ -1,0 +1,19 @@
+//! Segments: 512 rows of a table at a time, kept by columns, which scans run on.
+//!
+//! The contract that the crates above use: a [`Segment`] means the columns of a schema and 1 to 512 rows that
+//! they admit, and each of its methods answers from that meaning alone, whatever the layout. Bit i of
+//! `plane(v)` is row i's bit of the variable v, and 0 past the last row.
+//!
+//! What variables, codes and lanes are stands in the `specs/` of `bw_model`; the layouts are those of
+//! BitWeaving's vertical one (Li and Patel) and of ByteSlice (Feng, Lo, Kao and Xu). Read `segment.rt` first.
+#![tactic(auto)]
+
+mod codes;
+mod lanes;
+mod segment;
+mod shape;
+
+pub use codes::{bytes_of, codes_of, nulls_of, slices_of};
+pub use lanes::lanes_hold_codes;
+pub use segment::Segment;
+pub use shape::Shape;

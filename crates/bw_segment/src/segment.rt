@@ -1,0 +1,52 @@
+ghost use Rattle.std.specs.Prelude.{◌≡◌, ◌<◌, ◌≤◌, ◌==◌, length, map, nat_lt, slice_index_or, []};
+ghost use Rattle.bw_lanes.specs.Lanes.{lanes_of_words};
+ghost use Rattle.bw_model.specs.Code.{slices_at};
+ghost use Rattle.bw_model.specs.Groups.{group_size};
+ghost use Rattle.bw_model.specs.Row.{value_in};
+ghost use Rattle.bw_model.specs.Variable.{variables_of};
+ghost use Rattle.bw_segment.specs.Meaning.{Meaning, IsGroup, variable_lanes, byte_lanes};
+
+use bw_lanes::Plane;
+use bw_model::{Schema, Value};
+
+/// At least 1 and at most 512 rows of a table, kept by columns. The methods take no memory and refuse nothing.
+pub trait Segment {
+    ghost meaning: { Self → Meaning };
+
+    /// The table's name and columns.
+    fn schema(&self) -> &Schema
+        ensures name { result.now.name ≡ (meaning self.now).name }
+        ensures columns { result.now.columns.items ≡ (meaning self.now).columns };
+
+    /// How many rows the segment has, 1 to 512.
+    fn rows_in(&self) -> u32
+        ensures count { result ≡ length (meaning self.now).rows }
+        ensures bounds { (1 ≤ result) × (result ≤ group_size) };
+
+    /// The bit of a variable in each row, 0 past the last one.
+    fn plane(&self, var: u32) -> Plane
+        requires { var < variables_of (meaning self.now).columns }
+        ensures { lanes_of_words result ≡ variable_lanes (meaning self.now) var };
+
+    /// The rows in which a byte of a column's code, padded to whole bytes by zero bits at its top, is below c.
+    /// Byte 0 is the least. The rows past the last one count as code 0, as null does.
+    fn byte_lt(&self, col: usize, slice: usize, c: u8) -> Plane
+        requires column { col < length (meaning self.now).columns }
+        requires slice { slice < slices_at (meaning self.now).columns col }
+        ensures { lanes_of_words result ≡ map (λ byte. nat_lt byte c) (byte_lanes (meaning self.now) col slice) };
+
+    /// The rows in which such a byte is c.
+    fn byte_eq(&self, col: usize, slice: usize, c: u8) -> Plane
+        requires column { col < length (meaning self.now).columns }
+        requires slice { slice < slices_at (meaning self.now).columns col }
+        ensures { lanes_of_words result ≡ map (λ byte. byte == c) (byte_lanes (meaning self.now) col slice) };
+
+    /// The value of a row, from 0, in a column.
+    fn value(&self, col: usize, row: usize) -> Value
+        requires column { col < length (meaning self.now).columns }
+        requires row { row < length (meaning self.now).rows }
+        ensures { result ≡ value_in (slice_index_or (meaning self.now).rows row []) col };
+
+    /// A law: the rows are those of one group, which the columns admit.
+    ghost is_group: { (segment : Self) → IsGroup (meaning segment) };
+}
