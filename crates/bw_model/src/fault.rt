@@ -5,7 +5,7 @@ use std::alloc::{AllocError, AllocFailed};
 use std::fmt;
 use thiserror::Error;
 
-/// The numbers of the faults. The hundreds tell the part: 1 the schema, 2 the CSV, 4 the statement,
+/// The numbers of the faults. The hundreds tell the part: 1 the schema, 2 the CSV, 4 the statement, 5 the program,
 /// 7 a device, 8 memory.
 pub mod code {
     pub const SCHEMA_FORM: u16 = 101;
@@ -53,6 +53,20 @@ pub mod code {
     pub const STATEMENT_TOO_LONG: u16 = 407;
 
     pub const NESTING: u16 = 408;
+
+    pub const PROGRAM_FORM: u16 = 501;
+
+    pub const REGISTER: u16 = 502;
+
+    pub const COLUMN_OR_BIT: u16 = 503;
+
+    pub const SKIP_TARGET: u16 = 504;
+
+    pub const PROGRAM_TOO_LONG: u16 = 505;
+
+    pub const NO_RESULT: u16 = 506;
+
+    pub const NO_NULLS: u16 = 507;
 
     pub const READ_FAILED: u16 = 701;
 
@@ -178,6 +192,13 @@ const fn text_of(code: u16) -> &'static str {
         code::MIXED_ITEMS => "columns and aggregates mixed",
         code::STATEMENT_TOO_LONG => "statement too long",
         code::NESTING => "nesting",
+        code::PROGRAM_FORM => "line form",
+        code::REGISTER => "register",
+        code::COLUMN_OR_BIT => "column or bit",
+        code::SKIP_TARGET => "skip target",
+        code::PROGRAM_TOO_LONG => "program too long",
+        code::NO_RESULT => "no result",
+        code::NO_NULLS => "column has no nulls",
         code::READ_FAILED => "read failed",
         code::WRITE_FAILED => "write failed",
         code::OUT_OF_MEMORY => "out of memory",

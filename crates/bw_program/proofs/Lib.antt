@@ -1,1 +1,4 @@
 pub mod ProgramLemmas
+pub mod TextLemmas
+pub mod InstrSpelling
+pub mod ProgramSpelling

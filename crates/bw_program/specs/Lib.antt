@@ -1,2 +1,4 @@
 pub mod Machine
+pub mod Opcode
 pub mod Program
+pub mod ProgramText

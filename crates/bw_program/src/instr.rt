@@ -23,5 +23,5 @@ pub enum Instr {
     ByteEq(u8, u8, u8, u8),
     /// The register, and the instruction that comes next where it is 0 in all 512 lanes. The number behind the
     /// last instruction is the end.
-    Skip(u8, u16),
+    Skip(u8, usize),
 }

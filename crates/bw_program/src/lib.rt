@@ -9,7 +9,11 @@
 #![tactic(auto)]
 
 mod instr;
+mod line;
+mod opcode;
+mod parse;
 mod program;
 
 pub use instr::Instr;
+pub use opcode::Opcode;
 pub use program::Program;

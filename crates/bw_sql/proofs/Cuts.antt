@@ -32,7 +32,7 @@ some_front (c ∷ front) piece h = omega arith
 
 pub shrinks : (rest after : List ℕ) (piece : Piece) → IsLongest rest after piece → length after < length rest
 shrinks rest after piece longest =
-    let some = some_front longest.front piece longest.is_piece in
+    let some = some_front longest.front piece longest.is in
     omega (arith, ap length longest.cut, length-append longest.front after)
 
 pub spots_push : (xs ys : List Placed) (placed : Placed) (tokens : List Spot) → ys ≡ xs ++ placed ∷ [] → spots ys ++ tokens ≡ spots xs ++ spot placed ∷ tokens

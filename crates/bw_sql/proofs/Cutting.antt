@@ -7,28 +7,28 @@ use Rattle.bw_model.specs.declared.cond.Op.TheVariants.{Eq, Ne, Lt, Gt, Le, Ge}
 use Rattle.bw_model.specs.Text.{begins_word, goes_on_in_word}
 use Rattle.bw_sql.specs.declared.token.Mark.TheVariants.{Open, Close, Comma, Star, Semicolon, Plus, Minus}
 use Rattle.bw_sql.specs.Cut.{IsCut, Spot, ended, stopped, gap, token}
-use Rattle.bw_sql.specs.Piece.{Piece, Gap, Token, IsSign, IsLongest, IsLongestSign, BeginsNoPiece, BeginsNoSign, is_blank, is_in_comment, begins_comment, is_short_sign, is_long_sign}
+use Rattle.bw_sql.specs.Piece.{Piece, Gap, Token, IsDelimiter, IsLongest, IsLongestDelimiter, BeginsNoPiece, BeginsNoDelimiter, is_blank, is_in_comment, begins_comment, is_short_delimiter, is_long_delimiter}
 use Rattle.bw_sql.specs.Token.{Lexeme, Compare, Punct}
 use Rattle.bw_sql.proofs.Cuts.{shrinks}
-use Rattle.bw_sql.proofs.Pieces.{Split, split, blank_longest, word_longest, digits_longest, comment_longest, sign_longest, no_piece}
+use Rattle.bw_sql.proofs.Pieces.{Split, split, blank_longest, word_longest, digits_longest, comment_longest, delimiter_longest, no_piece}
 use Rattle.bw_sql.proofs.Runs.{bool_cases}
-use Rattle.bw_sql.proofs.Signs.{NoLong, no_long, no_long_at_end, long_longest, short_longest, none_begins}
+use Rattle.bw_sql.proofs.Delimiters.{NoLong, no_long, no_long_at_end, long_longest, short_longest, none_begins}
 
--- the comparison or mark that one byte is, and the comparison that two are
-record Sign (bytes : List ℕ) : Type 0 where
+-- the delimiter that one byte is, and that two are
+record Found (bytes : List ℕ) : Type 0 where
   t : Lexeme
-  is : IsSign bytes t
+  is : IsDelimiter bytes t
 
-one_byte : (c n : ℕ) (t : Lexeme) → (c == n) ≡ true → IsSign (n ∷ []) t → Sign (c ∷ [])
-one_byte c n t e is = record { t = t; is = subst (λ x. IsSign (x ∷ []) t) (sym (eqb-true c n e)) is }
+one_byte : (c n : ℕ) (t : Lexeme) → (c == n) ≡ true → IsDelimiter (n ∷ []) t → Found (c ∷ [])
+one_byte c n t e is = record { t = t; is = subst (λ x. IsDelimiter (x ∷ []) t) (sym (eqb-true c n e)) is }
 
-two_bytes : (c d n m : ℕ) (t : Lexeme) → (c == n) ≡ true → (d == m) ≡ true → IsSign (n ∷ m ∷ []) t → Sign (c ∷ d ∷ [])
+two_bytes : (c d n m : ℕ) (t : Lexeme) → (c == n) ≡ true → (d == m) ≡ true → IsDelimiter (n ∷ m ∷ []) t → Found (c ∷ d ∷ [])
 two_bytes c d n m t e f is = record {
   t = t;
-  is = subst (λ x. IsSign (x ∷ d ∷ []) t) (sym (eqb-true c n e)) (subst (λ y. IsSign (n ∷ y ∷ []) t) (sym (eqb-true d m f)) is);
+  is = subst (λ x. IsDelimiter (x ∷ d ∷ []) t) (sym (eqb-true c n e)) (subst (λ y. IsDelimiter (n ∷ y ∷ []) t) (sym (eqb-true d m f)) is);
 }
 
-short_is : (c : ℕ) → is_short_sign c ≡ true → Sign (c ∷ [])
+short_is : (c : ℕ) → is_short_delimiter c ≡ true → Found (c ∷ [])
 short_is c h =
     bool_cases (c == 40) (λ e. one_byte c 40 (Punct Open) e refl) (λ e40.
     bool_cases (c == 41) (λ e. one_byte c 41 (Punct Close) e refl) (λ e41.
@@ -42,7 +42,7 @@ short_is c h =
     bool_cases (c == 62) (λ e. one_byte c 62 (Compare Gt) e refl) (λ e62.
     let none : false ≡ true = rw (e40, e41, e42, e43, e44, e45, e59, e60, e61, e62) at h in cc))))))))))
 
-long_is : (c d : ℕ) → is_long_sign c d ≡ true → Sign (c ∷ d ∷ [])
+long_is : (c d : ℕ) → is_long_delimiter c d ≡ true → Found (c ∷ d ∷ [])
 long_is c d h =
     bool_cases (c == 60) (λ e.
     bool_cases (d == 61) (λ f. two_bytes c d 60 61 (Compare Le) e f refl) (λ d61.
@@ -53,21 +53,21 @@ long_is c d h =
     let none : false ≡ true = rw (e60, e, d61) at h in cc)) (λ e62.
     let none : false ≡ true = rw (e60, e62) at h in cc))
 
--- the longest comparison or mark that begins a text, or none
-data Signed (text : List ℕ) : Type 0 where
-  no_sign : BeginsNoSign text → Signed text
-  a_sign : (after : List ℕ) (t : Lexeme) → IsLongestSign text after t → Signed text
+-- the longest delimiter that begins a text, or none
+data Begins (text : List ℕ) : Type 0 where
+  no_delimiter : BeginsNoDelimiter text → Begins text
+  a_delimiter : (after : List ℕ) (t : Lexeme) → IsLongestDelimiter text after t → Begins text
 
-signed_short : (c : ℕ) (rest : List ℕ) → NoLong c rest → Signed (c ∷ rest)
-signed_short c rest none = bool_cases (is_short_sign c)
-    (λ e. let found = short_is c e in a_sign rest found.t (short_longest (c ∷ rest) c rest found.t refl none found.is))
-    (λ e. no_sign (none_begins (c ∷ rest) c rest refl none e))
+begins_short : (c : ℕ) (rest : List ℕ) → NoLong c rest → Begins (c ∷ rest)
+begins_short c rest none = bool_cases (is_short_delimiter c)
+    (λ e. let found = short_is c e in a_delimiter rest found.t (short_longest (c ∷ rest) c rest found.t refl none found.is))
+    (λ e. no_delimiter (none_begins (c ∷ rest) c rest refl none e))
 
-signed : (c : ℕ) (rest : List ℕ) → Signed (c ∷ rest)
-signed c [] = signed_short c [] (no_long_at_end c [] refl)
-signed c (d ∷ after) = bool_cases (is_long_sign c d)
-    (λ e. let found = long_is c d e in a_sign after found.t (long_longest (c ∷ d ∷ after) c (d ∷ after) d after found.t refl refl found.is))
-    (λ e. signed_short c (d ∷ after) (no_long c (d ∷ after) d after refl e))
+begins : (c : ℕ) (rest : List ℕ) → Begins (c ∷ rest)
+begins c [] = begins_short c [] (no_long_at_end c [] refl)
+begins c (d ∷ after) = bool_cases (is_long_delimiter c d)
+    (λ e. let found = long_is c d e in a_delimiter after found.t (long_longest (c ∷ d ∷ after) c (d ∷ after) d after found.t refl refl found.is))
+    (λ e. begins_short c (d ∷ after) (no_long c (d ∷ after) d after refl e))
 
 -- the longest piece that begins a text, or none
 data Begun (text : List ℕ) : Type 0 where
@@ -84,11 +84,11 @@ begun c rest =
     bool_cases (begins_word c) (λ e. a_piece _ _ (word_longest text c rest _ _ _ refl e (front_where goes_on_in_word text) refl)) (λ w.
     bool_cases (is_ascii_digit c) (λ e. a_piece _ _ (digits_longest text c rest _ _ refl e (front_where is_ascii_digit text))) (λ d.
     bool_cases (begins_comment text) (λ e. a_piece _ Gap (comment_longest text c rest _ _ refl e (front_where is_in_comment text))) (λ n.
-    by_sign b w d n (signed c rest)))))
+    by_delimiter b w d n (begins c rest)))))
   where
-    by_sign : is_blank c ≡ false → begins_word c ≡ false → is_ascii_digit c ≡ false → begins_comment (c ∷ rest) ≡ false → Signed (c ∷ rest) → Begun (c ∷ rest)
-    by_sign b w d n (no_sign none) = no_piece_begins (no_piece (c ∷ rest) c rest refl b w d n none)
-    by_sign b w d n (a_sign after t best) = a_piece after (Token t) (sign_longest (c ∷ rest) c rest refl b w d n after t best)
+    by_delimiter : is_blank c ≡ false → begins_word c ≡ false → is_ascii_digit c ≡ false → begins_comment (c ∷ rest) ≡ false → Begins (c ∷ rest) → Begun (c ∷ rest)
+    by_delimiter b w d n (no_delimiter none) = no_piece_begins (no_piece (c ∷ rest) c rest refl b w d n none)
+    by_delimiter b w d n (a_delimiter after t best) = a_piece after (Token t) (delimiter_longest (c ∷ rest) c rest refl b w d n after t best)
 
 -- how a text is cut
 pub record Cut (at : ℕ) (text : List ℕ) : Type 0 where

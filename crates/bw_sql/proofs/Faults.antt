@@ -16,7 +16,7 @@ use Rattle.bw_sql.specs.Frontier.{Stands, IsFirst, asked_for, at_token, at_sign,
 use Rattle.bw_sql.specs.Grammar.{StatementIs}
 use Rattle.bw_sql.specs.Limits.{longest_statement}
 use Rattle.bw_sql.specs.Reading.{Halt, ◌>>=◌, statement_at}
-use Rattle.bw_sql.specs.Refusal.{number}
+use Rattle.bw_sql.specs.Refusal.{code_of}
 use Rattle.bw_sql.specs.Judged.{Answers, IsRead, fault_at, judged, spot_from}
 use Rattle.bw_sql.specs.Statement.{IsFault, IsRefusal, SpellsOrFails, Parses, Spells, too_long, refused, token_refused, end_refused, byte_refused, tokens_of}
 use Rattle.bw_sql.specs.Token.{Lexeme}
@@ -109,27 +109,27 @@ parsed schema text result long exact = parsed_by schema text result long exact (
 refusal_of : ℕ → Refusal
 refusal_of n = if n == 402 then Syntax else (if n == 403 then UnknownTable else (if n == 404 then UnknownColumn else (if n == 405 then Literal else (if n == 406 then MixedItems else Nesting))))
 
-refusal_of_number : (why : Refusal) → refusal_of (number why) ≡ why
+refusal_of_code : (why : Refusal) → refusal_of (code_of why) ≡ why
 unfolding refusal_of
-refusal_of_number Syntax = refl
-refusal_of_number UnknownTable = refl
-refusal_of_number UnknownColumn = refl
-refusal_of_number Literal = refl
-refusal_of_number MixedItems = refl
-refusal_of_number Nesting = refl
+refusal_of_code Syntax = refl
+refusal_of_code UnknownTable = refl
+refusal_of_code UnknownColumn = refl
+refusal_of_code Literal = refl
+refusal_of_code MixedItems = refl
+refusal_of_code Nesting = refl
 
-number_same : (a b : Refusal) → number a ≡ number b → a ≡ b
-number_same a b e = sym (refusal_of_number a) ∙ ap refusal_of e ∙ refusal_of_number b
+code_same : (a b : Refusal) → code_of a ≡ code_of b → a ≡ b
+code_same a b e = sym (refusal_of_code a) ∙ ap refusal_of e ∙ refusal_of_code b
 
 record Same (why other : Refusal) (place at : ℕ) : Type 0 where
   whys : why ≡ other
   places : place ≡ at
 
-same_of : (why other : Refusal) (place at : ℕ) → ((place < at) ⊎ ((place ≡ at) × (number why ≤ number other))) → ((at < place) ⊎ ((at ≡ place) × (number other ≤ number why))) → Same why other place at
+same_of : (why other : Refusal) (place at : ℕ) → ((place < at) ⊎ ((place ≡ at) × (code_of why ≤ code_of other))) → ((at < place) ⊎ ((at ≡ place) × (code_of other ≤ code_of why))) → Same why other place at
 same_of why other place at (inl h) (inl g) = absurd (omega arith)
 same_of why other place at (inl h) (inr g) = absurd (omega (arith, g.0))
 same_of why other place at (inr h) (inl g) = absurd (omega (arith, h.0))
-same_of why other place at (inr h) (inr g) = record { whys = number_same why other (omega (arith, h.1, g.1)); places = h.0 }
+same_of why other place at (inr h) (inr g) = record { whys = code_same why other (omega (arith, h.1, g.1)); places = h.0 }
 
 first_same : (schema : Schema) (tokens : List Lexeme) (why other : Refusal) (place at : ℕ) → IsFirst schema tokens why place → IsFirst schema tokens other at → Same why other place at
 first_same schema tokens why other place at f g = same_of why other place at (f.first other at g.stands) (g.first why place f.stands)
@@ -150,7 +150,7 @@ module _ (schema : Schema) (text : List ℕ) (tokens : List Spot) where
   spot_there halt f = let index : length tokens - halt.left ≡ f.place = omega (arith, f.left, length-map tokens (λ spot. spot.token)) in ap (slice_get tokens) index
 
   token_read : (stop : Option ℕ) (why : Refusal) (place : ℕ) (spot : Spot) (reading : Result Asked Halt) → statement_at schema (tokens_of tokens) ≡ reading → IsFirst schema (tokens_of tokens) why place → slice_get tokens place ≡ Some spot →
-      Err (at_byte (number why) spot.at) ≡ judged tokens stop (length text) reading
+      Err (at_byte (code_of why) spot.at) ≡ judged tokens stop (length text) reading
   token_read stop why place spot (Ok q) e f s = absurd (no_fault_at_token q why place spot e f s)
   token_read stop why place spot (Err halt) e f s =
       let g = first_fault schema (tokens_of tokens) halt e in
@@ -159,7 +159,7 @@ module _ (schema : Schema) (text : List ℕ) (tokens : List Spot) where
       rw (found, same.whys) refl
 
   end_read : (reading : Result Asked Halt) → statement_at schema (tokens_of tokens) ≡ reading → IsFirst schema (tokens_of tokens) Syntax (length tokens) →
-      Err (at_byte (number Syntax) (length text)) ≡ judged tokens None (length text) reading
+      Err (at_byte (code_of Syntax) (length text)) ≡ judged tokens None (length text) reading
   end_read (Ok q) e f = absurd (no_fault_at_end q (length tokens) e f.stands (omega arith))
   end_read (Err halt) e f =
       let g = first_fault schema (tokens_of tokens) halt e in

@@ -11,7 +11,7 @@ use Rattle.bw_sql.specs.Demand.{Demand, is_met, refusal}
 use Rattle.bw_sql.specs.Frontier.{Begins, Stands, IsFirst, asked_for, is_sign, at_token, at_sign, at_end}
 use Rattle.bw_sql.specs.Grammar.{StatementIs}
 use Rattle.bw_sql.specs.Reading.{Halt, ◌>>=◌, statement_at}
-use Rattle.bw_sql.specs.Refusal.{number}
+use Rattle.bw_sql.specs.Refusal.{code_of}
 use Rattle.bw_sql.specs.Token.{Lexeme, Digits}
 use Rattle.bw_sql.proofs.Machine.{Symbol, SignedDigits, AStatement, Halted, halt_at, step, run}
 use Rattle.bw_sql.proofs.Runs.{bool_cases, statement_runs}
@@ -75,7 +75,7 @@ module _ (schema : Schema) where
 
   -- what is refused under the demands of the refusal's number isn't spelled under them
   not_asked : (why : Refusal) (d : Demand) → refusal d ≡ why → is_met schema d ≡ false → asked_for schema why d ≡ true → ⊥
-  not_asked why d e u m = let f = rw (e, equal (number why), u) at m in cc
+  not_asked why d e u m = let f = rw (e, equal (code_of why), u) at m in cc
 
   outcome_refused : (why : Refusal) (left : ℕ) (q : Asked) (r : Result Asked Halt) → Outcome schema (asked_for schema why) r q → r ≡ Err (record { why = why; left = left }) → ⊥
   outcome_refused why left q r (reads e) f = let g : ◌≡◌ {A = Result Asked Halt} (Ok q) (Err (record { why = why; left = left })) = sym e ∙ f in cc
@@ -100,7 +100,7 @@ module _ (schema : Schema) where
         let halts' : run schema (AStatement ∷ []) ((before ++ t ∷ []) ++ v.more) ≡ Err (halt_at halted (length v.more)) = rw e halts in
         refused_unspelled halted.why (halt_at halted (length v.more)).left ((before ++ t ∷ []) ++ v.more) v.query (reading_halts ((before ++ t ∷ []) ++ v.more) (halt_at halted (length v.more)) halts') v.spelled
 
-    passes : (other : Refusal) → number other < number halted.why → Begins schema other (before ++ t ∷ [])
+    passes : (other : Refusal) → code_of other < code_of halted.why → Begins schema other (before ++ t ∷ [])
     passes other low =
         let onward = step_lower schema other halted low last t stop in
         path_viable schema (asked_for schema other) (asked_for_weaker schema other) (before ++ t ∷ []) onward.0
@@ -108,7 +108,7 @@ module _ (schema : Schema) where
 
 -- where the tokens end, and no statement does
 module _ (schema : Schema) (tokens : List Lexeme) (last : List Symbol) (p : Path (is_met schema) (AStatement ∷ []) tokens last) where
-  pub end_least : (other : Refusal) (at : ℕ) → Stands schema tokens other at → (length tokens < at) ⊎ ((length tokens ≡ at) × (number Syntax ≤ number other))
+  pub end_least : (other : Refusal) (at : ℕ) → Stands schema tokens other at → (length tokens < at) ⊎ ((length tokens ≡ at) × (code_of Syntax ≤ code_of other))
   end_least other at (at_token before behind t e v unless) = absurd (unless (begun schema other (before ++ t ∷ []) behind tokens last p (e ∙ sym (append_assoc before (t ∷ []) behind))))
   end_least other at (at_sign before behind t digits s e v unless) =
       absurd (unless (begun schema Literal (before ++ t ∷ Digits digits ∷ []) behind tokens last p (e ∙ sym (append_assoc before (t ∷ Digits digits ∷ []) behind))))
@@ -142,14 +142,14 @@ beyond tokens before behind t e = omega (arith, ap length e, length-append befor
 -- the machine stops at a token, and for that token
 module _ (schema : Schema) (tokens before behind : List Lexeme) (t : Lexeme) (last : List Symbol) (halted : Halted) (e : tokens ≡ before ++ t ∷ behind)
     (p : Path (is_met schema) (AStatement ∷ []) before last) (stop : step (is_met schema) last t ≡ Err halted) (unsigned : halted.is_behind_sign ≡ false) where
-  least_number_there : (other : Refusal) (front : List Lexeme) (u : Lexeme) → front ≡ before → u ≡ t → (Begins schema other (front ++ u ∷ []) → ⊥) → number halted.why ≤ number other
-  least_number_there other front u f g unless = go (nat_lt (number other) (number halted.why)) refl
+  least_code_there : (other : Refusal) (front : List Lexeme) (u : Lexeme) → front ≡ before → u ≡ t → (Begins schema other (front ++ u ∷ []) → ⊥) → code_of halted.why ≤ code_of other
+  least_code_there other front u f g unless = go (nat_lt (code_of other) (code_of halted.why)) refl
     where
-      go : (b : Bool) → nat_lt (number other) (number halted.why) ≡ b → number halted.why ≤ number other
+      go : (b : Bool) → nat_lt (code_of other) (code_of halted.why) ≡ b → code_of halted.why ≤ code_of other
       go true low =
           absurd (unless (subst (λ ts. Begins schema other ts) (ap (λ front. front ++ t ∷ []) (sym f) ∙ ap (λ u. front ++ u ∷ []) (sym g))
-          (passes schema before t last halted p stop other (ltb-true (number other) (number halted.why) low))))
-      go false high = ltb-false (number other) (number halted.why) high
+          (passes schema before t last halted p stop other (ltb-true (code_of other) (code_of halted.why) low))))
+      go false high = ltb-false (code_of other) (code_of halted.why) high
 
   no_digits : (front : List Lexeme) (u : Lexeme) (digits : List ℕ) → is_sign u ≡ true → before ≡ front ++ u ∷ [] → t ≡ Digits digits → ⊥
   no_digits front u digits s f g =
@@ -159,11 +159,11 @@ module _ (schema : Schema) (tokens before behind : List Lexeme) (t : Lexeme) (la
       let both : true ≡ false = sym (signed_stop schema w.0 w.1 digits halted stop') ∙ unsigned in
       cc
 
-  token_least : (other : Refusal) (at : ℕ) → Stands schema tokens other at → (length before < at) ⊎ ((length before ≡ at) × (number halted.why ≤ number other))
+  token_least : (other : Refusal) (at : ℕ) → Stands schema tokens other at → (length before < at) ⊎ ((length before ≡ at) × (code_of halted.why ≤ code_of other))
   token_least other at (at_token front rest u f v unless) =
       elim (order front rest u before (t ∷ behind) (sym f ∙ e)) [
         | sooner gap g h ↦ absurd (unless (begun schema other (front ++ u ∷ []) gap before last p g))
-        | there_too g h ↦ inr (sym (ap length g), least_number_there other front u g (cc) unless)
+        | there_too g h ↦ inr (sym (ap length g), least_code_there other front u g (cc) unless)
         | later h ↦ inl h
       ]
   token_least other at (at_sign front rest u digits s f v unless) =
@@ -180,7 +180,7 @@ module _ (schema : Schema) (tokens before behind : List Lexeme) (t : Lexeme) (la
           unless (begun schema Literal (front ++ u ∷ Digits digits ∷ []) gap before last p
           (g ∙ append_assoc front (u ∷ []) (c ∷ gap) ∙ ap (λ d. front ++ u ∷ d ∷ gap) (sym same) ∙ sym (append_assoc front (u ∷ Digits digits ∷ []) gap)))
 
-      at_a_sign : u ≡ t → number halted.why ≤ number Literal
+      at_a_sign : u ≡ t → code_of halted.why ≤ code_of Literal
       at_a_sign same = let why : halted.why ≡ Syntax = step_sign schema halted last t (subst (λ v. is_sign v ≡ true) same s) stop in rw why (omega arith)
   token_least other at (at_end v unless) = inl (beyond tokens before behind t e)
 
@@ -200,7 +200,7 @@ module _ (schema : Schema) (tokens before behind : List Lexeme) (t : Lexeme) (la
   begun_at : (other : Refusal) (part gap : List Lexeme) → front ≡ part ++ gap → Begins schema other part
   begun_at other part gap g = begun schema other part (gap ++ u ∷ []) before last p (f ∙ ap (λ ts. ts ++ u ∷ []) g ∙ append_assoc part gap (u ∷ []))
 
-  sign_least : (other : Refusal) (at : ℕ) → Stands schema tokens other at → (length front < at) ⊎ ((length front ≡ at) × (number Literal ≤ number other))
+  sign_least : (other : Refusal) (at : ℕ) → Stands schema tokens other at → (length front < at) ⊎ ((length front ≡ at) × (code_of Literal ≤ code_of other))
   sign_least other at (at_token ahead rest v g begins unless) =
       elim (order ahead rest v front (u ∷ Digits digits ∷ behind) (sym g ∙ whole)) [
         | sooner gap h i ↦ absurd (unless (begun_at other (ahead ++ v ∷ []) gap h))
@@ -247,9 +247,9 @@ left_signed halted n e = rw e refl
 left_unsigned : (halted : Halted) (n : ℕ) → halted.is_behind_sign ≡ false → (halt_at halted n).left ≡ suc n
 left_unsigned halted n e = rw e refl
 
-sign_of : (b : Bool) (stack : List Symbol) (is_negative : Bool) (below : List Symbol) → kept b stack ≡ true → stack ≡ SignedDigits is_negative ∷ below → b ≡ true
-sign_of true stack is_negative below k e = refl
-sign_of false stack is_negative below k e = let f : false ≡ true = sym (ap all_free e) ∙ k in cc
+delimiter_kind : (b : Bool) (stack : List Symbol) (is_negative : Bool) (below : List Symbol) → kept b stack ≡ true → stack ≡ SignedDigits is_negative ∷ below → b ≡ true
+delimiter_kind true stack is_negative below k e = refl
+delimiter_kind false stack is_negative below k e = let f : false ≡ true = sym (ap all_free e) ∙ k in cc
 
 module _ (schema : Schema) (tokens : List Lexeme) where
   at_sign_fault : (before behind : List Lexeme) (t : Lexeme) (last : List Symbol) (halted : Halted) → tokens ≡ before ++ t ∷ behind →
@@ -259,7 +259,7 @@ module _ (schema : Schema) (tokens : List Lexeme) where
       let p = there d q in
       let k = path_kept schema (AStatement ∷ []) x refl d q in
       let s = stop_signed schema halted signed last t (start_below_free schema before last p) stop in
-      let is_u = sign_of (is_sign k.1) last s.0 s.1 k.3 s.3 in
+      let is_u = delimiter_kind (is_sign k.1) last s.0 s.1 k.3 s.3 in
       let tokens_are = whole schema tokens before behind t last halted e p stop s.5 s.2 s.4 k.0 k.1 is_u k.2 in
       record {
         place = length k.0;

@@ -9,10 +9,10 @@ use Rattle.bw_sql.specs.Demand.{Demand}
 use Rattle.bw_sql.specs.Grammar.{TruthIs, OperandIs, MoreOperands, RangeIs, PredicateIs, ConditionIs, MoreTerms, TermIs, MoreFactors, FactorIs, TestIs, PrimaryIs, ItemIs, true_word, false_word, unknown_word, null, column, unsigned, plus, minus, last_operand, next_operand, between, among, comparison, range, not_range, is_null, is_not_null, terms, last_term, next_term, factors, last_factor, next_factor, test, not_test, primary, is, is_not, predicate, bracket, plain, count_all, count, sum, least, greatest}
 use Rattle.bw_sql.specs.Token.{Lexeme}
 
-truth_length : {tokens rest : List Lexeme} {t : Truth} → TruthIs tokens rest t → length rest < length tokens
-truth_length true_word = omega arith
-truth_length false_word = omega arith
-truth_length unknown_word = omega arith
+truth_value_length : {tokens rest : List Lexeme} {t : Truth} → TruthIs tokens rest t → length rest < length tokens
+truth_value_length true_word = omega arith
+truth_value_length false_word = omega arith
+truth_value_length unknown_word = omega arith
 
 module _ (schema : Schema) (met : Demand → Bool) where
   pub operand_length : {tokens rest : List Lexeme} {x : Operand} → OperandIs schema met tokens rest x → length rest < length tokens
@@ -58,8 +58,8 @@ module _ (schema : Schema) (met : Demand → Bool) where
 
     test_length : {depth : ℕ} {tokens rest : List Lexeme} {c : CondTree} → TestIs schema met depth tokens rest c → length rest < length tokens
     test_length (primary c) = primary_length c
-    test_length (is c t) = omega (arith, primary_length c, truth_length t)
-    test_length (is_not c t) = omega (arith, primary_length c, truth_length t)
+    test_length (is c t) = omega (arith, primary_length c, truth_value_length t)
+    test_length (is_not c t) = omega (arith, primary_length c, truth_value_length t)
 
     primary_length : {depth : ℕ} {tokens rest : List Lexeme} {c : CondTree} → PrimaryIs schema met depth tokens rest c → length rest < length tokens
     primary_length (predicate c) = predicate_length c

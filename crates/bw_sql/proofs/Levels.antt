@@ -1,4 +1,4 @@
--- What stands one level deeper, and what a joined condition names.
+-- What stands one level deeper.
 use Rattle.std.proofs.Common.{◌≡◌, ℕ, zero, suc, ◌-◌, ◌<◌, List, Some, Ok, refl, arith}
 use Rattle.bw_model.specs.declared.keyword.Keyword.TheVariants as word
 use Rattle.bw_model.specs.declared.schema.Schema.{Schema}

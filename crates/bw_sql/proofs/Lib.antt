@@ -10,7 +10,7 @@ pub mod Pieces
 pub mod Query
 pub mod Readers
 pub mod Repeats
-pub mod Signs
+pub mod Delimiters
 pub mod Runs
 pub mod Sound
 pub mod Spelled

@@ -9,10 +9,12 @@ use Rattle.std.proofs.lemmas.List.Sums.{take_while-cons}
 use Rattle.bw_model.specs.declared.keyword.Keyword.{Keyword}
 use Rattle.bw_model.specs.declared.cond.Op.TheVariants.{Eq, Ne, Lt, Gt, Le, Ge}
 use Rattle.bw_model.specs.Keyword.{keyword_of}
+use Rattle.bw_model.specs.Number.{are_digits}
 use Rattle.bw_model.specs.Text.{begins_word, goes_on_in_word, is_word}
 use Rattle.bw_sql.specs.declared.token.Mark.TheVariants.{Open, Close, Comma, Star, Semicolon, Plus, Minus}
-use Rattle.bw_sql.specs.Piece.{Piece, Gap, Token, IsPiece, IsSign, IsLongest, IsLongestSign, BeginsNoPiece, BeginsNoSign, is_blank, is_in_comment, begins_comment, is_numeral}
+use Rattle.bw_sql.specs.Piece.{Piece, Gap, Token, IsPiece, IsDelimiter, IsLongest, IsLongestDelimiter, BeginsNoPiece, BeginsNoDelimiter, is_blank, is_in_comment, begins_comment}
 use Rattle.bw_sql.specs.Token.{Lexeme, Name, Digits, Reserved, Compare, Punct, word_lexeme, lexeme_or_name}
+use Rattle.bw_sql.proofs.Delimiters.{no_empty_delimiter}
 
 -- all of what passes from the front on passes
 pub all_run : (p : ℕ → Bool) (xs : List ℕ) → list_all p (take_while p xs) ≡ true
@@ -39,7 +41,7 @@ pub data Kind : ℕ → List ℕ → Type 0 where
   comment : {c d : ℕ} {inside : List ℕ} → c ≡ 45 → d ≡ 45 → list_all is_in_comment inside ≡ true → Kind c (d ∷ inside)
   word : {c : ℕ} {tail : List ℕ} → begins_word c ≡ true → list_all goes_on_in_word tail ≡ true → Kind c tail
   digits : {c : ℕ} {tail : List ℕ} → is_ascii_digit c ≡ true → list_all is_ascii_digit tail ≡ true → Kind c tail
-  sign : {c : ℕ} {tail : List ℕ} → (t : Lexeme) → IsSign (c ∷ tail) t → Kind c tail
+  delimiter : {c : ℕ} {tail : List ℕ} → (t : Lexeme) → IsDelimiter (c ∷ tail) t → Kind c tail
 
 kind_of : (c : ℕ) (tail : List ℕ) (piece : Piece) → IsPiece (c ∷ tail) piece → Kind c tail
 kind_of c [] Gap h = blank h
@@ -47,34 +49,16 @@ kind_of c (d ∷ inside) Gap h = comment h.0 h.1 h.2
 kind_of c tail (Token (Name text)) h = let parts = and_parts (begins_word c) (list_all goes_on_in_word tail) h.1 in word parts.0 parts.1
 kind_of c tail (Token (Reserved w)) h = let parts = and_parts (begins_word c) (list_all goes_on_in_word tail) h.0 in word parts.0 parts.1
 kind_of c tail (Token (Digits text)) h = let parts = and_parts (is_ascii_digit c) (list_all is_ascii_digit tail) h.1 in digits parts.0 parts.1
-kind_of c tail (Token (Compare op)) h = sign (Compare op) h
-kind_of c tail (Token (Punct mark)) h = sign (Punct mark) h
-
-pub no_empty_sign : (t : Lexeme) → IsSign [] t → ⊥
-no_empty_sign (Name text) h = h
-no_empty_sign (Digits text) h = h
-no_empty_sign (Reserved w) h = h
-no_empty_sign (Compare Eq) h = cc
-no_empty_sign (Compare Ne) h = cc
-no_empty_sign (Compare Lt) h = cc
-no_empty_sign (Compare Gt) h = cc
-no_empty_sign (Compare Le) h = cc
-no_empty_sign (Compare Ge) h = cc
-no_empty_sign (Punct Open) h = cc
-no_empty_sign (Punct Close) h = cc
-no_empty_sign (Punct Comma) h = cc
-no_empty_sign (Punct Star) h = cc
-no_empty_sign (Punct Semicolon) h = cc
-no_empty_sign (Punct Plus) h = cc
-no_empty_sign (Punct Minus) h = cc
+kind_of c tail (Token (Compare op)) h = delimiter (Compare op) h
+kind_of c tail (Token (Punct mark)) h = delimiter (Punct mark) h
 
 pub no_empty_piece : (piece : Piece) → IsPiece [] piece → ⊥
 no_empty_piece Gap h = h
 no_empty_piece (Token (Name text)) h = cc
 no_empty_piece (Token (Reserved w)) h = cc
 no_empty_piece (Token (Digits text)) h = cc
-no_empty_piece (Token (Compare op)) h = no_empty_sign (Compare op) h
-no_empty_piece (Token (Punct mark)) h = no_empty_sign (Punct mark) h
+no_empty_piece (Token (Compare op)) h = no_empty_delimiter (Compare op) h
+no_empty_piece (Token (Punct mark)) h = no_empty_delimiter (Punct mark) h
 
 -- what a front of a text is
 pub record Front (c : ℕ) (rest front after : List ℕ) : Type 0 where
@@ -117,7 +101,7 @@ word_no_digit c w d = grind (arith, nat_tests)
 pub is_other : ℕ → Bool
 is_other c = is_blank c || begins_word c || is_ascii_digit c
 
-pub no_other : (t : Lexeme) (c : ℕ) (tail : List ℕ) → IsSign (c ∷ tail) t → is_other c ≡ false
+pub no_other : (t : Lexeme) (c : ℕ) (tail : List ℕ) → IsDelimiter (c ∷ tail) t → is_other c ≡ false
 unfolding is_other
 no_other (Name text) c tail h = absurd h
 no_other (Digits text) c tail h = absurd h
@@ -149,47 +133,47 @@ blank_tail c [] b (blank h) = omega arith
 blank_tail c (d ∷ inside) b (comment e f h) = absurd (let g : is_blank 45 ≡ true = rw e at b in cc)
 blank_tail c tail b (word w h) = absurd (blank_no_word c b w)
 blank_tail c tail b (digits d h) = absurd (blank_no_digit c b d)
-blank_tail c tail b (sign t h) = absurd (both_ways (is_blank c) (other_parts c (no_other t c tail h)).0 b)
+blank_tail c tail b (delimiter t h) = absurd (both_ways (is_blank c) (other_parts c (no_other t c tail h)).0 b)
 
 word_goes : (c : ℕ) → begins_word c ≡ true → (tail : List ℕ) → Kind c tail → list_all goes_on_in_word tail ≡ true
 word_goes c w [] (blank h) = refl
 word_goes c w (d ∷ inside) (comment e f h) = absurd (let g : begins_word 45 ≡ true = rw e at w in cc)
 word_goes c w tail (word v h) = h
 word_goes c w tail (digits d h) = absurd (word_no_digit c w d)
-word_goes c w tail (sign t h) = absurd (both_ways (begins_word c) (other_parts c (no_other t c tail h)).1 w)
+word_goes c w tail (delimiter t h) = absurd (both_ways (begins_word c) (other_parts c (no_other t c tail h)).1 w)
 
 digits_go : (c : ℕ) → is_ascii_digit c ≡ true → (tail : List ℕ) → Kind c tail → list_all is_ascii_digit tail ≡ true
 digits_go c d [] (blank h) = refl
 digits_go c d (x ∷ inside) (comment e f h) = absurd (let g : is_ascii_digit 45 ≡ true = rw e at d in cc)
 digits_go c d tail (word w h) = absurd (word_no_digit c w d)
 digits_go c d tail (digits v h) = h
-digits_go c d tail (sign t h) = absurd (both_ways (is_ascii_digit c) (other_parts c (no_other t c tail h)).2 d)
+digits_go c d tail (delimiter t h) = absurd (both_ways (is_ascii_digit c) (other_parts c (no_other t c tail h)).2 d)
 
 -- what goes on behind a dash
-pub dash_sign : (t : Lexeme) (c : ℕ) (tail : List ℕ) → c ≡ 45 → IsSign (c ∷ tail) t → tail ≡ []
-dash_sign (Name text) c tail is h = absurd h
-dash_sign (Digits text) c tail is h = absurd h
-dash_sign (Reserved w) c tail is h = absurd h
-dash_sign (Compare Eq) c tail is h = let e : c ≡ 61 = cc in absurd (omega arith)
-dash_sign (Compare Ne) c tail is h = let e : c ≡ 60 = cc in absurd (omega arith)
-dash_sign (Compare Lt) c tail is h = let e : c ≡ 60 = cc in absurd (omega arith)
-dash_sign (Compare Gt) c tail is h = let e : c ≡ 62 = cc in absurd (omega arith)
-dash_sign (Compare Le) c tail is h = let e : c ≡ 60 = cc in absurd (omega arith)
-dash_sign (Compare Ge) c tail is h = let e : c ≡ 62 = cc in absurd (omega arith)
-dash_sign (Punct Open) c tail is h = let e : c ≡ 40 = cc in absurd (omega arith)
-dash_sign (Punct Close) c tail is h = let e : c ≡ 41 = cc in absurd (omega arith)
-dash_sign (Punct Comma) c tail is h = let e : c ≡ 44 = cc in absurd (omega arith)
-dash_sign (Punct Star) c tail is h = let e : c ≡ 42 = cc in absurd (omega arith)
-dash_sign (Punct Semicolon) c tail is h = let e : c ≡ 59 = cc in absurd (omega arith)
-dash_sign (Punct Plus) c tail is h = let e : c ≡ 43 = cc in absurd (omega arith)
-dash_sign (Punct Minus) c tail is h = cc
+pub dash_delimiter : (t : Lexeme) (c : ℕ) (tail : List ℕ) → c ≡ 45 → IsDelimiter (c ∷ tail) t → tail ≡ []
+dash_delimiter (Name text) c tail is h = absurd h
+dash_delimiter (Digits text) c tail is h = absurd h
+dash_delimiter (Reserved w) c tail is h = absurd h
+dash_delimiter (Compare Eq) c tail is h = let e : c ≡ 61 = cc in absurd (omega arith)
+dash_delimiter (Compare Ne) c tail is h = let e : c ≡ 60 = cc in absurd (omega arith)
+dash_delimiter (Compare Lt) c tail is h = let e : c ≡ 60 = cc in absurd (omega arith)
+dash_delimiter (Compare Gt) c tail is h = let e : c ≡ 62 = cc in absurd (omega arith)
+dash_delimiter (Compare Le) c tail is h = let e : c ≡ 60 = cc in absurd (omega arith)
+dash_delimiter (Compare Ge) c tail is h = let e : c ≡ 62 = cc in absurd (omega arith)
+dash_delimiter (Punct Open) c tail is h = let e : c ≡ 40 = cc in absurd (omega arith)
+dash_delimiter (Punct Close) c tail is h = let e : c ≡ 41 = cc in absurd (omega arith)
+dash_delimiter (Punct Comma) c tail is h = let e : c ≡ 44 = cc in absurd (omega arith)
+dash_delimiter (Punct Star) c tail is h = let e : c ≡ 42 = cc in absurd (omega arith)
+dash_delimiter (Punct Semicolon) c tail is h = let e : c ≡ 59 = cc in absurd (omega arith)
+dash_delimiter (Punct Plus) c tail is h = let e : c ≡ 43 = cc in absurd (omega arith)
+dash_delimiter (Punct Minus) c tail is h = cc
 
 comment_goes : (c : ℕ) → c ≡ 45 → (tail : List ℕ) → Kind c tail → list_all is_in_comment tail ≡ true
 comment_goes c is [] (blank h) = refl
 comment_goes c is (d ∷ inside) (comment e f h) = rw f (and_from _ _ refl h)
 comment_goes c is tail (word w h) = absurd (let g : begins_word 45 ≡ true = rw is at w in cc)
 comment_goes c is tail (digits d h) = absurd (let g : is_ascii_digit 45 ≡ true = rw is at d in cc)
-comment_goes c is tail (sign t h) = let none : tail ≡ [] = dash_sign t c tail is h in rw none refl
+comment_goes c is tail (delimiter t h) = let none : tail ≡ [] = dash_delimiter t c tail is h in rw none refl
 
 -- a byte that begins a word may stand in one
 pub begins_goes : (c : ℕ) → begins_word c ≡ true → goes_on_in_word c ≡ true
@@ -202,7 +186,7 @@ pub run_longest : (p : ℕ → Bool) (text : List ℕ) (c : ℕ) (rest front bac
 run_longest p text c rest front back piece e h goes f cut is = record {
   front = front;
   cut = cut;
-  is_piece = is;
+  is = is;
   longest = λ other after any g is_other. rw (f, e) (longest_run p c rest h goes other after any (sym e ∙ g) is_other);
 }
 
@@ -210,7 +194,7 @@ pub blank_longest : (text : List ℕ) (c : ℕ) (rest : List ℕ) → text ≡ c
 blank_longest text c rest e b = record {
   front = c ∷ [];
   cut = e;
-  is_piece = b;
+  is = b;
   longest = λ other after any g is.
       let front = front_of c rest other after any (sym e ∙ g) is in
       let short = blank_tail c front.tail b front.kind in
@@ -250,7 +234,7 @@ pub digits_longest : (text : List ℕ) (c : ℕ) (rest front back : List ℕ) �
     IsLongest text back (Token (Digits front))
 digits_longest text c rest front back e d cut =
     let shape : front ≡ c ∷ take_while is_ascii_digit rest = cut.front_is ∙ ap (take_while is_ascii_digit) e ∙ run_from is_ascii_digit c rest d in
-    let whole : is_numeral front ≡ true = rw shape (and_from _ _ d (all_run is_ascii_digit rest)) in
+    let whole : are_digits front ≡ true = rw shape (and_from _ _ d (all_run is_ascii_digit rest)) in
     run_longest is_ascii_digit text c rest front back (Token (Digits front)) e d (digits_go c d) cut.front_is cut.cut (refl, whole)
 
 pub comment_longest : (text : List ℕ) (c : ℕ) (rest front back : List ℕ) →
@@ -268,38 +252,38 @@ comment_longest text c (d ∷ rest) front back e begins cut =
     let whole : IsPiece front Gap = rw shape (first, second, all_run is_in_comment rest) in
     run_longest is_in_comment text c (d ∷ rest) front back Gap e passes (comment_goes c first) cut.front_is cut.cut whole
 
-as_piece : (bytes : List ℕ) (t : Lexeme) → IsSign bytes t → IsPiece bytes (Token t)
+as_piece : (bytes : List ℕ) (t : Lexeme) → IsDelimiter bytes t → IsPiece bytes (Token t)
 as_piece bytes (Name text) h = absurd h
 as_piece bytes (Digits text) h = absurd h
 as_piece bytes (Reserved w) h = absurd h
 as_piece bytes (Compare op) h = h
 as_piece bytes (Punct mark) h = h
 
--- a byte of no other kind begins a comment or a sign
-sign_of : (c : ℕ) (rest tail after : List ℕ) → is_blank c ≡ false → begins_word c ≡ false → is_ascii_digit c ≡ false →
-    begins_comment (c ∷ rest) ≡ false → rest ≡ tail ++ after → Kind c tail → (t : Lexeme) × IsSign (c ∷ tail) t
-sign_of c rest [] after b w d n e (blank h) = absurd (both_ways (is_blank c) b h)
-sign_of c rest (x ∷ inside) after b w d n e (comment f g h) =
+-- a byte of no other kind begins a comment or a delimiter
+delimiter_kind : (c : ℕ) (rest tail after : List ℕ) → is_blank c ≡ false → begins_word c ≡ false → is_ascii_digit c ≡ false →
+    begins_comment (c ∷ rest) ≡ false → rest ≡ tail ++ after → Kind c tail → (t : Lexeme) × IsDelimiter (c ∷ tail) t
+delimiter_kind c rest [] after b w d n e (blank h) = absurd (both_ways (is_blank c) b h)
+delimiter_kind c rest (x ∷ inside) after b w d n e (comment f g h) =
     absurd (both_ways (begins_comment (c ∷ rest)) n (rw (e, f, g) refl))
-sign_of c rest tail after b w d n e (word v h) = absurd (both_ways (begins_word c) w v)
-sign_of c rest tail after b w d n e (digits v h) = absurd (both_ways (is_ascii_digit c) d v)
-sign_of c rest tail after b w d n e (sign t h) = (t, h)
+delimiter_kind c rest tail after b w d n e (word v h) = absurd (both_ways (begins_word c) w v)
+delimiter_kind c rest tail after b w d n e (digits v h) = absurd (both_ways (is_ascii_digit c) d v)
+delimiter_kind c rest tail after b w d n e (delimiter t h) = (t, h)
 
 module _ (text : List ℕ) (c : ℕ) (rest : List ℕ) (e : text ≡ c ∷ rest) (b : is_blank c ≡ false) (w : begins_word c ≡ false)
     (d : is_ascii_digit c ≡ false) (n : begins_comment text ≡ false) where
-  sign_only : (other after : List ℕ) (any : Piece) → text ≡ other ++ after → IsPiece other any → (t : Lexeme) × IsSign other t
-  sign_only other after any g is =
+  delimiter_only : (other after : List ℕ) (any : Piece) → text ≡ other ++ after → IsPiece other any → (t : Lexeme) × IsDelimiter other t
+  delimiter_only other after any g is =
       let front = front_of c rest other after any (sym e ∙ g) is in
-      let found = sign_of c rest front.tail after b w d (ap begins_comment (sym e) ∙ n) front.rest_is front.kind in
-      (found.0, subst (λ bytes. IsSign bytes found.0) (sym front.is) found.1)
+      let found = delimiter_kind c rest front.tail after b w d (ap begins_comment (sym e) ∙ n) front.rest_is front.kind in
+      (found.0, subst (λ bytes. IsDelimiter bytes found.0) (sym front.is) found.1)
 
-  pub sign_longest : (back : List ℕ) (t : Lexeme) → IsLongestSign text back t → IsLongest text back (Token t)
-  sign_longest back t best = record {
+  pub delimiter_longest : (back : List ℕ) (t : Lexeme) → IsLongestDelimiter text back t → IsLongest text back (Token t)
+  delimiter_longest back t best = record {
     front = best.front;
     cut = best.cut;
-    is_piece = as_piece best.front t best.is_sign;
-    longest = λ other after any g is. let found = sign_only other after any g is in best.longest other after found.0 g found.1;
+    is = as_piece best.front t best.is;
+    longest = λ other after any g is. let found = delimiter_only other after any g is in best.longest other after found.0 g found.1;
   }
 
-  pub no_piece : BeginsNoSign text → BeginsNoPiece text
-  no_piece none front after any g is = let found = sign_only front after any g is in none front after found.0 g found.1
+  pub no_piece : BeginsNoDelimiter text → BeginsNoPiece text
+  no_piece none front after any g is = let found = delimiter_only front after any g is in none front after found.0 g found.1

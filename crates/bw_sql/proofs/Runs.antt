@@ -18,7 +18,7 @@ use Rattle.bw_model.specs.CondTree.{CondTree, CondTrees, And, Or}
 use Rattle.bw_model.specs.Column.{column_named}
 use Rattle.bw_sql.specs.Demand.{Depth, is_met}
 use Rattle.bw_sql.specs.Limits.{deepest_nesting}
-use Rattle.bw_sql.specs.Reading.{Halt, Nested, ◌>>=◌, refuse, more_items, same_keyword, after_keyword, after_mark, keyword_at, mark_at, name_at, digits_at, sign_at, literal_at, column_at, table_at, operand_at, repeated, with_front, range_at, list_at, range_or_list_at, null_test_at, after_comparison, behind_comparison, predicate_at, truth_at, truth_test_at, primary_in, test_in, factor_in, joined, joined_behind, term_in, condition_in, nested, selection_at, end_at, after_aggregate, aggregated_at, aggregate_item, item_at, of_one_kind, next_item_at, items_at, statement_at}
+use Rattle.bw_sql.specs.Reading.{Halt, Nested, ◌>>=◌, refuse, more_items, same_keyword, after_keyword, after_mark, keyword_at, mark_at, name_at, digits_at, sign_at, literal_at, column_at, table_at, operand_at, repeated, with_front, operands_at, range_at, list_at, range_or_list_at, null_test_at, after_comparison, behind_comparison, predicate_at, truth_value_at, truth_test_at, primary_in, test_in, factor_in, series_at, series_behind, term_in, condition_in, nested, selection_at, table_expression_at, end_at, after_aggregate, aggregated_at, aggregate_item, item_at, of_one_kind, next_item_at, items_at, statement_at}
 use Rattle.bw_sql.specs.Token.{Lexeme, Name, Digits, Reserved, Compare, Punct}
 use Rattle.bw_sql.proofs.Sound.{mark_is, word_is, not_too_deep, operand_shorter, next_item_shorter, factor_shorter, term_shorter}
 use Rattle.bw_sql.proofs.Machine.{Symbol, AWord, Opening, Closing, AnOperand, PredicateTail, RangeTail, OperandTail, AFactor, APrimary, TestTail, FactorTail, TermTail, ItemList, ItemTail, AnItem, CountArgument, AColumn, ATable, ASelection, AnEnd, AStatement, in_brackets, operand_choice, primary_choice, decide, may_end, all_may_end, ask, chosen, step, proceed, run}
@@ -106,15 +106,14 @@ module _ (schema : Schema) {A : Type 0} (tail : Symbol) (ones : List Symbol → 
 module _ (schema : Schema) (tail : Symbol) (ones : List Symbol → List Symbol) (w : Keyword) (one : List Lexeme → Result (CondTree × List Lexeme) Halt)
     (laws : TailLaws schema tail ones (after_keyword w) one) (join : CondTrees → CondTree) where
   joined_tail : (first : CondTree) (stack : List Symbol) (tokens : List Lexeme) →
-      run schema (tail ∷ stack) tokens ≡ (joined_behind w join one first (after_keyword w tokens) tokens >>= λ c. run schema stack c.1)
+      run schema (tail ∷ stack) tokens ≡ (series_behind w join one first (after_keyword w tokens) tokens >>= λ c. run schema stack c.1)
   joined_tail first stack tokens = option_cases (after_keyword w tokens)
-      (λ e. laws.ends stack tokens e ∙ sym (ap (λ o. joined_behind w join one first o tokens >>= λ c. run schema stack c.1) e))
-      (λ next e. laws.goes_on stack tokens next e ∙ laws.one_runs (tail ∷ stack) next
-      ∙ same (one next) _ _ (λ d f. tail_runs schema tail ones (after_keyword w) one laws (length d.1) stack d.1 (omega arith)
-      ∙ sym (assoc (with_front (first ∷ d.0 ∷ []) (repeated (length d.1) (after_keyword w) one d.1)) _ _ ∙ assoc (repeated (length d.1) (after_keyword w) one d.1) _ _))
-      ∙ sym (ap (λ o. joined_behind w join one first o tokens >>= λ c. run schema stack c.1) e ∙ assoc (one next) _ _))
+      (λ e. laws.ends stack tokens e ∙ sym (ap (λ o. series_behind w join one first o tokens >>= λ c. run schema stack c.1) e))
+      (λ next e. tail_runs schema tail ones (after_keyword w) one laws (length tokens) stack tokens (omega arith)
+      ∙ sym (assoc (with_front (first ∷ []) (repeated (length tokens) (after_keyword w) one tokens)) _ _ ∙ assoc (repeated (length tokens) (after_keyword w) one tokens) _ _)
+      ∙ sym (ap (λ o. series_behind w join one first o tokens >>= λ c. run schema stack c.1) e))
 
-  joined_runs : (stack : List Symbol) (tokens : List Lexeme) → run schema (ones (tail ∷ stack)) tokens ≡ (joined w join one tokens >>= λ c. run schema stack c.1)
+  joined_runs : (stack : List Symbol) (tokens : List Lexeme) → run schema (ones (tail ∷ stack)) tokens ≡ (series_at w join one tokens >>= λ c. run schema stack c.1)
   joined_runs stack tokens = laws.one_runs (tail ∷ stack) tokens ∙ same (one tokens) _ _ (λ c f. joined_tail c.0 stack c.1) ∙ sym (assoc (one tokens) _ _)
 
 module _ (schema : Schema) where
@@ -142,17 +141,17 @@ module _ (schema : Schema) where
       ∙ chain (keyword_at word.And y.1) _ _ _ (λ rest f. operand_runs schema _ rest
       ∙ chain (operand_at schema rest) _ _ _ (λ z g. refl)))
 
-  among_runs : (stack : List Symbol) (tokens : List Lexeme) → run schema (OperandTail ∷ Closing ∷ stack) tokens ≡ (repeated (length tokens) (after_mark mark.Comma) (operand_at schema) tokens >>= λ ys. mark_at mark.Close ys.1 >>= λ rest. run schema stack rest)
-  among_runs stack tokens = tail_runs schema OperandTail _ _ _ operand_laws (length tokens) (Closing ∷ stack) tokens (omega arith)
-      ∙ same (repeated (length tokens) (after_mark mark.Comma) (operand_at schema) tokens) _ _ (λ ys e. closing_runs schema stack ys.1)
+  operands_run : (stack : List Symbol) (tokens : List Lexeme) → run schema (AnOperand ∷ OperandTail ∷ stack) tokens ≡ (operands_at schema tokens >>= λ xs. run schema stack xs.1)
+  operands_run stack tokens = operand_runs schema _ tokens
+      ∙ chain (operand_at schema tokens) _ _ _ (λ y e. tail_runs schema OperandTail _ _ _ operand_laws (length y.1) stack y.1 (omega arith)
+      ∙ chain (repeated (length y.1) (after_mark mark.Comma) (operand_at schema) y.1) _ _ _ (λ ys f. refl))
 
   list_in_runs : (x : Operand) (stack : List Symbol) (tokens : List Lexeme) → run schema (Opening ∷ AnOperand ∷ OperandTail ∷ Closing ∷ stack) tokens ≡ (list_at schema x (Reserved word.In ∷ tokens) >>= λ c. run schema stack c.1)
   unfolding keyword_at after_keyword
   list_in_runs x stack tokens = opening_runs schema _ tokens
-      ∙ chain (mark_at mark.Open tokens) _ _ _ (λ rest e. operand_runs schema _ rest
-      ∙ chain (operand_at schema rest) _ _ _ (λ y f. among_runs stack y.1
-      ∙ chain (repeated (length y.1) (after_mark mark.Comma) (operand_at schema) y.1) _ _ _ (λ ys g. chain (mark_at mark.Close ys.1) _ _ _ (λ rest h. refl))
-      ∙ ap (λ r. r >>= λ c. run schema stack c.1) (sym (assoc (repeated (length y.1) (after_mark mark.Comma) (operand_at schema) y.1) _ _))))
+      ∙ chain (mark_at mark.Open tokens) _ _ _ (λ rest e. operands_run (Closing ∷ stack) rest
+      ∙ chain (operands_at schema rest) _ _ _ (λ items f. closing_runs schema stack items.1
+      ∙ chain (mark_at mark.Close items.1) _ _ _ (λ rest g. refl)))
 
   range_runs : (x : Operand) (stack : List Symbol) (tokens : List Lexeme) → run schema (RangeTail ∷ stack) tokens ≡ (range_or_list_at schema x tokens >>= λ c. run schema stack c.1)
   unfolding run step decide all_may_end may_end range_or_list_at after_keyword keyword_at
@@ -171,7 +170,7 @@ module _ (schema : Schema) where
   predicate_tail x stack _ = refl
 
   test_tail : (depth : ℕ) (c : CondTree) (stack : List Symbol) (tokens : List Lexeme) → run schema (TestTail depth ∷ stack) tokens ≡ (truth_test_at c tokens >>= λ c. run schema stack c.1)
-  unfolding run step decide all_may_end may_end truth_test_at after_keyword truth_at
+  unfolding run step decide all_may_end may_end truth_test_at after_keyword truth_value_at
   test_tail depth c stack (Reserved word.Is ∷ Reserved word.Not ∷ Reserved word.True ∷ tokens) = refl
   test_tail depth c stack (Reserved word.Is ∷ Reserved word.True ∷ tokens) = refl
   test_tail depth c stack _ = refl
@@ -380,11 +379,15 @@ module _ (schema : Schema) where
   ended (Ok u) q = refl
   ended (Err halt) q = refl
 
+  expression_runs : (stack : List Symbol) (tokens : List Lexeme) → run schema (AWord word.From ∷ ATable ∷ ASelection ∷ stack) tokens ≡ (table_expression_at schema tokens >>= λ c. run schema stack c.1)
+  unfolding table_expression_at
+  expression_runs stack tokens = word_runs schema word.From _ tokens
+      ∙ chain (keyword_at word.From tokens) _ _ _ (λ rest e. table_runs _ rest
+      ∙ chain (table_at schema rest) _ _ _ (λ after f. selection_runs stack after))
+
   pub statement_runs : (tokens : List Lexeme) → run schema (AStatement ∷ []) tokens ≡ (statement_at schema tokens >>= λ q. Ok tt)
   unfolding run step decide all_may_end may_end statement_at keyword_at after_keyword
   statement_runs (Reserved word.Select ∷ tokens) = list_runs _ tokens
-      ∙ chain (items_at schema tokens) _ _ _ (λ xs e. word_runs schema word.From _ xs.1
-      ∙ chain (keyword_at word.From xs.1) _ _ _ (λ rest f. table_runs _ rest
-      ∙ chain (table_at schema rest) _ _ _ (λ after g. selection_runs _ after
-      ∙ chain (selection_at schema after) _ _ _ (λ c h. end_runs c.1 ∙ ended (end_at c.1) (record { items = xs.0; cond = c.0 })))))
+      ∙ chain (items_at schema tokens) _ _ _ (λ xs e. expression_runs (AnEnd ∷ []) xs.1
+      ∙ chain (table_expression_at schema xs.1) _ _ _ (λ c f. end_runs c.1 ∙ ended (end_at c.1) (record { items = xs.0; cond = c.0 })))
   statement_runs _ = refl

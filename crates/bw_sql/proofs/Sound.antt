@@ -20,13 +20,13 @@ use Rattle.bw_sql.specs.declared.reader.Refusal.TheVariants.{Syntax, UnknownTabl
 use Rattle.bw_sql.specs.declared.token.Mark.{Mark}
 use Rattle.bw_sql.specs.declared.token.Mark.TheVariants as mark
 use Rattle.bw_sql.specs.Asked.{Asked}
-use Rattle.bw_model.specs.CondTree.{CondTree, And, Or}
+use Rattle.bw_model.specs.CondTree.{CondTree, Among, And, Or, Not, trees_of}
 use Rattle.bw_model.specs.Column.{column_named}
 use Rattle.bw_sql.specs.Demand.{IsTable, IsColumn, Fits, OfOneKind, column_number, column_or_first, is_met, signed}
 use Rattle.bw_sql.specs.Grammar.{TruthIs, OperandIs, MoreOperands, RangeIs, PredicateIs, ConditionIs, MoreTerms, TermIs, MoreFactors, FactorIs, TestIs, PrimaryIs, ItemIs, MoreItems, ItemsAre, SelectionIs, EndIs, IsQuery, true_word, false_word, unknown_word, null, column, unsigned, plus, minus, last_operand, next_operand, between, among, comparison, range, not_range, is_null, is_not_null, terms, last_term, next_term, factors, last_factor, next_factor, test, not_test, primary, is, is_not, predicate, bracket, plain, count_all, count, sum, least, greatest, last_item, next_item, star, items, all_rows, rows_where, bare, semicolon, statement}
 use Rattle.bw_sql.specs.Limits.{deepest_nesting}
 use Rattle.bw_sql.specs.Piece.{mark_spelling}
-use Rattle.bw_sql.specs.Reading.{Halt, Nested, ◌>>=◌, refuse, wanted, begins_with_name, same_keyword, same_mark, after_keyword, after_mark, keyword_at, mark_at, name_at, digits_at, sign_at, literal_at, column_at, table_at, operand_at, repeated, with_front, range_or_list_at, null_test_at, after_comparison, behind_comparison, predicate_at, truth_at, truth_test_at, primary_in, test_in, factor_in, joined_behind, term_in, condition_in, nested, column_of, of_column, selection_at, end_at, after_aggregate, aggregated_at, item_at, of_one_kind, next_item_at, items_at, statement_at}
+use Rattle.bw_sql.specs.Reading.{Halt, Nested, ◌>>=◌, refuse, wanted, begins_with_name, same_keyword, same_mark, after_keyword, after_mark, keyword_at, mark_at, name_at, digits_at, sign_at, literal_at, column_at, table_at, operand_at, repeated, with_front, operands_at, range_or_list_at, null_test_at, after_comparison, behind_comparison, predicate_at, truth_value_at, truth_test_at, primary_in, test_in, factor_in, series_behind, term_in, condition_in, nested, column_of, of_column, selection_at, table_expression_at, end_at, after_aggregate, aggregated_at, item_at, of_one_kind, next_item_at, items_at, statement_at}
 use Rattle.bw_sql.specs.Token.{Lexeme, Name, Digits, Reserved, Compare, Punct}
 use Rattle.bw_sql.proofs.Lengths.{operand_length, item_length, factor_length, term_length}
 use Rattle.bw_sql.proofs.Spelled.{fitting}
@@ -107,12 +107,12 @@ mark_read m tokens = go (after_mark m tokens) refl
     go None e = stops
     go (Some next) e = gives (mark_is m tokens next e)
 
-truth_read : (tokens : List Lexeme) → Sound (λ r. TruthIs tokens r.1 r.0) (truth_at tokens)
-unfolding truth_at after_keyword
-truth_read (Reserved word.True ∷ tokens) = gives true_word
-truth_read (Reserved word.False ∷ tokens) = gives false_word
-truth_read (Reserved word.Unknown ∷ tokens) = gives unknown_word
-truth_read _ = stops
+truth_value_read : (tokens : List Lexeme) → Sound (λ r. TruthIs tokens r.1 r.0) (truth_value_at tokens)
+unfolding truth_value_at after_keyword
+truth_value_read (Reserved word.True ∷ tokens) = gives true_word
+truth_value_read (Reserved word.False ∷ tokens) = gives false_word
+truth_value_read (Reserved word.Unknown ∷ tokens) = gives unknown_word
+truth_value_read _ = stops
 
 module _ (schema : Schema) where
   column_found : (tokens : List Lexeme) (text : List ℕ) (P : ℕ → Type 0) → (is_met schema (IsColumn text) ≡ true → P (column_number schema text)) →
@@ -152,14 +152,18 @@ module _ (schema : Schema) where
   operands_read (suc n) (Punct mark.Comma ∷ tokens) = bind _ (operand_read tokens) (λ x p. bind _ (operands_read n x.1) (λ xs q. gives (next_operand p q)))
   operands_read (suc n) _ = gives last_operand
 
+  -- the operands of a list, up to its closing bracket
+  listed : (x : Operand) (tokens : List Lexeme) →
+      Sound (λ r. (rest : List Lexeme) → r.1 ≡ Punct mark.Close ∷ rest → RangeIs schema (is_met schema) x (Reserved word.In ∷ Punct mark.Open ∷ tokens) rest (Among x r.0)) (operands_at schema tokens)
+  listed x tokens = bind _ (operand_read tokens) (λ y p. bind _ (operands_read (length y.1) y.1)
+      (λ ys q. gives (λ rest e. among p (subst (λ t. MoreOperands schema (is_met schema) y.1 t ys.0) e q))))
+
   range_read : (x : Operand) (tokens : List Lexeme) → Sound (λ r. RangeIs schema (is_met schema) x tokens r.1 r.0) (range_or_list_at schema x tokens)
   unfolding range_or_list_at after_keyword after_mark keyword_at mark_at
   range_read x (Reserved word.Between ∷ tokens) =
       bind _ (operand_read tokens) (λ y p. bind _ (word_read word.And y.1) (λ rest e. bind _ (operand_read rest)
       (λ z q. gives (between (subst (λ t. OperandIs schema (is_met schema) tokens t y.0) e p) q))))
-  range_read x (Reserved word.In ∷ Punct mark.Open ∷ tokens) =
-      bind _ (operand_read tokens) (λ y p. fronted (y.0 ∷ []) _ (operands_read (length y.1) y.1) (λ ys q. bind _ (mark_read mark.Close ys.1)
-      (λ rest e. gives (among p (subst (λ t. MoreOperands schema (is_met schema) y.1 t ys.0) e q)))))
+  range_read x (Reserved word.In ∷ Punct mark.Open ∷ tokens) = bind _ (listed x tokens) (λ items p. bind _ (mark_read mark.Close items.1) (λ rest e. gives (p rest e)))
   range_read x _ = stops
 
   behind_operand : (tokens : List Lexeme) (x : Operand) (rest : List Lexeme) → OperandIs schema (is_met schema) tokens rest x →
@@ -185,8 +189,9 @@ record Deeper (schema : Schema) (depth : ℕ) (inner : Nested) : Type 0 where
 behind_test : {schema : Schema} {depth : ℕ} {tokens : List Lexeme} (c : CondTree) (rest : List Lexeme) → PrimaryIs schema (is_met schema) depth tokens rest c →
     Sound (λ r. TestIs schema (is_met schema) depth tokens r.1 r.0) (truth_test_at c rest)
 unfolding truth_test_at after_keyword
-behind_test c (Reserved word.Is ∷ Reserved word.Not ∷ rest) p = bind _ (truth_read rest) (λ t q. gives (is_not p q))
-behind_test c (Reserved word.Is ∷ rest) p = bind _ (truth_read rest) (λ t q. gives (is p q))
+behind_test {schema = schema} {depth = depth} {tokens = tokens} c (Reserved word.Is ∷ Reserved word.Not ∷ rest) p =
+    bind _ (bind {Q = λ r. TestIs schema (is_met schema) depth tokens r.1 (Not r.0)} _ (truth_value_read rest) (λ t q. gives (is_not p q))) (λ d q. gives q)
+behind_test c (Reserved word.Is ∷ rest) p = bind _ (truth_value_read rest) (λ t q. gives (is p q))
 behind_test c rest p = gives (primary p)
 
 module _ (schema : Schema) (depth : ℕ) (inner : Nested) (deeper : Deeper schema depth inner) where
@@ -210,11 +215,17 @@ module _ (schema : Schema) (depth : ℕ) (inner : Nested) (deeper : Deeper schem
   factors_read (suc n) (Reserved word.And ∷ tokens) = bind _ (factor_read tokens) (λ c p. bind _ (factors_read n c.1) (λ cs q. gives (next_factor p q)))
   factors_read (suc n) tokens = gives last_factor
 
+  -- behind the word comes another
+  some_factors : (next : List Lexeme) → Sound (λ r. (d : CondTree) × (ds : List CondTree) × (r.0 ≡ d ∷ ds) × MoreFactors schema (is_met schema) depth (Reserved word.And ∷ next) r.1 (d ∷ ds))
+      (repeated (suc (length next)) (after_keyword word.And) (factor_in schema inner) (Reserved word.And ∷ next))
+  unfolding repeated after_keyword
+  some_factors next = bind _ (factor_read next) (λ d q. bind _ (factors_read (length next) d.1) (λ ds r. gives (d.0, ds.0, refl, next_factor q r)))
+
   behind_factor : (tokens : List Lexeme) (c : CondTree) (rest : List Lexeme) → FactorIs schema (is_met schema) depth tokens rest c →
-      Sound (λ r. TermIs schema (is_met schema) depth tokens r.1 r.0) (joined_behind word.And And (factor_in schema inner) c (after_keyword word.And rest) rest)
+      Sound (λ r. TermIs schema (is_met schema) depth tokens r.1 r.0) (series_behind word.And And (factor_in schema inner) c (after_keyword word.And rest) rest)
   unfolding after_keyword
-  behind_factor tokens c (Reserved word.And ∷ next) p =
-      bind _ (factor_read next) (λ d q. fronted (c ∷ d.0 ∷ []) _ (factors_read (length d.1) d.1) (λ ds r. gives (factors p (next_factor q r))))
+  behind_factor tokens c (Reserved word.And ∷ next) p = fronted (c ∷ []) _ (some_factors next)
+      (λ ds r. gives (subst (λ cs. TermIs schema (is_met schema) depth tokens ds.1 (And (trees_of (c ∷ cs)))) (sym r.2) (factors p r.3)))
   behind_factor tokens c rest p = gives (factors p last_factor)
 
   term_read : (tokens : List Lexeme) → Sound (λ r. TermIs schema (is_met schema) depth tokens r.1 r.0) (term_in schema inner tokens)
@@ -227,11 +238,16 @@ module _ (schema : Schema) (depth : ℕ) (inner : Nested) (deeper : Deeper schem
   terms_read (suc n) (Reserved word.Or ∷ tokens) = bind _ (term_read tokens) (λ c p. bind _ (terms_read n c.1) (λ cs q. gives (next_term p q)))
   terms_read (suc n) tokens = gives last_term
 
+  some_terms : (next : List Lexeme) → Sound (λ r. (d : CondTree) × (ds : List CondTree) × (r.0 ≡ d ∷ ds) × MoreTerms schema (is_met schema) depth (Reserved word.Or ∷ next) r.1 (d ∷ ds))
+      (repeated (suc (length next)) (after_keyword word.Or) (term_in schema inner) (Reserved word.Or ∷ next))
+  unfolding repeated after_keyword
+  some_terms next = bind _ (term_read next) (λ d q. bind _ (terms_read (length next) d.1) (λ ds r. gives (d.0, ds.0, refl, next_term q r)))
+
   behind_term : (tokens : List Lexeme) (c : CondTree) (rest : List Lexeme) → TermIs schema (is_met schema) depth tokens rest c →
-      Sound (λ r. ConditionIs schema (is_met schema) depth tokens r.1 r.0) (joined_behind word.Or Or (term_in schema inner) c (after_keyword word.Or rest) rest)
+      Sound (λ r. ConditionIs schema (is_met schema) depth tokens r.1 r.0) (series_behind word.Or Or (term_in schema inner) c (after_keyword word.Or rest) rest)
   unfolding after_keyword
-  behind_term tokens c (Reserved word.Or ∷ next) p =
-      bind _ (term_read next) (λ d q. fronted (c ∷ d.0 ∷ []) _ (terms_read (length d.1) d.1) (λ ds r. gives (terms p (next_term q r))))
+  behind_term tokens c (Reserved word.Or ∷ next) p = fronted (c ∷ []) _ (some_terms next)
+      (λ ds r. gives (subst (λ cs. ConditionIs schema (is_met schema) depth tokens ds.1 (Or (trees_of (c ∷ cs)))) (sym r.2) (terms p r.3)))
   behind_term tokens c rest p = gives (terms p last_term)
 
   condition_read : (tokens : List Lexeme) → Sound (λ r. ConditionIs schema (is_met schema) depth tokens r.1 r.0) (condition_in schema inner tokens)
@@ -327,11 +343,17 @@ module _ (schema : Schema) where
   end_read (Punct mark.Semicolon ∷ []) = gives semicolon
   end_read _ = stops
 
+  expression_read : (tokens : List Lexeme) → Sound (λ r. (text : List ℕ) × (behind : List Lexeme) × (is_met schema (IsTable text) ≡ true) × (tokens ≡ Reserved word.From ∷ Name text ∷ behind) × SelectionIs schema (is_met schema) behind r.1 r.0)
+      (table_expression_at schema tokens)
+  unfolding table_expression_at
+  expression_read tokens = bind _ (word_read word.From tokens) (λ rest e. bind _ (table_read rest) (λ after t. over (selection_read after)
+      (λ c q. (t.0, after, t.1, e ∙ ap (λ t. Reserved word.From ∷ t) t.2, q))))
+
   statement_read : (tokens : List Lexeme) → Sound (λ q. IsQuery schema tokens q) (statement_at schema tokens)
   unfolding statement_at keyword_at after_keyword
   statement_read (Reserved word.Select ∷ tokens) =
-      bind _ (list_read tokens) (λ xs p. bind _ (word_read word.From xs.1) (λ rest e. bind _ (table_read rest) (λ after t. bind _ (selection_read after) (λ c q. bind _ (end_read c.1)
-      (λ ended z. gives (statement (subst (λ t. ItemsAre schema (is_met schema) tokens t xs.0) (e ∙ ap (λ t. Reserved word.From ∷ t) t.2) p) t.1 q z))))))
+      bind _ (list_read tokens) (λ xs p. bind _ (expression_read xs.1) (λ c q. bind _ (end_read c.1)
+      (λ ended z. gives (statement (subst (λ t. ItemsAre schema (is_met schema) tokens t xs.0) q.3 p) q.2 q.4 z))))
   statement_read _ = stops
 
 given_of : {A : Type 0} (P : A → Type 0) (x : A) → Sound P (Ok x) → P x

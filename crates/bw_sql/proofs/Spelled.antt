@@ -16,7 +16,7 @@ use Rattle.bw_model.specs.Column.{column_named}
 use Rattle.bw_sql.specs.Demand.{Demand, IsTable, IsColumn, Fits, OfOneKind, Depth, column_number, column_or_first, is_met, refusal, signed}
 use Rattle.bw_sql.specs.Grammar.{TruthIs, OperandIs, MoreOperands, RangeIs, PredicateIs, ConditionIs, MoreTerms, TermIs, MoreFactors, FactorIs, TestIs, PrimaryIs, ItemIs, MoreItems, ItemsAre, SelectionIs, EndIs, StatementIs, IsQuery, true_word, false_word, unknown_word, null, column, unsigned, plus, minus, last_operand, next_operand, between, among, comparison, range, not_range, is_null, is_not_null, terms, last_term, next_term, factors, last_factor, next_factor, test, not_test, primary, is, is_not, predicate, bracket, plain, count_all, count, sum, least, greatest, last_item, next_item, star, items, all_rows, rows_where, bare, semicolon, statement}
 use Rattle.bw_sql.specs.Limits.{deepest_nesting}
-use Rattle.bw_sql.specs.Reading.{Halt, ◌>>=◌, refuse, wanted, begins_with_name, after_keyword, after_mark, keyword_at, mark_at, name_at, digits_at, sign_at, literal_at, column_at, table_at, operand_at, repeated, range_or_list_at, null_test_at, after_comparison, predicate_at, truth_at, truth_test_at, primary_in, test_in, factor_in, term_in, condition_in, nested, selection_at, end_at, after_aggregate, aggregated_at, item_at, of_one_kind, next_item_at, items_at, statement_at}
+use Rattle.bw_sql.specs.Reading.{Halt, ◌>>=◌, refuse, wanted, begins_with_name, after_keyword, after_mark, keyword_at, mark_at, name_at, digits_at, sign_at, literal_at, column_at, table_at, operand_at, repeated, range_or_list_at, null_test_at, after_comparison, predicate_at, truth_value_at, truth_test_at, primary_in, test_in, factor_in, term_in, condition_in, nested, selection_at, table_expression_at, end_at, after_aggregate, aggregated_at, item_at, of_one_kind, next_item_at, items_at, statement_at}
 use Rattle.bw_sql.specs.Token.{Lexeme, Name}
 use Rattle.bw_sql.proofs.Lengths.{operand_length, term_length, factor_length, item_length}
 
@@ -48,11 +48,11 @@ pub record ConditionEnds (rest : List Lexeme) : Type 0 where
   pub term_ends : TermEnds rest
   pub or_ends : after_keyword word.Or rest ≡ None
 
-truth_read : {tokens rest : List Lexeme} {t : Truth} → TruthIs tokens rest t → truth_at tokens ≡ Ok (t, rest)
-unfolding truth_at after_keyword
-truth_read true_word = refl
-truth_read false_word = refl
-truth_read unknown_word = refl
+truth_value_read : {tokens rest : List Lexeme} {t : Truth} → TruthIs tokens rest t → truth_value_at tokens ≡ Ok (t, rest)
+unfolding truth_value_at after_keyword
+truth_value_read true_word = refl
+truth_value_read false_word = refl
+truth_value_read unknown_word = refl
 
 truth_no_not : {tokens rest : List Lexeme} {t : Truth} → TruthIs tokens rest t → after_keyword word.Not tokens ≡ None
 unfolding after_keyword
@@ -104,7 +104,7 @@ module _ (schema : Schema) (met : Demand → Bool) where
   range_read : {tokens rest : List Lexeme} {x : Operand} {c : CondTree} → RangeIs schema met x tokens rest c → Outcome schema met (range_or_list_at schema x tokens) (c, rest)
   unfolding range_or_list_at after_keyword after_mark keyword_at mark_at
   range_read (between y z) = and_then _ (operand_read y) (and_then _ (operand_read z) (reads refl))
-  range_read (among {others = others} y ys) = and_then _ (operand_read y) (and_then _ (and_then _ (operands_read ys (length others) (omega arith) refl) (reads refl)) (reads refl))
+  range_read (among {others = others} y ys) = and_then _ (and_then _ (operand_read y) (and_then _ (operands_read ys (length others) (omega arith) refl) (reads refl))) (reads refl)
 
   predicate_read : {tokens rest : List Lexeme} {c : CondTree} → PredicateIs schema met tokens rest c → Outcome schema met (predicate_at schema tokens) (c, rest)
   unfolding predicate_at after_comparison after_keyword null_test_at keyword_at
@@ -158,10 +158,9 @@ module _ (schema : Schema) (met : Demand → Bool) where
     condition_read : {depth : ℕ} {tokens rest : List Lexeme} {c : CondTree} → ConditionIs schema met depth tokens rest c → (n : ℕ) → n + depth ≡ deepest_nesting → ConditionEnds rest →
         Outcome schema met (condition_in schema (nested schema n) tokens) (c, rest)
     condition_read (terms c last_term) n h e = and_then _ (term_read c n h e.term_ends) (rw e.or_ends (reads refl))
-    condition_read (terms c (next_term {others = others} d ds)) n h e =
+    condition_read (terms c (next_term {tokens = next} d ds)) n h e =
         and_then _ (term_read c n h (record { is_ends = refl; and_ends = refl }))
-        (and_then _ (term_read d n h (terms_begin ds e.term_ends))
-        (and_then _ (and_then _ (terms_read ds n h (length others) (omega arith) e) (reads refl)) (reads refl)))
+        (and_then _ (and_then _ (terms_read (next_term d ds) n h (suc (length next)) (omega arith) e) (reads refl)) (reads refl))
 
     terms_read : {depth : ℕ} {tokens rest : List Lexeme} {cs : List CondTree} → MoreTerms schema met depth tokens rest cs → (n : ℕ) → n + depth ≡ deepest_nesting → (fuel : ℕ) → length tokens ≤ fuel → ConditionEnds rest →
         Outcome schema met (repeated fuel (after_keyword word.Or) (term_in schema (nested schema n)) tokens) (cs, rest)
@@ -174,10 +173,9 @@ module _ (schema : Schema) (met : Demand → Bool) where
     term_read : {depth : ℕ} {tokens rest : List Lexeme} {c : CondTree} → TermIs schema met depth tokens rest c → (n : ℕ) → n + depth ≡ deepest_nesting → TermEnds rest →
         Outcome schema met (term_in schema (nested schema n) tokens) (c, rest)
     term_read (factors c last_factor) n h e = and_then _ (factor_read c n h e.is_ends) (rw e.and_ends (reads refl))
-    term_read (factors c (next_factor {others = others} d ds)) n h e =
+    term_read (factors c (next_factor {tokens = next} d ds)) n h e =
         and_then _ (factor_read c n h refl)
-        (and_then _ (factor_read d n h (factors_begin ds e.is_ends))
-        (and_then _ (and_then _ (factors_read ds n h (length others) (omega arith) e) (reads refl)) (reads refl)))
+        (and_then _ (and_then _ (factors_read (next_factor d ds) n h (suc (length next)) (omega arith) e) (reads refl)) (reads refl))
 
     factors_read : {depth : ℕ} {tokens rest : List Lexeme} {cs : List CondTree} → MoreFactors schema met depth tokens rest cs → (n : ℕ) → n + depth ≡ deepest_nesting → (fuel : ℕ) → length tokens ≤ fuel → TermEnds rest →
         Outcome schema met (repeated fuel (after_keyword word.And) (factor_in schema (nested schema n)) tokens) (cs, rest)
@@ -196,8 +194,8 @@ module _ (schema : Schema) (met : Demand → Bool) where
     test_read : {depth : ℕ} {tokens rest : List Lexeme} {c : CondTree} → TestIs schema met depth tokens rest c → (n : ℕ) → n + depth ≡ deepest_nesting → after_keyword word.Is rest ≡ None →
         Outcome schema met (test_in schema (nested schema n) tokens) (c, rest)
     test_read (primary c) n h e = and_then _ (primary_read c n h) (rw e (reads refl))
-    test_read (is c t) n h e = and_then _ (primary_read c n h) (rw (truth_no_not t, truth_read t) (reads refl))
-    test_read (is_not c t) n h e = and_then _ (primary_read c n h) (rw (truth_read t) (reads refl))
+    test_read (is c t) n h e = and_then _ (primary_read c n h) (rw (truth_no_not t, truth_value_read t) (reads refl))
+    test_read (is_not c t) n h e = and_then _ (primary_read c n h) (rw (truth_value_read t) (reads refl))
 
     primary_read : {depth : ℕ} {tokens rest : List Lexeme} {c : CondTree} → PrimaryIs schema met depth tokens rest c → (n : ℕ) → n + depth ≡ deepest_nesting →
         Outcome schema met (primary_in schema (nested schema n) tokens) (c, rest)
@@ -278,9 +276,9 @@ module _ (schema : Schema) (met : Demand → Bool) where
       go false e = excused (IsTable table) (suc (length rest)) m e (rw e refl)
 
   pub statement_read : {tokens : List Lexeme} {q : Asked} → StatementIs schema met tokens q → Outcome schema met (statement_at schema tokens) q
-  unfolding statement_at keyword_at after_keyword after_mark
+  unfolding statement_at table_expression_at keyword_at after_keyword after_mark
   statement_read (statement xs m c e) =
-      and_then _ (list_read xs refl) (and_then _ (table_read m) (and_then _ (selection_read c e) (rw (end_read e) (reads refl))))
+      and_then _ (list_read xs refl) (and_then _ (and_then _ (table_read m) (selection_read c e)) (rw (end_read e) (reads refl)))
 
 -- what is spelled with all demands met is read
 reads_if_met : (schema : Schema) (tokens : List Lexeme) (q : Asked) → Outcome schema (is_met schema) (statement_at schema tokens) q → statement_at schema tokens ≡ Ok q

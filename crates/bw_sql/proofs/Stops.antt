@@ -10,7 +10,7 @@ use Rattle.bw_sql.specs.declared.token.Mark.TheVariants as mark
 use Rattle.bw_sql.specs.Demand.{Demand, IsColumn, Fits, OfOneKind, is_met, refusal}
 use Rattle.bw_sql.specs.Frontier.{asked_for, is_sign}
 use Rattle.bw_sql.specs.Reading.{Halt, same_keyword}
-use Rattle.bw_sql.specs.Refusal.{number}
+use Rattle.bw_sql.specs.Refusal.{code_of}
 use Rattle.bw_sql.specs.Token.{Lexeme, Digits, Reserved, Punct}
 use Rattle.bw_sql.proofs.Machine.{Symbol, AWord, AnOperand, SignedDigits, Choice, Take, Ask, AskBoth, AskDigits, Pass, Stop, decide, ask, chosen, step, Halted, halt_at, run, all_may_end}
 use Rattle.bw_sql.proofs.Runs.{bool_cases}
@@ -47,40 +47,40 @@ module _ (schema : Schema) (met : Demand → Bool) (weaker : (d : Demand) → is
   path_weaker (there {stack = stack} {next = next} {t = t} e p) = there (step_weaker stack t next e) (path_weaker p)
 
 pub asked_for_weaker : (schema : Schema) (why : Refusal) (d : Demand) → is_met schema d ≡ true → asked_for schema why d ≡ true
-asked_for_weaker schema why d m = rw m (or-true (not (number (refusal d) == number why)))
+asked_for_weaker schema why d m = rw m (or-true (not (code_of (refusal d) == code_of why)))
 
 -- a demand of a higher number isn't asked
 unequal : (a b : ℕ) → b < a → (a == b) ≡ false
 unequal a b h = grind (arith, nat_tests)
 
-spared : (schema : Schema) (other : Refusal) (d : Demand) → number other < number (refusal d) → asked_for schema other d ≡ true
-spared schema other d h = rw (unequal (number (refusal d)) (number other) h) refl
+spared : (schema : Schema) (other : Refusal) (d : Demand) → code_of other < code_of (refusal d) → asked_for schema other d ≡ true
+spared schema other d h = rw (unequal (code_of (refusal d)) (code_of other) h) refl
 
-least_number : (other : Refusal) → 402 ≤ number other
-least_number Syntax = omega arith
-least_number UnknownTable = omega arith
-least_number UnknownColumn = omega arith
-least_number Literal = omega arith
-least_number MixedItems = omega arith
-least_number Nesting = omega arith
+least_code : (other : Refusal) → 402 ≤ code_of other
+least_code Syntax = omega arith
+least_code UnknownTable = omega arith
+least_code UnknownColumn = omega arith
+least_code Literal = omega arith
+least_code MixedItems = omega arith
+least_code Nesting = omega arith
 
 -- under the demands of a lower number the machine goes on
-module _ (schema : Schema) (other : Refusal) (halted : Halted) (low : number other < number halted.why) where
+module _ (schema : Schema) (other : Refusal) (halted : Halted) (low : code_of other < code_of halted.why) where
   ask_lower : (d : Demand) (b : Bool) (r s : Result (List Symbol) Halted) → (r ≡ Err halted → (next : List Symbol) × (s ≡ Ok next)) →
-      (number other < number (refusal d) → (next : List Symbol) × (s ≡ Ok next)) →
+      (code_of other < code_of (refusal d) → (next : List Symbol) × (s ≡ Ok next)) →
       ask (is_met schema) d b r ≡ Err halted → (next : List Symbol) × (ask (asked_for schema other) d b s ≡ Ok next)
   ask_lower d b r s f g e = bool_cases (is_met schema d)
       (λ m. let p = f (sym (asked_met (is_met schema) d b r m) ∙ e) in (p.0, asked_met (asked_for schema other) d b s (asked_for_weaker schema other d m) ∙ p.1))
       (λ u. let both : ◌≡◌ {A = Result (List Symbol) Halted} (Err (record { why = refusal d; is_behind_sign = b })) (Err halted) = sym (asked_unmet (is_met schema) d b r u) ∙ e in
       let same : halted ≡ record { why = refusal d; is_behind_sign = b } = cc in
-      let lower : number other < number (refusal d) = subst (λ h. number other < number h.why) same low in
+      let lower : code_of other < code_of (refusal d) = subst (λ h. code_of other < code_of h.why) same low in
       let p = g lower in (p.0, asked_met (asked_for schema other) d b s (spared schema other d lower) ∙ p.1))
 
   never : (d : Result (List Symbol) Halted) (next : List Symbol) → d ≡ Ok next → d ≡ Err halted → ⊥
   never d next e f = let g = sym e ∙ f in cc
 
   none_lower : halted.why ≡ Syntax → ⊥
-  none_lower e = let lower : number other < 402 = subst (λ why. number other < number why) e low in absurd (omega (arith, least_number other))
+  none_lower e = let lower : code_of other < 402 = subst (λ why. code_of other < code_of why) e low in absurd (omega (arith, least_code other))
 
   chosen_lower : (c : Choice) (stack : List Symbol) (r s : Result (List Symbol) Halted) → (r ≡ Err halted → (next : List Symbol) × (s ≡ Ok next)) →
       chosen (is_met schema) c stack r ≡ Err halted → (next : List Symbol) × (chosen (asked_for schema other) c stack s ≡ Ok next)

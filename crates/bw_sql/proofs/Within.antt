@@ -57,11 +57,11 @@ record GoodItems (columns : ℕ) (kind : Bool) (items : List Item) : Type 0 wher
   within : list_all (item_within columns) items ≡ true
   kinds : are_of_kind kind items ≡ true
 
-same_kind : (schema : Schema) (first kind : Bool) → is_met schema (OfOneKind first kind) ≡ true → kind ≡ first
+kind_is : (schema : Schema) (first kind : Bool) → is_met schema (OfOneKind first kind) ≡ true → kind ≡ first
 unfolding is_met
-same_kind schema true kind m = m
-same_kind schema false true m = cc
-same_kind schema false false m = refl
+kind_is schema true kind m = m
+kind_is schema false true m = cc
+kind_is schema false false m = refl
 
 named_within : (columns : List Column) (text : List ℕ) (i : ℕ) → column_named columns text ≡ Some i → nat_lt i (length columns) ≡ true
 unfolding column_named
@@ -147,7 +147,7 @@ module _ (schema : Schema) where
   more_items_good (next_item {first = first} {is_plain = kind} {item = item} m p ps) =
       let g = item_good p in
       let gs = more_items_good ps in
-      record { within = and_from _ _ g.0 gs.within; kinds = and_from _ _ (subst (λ k. is_of_kind k item ≡ true) (same_kind schema first kind m) g.1) gs.kinds }
+      record { within = and_from _ _ g.0 gs.within; kinds = and_from _ _ (subst (λ k. is_of_kind k item ≡ true) (kind_is schema first kind m) g.1) gs.kinds }
 
   items_good : {tokens rest : List Lexeme} {items : List Item} → ItemsAre schema (is_met schema) tokens rest items → (1 ≤ length items) × ((kind : Bool) × GoodItems n kind items)
   items_good star = (omega (arith, length-map-range_with_len Plain 0 n, schema.inhabited), (true, record { within = every_within n 0 n (omega arith); kinds = every_plain 0 n }))

@@ -8,7 +8,7 @@ use Rattle.bw_sql.specs.declared.token.Mark.TheVariants.{Plus, Minus}
 use Rattle.bw_sql.specs.Asked.{Asked}
 use Rattle.bw_sql.specs.Demand.{Demand, is_met, refusal}
 use Rattle.bw_sql.specs.Grammar.{StatementIs}
-use Rattle.bw_sql.specs.Refusal.{number}
+use Rattle.bw_sql.specs.Refusal.{code_of}
 use Rattle.bw_sql.specs.Token.{Lexeme, Digits, Punct}
 
 -- some statement begins with these tokens
@@ -20,7 +20,7 @@ pub record Viable (schema : Schema) (met : Demand → Bool) (tokens : List Lexem
 -- The demands of one number alone are asked, and all others let pass. No demand has the number of Syntax, for
 -- which the productions alone count.
 abbrev pub asked_for : Schema → Refusal → Demand → Bool
-asked_for schema why demand = not (number (refusal demand) == number why) || is_met schema demand
+asked_for schema why demand = not (code_of (refusal demand) == code_of why) || is_met schema demand
 
 abbrev pub Begins : Schema → Refusal → List Lexeme → Type 0
 Begins schema why tokens = Viable schema (asked_for schema why) tokens
@@ -44,4 +44,4 @@ pub data Stands (schema : Schema) (tokens : List Lexeme) : Refusal → ℕ → T
 -- the first place at which a fault stands, and the lowest number there
 pub record IsFirst (schema : Schema) (tokens : List Lexeme) (why : Refusal) (place : ℕ) : Type 0 where
   pub stands : Stands schema tokens why place
-  pub first : (other : Refusal) (at : ℕ) → Stands schema tokens other at → (place < at) ⊎ ((place ≡ at) × (number why ≤ number other))
+  pub first : (other : Refusal) (at : ℕ) → Stands schema tokens other at → (place < at) ⊎ ((place ≡ at) × (code_of why ≤ code_of other))

@@ -10,15 +10,15 @@ use Rattle.bw_sql.specs.declared.reader.Stop.TheVariants.{Refused, OutOfMemory}
 use Rattle.bw_sql.specs.Asked.{Asked, asked}
 use Rattle.bw_sql.specs.Cut.{IsCut, Spot}
 use Rattle.bw_sql.specs.Reading.{Halt, statement_at}
-use Rattle.bw_sql.specs.Refusal.{number}
+use Rattle.bw_sql.specs.Refusal.{code_of}
 use Rattle.bw_sql.specs.Statement.{tokens_of}
 
 -- A refusal stands at its token. Behind the last token the byte that begins no piece comes first (401), and
 -- else the refusal stands at the end.
 abbrev pub fault_at : Option Spot → Option ℕ → ℕ → Refusal → Fault
-fault_at (Some spot) stop end why = at_byte (number why) spot.at
+fault_at (Some spot) stop end why = at_byte (code_of why) spot.at
 fault_at None (Some at) end why = at_byte 401 at
-fault_at None None end why = at_byte (number why) end
+fault_at None None end why = at_byte (code_of why) end
 
 -- the token from which on so many are left
 abbrev pub spot_from : ℕ → List Spot → Option Spot

@@ -1,10 +1,10 @@
 -- The pieces of a text: blanks and comments, which are gaps, and tokens. The longest piece is taken.
 use Rattle.std.specs.Prelude.{◌≡◌, ◌≤◌, ℕ, Bool, false, List, [], ◌∷◌, ◌++◌, length, Some, None, IsTrue, ◌&&◌, ◌||◌, ◌==◌, not, codes}
 use Rattle.std.specs.List.{list_all}
-use Rattle.std.specs.Char.{is_ascii_digit}
 use Rattle.bw_model.specs.declared.cond.Op.{Op}
 use Rattle.bw_model.specs.declared.cond.Op.TheVariants as op
 use Rattle.bw_model.specs.Keyword.{keyword_of}
+use Rattle.bw_model.specs.Number.{are_digits}
 use Rattle.bw_model.specs.Text.{is_word}
 use Rattle.bw_sql.specs.declared.token.Mark.{Mark}
 use Rattle.bw_sql.specs.declared.token.Mark.TheVariants as mark
@@ -33,11 +33,6 @@ begins_comment [] = false
 begins_comment (c ∷ []) = false
 begins_comment (c ∷ d ∷ rest) = (c == 45) && (d == 45)
 
--- one digit or more
-abbrev pub is_numeral : List ℕ → Bool
-is_numeral [] = false
-is_numeral (c ∷ cs) = is_ascii_digit c && list_all is_ascii_digit cs
-
 abbrev pub comparison_spelling : Op → List ℕ
 comparison_spelling op.Eq = codes "="
 comparison_spelling op.Ne = codes "<>"
@@ -55,47 +50,49 @@ mark_spelling mark.Semicolon = codes ";"
 mark_spelling mark.Plus = codes "+"
 mark_spelling mark.Minus = codes "-"
 
--- the bytes are this comparison or mark
-abbrev pub IsSign : List ℕ → Lexeme → Type 0
-IsSign bytes (Name text) = ⊥
-IsSign bytes (Digits text) = ⊥
-IsSign bytes (Reserved word) = ⊥
-IsSign bytes (Compare op) = bytes ≡ comparison_spelling op
-IsSign bytes (Punct mark) = bytes ≡ mark_spelling mark
+-- the bytes are this delimiter: a comparison or a mark
+abbrev pub IsDelimiter : List ℕ → Lexeme → Type 0
+IsDelimiter bytes (Name text) = ⊥
+IsDelimiter bytes (Digits text) = ⊥
+IsDelimiter bytes (Reserved word) = ⊥
+IsDelimiter bytes (Compare op) = bytes ≡ comparison_spelling op
+IsDelimiter bytes (Punct mark) = bytes ≡ mark_spelling mark
 
 -- the bytes are this piece: a word is a reserved word, ignoring case, or else a name
 abbrev pub IsPiece : List ℕ → Piece → Type 0
 IsPiece bytes Gap = IsGap bytes
 IsPiece bytes (Token (Name text)) = (bytes ≡ text) × IsTrue (is_word bytes) × (keyword_of bytes ≡ None)
-IsPiece bytes (Token (Digits text)) = (bytes ≡ text) × IsTrue (is_numeral bytes)
+IsPiece bytes (Token (Digits text)) = (bytes ≡ text) × IsTrue (are_digits bytes)
 IsPiece bytes (Token (Reserved word)) = IsTrue (is_word bytes) × (keyword_of bytes ≡ Some word)
-IsPiece bytes (Token (Compare op)) = IsSign bytes (Compare op)
-IsPiece bytes (Token (Punct mark)) = IsSign bytes (Punct mark)
+IsPiece bytes (Token (Compare op)) = IsDelimiter bytes (Compare op)
+IsPiece bytes (Token (Punct mark)) = IsDelimiter bytes (Punct mark)
 
--- the text is the piece and then the rest, and no longer piece begins the text
-pub record IsLongest (text rest : List ℕ) (piece : Piece) : Type 0 where
+-- the text is a thing's bytes and then the rest, and no longer thing begins the text
+pub record IsLongestOf {A : Type 0} (Is : List ℕ → A → Type 0) (text rest : List ℕ) (thing : A) : Type 0 where
   pub front : List ℕ
   pub cut : text ≡ front ++ rest
-  pub is_piece : IsPiece front piece
-  pub longest : (other after : List ℕ) (any : Piece) → text ≡ other ++ after → IsPiece other any → length other ≤ length front
+  pub is : Is front thing
+  pub longest : (other after : List ℕ) (any : A) → text ≡ other ++ after → Is other any → length other ≤ length front
 
--- no piece begins the text
+-- no thing begins the text
+abbrev pub BeginsNone : {A : Type 0} → (List ℕ → A → Type 0) → List ℕ → Type 0
+BeginsNone Is text = (front rest : List ℕ) (thing : _) → text ≡ front ++ rest → Is front thing → ⊥
+
+abbrev pub IsLongest : List ℕ → List ℕ → Piece → Type 0
+IsLongest text rest piece = IsLongestOf IsPiece text rest piece
+
 abbrev pub BeginsNoPiece : List ℕ → Type 0
-BeginsNoPiece text = (front rest : List ℕ) (piece : Piece) → text ≡ front ++ rest → IsPiece front piece → ⊥
+BeginsNoPiece text = BeginsNone IsPiece text
 
--- a byte that is a comparison or a mark, and two bytes that are a comparison
-abbrev pub is_short_sign : ℕ → Bool
-is_short_sign c = (c == 40) || (c == 41) || (c == 42) || (c == 43) || (c == 44) || (c == 45) || (c == 59) || (c == 60) || (c == 61) || (c == 62)
+abbrev pub IsLongestDelimiter : List ℕ → List ℕ → Lexeme → Type 0
+IsLongestDelimiter text rest t = IsLongestOf IsDelimiter text rest t
 
-abbrev pub is_long_sign : ℕ → ℕ → Bool
-is_long_sign c d = ((c == 60) && ((d == 61) || (d == 62))) || ((c == 62) && (d == 61))
+abbrev pub BeginsNoDelimiter : List ℕ → Type 0
+BeginsNoDelimiter text = BeginsNone IsDelimiter text
 
--- the text is the comparison or mark and then the rest, and no longer one begins the text
-pub record IsLongestSign (text rest : List ℕ) (t : Lexeme) : Type 0 where
-  pub front : List ℕ
-  pub cut : text ≡ front ++ rest
-  pub is_sign : IsSign front t
-  pub longest : (other after : List ℕ) (any : Lexeme) → text ≡ other ++ after → IsSign other any → length other ≤ length front
+-- a byte that is a delimiter, and two bytes that are one
+abbrev pub is_short_delimiter : ℕ → Bool
+is_short_delimiter c = (c == 40) || (c == 41) || (c == 42) || (c == 43) || (c == 44) || (c == 45) || (c == 59) || (c == 60) || (c == 61) || (c == 62)
 
-abbrev pub BeginsNoSign : List ℕ → Type 0
-BeginsNoSign text = (front rest : List ℕ) (t : Lexeme) → text ≡ front ++ rest → IsSign front t → ⊥
+abbrev pub is_long_delimiter : ℕ → ℕ → Bool
+is_long_delimiter c d = ((c == 60) && ((d == 61) || (d == 62))) || ((c == 62) && (d == 61))

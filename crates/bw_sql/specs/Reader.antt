@@ -1,9 +1,12 @@
 -- What the readers answer.
-use Rattle.std.specs.Prelude.{◌≡◌, ℕ, Result, Ok, Err}
+use Rattle.std.specs.Prelude.{◌≡◌, ℕ, List, Result, Ok, Err}
+use Rattle.std.specs.Borrow.{Bor}
 use Rattle.bw_sql.specs.declared.reader.Refusal.{Refusal}
 use Rattle.bw_sql.specs.declared.reader.Stop.{Stop}
 use Rattle.bw_sql.specs.declared.reader.Stop.TheVariants.{Refused, OutOfMemory}
-use Rattle.bw_sql.specs.Reading.{Halt}
+use Rattle.bw_sql.specs.declared.token.Placed.{Placed}
+use Rattle.bw_sql.specs.Reading.{Halt, Read}
+use Rattle.bw_sql.specs.Token.{Lexeme, lexemes}
 
 abbrev pub refused : Refusal → ℕ → Stop
 refused why left = Refused why left
@@ -17,3 +20,8 @@ Halts OutOfMemory reading = Unit {0}
 abbrev pub Reads : {X A : Type 0} → (X → A) → Result X Stop → Result A Halt → Type 0
 Reads view (Ok x) reading = reading ≡ Ok (view x)
 Reads view (Err stop) reading = Halts stop reading
+
+-- A reader of some tokens answered what reading them gives: a thing, seen by view, and the tokens behind it.
+abbrev pub ReadsFrom : {X A : Type 0} → (X → A) → List Placed → Result (X × Bor (List Placed)) Stop →
+    (List Lexeme → Read A) → Type 0
+ReadsFrom view tokens result reading = Reads (λ read. (view read.0, lexemes read.1.now)) result (reading (lexemes tokens))

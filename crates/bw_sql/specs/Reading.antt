@@ -17,6 +17,8 @@ use Rattle.bw_model.specs.Number.{number_of}
 use Rattle.bw_model.specs.Text.{same_text}
 use Rattle.bw_sql.specs.Asked.{Asked}
 use Rattle.bw_model.specs.CondTree.{CondTree, CondTrees, Always, Cmp, Between, Among, IsNull, And, Or, Not, Test, trees_of}
+use Rattle.bw_sql.specs.declared.condition.Connective.{Connective}
+use Rattle.bw_sql.specs.declared.condition.Connective.TheVariants as connective
 use Rattle.bw_sql.specs.declared.items.Aggregate.{Aggregate}
 use Rattle.bw_sql.specs.declared.items.Aggregate.TheVariants as aggregate
 use Rattle.bw_sql.specs.declared.reader.Refusal.{Refusal}
@@ -33,6 +35,10 @@ use Rattle.bw_sql.specs.Token.{Lexeme, Name, Digits, Reserved, Compare, Punct}
 pub record Halt : Type 0 where
   pub why : Refusal
   pub left : ℕ
+
+-- what was read, and the tokens behind it, or where and why reading stopped
+abbrev pub Read : Type 0 → Type 0
+Read A = Result (A × List Lexeme) Halt
 
 -- an answer, and then what follows from it, or else the first refusal
 infixl 10 ◌>>=◌
@@ -78,7 +84,7 @@ keyword_at word tokens = wanted (after_keyword word tokens) Syntax tokens
 unfoldable pub mark_at : Mark → List Lexeme → Result (List Lexeme) Halt
 mark_at mark tokens = wanted (after_mark mark tokens) Syntax tokens
 
-unfoldable pub name_at : List Lexeme → Result (List ℕ × List Lexeme) Halt
+unfoldable pub name_at : List Lexeme → Read (List ℕ)
 name_at [] = refuse Syntax []
 name_at (Name text ∷ tokens) = Ok (text, tokens)
 name_at (Digits text ∷ tokens) = refuse Syntax (Digits text ∷ tokens)
@@ -86,7 +92,7 @@ name_at (Reserved found ∷ tokens) = refuse Syntax (Reserved found ∷ tokens)
 name_at (Compare op ∷ tokens) = refuse Syntax (Compare op ∷ tokens)
 name_at (Punct found ∷ tokens) = refuse Syntax (Punct found ∷ tokens)
 
-unfoldable pub digits_at : List Lexeme → Result (List ℕ × List Lexeme) Halt
+unfoldable pub digits_at : List Lexeme → Read (List ℕ)
 digits_at [] = refuse Syntax []
 digits_at (Digits text ∷ tokens) = Ok (text, tokens)
 digits_at (Name text ∷ tokens) = refuse Syntax (Name text ∷ tokens)
@@ -106,13 +112,13 @@ behind_minus None tokens = behind_plus (after_mark mark.Plus tokens) tokens
 unfoldable pub sign_at : List Lexeme → Bool × List Lexeme
 sign_at tokens = behind_minus (after_mark mark.Minus tokens) tokens
 
-unfoldable pub literal_at : List Lexeme → Result (ℤ × List Lexeme) Halt
+unfoldable pub literal_at : List Lexeme → Read ℤ
 literal_at tokens = do
   digits ← digits_at (sign_at tokens).1
   n ← wanted (number_of (sign_at tokens).0 digits.0) Literal tokens
   Ok (n, digits.1)
 
-unfoldable pub column_at : Schema → List Lexeme → Result (ℕ × List Lexeme) Halt
+unfoldable pub column_at : Schema → List Lexeme → Read ℕ
 column_at schema tokens = do
   name ← name_at tokens
   column ← wanted (column_named schema.columns.items name.0) UnknownColumn tokens
@@ -132,71 +138,75 @@ begins_with_name (Reserved found ∷ tokens) = false
 begins_with_name (Compare op ∷ tokens) = false
 begins_with_name (Punct found ∷ tokens) = false
 
-abbrev pub column_operand : Schema → List Lexeme → Result (Operand × List Lexeme) Halt
+abbrev pub column_operand : Schema → List Lexeme → Read Operand
 column_operand schema tokens = do
   column ← column_at schema tokens
   Ok (Col column.0, column.1)
 
-abbrev pub literal_operand : List Lexeme → Result (Operand × List Lexeme) Halt
+abbrev pub literal_operand : List Lexeme → Read Operand
 literal_operand tokens = do
   n ← literal_at tokens
   Ok (Lit n.0, n.1)
 
-abbrev pub operand_behind : Option (List Lexeme) → Schema → List Lexeme → Result (Operand × List Lexeme) Halt
+abbrev pub operand_behind : Option (List Lexeme) → Schema → List Lexeme → Read Operand
 operand_behind (Some rest) schema tokens = Ok (Null, rest)
 operand_behind None schema tokens = if begins_with_name tokens then column_operand schema tokens else literal_operand tokens
 
-unfoldable pub operand_at : Schema → List Lexeme → Result (Operand × List Lexeme) Halt
+unfoldable pub operand_at : Schema → List Lexeme → Read Operand
 operand_at schema tokens = operand_behind (after_keyword word.Null tokens) schema tokens
 
 -- what is read again and again, as long as what introduces it comes; there are no more of them than tokens
-abbrev pub more_behind : {A : Type 0} → Option (List Lexeme) → List Lexeme → (List Lexeme → Result (A × List Lexeme) Halt) →
-    (List Lexeme → Result (List A × List Lexeme) Halt) → Result (List A × List Lexeme) Halt
+abbrev pub more_behind : {A : Type 0} → Option (List Lexeme) → List Lexeme → (List Lexeme → Read A) →
+    (List Lexeme → Read (List A)) → Read (List A)
 more_behind None tokens one others = Ok ([], tokens)
 more_behind (Some next) tokens one others = do
   x ← one next
   xs ← others x.1
   Ok (x.0 ∷ xs.0, xs.1)
 
-unfoldable pub repeated : {A : Type 0} → ℕ → (List Lexeme → Option (List Lexeme)) → (List Lexeme → Result (A × List Lexeme) Halt) →
-    List Lexeme → Result (List A × List Lexeme) Halt
+unfoldable pub repeated : {A : Type 0} → ℕ → (List Lexeme → Option (List Lexeme)) → (List Lexeme → Read A) →
+    List Lexeme → Read (List A)
 repeated zero after one tokens = Ok ([], tokens)
 repeated (suc n) after one tokens = more_behind (after tokens) tokens one (repeated n after one)
 
-abbrev pub with_front : {A : Type 0} → List A → Result (List A × List Lexeme) Halt → Result (List A × List Lexeme) Halt
+abbrev pub with_front : {A : Type 0} → List A → Read (List A) → Read (List A)
 with_front front read = do
   xs ← read
   Ok (front ++ xs.0, xs.1)
 
-abbrev pub more_operands : Schema → List Lexeme → Result (List Operand × List Lexeme) Halt
+abbrev pub more_operands : Schema → List Lexeme → Read (List Operand)
 more_operands schema tokens = repeated (length tokens) (after_mark mark.Comma) (operand_at schema) tokens
 
 -- what follows an operand: a range behind BETWEEN, or a list behind IN
-abbrev pub range_at : Schema → Operand → List Lexeme → Result (CondTree × List Lexeme) Halt
+abbrev pub range_at : Schema → Operand → List Lexeme → Read CondTree
 range_at schema x tokens = do
   low ← operand_at schema tokens
   rest ← keyword_at word.And low.1
   high ← operand_at schema rest
   Ok (Between x low.0 high.0, high.1)
 
-abbrev pub list_at : Schema → Operand → List Lexeme → Result (CondTree × List Lexeme) Halt
+abbrev pub operands_at : Schema → List Lexeme → Read (List Operand)
+operands_at schema tokens = do
+  first ← operand_at schema tokens
+  with_front (first.0 ∷ []) (more_operands schema first.1)
+
+abbrev pub list_at : Schema → Operand → List Lexeme → Read CondTree
 list_at schema x tokens = do
   rest ← keyword_at word.In tokens
   rest ← mark_at mark.Open rest
-  first ← operand_at schema rest
-  items ← with_front (first.0 ∷ []) (more_operands schema first.1)
+  items ← operands_at schema rest
   rest ← mark_at mark.Close items.1
   Ok (Among x items.0, rest)
 
-abbrev pub range_or_list_behind : Option (List Lexeme) → Schema → Operand → List Lexeme → Result (CondTree × List Lexeme) Halt
+abbrev pub range_or_list_behind : Option (List Lexeme) → Schema → Operand → List Lexeme → Read CondTree
 range_or_list_behind (Some next) schema x tokens = range_at schema x next
 range_or_list_behind None schema x tokens = list_at schema x tokens
 
-unfoldable pub range_or_list_at : Schema → Operand → List Lexeme → Result (CondTree × List Lexeme) Halt
+unfoldable pub range_or_list_at : Schema → Operand → List Lexeme → Read CondTree
 range_or_list_at schema x tokens = range_or_list_behind (after_keyword word.Between tokens) schema x tokens
 
 -- [ NOT ] NULL behind IS
-abbrev pub null_behind : Option (List Lexeme) → Operand → List Lexeme → Result (CondTree × List Lexeme) Halt
+abbrev pub null_behind : Option (List Lexeme) → Operand → List Lexeme → Read CondTree
 null_behind (Some next) x tokens = do
   rest ← keyword_at word.Null next
   Ok (Not (IsNull x), rest)
@@ -204,7 +214,7 @@ null_behind None x tokens = do
   rest ← keyword_at word.Null tokens
   Ok (IsNull x, rest)
 
-unfoldable pub null_test_at : Operand → List Lexeme → Result (CondTree × List Lexeme) Halt
+unfoldable pub null_test_at : Operand → List Lexeme → Read CondTree
 null_test_at x tokens = null_behind (after_keyword word.Not tokens) x tokens
 
 unfoldable pub after_comparison : List Lexeme → Option (Op × List Lexeme)
@@ -216,97 +226,122 @@ after_comparison (Reserved found ∷ tokens) = None
 after_comparison (Punct found ∷ tokens) = None
 
 -- what follows the first operand of a predicate
-abbrev pub behind_not : Schema → Operand → Option (List Lexeme) → List Lexeme → Result (CondTree × List Lexeme) Halt
+abbrev pub behind_not : Schema → Operand → Option (List Lexeme) → List Lexeme → Read CondTree
 behind_not schema x (Some next) tokens = do
   c ← range_or_list_at schema x next
   Ok (Not c.0, c.1)
 behind_not schema x None tokens = range_or_list_at schema x tokens
 
-abbrev pub behind_is : Schema → Operand → Option (List Lexeme) → List Lexeme → Result (CondTree × List Lexeme) Halt
+abbrev pub behind_is : Schema → Operand → Option (List Lexeme) → List Lexeme → Read CondTree
 behind_is schema x (Some next) tokens = null_test_at x next
 behind_is schema x None tokens = behind_not schema x (after_keyword word.Not tokens) tokens
 
-abbrev pub behind_comparison : Schema → Operand → Option (Op × List Lexeme) → List Lexeme → Result (CondTree × List Lexeme) Halt
+abbrev pub behind_comparison : Schema → Operand → Option (Op × List Lexeme) → List Lexeme → Read CondTree
 behind_comparison schema x (Some next) tokens = do
   y ← operand_at schema next.1
   Ok (Cmp next.0 x y.0, y.1)
 behind_comparison schema x None tokens = behind_is schema x (after_keyword word.Is tokens) tokens
 
-unfoldable pub predicate_at : Schema → List Lexeme → Result (CondTree × List Lexeme) Halt
+abbrev pub predicate_of : Schema → Operand → List Lexeme → Read CondTree
+predicate_of schema x tokens = behind_comparison schema x (after_comparison tokens) tokens
+
+unfoldable pub predicate_at : Schema → List Lexeme → Read CondTree
 predicate_at schema tokens = do
   x ← operand_at schema tokens
-  behind_comparison schema x.0 (after_comparison x.1) x.1
+  predicate_of schema x.0 x.1
 
 -- a truth value, and a test for it behind IS
-abbrev pub behind_true : Option (List Lexeme) → Option (List Lexeme) → Option (List Lexeme) → List Lexeme → Result (Truth × List Lexeme) Halt
+abbrev pub behind_true : Option (List Lexeme) → Option (List Lexeme) → Option (List Lexeme) → List Lexeme → Read Truth
 behind_true (Some rest) second third tokens = Ok (Yes, rest)
 behind_true None (Some rest) third tokens = Ok (No, rest)
 behind_true None None (Some rest) tokens = Ok (Unknown, rest)
 behind_true None None None tokens = refuse Syntax tokens
 
-unfoldable pub truth_at : List Lexeme → Result (Truth × List Lexeme) Halt
-truth_at tokens = behind_true (after_keyword word.True tokens) (after_keyword word.False tokens) (after_keyword word.Unknown tokens) tokens
+unfoldable pub truth_value_at : List Lexeme → Read Truth
+truth_value_at tokens = behind_true (after_keyword word.True tokens) (after_keyword word.False tokens) (after_keyword word.Unknown tokens) tokens
 
-abbrev pub tested : CondTree → Option (List Lexeme) → List Lexeme → Result (CondTree × List Lexeme) Halt
-tested c (Some next) tokens = do
-  t ← truth_at next
-  Ok (Not (Test c t.0), t.1)
-tested c None tokens = do
-  t ← truth_at tokens
+abbrev pub value_test_at : CondTree → List Lexeme → Read CondTree
+value_test_at c tokens = do
+  t ← truth_value_at tokens
   Ok (Test c t.0, t.1)
 
-abbrev pub truth_behind : CondTree → Option (List Lexeme) → List Lexeme → Result (CondTree × List Lexeme) Halt
+abbrev pub tested : CondTree → Option (List Lexeme) → List Lexeme → Read CondTree
+tested c (Some next) tokens = do
+  d ← value_test_at c next
+  Ok (Not d.0, d.1)
+tested c None tokens = value_test_at c tokens
+
+abbrev pub truth_behind : CondTree → Option (List Lexeme) → List Lexeme → Read CondTree
 truth_behind c (Some next) tokens = tested c (after_keyword word.Not next) next
 truth_behind c None tokens = Ok (c, tokens)
 
-unfoldable pub truth_test_at : CondTree → List Lexeme → Result (CondTree × List Lexeme) Halt
+unfoldable pub truth_test_at : CondTree → List Lexeme → Read CondTree
 truth_test_at c tokens = truth_behind c (after_keyword word.Is tokens) tokens
 
 -- what stands one level deeper: a condition behind `(`, and a test behind NOT, given the tokens from the mark
 -- or word on and those behind it
 pub record Nested : Type 0 where
-  pub enclosed : List Lexeme → List Lexeme → Result (CondTree × List Lexeme) Halt
-  pub negated : List Lexeme → List Lexeme → Result (CondTree × List Lexeme) Halt
+  pub enclosed : List Lexeme → List Lexeme → Read CondTree
+  pub negated : List Lexeme → List Lexeme → Read CondTree
 
-abbrev pub primary_behind : Schema → Nested → Option (List Lexeme) → List Lexeme → Result (CondTree × List Lexeme) Halt
+abbrev pub primary_behind : Schema → Nested → Option (List Lexeme) → List Lexeme → Read CondTree
 primary_behind schema inner (Some next) tokens = inner.enclosed tokens next
 primary_behind schema inner None tokens = predicate_at schema tokens
 
-unfoldable pub primary_in : Schema → Nested → List Lexeme → Result (CondTree × List Lexeme) Halt
+unfoldable pub primary_in : Schema → Nested → List Lexeme → Read CondTree
 primary_in schema inner tokens = primary_behind schema inner (after_mark mark.Open tokens) tokens
 
-unfoldable pub test_in : Schema → Nested → List Lexeme → Result (CondTree × List Lexeme) Halt
+unfoldable pub test_in : Schema → Nested → List Lexeme → Read CondTree
 test_in schema inner tokens = do
   c ← primary_in schema inner tokens
   truth_test_at c.0 c.1
 
-abbrev pub factor_behind : Schema → Nested → Option (List Lexeme) → List Lexeme → Result (CondTree × List Lexeme) Halt
+abbrev pub factor_behind : Schema → Nested → Option (List Lexeme) → List Lexeme → Read CondTree
 factor_behind schema inner (Some next) tokens = inner.negated tokens next
 factor_behind schema inner None tokens = test_in schema inner tokens
 
-unfoldable pub factor_in : Schema → Nested → List Lexeme → Result (CondTree × List Lexeme) Halt
+unfoldable pub factor_in : Schema → Nested → List Lexeme → Read CondTree
 factor_in schema inner tokens = factor_behind schema inner (after_keyword word.Not tokens) tokens
 
 -- one part, or two and more that a word joins
-abbrev pub joined_behind : Keyword → (CondTrees → CondTree) → (List Lexeme → Result (CondTree × List Lexeme) Halt) → CondTree →
-    Option (List Lexeme) → List Lexeme → Result (CondTree × List Lexeme) Halt
-joined_behind word join one first None tokens = Ok (first, tokens)
-joined_behind word join one first (Some next) tokens = do
-  second ← one next
-  parts ← with_front (first ∷ second.0 ∷ []) (repeated (length second.1) (after_keyword word) one second.1)
+abbrev pub series_behind : Keyword → (CondTrees → CondTree) → (List Lexeme → Read CondTree) → CondTree →
+    Option (List Lexeme) → List Lexeme → Read CondTree
+series_behind word join one first None tokens = Ok (first, tokens)
+series_behind word join one first (Some next) tokens = do
+  parts ← with_front (first ∷ []) (repeated (length tokens) (after_keyword word) one tokens)
   Ok (join (trees_of parts.0), parts.1)
 
-abbrev pub joined : Keyword → (CondTrees → CondTree) → (List Lexeme → Result (CondTree × List Lexeme) Halt) → List Lexeme →
-    Result (CondTree × List Lexeme) Halt
-joined word join one tokens = do
+abbrev pub series_at : Keyword → (CondTrees → CondTree) → (List Lexeme → Read CondTree) → List Lexeme →
+    Read CondTree
+series_at word join one tokens = do
   first ← one tokens
-  joined_behind word join one first.0 (after_keyword word first.1) first.1
+  series_behind word join one first.0 (after_keyword word first.1) first.1
 
-unfoldable pub term_in : Schema → Nested → List Lexeme → Result (CondTree × List Lexeme) Halt
-term_in schema inner tokens = joined word.And And (factor_in schema inner) tokens
+unfoldable pub term_in : Schema → Nested → List Lexeme → Read CondTree
+term_in schema inner tokens = series_at word.And And (factor_in schema inner) tokens
 
-unfoldable pub condition_in : Schema → Nested → List Lexeme → Result (CondTree × List Lexeme) Halt
-condition_in schema inner tokens = joined word.Or Or (term_in schema inner) tokens
+unfoldable pub condition_in : Schema → Nested → List Lexeme → Read CondTree
+condition_in schema inner tokens = series_at word.Or Or (term_in schema inner) tokens
+
+-- a connective's word, and the condition that parts make with it
+abbrev pub word_of : Connective → Keyword
+word_of connective.And = word.And
+word_of connective.Or = word.Or
+
+abbrev pub join_of : Connective → CondTrees → CondTree
+join_of connective.And parts = And parts
+join_of connective.Or parts = Or parts
+
+-- so both are read: a term's parts are factors, and a condition's are terms
+unfoldable pub part_in : Schema → Nested → Connective → List Lexeme → Read CondTree
+part_in schema inner connective.And = factor_in schema inner
+part_in schema inner connective.Or = term_in schema inner
+
+unfoldable pub joined_in : Schema → Nested → Connective → List Lexeme → Read CondTree
+joined_in schema inner c tokens = series_at (word_of c) (join_of c) (part_in schema inner c) tokens
+
+abbrev pub more_parts_in : Schema → Nested → Connective → List Lexeme → Read (List CondTree)
+more_parts_in schema inner c tokens = repeated (length tokens) (after_keyword (word_of c)) (part_in schema inner c) tokens
 
 -- so many levels of nesting are left
 unfoldable pub nested : Schema → ℕ → Nested
@@ -325,11 +360,11 @@ nested schema (suc n) = record {
 }
 
 -- the condition behind WHERE, where it comes
-abbrev pub behind_where : Schema → Option (List Lexeme) → List Lexeme → Result (CondTree × List Lexeme) Halt
+abbrev pub behind_where : Schema → Option (List Lexeme) → List Lexeme → Read CondTree
 behind_where schema None tokens = Ok (Always, tokens)
 behind_where schema (Some rest) tokens = condition_in schema (nested schema deepest_nesting) rest
 
-unfoldable pub selection_at : Schema → List Lexeme → Result (CondTree × List Lexeme) Halt
+unfoldable pub selection_at : Schema → List Lexeme → Read CondTree
 selection_at schema tokens = behind_where schema (after_keyword word.Where tokens) tokens
 
 -- the end of a statement, behind a semicolon, where it comes
@@ -361,35 +396,38 @@ of_column aggregate.Sum column = Sum column
 of_column aggregate.Min column = Min column
 of_column aggregate.Max column = Max column
 
-abbrev pub column_of : Schema → Aggregate → List Lexeme → Result (Item × List Lexeme) Halt
+abbrev pub column_of : Schema → Aggregate → List Lexeme → Read Item
 column_of schema kind tokens = do
   column ← column_at schema tokens
   Ok (of_column kind column.0, column.1)
 
-abbrev pub counted : Schema → Option (List Lexeme) → List Lexeme → Result (Item × List Lexeme) Halt
+abbrev pub counted : Schema → Option (List Lexeme) → List Lexeme → Read Item
 counted schema (Some rest) tokens = Ok (CountAll, rest)
 counted schema None tokens = column_of schema aggregate.Count tokens
 
-unfoldable pub aggregated_at : Schema → Aggregate → List Lexeme → Result (Item × List Lexeme) Halt
+unfoldable pub aggregated_at : Schema → Aggregate → List Lexeme → Read Item
 aggregated_at schema aggregate.Count tokens = counted schema (after_mark mark.Star tokens) tokens
 aggregated_at schema aggregate.Sum tokens = column_of schema aggregate.Sum tokens
 aggregated_at schema aggregate.Min tokens = column_of schema aggregate.Min tokens
 aggregated_at schema aggregate.Max tokens = column_of schema aggregate.Max tokens
 
-abbrev pub plain_item : Schema → List Lexeme → Result (Item × List Lexeme) Halt
+abbrev pub plain_item : Schema → List Lexeme → Read Item
 plain_item schema tokens = do
   column ← column_at schema tokens
   Ok (Plain column.0, column.1)
 
-abbrev pub aggregate_item : Schema → Option (Aggregate × List Lexeme) → List Lexeme → Result (Item × List Lexeme) Halt
-aggregate_item schema None tokens = refuse Syntax tokens
-aggregate_item schema (Some found) tokens = do
-  rest ← mark_at mark.Open found.1
-  item ← aggregated_at schema found.0 rest
+abbrev pub argument_at : Schema → Aggregate → List Lexeme → Read Item
+argument_at schema kind tokens = do
+  rest ← mark_at mark.Open tokens
+  item ← aggregated_at schema kind rest
   rest ← mark_at mark.Close item.1
   Ok (item.0, rest)
 
-unfoldable pub item_at : Schema → List Lexeme → Result (Item × List Lexeme) Halt
+abbrev pub aggregate_item : Schema → Option (Aggregate × List Lexeme) → List Lexeme → Read Item
+aggregate_item schema None tokens = refuse Syntax tokens
+aggregate_item schema (Some found) tokens = argument_at schema found.0 found.1
+
+unfoldable pub item_at : Schema → List Lexeme → Read Item
 item_at schema tokens = if begins_with_name tokens then plain_item schema tokens else aggregate_item schema (after_aggregate tokens) tokens
 
 -- An item of the other kind is refused at its first token, which tells its kind; a column that isn't the
@@ -407,29 +445,34 @@ unfoldable pub of_one_kind : Schema → Bool → List Lexeme → Result (Unit {0
 of_one_kind schema true tokens = if begins_with_name tokens then Ok tt else mixed_aggregate (after_aggregate tokens) tokens
 of_one_kind schema false tokens = if begins_with_name tokens then mixed_name schema tokens else Ok tt
 
-unfoldable pub next_item_at : Schema → Bool → List Lexeme → Result (Item × List Lexeme) Halt
+unfoldable pub next_item_at : Schema → Bool → List Lexeme → Read Item
 next_item_at schema is_plain tokens = do
   same ← of_one_kind schema is_plain tokens
   item_at schema tokens
 
-abbrev pub more_items : Schema → Bool → List Lexeme → Result (List Item × List Lexeme) Halt
+abbrev pub more_items : Schema → Bool → List Lexeme → Read (List Item)
 more_items schema is_plain tokens = repeated (length tokens) (after_mark mark.Comma) (next_item_at schema is_plain) tokens
 
-abbrev pub items_behind : Schema → Option (List Lexeme) → List Lexeme → Result (List Item × List Lexeme) Halt
+abbrev pub items_behind : Schema → Option (List Lexeme) → List Lexeme → Read (List Item)
 items_behind schema (Some rest) tokens = Ok (every_column schema, rest)
 items_behind schema None tokens = do
   first ← item_at schema tokens
   with_front (first.0 ∷ []) (more_items schema (begins_with_name tokens) first.1)
 
-unfoldable pub items_at : Schema → List Lexeme → Result (List Item × List Lexeme) Halt
+unfoldable pub items_at : Schema → List Lexeme → Read (List Item)
 items_at schema tokens = items_behind schema (after_mark mark.Star tokens) tokens
+
+-- FROM, the table, and the condition
+unfoldable pub table_expression_at : Schema → List Lexeme → Read CondTree
+table_expression_at schema tokens = do
+  rest ← keyword_at word.From tokens
+  rest ← table_at schema rest
+  selection_at schema rest
 
 unfoldable pub statement_at : Schema → List Lexeme → Result Asked Halt
 statement_at schema tokens = do
   rest ← keyword_at word.Select tokens
   items ← items_at schema rest
-  rest ← keyword_at word.From items.1
-  rest ← table_at schema rest
-  selection ← selection_at schema rest
-  ended ← end_at selection.1
-  Ok (record { items = items.0; cond = selection.0 })
+  c ← table_expression_at schema items.1
+  ended ← end_at c.1
+  Ok (record { items = items.0; cond = c.0 })

@@ -5,13 +5,13 @@ use Rattle.bw_sql.specs.declared.reader.Refusal.TheVariants.{Syntax, UnknownTabl
 use Rattle.bw_model.specs.declared.fault.Fault.{Fault}
 use Rattle.bw_model.specs.Fault.{is_memory}
 
-abbrev pub number : Refusal → ℕ
-number Syntax = 402
-number UnknownTable = 403
-number UnknownColumn = 404
-number Literal = 405
-number MixedItems = 406
-number Nesting = 408
+abbrev pub code_of : Refusal → ℕ
+code_of Syntax = 402
+code_of UnknownTable = 403
+code_of UnknownColumn = 404
+code_of Literal = 405
+code_of MixedItems = 406
+code_of Nesting = 408
 
 -- one of 401 to 408, or want of memory
 abbrev pub is_statement_fault : Fault → Bool

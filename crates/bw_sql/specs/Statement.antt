@@ -11,7 +11,7 @@ use Rattle.bw_sql.specs.Cut.{IsCut, Spot}
 use Rattle.bw_sql.specs.Frontier.{IsFirst}
 use Rattle.bw_sql.specs.Grammar.{IsQuery}
 use Rattle.bw_sql.specs.Limits.{longest_statement}
-use Rattle.bw_sql.specs.Refusal.{number}
+use Rattle.bw_sql.specs.Refusal.{code_of}
 use Rattle.bw_sql.specs.Token.{Lexeme}
 
 abbrev pub tokens_of : List Spot → List Lexeme
@@ -29,9 +29,9 @@ pub record Spells (schema : Schema) (text : List ℕ) (query : Asked) : Type 0 w
 -- before it.
 pub data IsRefusal (schema : Schema) (text : List ℕ) : Fault → Type 0 where
   token_refused : {tokens : List Spot} {stop : Option ℕ} {why : Refusal} {place : ℕ} {spot : Spot} → IsCut 0 text tokens stop →
-      IsFirst schema (tokens_of tokens) why place → slice_get tokens place ≡ Some spot → IsRefusal schema text (at_byte (number why) spot.at)
+      IsFirst schema (tokens_of tokens) why place → slice_get tokens place ≡ Some spot → IsRefusal schema text (at_byte (code_of why) spot.at)
   end_refused : {tokens : List Spot} → IsCut 0 text tokens None →
-      IsFirst schema (tokens_of tokens) Syntax (length tokens) → IsRefusal schema text (at_byte (number Syntax) (length text))
+      IsFirst schema (tokens_of tokens) Syntax (length tokens) → IsRefusal schema text (at_byte (code_of Syntax) (length text))
   byte_refused : {tokens : List Spot} {at : ℕ} → IsCut 0 text tokens (Some at) →
       ((why : Refusal) (place : ℕ) → IsFirst schema (tokens_of tokens) why place → length tokens ≤ place) → IsRefusal schema text (at_byte 401 at)
 

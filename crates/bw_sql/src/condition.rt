@@ -10,103 +10,129 @@
 //!
 //! A single part isn't wrapped. Each `(` and each NOT is one level of nesting, and `levels` are left.
 ghost use Rattle.std.specs.Prelude.{◌≡◌, ◌<◌, ◌≤◌, length, map, IfOk};
-ghost use Rattle.bw_model.specs.CondTree.{And, Or, Test, tree_of, trees_of};
-ghost use Rattle.bw_sql.specs.Reader.{Reads};
-ghost use Rattle.bw_sql.specs.Reading.{after_keyword, condition_in, factor_in, nested, primary_in, repeated, term_in, test_in, truth_at, truth_test_at, with_front};
+ghost use Rattle.bw_model.specs.CondTree.{Test, tree_of, trees_of};
+ghost use Rattle.bw_sql.specs.Reader.{ReadsFrom};
+ghost use Rattle.bw_sql.specs.Reading.{condition_in, factor_in, join_of, joined_in, more_parts_in, nested, part_in, primary_in, test_in, truth_test_at, truth_value_at, value_test_at, with_front, word_of};
 ghost use Rattle.bw_sql.specs.Token.{lexemes};
 
 use crate::predicate::{negation, predicate};
-use crate::reader::{Left, Refusal, Stop, after_keyword, after_mark, mark};
+use crate::reader::{Left, Read, Refusal, Stop, after_keyword, after_mark, mark};
 use crate::token::{Mark, Placed};
 use bw_model::{Cond, Keyword, Schema, Truth};
 use std::alloc::{AllocError, Global};
 
+/// What joins the parts of a condition.
+#[derive(Clone, Copy)]
+enum Connective {
+    And,
+    Or,
+}
+
+impl Connective {
+    /// The word that stands between the parts.
+    fn keyword(self) -> Keyword
+        ensures { result ≡ word_of self }
+    {
+        match self {
+            Connective::And => Keyword::And,
+            Connective::Or => Keyword::Or,
+        }
+    }
+
+    /// The condition that two parts and more make.
+    #[tactic(auto, unfolding(bw_model::specs::CondTree::tree_of))]
+    fn join(self, parts: Vec<Cond>) -> Cond
+        ensures { tree_of result ≡ join_of self (trees_of (map tree_of parts.items)) }
+    {
+        match self {
+            Connective::And => Cond::And(parts),
+            Connective::Or => Cond::Or(parts),
+        }
+    }
+}
+
 /// The condition that has to come.
 #[cycle(condition)]
-#[tactic(auto, unfolding(crate::specs::Reading::condition_in, bw_model::specs::CondTree::tree_of))]
+#[tactic(auto, unfolding(crate::specs::Reading::condition_in, crate::specs::Reading::joined_in, crate::specs::Reading::part_in))]
 pub fn condition<'t>(
     alloc: Global,
     schema: &Schema,
     levels: usize,
     tokens: &'t [Placed<'t>],
-) -> Result<(Cond, &'t [Placed<'t>]), Stop>
-    ensures read { Reads (λ read. (tree_of read.0, lexemes read.1.now)) result (condition_in schema.now (nested schema.now levels) (lexemes tokens.now)) }
+) -> Read<'t, Cond>
+    ensures read { ReadsFrom tree_of tokens.now result
+        (condition_in schema.now (nested schema.now levels)) }
     ensures shorter { IfOk result (λ read. length read.1.now ≤ length tokens.now) }
 {
-    let (first, rest) = term(alloc, schema, levels, tokens)?;
-    let Some(next) = after_keyword(Keyword::Or, rest) else {
-        return Ok((first, rest));
-    };
-    let (second, rest) = term(alloc, schema, levels, next)?;
-    let parts = vec![in alloc; first, second]?;
-    let (parts, rest) = more_terms(alloc, schema, levels, parts, rest)?;
-    Ok((disjunction(parts), rest))
+    joined(alloc, schema, levels, Connective::Or, tokens)
 }
 
-/// The terms, and those that follow behind OR.
+/// A part that has to come, alone, or it and those that follow behind the connective's word, joined: a
+/// condition of terms, or a term of factors.
 #[cycle(condition)]
-fn more_terms<'t>(
+#[tactic(auto, unfolding(crate::specs::Reading::joined_in))]
+fn joined<'t>(
     alloc: Global,
     schema: &Schema,
     levels: usize,
+    connective: Connective,
+    tokens: &'t [Placed<'t>],
+) -> Read<'t, Cond>
+    ensures read { ReadsFrom tree_of tokens.now result
+        (joined_in schema.now (nested schema.now levels) connective) }
+    ensures shorter { IfOk result (λ read. length read.1.now ≤ length tokens.now) }
+{
+    let (first, rest) = part(alloc, schema, levels, connective, tokens)?;
+    if after_keyword(connective.keyword(), rest).is_none() {
+        return Ok((first, rest));
+    }
+    let parts = vec![in alloc; first]?;
+    let (parts, rest) = more_parts(alloc, schema, levels, connective, parts, rest)?;
+    Ok((connective.join(parts), rest))
+}
+
+/// The parts, and those that follow behind the connective's word.
+#[cycle(condition)]
+fn more_parts<'t>(
+    alloc: Global,
+    schema: &Schema,
+    levels: usize,
+    connective: Connective,
     mut parts: Vec<Cond>,
     tokens: &'t [Placed<'t>],
-) -> Result<(Vec<Cond>, &'t [Placed<'t>]), Stop>
-    ensures read { Reads (λ read. (map tree_of read.0.items, lexemes read.1.now)) result
-        (with_front (map tree_of parts.items) (repeated (length (lexemes tokens.now)) (after_keyword Keyword.Or) (term_in schema.now (nested schema.now levels)) (lexemes tokens.now))) }
+) -> Read<'t, Vec<Cond>>
+    ensures read { ReadsFrom (λ parts. map tree_of parts.items) tokens.now result
+        (λ tokens. with_front (map tree_of parts.items)
+        (more_parts_in schema.now (nested schema.now levels) connective tokens)) }
     ensures shorter { IfOk result (λ read. length read.1.now ≤ length tokens.now) }
 {
     let mut left = Left { tokens };
-    while let Some(next) = after_keyword(Keyword::Or, left.tokens) {
-        let (part, after) = term(alloc, schema, levels, next)?;
-        parts.push(part)?;
+    while let Some(next) = after_keyword(connective.keyword(), left.tokens) {
+        let (another, after) = part(alloc, schema, levels, connective, next)?;
+        parts.push(another)?;
         left = Left { tokens: after };
     }
     Ok((parts, left.tokens))
 }
 
-/// The term that has to come.
+/// The part that has to come: a factor of a term, or a term of a condition.
 #[cycle(condition)]
-#[tactic(auto, unfolding(crate::specs::Reading::term_in, bw_model::specs::CondTree::tree_of))]
-fn term<'t>(
+#[tactic(auto, unfolding(crate::specs::Reading::part_in, crate::specs::Reading::joined_in, crate::specs::Reading::term_in))]
+fn part<'t>(
     alloc: Global,
     schema: &Schema,
     levels: usize,
+    connective: Connective,
     tokens: &'t [Placed<'t>],
-) -> Result<(Cond, &'t [Placed<'t>]), Stop>
-    ensures read { Reads (λ read. (tree_of read.0, lexemes read.1.now)) result (term_in schema.now (nested schema.now levels) (lexemes tokens.now)) }
+) -> Read<'t, Cond>
+    ensures read { ReadsFrom tree_of tokens.now result
+        (part_in schema.now (nested schema.now levels) connective) }
     ensures shorter { IfOk result (λ read. length read.1.now ≤ length tokens.now) }
 {
-    let (first, rest) = factor(alloc, schema, levels, tokens)?;
-    let Some(next) = after_keyword(Keyword::And, rest) else {
-        return Ok((first, rest));
-    };
-    let (second, rest) = factor(alloc, schema, levels, next)?;
-    let parts = vec![in alloc; first, second]?;
-    let (parts, rest) = more_factors(alloc, schema, levels, parts, rest)?;
-    Ok((conjunction(parts), rest))
-}
-
-/// The factors, and those that follow behind AND.
-#[cycle(condition)]
-fn more_factors<'t>(
-    alloc: Global,
-    schema: &Schema,
-    levels: usize,
-    mut parts: Vec<Cond>,
-    tokens: &'t [Placed<'t>],
-) -> Result<(Vec<Cond>, &'t [Placed<'t>]), Stop>
-    ensures read { Reads (λ read. (map tree_of read.0.items, lexemes read.1.now)) result
-        (with_front (map tree_of parts.items) (repeated (length (lexemes tokens.now)) (after_keyword Keyword.And) (factor_in schema.now (nested schema.now levels)) (lexemes tokens.now))) }
-    ensures shorter { IfOk result (λ read. length read.1.now ≤ length tokens.now) }
-{
-    let mut left = Left { tokens };
-    while let Some(next) = after_keyword(Keyword::And, left.tokens) {
-        let (part, after) = factor(alloc, schema, levels, next)?;
-        parts.push(part)?;
-        left = Left { tokens: after };
+    match connective {
+        Connective::And => factor(alloc, schema, levels, tokens),
+        Connective::Or => joined(alloc, schema, levels, Connective::And, tokens),
     }
-    Ok((parts, left.tokens))
 }
 
 /// The factor that has to come.
@@ -117,8 +143,9 @@ fn factor<'t>(
     schema: &Schema,
     levels: usize,
     tokens: &'t [Placed<'t>],
-) -> Result<(Cond, &'t [Placed<'t>]), Stop>
-    ensures read { Reads (λ read. (tree_of read.0, lexemes read.1.now)) result (factor_in schema.now (nested schema.now levels) (lexemes tokens.now)) }
+) -> Read<'t, Cond>
+    ensures read { ReadsFrom tree_of tokens.now result
+        (factor_in schema.now (nested schema.now levels)) }
     ensures shorter { IfOk result (λ read. length read.1.now ≤ length tokens.now) }
 {
     let Some(next) = after_keyword(Keyword::Not, tokens) else {
@@ -139,49 +166,37 @@ fn test<'t>(
     schema: &Schema,
     levels: usize,
     tokens: &'t [Placed<'t>],
-) -> Result<(Cond, &'t [Placed<'t>]), Stop>
-    ensures read { Reads (λ read. (tree_of read.0, lexemes read.1.now)) result (test_in schema.now (nested schema.now levels) (lexemes tokens.now)) }
+) -> Read<'t, Cond>
+    ensures read { ReadsFrom tree_of tokens.now result
+        (test_in schema.now (nested schema.now levels)) }
     ensures shorter { IfOk result (λ read. length read.1.now ≤ length tokens.now) }
 {
     let (cond, rest) = primary(alloc, schema, levels, tokens)?;
     truth_test(alloc, cond, rest)
 }
 
-/// The condition that one of the parts holds.
-#[tactic(auto, unfolding(bw_model::specs::CondTree::tree_of))]
-fn disjunction(parts: Vec<Cond>) -> Cond
-    ensures { tree_of result ≡ Or (trees_of (map tree_of parts.items)) }
-{
-    Cond::Or(parts)
-}
-
-/// The condition that all parts hold.
-#[tactic(auto, unfolding(bw_model::specs::CondTree::tree_of))]
-fn conjunction(parts: Vec<Cond>) -> Cond
-    ensures { tree_of result ≡ And (trees_of (map tree_of parts.items)) }
-{
-    Cond::And(parts)
-}
-
 /// The condition, or a test of its truth, where IS follows.
 #[tactic(auto, unfolding(crate::specs::Reading::truth_test_at, bw_model::specs::CondTree::tree_of))]
-fn truth_test<'t>(
-    alloc: Global,
-    cond: Cond,
-    tokens: &'t [Placed<'t>],
-) -> Result<(Cond, &'t [Placed<'t>]), Stop>
-    ensures read { Reads (λ read. (tree_of read.0, lexemes read.1.now)) result (truth_test_at (tree_of cond) (lexemes tokens.now)) }
+fn truth_test<'t>(alloc: Global, cond: Cond, tokens: &'t [Placed<'t>]) -> Read<'t, Cond>
+    ensures read { ReadsFrom tree_of tokens.now result (truth_test_at (tree_of cond)) }
     ensures shorter { IfOk result (λ read. length read.1.now ≤ length tokens.now) }
 {
     let Some(next) = after_keyword(Keyword::Is, tokens) else {
         return Ok((cond, tokens));
     };
-    if let Some(after) = after_keyword(Keyword::Not, next) {
-        let (t, rest) = truth(after)?;
-        let found = tested(alloc, cond, t)?;
-        return Ok((negation(alloc, found)?, rest));
-    }
-    let (t, rest) = truth(next)?;
+    let Some(after) = after_keyword(Keyword::Not, next) else {
+        return value_test(alloc, cond, next);
+    };
+    let (found, rest) = value_test(alloc, cond, after)?;
+    Ok((negation(alloc, found)?, rest))
+}
+
+/// The test for the truth value whose word has to come.
+fn value_test<'t>(alloc: Global, cond: Cond, tokens: &'t [Placed<'t>]) -> Read<'t, Cond>
+    ensures read { ReadsFrom tree_of tokens.now result (value_test_at (tree_of cond)) }
+    ensures shorter { IfOk result (λ read. length read.1.now ≤ length tokens.now) }
+{
+    let (t, rest) = truth_value(tokens)?;
     Ok((tested(alloc, cond, t)?, rest))
 }
 
@@ -194,9 +209,9 @@ fn tested(alloc: Global, cond: Cond, t: Truth) -> Result<Cond, AllocError>
 }
 
 /// The truth value whose word has to come.
-#[tactic(auto, unfolding(crate::specs::Reading::truth_at))]
-fn truth<'t>(tokens: &'t [Placed<'t>]) -> Result<(Truth, &'t [Placed<'t>]), Stop>
-    ensures read { Reads (λ read. (read.0, lexemes read.1.now)) result (truth_at (lexemes tokens.now)) }
+#[tactic(auto, unfolding(crate::specs::Reading::truth_value_at))]
+fn truth_value<'t>(tokens: &'t [Placed<'t>]) -> Read<'t, Truth>
+    ensures read { ReadsFrom (λ x. x) tokens.now result truth_value_at }
     ensures shorter { IfOk result (λ read. length read.1.now < length tokens.now) }
 {
     if let Some(rest) = after_keyword(Keyword::True, tokens) {
@@ -219,8 +234,9 @@ fn primary<'t>(
     schema: &Schema,
     levels: usize,
     tokens: &'t [Placed<'t>],
-) -> Result<(Cond, &'t [Placed<'t>]), Stop>
-    ensures read { Reads (λ read. (tree_of read.0, lexemes read.1.now)) result (primary_in schema.now (nested schema.now levels) (lexemes tokens.now)) }
+) -> Read<'t, Cond>
+    ensures read { ReadsFrom tree_of tokens.now result
+        (primary_in schema.now (nested schema.now levels)) }
     ensures shorter { IfOk result (λ read. length read.1.now ≤ length tokens.now) }
 {
     let Some(next) = after_mark(Mark::Open, tokens) else {

@@ -9,24 +9,20 @@
 ghost use Rattle.std.specs.Prelude.{is_some, ◌≡◌, ◌<◌, length, IfOk, IfSome};
 ghost use Rattle.std.specs.Option.{option_map};
 ghost use Rattle.bw_sql.specs.Demand.{every_column};
-ghost use Rattle.bw_sql.specs.Reader.{Reads};
-ghost use Rattle.bw_sql.specs.Reading.{after_aggregate, aggregated_at, begins_with_name, item_at, items_at, more_items, next_item_at, of_column, of_one_kind, with_front};
+ghost use Rattle.bw_sql.specs.Reader.{Reads, ReadsFrom};
+ghost use Rattle.bw_sql.specs.Reading.{after_aggregate, aggregated_at, argument_at, begins_with_name, item_at, items_at, more_items, next_item_at, of_column, of_one_kind, with_front};
 ghost use Rattle.bw_sql.specs.Token.{lexemes};
 
 use crate::operand::{begins_with_name, column};
-use crate::reader::{Left, Refusal, Stop, after_keyword, after_mark, keyword, mark};
+use crate::reader::{Left, Read, Refusal, Stop, after_keyword, after_mark, mark};
 use crate::token::{Mark, Placed};
 use bw_model::{Item, Keyword, Schema};
 use std::alloc::{AllocError, Global};
 
 /// The list of items that has to come.
 #[tactic(auto, unfolding(crate::specs::Reading::items_at))]
-pub fn items<'t>(
-    alloc: Global,
-    schema: &Schema,
-    tokens: &'t [Placed<'t>],
-) -> Result<(Vec<Item>, &'t [Placed<'t>]), Stop>
-    ensures { Reads (λ read. (read.0.items, lexemes read.1.now)) result (items_at schema.now (lexemes tokens.now)) }
+pub fn items<'t>(alloc: Global, schema: &Schema, tokens: &'t [Placed<'t>]) -> Read<'t, Vec<Item>>
+    ensures { ReadsFrom (λ xs. xs.items) tokens.now result (items_at schema.now) }
 {
     if let Some(rest) = after_mark(Mark::Star, tokens) {
         return Ok((every_column(alloc, schema)?, rest));
@@ -51,8 +47,9 @@ fn more_items<'t>(
     is_plain: bool,
     mut items: Vec<Item>,
     tokens: &'t [Placed<'t>],
-) -> Result<(Vec<Item>, &'t [Placed<'t>]), Stop>
-    ensures { Reads (λ read. (read.0.items, lexemes read.1.now)) result (with_front items.items (more_items schema.now is_plain (lexemes tokens.now))) }
+) -> Read<'t, Vec<Item>>
+    ensures { ReadsFrom (λ xs. xs.items) tokens.now result
+        (λ tokens. with_front items.items (more_items schema.now is_plain tokens)) }
 {
     let mut left = Left { tokens };
     while let Some(next) = after_mark(Mark::Comma, left.tokens) {
@@ -65,12 +62,8 @@ fn more_items<'t>(
 
 /// The item of this kind that has to come.
 #[tactic(auto, unfolding(crate::specs::Reading::next_item_at))]
-fn next_item<'t>(
-    schema: &Schema,
-    is_plain: bool,
-    tokens: &'t [Placed<'t>],
-) -> Result<(Item, &'t [Placed<'t>]), Stop>
-    ensures read { Reads (λ read. (read.0, lexemes read.1.now)) result (next_item_at schema.now is_plain (lexemes tokens.now)) }
+fn next_item<'t>(schema: &Schema, is_plain: bool, tokens: &'t [Placed<'t>]) -> Read<'t, Item>
+    ensures read { ReadsFrom (λ x. x) tokens.now result (next_item_at schema.now is_plain) }
     ensures shorter { IfOk result (λ read. length read.1.now < length tokens.now) }
 {
     of_one_kind(schema, is_plain, tokens)?;
@@ -97,7 +90,7 @@ fn of_one_kind(schema: &Schema, is_plain: bool, tokens: &[Placed<'_>]) -> Result
 }
 
 /// An aggregate of a column.
-#[derive(Clone, Copy, Debug, PartialEq, Eq)]
+#[derive(Clone, Copy, PartialEq, Eq)]
 enum Aggregate {
     Count,
     Sum,
@@ -108,7 +101,8 @@ enum Aggregate {
 /// The aggregate whose word comes first, and the tokens behind it.
 #[tactic(auto, unfolding(crate::specs::Reading::after_aggregate))]
 fn after_aggregate<'t>(tokens: &'t [Placed<'t>]) -> Option<(Aggregate, &'t [Placed<'t>])>
-    ensures is { option_map (λ found. (found.0, lexemes found.1.now)) result ≡ after_aggregate (lexemes tokens.now) }
+    ensures is { option_map (λ found. (found.0, lexemes found.1.now)) result
+        ≡ after_aggregate (lexemes tokens.now) }
     ensures shorter { IfSome result (λ found. length found.1.now < length tokens.now) }
 {
     if let Some(rest) = after_keyword(Keyword::Count, tokens) {
@@ -126,18 +120,26 @@ fn after_aggregate<'t>(tokens: &'t [Placed<'t>]) -> Option<(Aggregate, &'t [Plac
 
 /// The item that has to come.
 #[tactic(auto, unfolding(crate::specs::Reading::item_at))]
-fn item<'t>(schema: &Schema, tokens: &'t [Placed<'t>]) -> Result<(Item, &'t [Placed<'t>]), Stop>
-    ensures read { Reads (λ read. (read.0, lexemes read.1.now)) result (item_at schema.now (lexemes tokens.now)) }
+fn item<'t>(schema: &Schema, tokens: &'t [Placed<'t>]) -> Read<'t, Item>
+    ensures read { ReadsFrom (λ x. x) tokens.now result (item_at schema.now) }
     ensures shorter { IfOk result (λ read. length read.1.now < length tokens.now) }
 {
     if begins_with_name(tokens) {
         let (column, rest) = column(schema, tokens)?;
         return Ok((Item::Plain(column), rest));
     }
-    let Some((aggregate, rest)) = after_aggregate(tokens) else {
-        return Err(Stop::at(Refusal::Syntax, tokens));
-    };
-    let rest = mark(Mark::Open, rest)?;
+    match after_aggregate(tokens) {
+        Some((aggregate, rest)) => argument(schema, aggregate, rest),
+        None => Err(Stop::at(Refusal::Syntax, tokens)),
+    }
+}
+
+/// The argument of an aggregate, in brackets, which has to come.
+fn argument<'t>(schema: &Schema, aggregate: Aggregate, tokens: &'t [Placed<'t>]) -> Read<'t, Item>
+    ensures read { ReadsFrom (λ x. x) tokens.now result (argument_at schema.now aggregate) }
+    ensures shorter { IfOk result (λ read. length read.1.now < length tokens.now) }
+{
+    let rest = mark(Mark::Open, tokens)?;
     let (item, rest) = aggregated(schema, aggregate, rest)?;
     let rest = mark(Mark::Close, rest)?;
     Ok((item, rest))
@@ -145,12 +147,8 @@ fn item<'t>(schema: &Schema, tokens: &'t [Placed<'t>]) -> Result<(Item, &'t [Pla
 
 /// What an aggregate is taken of: a column, or, where it counts, also the rows.
 #[tactic(auto, unfolding(crate::specs::Reading::aggregated_at))]
-fn aggregated<'t>(
-    schema: &Schema,
-    aggregate: Aggregate,
-    tokens: &'t [Placed<'t>],
-) -> Result<(Item, &'t [Placed<'t>]), Stop>
-    ensures read { Reads (λ read. (read.0, lexemes read.1.now)) result (aggregated_at schema.now aggregate (lexemes tokens.now)) }
+fn aggregated<'t>(schema: &Schema, aggregate: Aggregate, tokens: &'t [Placed<'t>]) -> Read<'t, Item>
+    ensures read { ReadsFrom (λ x. x) tokens.now result (aggregated_at schema.now aggregate) }
     ensures shorter { IfOk result (λ read. length read.1.now < length tokens.now) }
 {
     if aggregate == Aggregate::Count

@@ -5,7 +5,7 @@ ghost use Rattle.std.specs.Char.{is_ascii_digit};
 ghost use Rattle.bw_model.specs.Text.{goes_on_in_word};
 ghost use Rattle.bw_sql.specs.Cut.{IsCut, spots};
 ghost use Rattle.bw_sql.specs.Lexer.{piece};
-ghost use Rattle.bw_sql.specs.Piece.{IsSign, IsLongestSign, BeginsNoSign, IsLongest, BeginsNoPiece, is_short_sign, is_long_sign, is_blank, is_in_comment, begins_comment};
+ghost use Rattle.bw_sql.specs.Piece.{IsDelimiter, IsLongestDelimiter, BeginsNoDelimiter, IsLongest, BeginsNoPiece, is_short_delimiter, is_long_delimiter, is_blank, is_in_comment, begins_comment};
 ghost use Rattle.bw_sql.specs.Token.{Compare, lexeme, word_lexeme};
 
 use crate::token::{Mark, Placed, Token};
@@ -21,7 +21,7 @@ pub struct Lexed<'a> {
 }
 
 /// What begins a text: a blank or a comment, or a token.
-#[derive(Clone, Copy, Debug)]
+#[derive(Clone, Copy)]
 enum Piece<'a> {
     Gap,
     Token(Token<'a>),
@@ -54,7 +54,8 @@ pub fn lex(alloc: Global, text: &[u8]) -> Result<Lexed<'_>, AllocError>
 
 /// The longest piece that begins a text, and what follows it.
 fn first_piece(text: &[u8]) -> Option<(Piece<'_>, &[u8])>
-    ensures { MatchOption result (BeginsNoPiece text.now) (λ found. IsLongest text.now found.1.now (piece found.0)) }
+    ensures { MatchOption result (BeginsNoPiece text.now)
+        (λ found. IsLongest text.now found.1.now (piece found.0)) }
 {
     let (first, rest) = text.split_first()?;
     if is_blank(*first) {
@@ -69,7 +70,7 @@ fn first_piece(text: &[u8]) -> Option<(Piece<'_>, &[u8])>
         let (_, after) = text.split_at(comment_len(text));
         Some((Piece::Gap, after))
     } else {
-        let (token, after) = sign(text)?;
+        let (token, after) = delimiter(text)?;
         Some((Piece::Token(token), after))
     }
 }
@@ -123,8 +124,9 @@ fn word_token(word: &[u8]) -> Token<'_>
 }
 
 /// The longest comparison or mark that begins a text, and what follows it.
-fn sign(text: &[u8]) -> Option<(Token<'_>, &[u8])>
-    ensures { MatchOption result (BeginsNoSign text.now) (λ found. IsLongestSign text.now found.1.now (lexeme found.0)) }
+fn delimiter(text: &[u8]) -> Option<(Token<'_>, &[u8])>
+    ensures { MatchOption result (BeginsNoDelimiter text.now)
+        (λ found. IsLongestDelimiter text.now found.1.now (lexeme found.0)) }
 {
     let (first, rest) = text.split_first()?;
     if let Some((second, after)) = rest.split_first() {
@@ -132,14 +134,14 @@ fn sign(text: &[u8]) -> Option<(Token<'_>, &[u8])>
             return Some((Token::Compare(op), after));
         }
     }
-    let token = short_sign(*first)?;
+    let token = short_delimiter(*first)?;
     Some((token, rest))
 }
 
 /// The comparison that two bytes are.
 fn long_comparison(first: u8, second: u8) -> Option<Op>
-    ensures found { IfSome result (λ op. IsSign (first ∷ second ∷ []) (Compare op)) }
-    ensures none { IfNone result (is_long_sign first second ≡ false) }
+    ensures found { IfSome result (λ op. IsDelimiter (first ∷ second ∷ []) (Compare op)) }
+    ensures none { IfNone result (is_long_delimiter first second ≡ false) }
 {
     match (first, second) {
         (b'<', b'>') => Some(Op::Ne),
@@ -150,9 +152,9 @@ fn long_comparison(first: u8, second: u8) -> Option<Op>
 }
 
 /// The comparison or mark that a byte is.
-fn short_sign(c: u8) -> Option<Token<'static>>
-    ensures found { IfSome result (λ token. IsSign (c ∷ []) (lexeme token)) }
-    ensures none { IfNone result (is_short_sign c ≡ false) }
+fn short_delimiter(c: u8) -> Option<Token<'static>>
+    ensures found { IfSome result (λ token. IsDelimiter (c ∷ []) (lexeme token)) }
+    ensures none { IfNone result (is_short_delimiter c ≡ false) }
 {
     match c {
         b'(' => Some(Token::Mark(Mark::Open)),

@@ -48,7 +48,7 @@ mod token;
 use crate::lexer::{Lexed, lex};
 use crate::reader::Stop;
 use crate::statement::statement;
-use bw_model::{Fault, Place, Query, Schema, code};
+use bw_model::{Fault, Query, Schema, code};
 use std::alloc::Global;
 
 /// How many bytes a statement may have.
@@ -65,11 +65,14 @@ pub const MAX_LEN: usize = 65_536;
 /// of memory.
 pub fn parse(alloc: Global, schema: &Schema, text: &[u8]) -> Result<Query, Fault>
     ensures read { Parses schema.now text.now result }
-    ensures refused { (query : Asked) → Spells schema.now text.now query → IfErr result (λ fault. IsTrue (is_memory fault)) }
+    ensures refused { (query : Asked) → Spells schema.now text.now query
+        → IfErr result (λ fault. IsTrue (is_memory fault)) }
     ensures too_long { longest_statement < length text.now → result ≡ Err (at_byte 407 longest_statement) }
-    ensures columns { IfOk result (λ query. IsTrue (names_within (vec_len schema.now.columns) query.cond)) }
+    ensures columns { IfOk result (λ query.
+        IsTrue (names_within (vec_len schema.now.columns) query.cond)) }
     ensures whole { IfOk result (λ query. IsTrue (is_whole query.cond)) }
-    ensures items { IfOk result (λ query. IsTrue (list_all (item_within (vec_len schema.now.columns)) query.items.items)) }
+    ensures items { IfOk result (λ query.
+        IsTrue (list_all (item_within (vec_len schema.now.columns)) query.items.items)) }
     ensures some { IfOk result (λ query. 1 ≤ length query.items.items) }
     ensures kinds { IfOk result (λ query. AreOfOneKind query.items.items) }
     ensures fault { IfErr result IsStatementFault }
@@ -84,13 +87,13 @@ fn read(alloc: Global, schema: &Schema, text: &[u8]) -> Result<Query, Fault>
     ensures fault { IfErr result IsStatementFault }
 {
     if text.len() > MAX_LEN {
-        return Err(fault_at(code::STATEMENT_TOO_LONG, MAX_LEN));
+        return Err(Fault::at_byte(code::STATEMENT_TOO_LONG, MAX_LEN as u64));
     }
     let lexed = lex(alloc, text)?;
     match statement(alloc, schema, lexed.tokens.as_slice()) {
         Err(stop) => Err(refusal(stop, &lexed, text)),
         Ok(query) => match lexed.stopped {
-            Some(at) => Err(fault_at(code::CHARACTER, at)),
+            Some(at) => Err(Fault::at_byte(code::CHARACTER, at as u64)),
             None => Ok(query),
         },
     }
@@ -98,39 +101,37 @@ fn read(alloc: Global, schema: &Schema, text: &[u8]) -> Result<Query, Fault>
 
 /// A text is cut into tokens in one way.
 pub fn one_cut()
-    ensures { (at : ℕ) (text : List ℕ) (tokens others : List Spot) (stop other : Option ℕ) → IsCut at text tokens stop → IsCut at text others other → (tokens ≡ others) × (stop ≡ other) }
+    ensures { (at : ℕ) (text : List ℕ) (tokens others : List Spot) (stop other : Option ℕ)
+        → IsCut at text tokens stop → IsCut at text others other
+        → (tokens ≡ others) × (stop ≡ other) }
 {}
 
 /// The reading functions read a query from the tokens that spell it, and no other.
 pub fn read_as_spelled()
-    ensures read { (schema : Schema) (tokens : List Lexeme) (query : Asked) → IsQuery schema tokens query → statement_at schema tokens ≡ Ok query }
-    ensures spelled { (schema : Schema) (tokens : List Lexeme) (query : Asked) → statement_at schema tokens ≡ Ok query → IsQuery schema tokens query }
+    ensures read { (schema : Schema) (tokens : List Lexeme) (query : Asked)
+        → IsQuery schema tokens query → statement_at schema tokens ≡ Ok query }
+    ensures spelled { (schema : Schema) (tokens : List Lexeme) (query : Asked)
+        → statement_at schema tokens ≡ Ok query → IsQuery schema tokens query }
 {}
 
 /// A list of tokens spells at most one query.
 pub fn one_query()
-    ensures { (schema : Schema) (tokens : List Lexeme) (query other : Asked) → IsQuery schema tokens query → IsQuery schema tokens other → query ≡ other }
+    ensures { (schema : Schema) (tokens : List Lexeme) (query other : Asked)
+        → IsQuery schema tokens query → IsQuery schema tokens other → query ≡ other }
 {}
 
 /// A text has at most one fault, and none where it spells a query.
 pub fn one_fault()
-    ensures one { (schema : Schema) (text : List ℕ) (fault other : Fault) → IsFault schema text fault → IsFault schema text other → fault ≡ other }
-    ensures none_spelled { (schema : Schema) (text : List ℕ) (query : Asked) (fault : Fault) → Spells schema text query → IsFault schema text fault → ⊥ }
+    ensures one { (schema : Schema) (text : List ℕ) (fault other : Fault)
+        → IsFault schema text fault → IsFault schema text other → fault ≡ other }
+    ensures none_spelled { (schema : Schema) (text : List ℕ) (query : Asked) (fault : Fault)
+        → Spells schema text query → IsFault schema text fault → ⊥ }
 {}
 
 /// Every text spells a query or has a fault.
 pub fn query_or_fault()
     ensures { (schema : Schema) (text : List ℕ) → SpellsOrFails schema text }
 {}
-
-fn fault_at(code: u16, at: usize) -> Fault
-    ensures { result ≡ at_byte code at }
-{
-    Fault {
-        code,
-        place: Place::Byte(at as u64),
-    }
-}
 
 /// The fault of a reader that stopped: behind the last token, the byte that begins no token comes first.
 fn refusal(stop: Stop, lexed: &Lexed<'_>, text: &[u8]) -> Fault
@@ -143,8 +144,8 @@ fn refusal(stop: Stop, lexed: &Lexed<'_>, text: &[u8]) -> Fault
     let tokens = lexed.tokens.as_slice();
     let first = tokens.len().saturating_sub(left);
     match (tokens.get(first), lexed.stopped) {
-        (Some(placed), _) => fault_at(why.code(), placed.at),
-        (None, Some(at)) => fault_at(code::CHARACTER, at),
-        (None, None) => fault_at(why.code(), text.len()),
+        (Some(placed), _) => Fault::at_byte(why.code(), placed.at as u64),
+        (None, Some(at)) => Fault::at_byte(code::CHARACTER, at as u64),
+        (None, None) => Fault::at_byte(why.code(), text.len() as u64),
     }
 }

@@ -1,17 +1,17 @@
 //! Literals: a sign, where there is one, and digits, of a number that fits 64 bits.
 ghost use Rattle.std.specs.Prelude.{◌≡◌, ◌<◌, ◌≤◌, length, IfOk};
-ghost use Rattle.bw_sql.specs.Reader.{Reads};
+ghost use Rattle.bw_sql.specs.Reader.{ReadsFrom};
 ghost use Rattle.bw_sql.specs.Reading.{literal_at, sign_at, digits_at};
 ghost use Rattle.bw_sql.specs.Token.{lexemes};
 
-use crate::reader::{Refusal, Stop, after_mark};
+use crate::reader::{Read, Refusal, Stop, after_mark};
 use crate::token::{Mark, Placed, Token};
 use bw_model::whole_number;
 
 /// The number that a literal spells, and the tokens behind it.
 #[tactic(auto, unfolding(crate::specs::Reading::literal_at))]
-pub fn literal<'t>(tokens: &'t [Placed<'t>]) -> Result<(i64, &'t [Placed<'t>]), Stop>
-    ensures read { Reads (λ read. (read.0, lexemes read.1.now)) result (literal_at (lexemes tokens.now)) }
+pub fn literal<'t>(tokens: &'t [Placed<'t>]) -> Read<'t, i64>
+    ensures read { ReadsFrom (λ x. x) tokens.now result literal_at }
     ensures shorter { IfOk result (λ read. length read.1.now < length tokens.now) }
 {
     let (is_negative, unsigned) = sign(tokens);
@@ -39,8 +39,8 @@ fn sign<'t>(tokens: &'t [Placed<'t>]) -> (bool, &'t [Placed<'t>])
 
 /// The digits that have to come, and the tokens behind them.
 #[tactic(auto, unfolding(crate::specs::Reading::digits_at))]
-fn digits<'t>(tokens: &'t [Placed<'t>]) -> Result<(&'t [u8], &'t [Placed<'t>]), Stop>
-    ensures read { Reads (λ read. (read.0.now, lexemes read.1.now)) result (digits_at (lexemes tokens.now)) }
+fn digits<'t>(tokens: &'t [Placed<'t>]) -> Read<'t, &'t [u8]>
+    ensures read { ReadsFrom (λ text. text.now) tokens.now result digits_at }
     ensures shorter { IfOk result (λ read. length read.1.now < length tokens.now) }
 {
     if let Some((first, rest)) = tokens.split_first()

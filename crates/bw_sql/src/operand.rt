@@ -1,21 +1,18 @@
 //! Operands of predicates, and the names of columns.
 ghost use Rattle.std.specs.Prelude.{◌≡◌, ◌<◌, length, IfOk};
-ghost use Rattle.bw_sql.specs.Reader.{Reads};
+ghost use Rattle.bw_sql.specs.Reader.{ReadsFrom};
 ghost use Rattle.bw_sql.specs.Reading.{operand_at, column_at, begins_with_name};
 ghost use Rattle.bw_sql.specs.Token.{lexemes};
 
 use crate::literal::literal;
-use crate::reader::{Refusal, Stop, after_keyword, name};
+use crate::reader::{Read, Refusal, Stop, after_keyword, name};
 use crate::token::{Placed, Token};
 use bw_model::{Keyword, Operand, Schema};
 
 /// The operand that has to come: a column, a literal or NULL.
 #[tactic(auto, unfolding(crate::specs::Reading::operand_at))]
-pub fn operand<'t>(
-    schema: &Schema,
-    tokens: &'t [Placed<'t>],
-) -> Result<(Operand, &'t [Placed<'t>]), Stop>
-    ensures read { Reads (λ read. (read.0, lexemes read.1.now)) result (operand_at schema.now (lexemes tokens.now)) }
+pub fn operand<'t>(schema: &Schema, tokens: &'t [Placed<'t>]) -> Read<'t, Operand>
+    ensures read { ReadsFrom (λ x. x) tokens.now result (operand_at schema.now) }
     ensures shorter { IfOk result (λ read. length read.1.now < length tokens.now) }
 {
     if let Some(rest) = after_keyword(Keyword::Null, tokens) {
@@ -31,11 +28,8 @@ pub fn operand<'t>(
 
 /// The number of the column whose name has to come.
 #[tactic(auto, unfolding(crate::specs::Reading::column_at))]
-pub fn column<'t>(
-    schema: &Schema,
-    tokens: &'t [Placed<'t>],
-) -> Result<(usize, &'t [Placed<'t>]), Stop>
-    ensures read { Reads (λ read. (read.0, lexemes read.1.now)) result (column_at schema.now (lexemes tokens.now)) }
+pub fn column<'t>(schema: &Schema, tokens: &'t [Placed<'t>]) -> Read<'t, usize>
+    ensures read { ReadsFrom (λ x. x) tokens.now result (column_at schema.now) }
     ensures shorter { IfOk result (λ read. length read.1.now < length tokens.now) }
 {
     let (text, rest) = name(tokens)?;

@@ -3,9 +3,9 @@
 ghost use Rattle.std.specs.Prelude.{◌≡◌, ◌<◌, length, IfOk, IfSome};
 ghost use Rattle.std.specs.Option.{option_map};
 ghost use Rattle.bw_sql.specs.declared.reader.Stop.TheVariants.{OutOfMemory};
-ghost use Rattle.bw_sql.specs.Reader.{Reads, refused};
+ghost use Rattle.bw_sql.specs.Reader.{Reads, ReadsFrom, refused};
 ghost use Rattle.bw_sql.specs.Reading.{after_keyword, after_mark, keyword_at, mark_at, name_at};
-ghost use Rattle.bw_sql.specs.Refusal.{number};
+ghost use Rattle.bw_sql.specs.Refusal.{code_of};
 ghost use Rattle.bw_sql.specs.Token.{lexemes};
 
 use crate::token::{Mark, Placed, Token};
@@ -13,7 +13,7 @@ use bw_model::{Keyword, code};
 use std::alloc::{AllocError, AllocFailed};
 
 /// Why a statement is refused at a token.
-#[derive(Clone, Copy, Debug, PartialEq, Eq)]
+#[derive(Clone, Copy, PartialEq, Eq)]
 pub enum Refusal {
     Syntax,
     UnknownTable,
@@ -26,7 +26,7 @@ pub enum Refusal {
 impl Refusal {
     /// Its number among the faults.
     pub fn code(self) -> u16
-        ensures { result ≡ number self }
+        ensures { result ≡ code_of self }
     {
         match self {
             Refusal::Syntax => code::SYNTAX,
@@ -40,7 +40,7 @@ impl Refusal {
 }
 
 /// Why a reader stopped.
-#[derive(Clone, Copy, Debug)]
+#[derive(Clone, Copy)]
 pub enum Stop {
     /// The statement is refused at the token from which on so many are left, and at its end where none is.
     Refused { why: Refusal, left: usize },
@@ -59,8 +59,11 @@ impl Stop {
     }
 }
 
+/// What a reader answers: what it read, and the tokens behind it.
+pub type Read<'t, T> = Result<(T, &'t [Placed<'t>]), Stop>;
+
 /// The tokens that a loop has left.
-#[derive(Clone, Copy, Debug)]
+#[derive(Clone, Copy)]
 pub struct Left<'t> {
     pub tokens: &'t [Placed<'t>],
 }
@@ -137,8 +140,8 @@ pub fn mark<'t>(mark: Mark, tokens: &'t [Placed<'t>]) -> Result<&'t [Placed<'t>]
 
 /// The name that has to come, and the tokens behind it.
 #[tactic(auto, unfolding(crate::specs::Reading::name_at))]
-pub fn name<'t>(tokens: &'t [Placed<'t>]) -> Result<(&'t [u8], &'t [Placed<'t>]), Stop>
-    ensures read { Reads (λ read. (read.0.now, lexemes read.1.now)) result (name_at (lexemes tokens.now)) }
+pub fn name<'t>(tokens: &'t [Placed<'t>]) -> Read<'t, &'t [u8]>
+    ensures read { ReadsFrom (λ text. text.now) tokens.now result name_at }
     ensures shorter { IfOk result (λ read. length read.1.now < length tokens.now) }
 {
     if let Some((first, rest)) = tokens.split_first()

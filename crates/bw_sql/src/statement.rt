@@ -4,15 +4,15 @@
 //! query = SELECT list FROM name [ WHERE cond ] [ ; ]
 //! ```
 ghost use Rattle.std.specs.Prelude.{◌<◌};
-ghost use Rattle.bw_sql.specs.Reader.{Reads};
+ghost use Rattle.bw_sql.specs.Reader.{Reads, ReadsFrom};
 ghost use Rattle.bw_model.specs.CondTree.{tree_of};
 ghost use Rattle.bw_sql.specs.Asked.{asked};
-ghost use Rattle.bw_sql.specs.Reading.{end_at, selection_at, statement_at, table_at};
+ghost use Rattle.bw_sql.specs.Reading.{end_at, selection_at, statement_at, table_at, table_expression_at};
 ghost use Rattle.bw_sql.specs.Token.{lexemes};
 
 use crate::condition::condition;
 use crate::items::items;
-use crate::reader::{Refusal, Stop, after_keyword, after_mark, keyword, name};
+use crate::reader::{Read, Refusal, Stop, after_keyword, after_mark, keyword, name};
 use crate::token::{Mark, Placed};
 use bw_model::{Cond, Keyword, Query, Schema};
 use std::alloc::Global;
@@ -27,11 +27,19 @@ pub fn statement(alloc: Global, schema: &Schema, tokens: &[Placed<'_>]) -> Resul
 {
     let rest = keyword(Keyword::Select, tokens)?;
     let (items, rest) = items(alloc, schema, rest)?;
-    let rest = keyword(Keyword::From, rest)?;
-    let rest = table(schema, rest)?;
-    let (cond, rest) = selection(alloc, schema, rest)?;
+    let (cond, rest) = table_expression(alloc, schema, rest)?;
     end(rest)?;
     Ok(Query { items, cond })
+}
+
+/// The table, behind FROM, and the condition on its rows.
+#[tactic(auto, unfolding(crate::specs::Reading::table_expression_at))]
+fn table_expression<'t>(alloc: Global, schema: &Schema, tokens: &'t [Placed<'t>]) -> Read<'t, Cond>
+    ensures { ReadsFrom tree_of tokens.now result (table_expression_at schema.now) }
+{
+    let rest = keyword(Keyword::From, tokens)?;
+    let rest = table(schema, rest)?;
+    selection(alloc, schema, rest)
 }
 
 /// The tokens behind the schema's name, which has to come.
@@ -49,12 +57,8 @@ fn table<'t>(schema: &Schema, tokens: &'t [Placed<'t>]) -> Result<&'t [Placed<'t
 
 /// The condition behind WHERE, or none where WHERE doesn't come.
 #[tactic(auto, unfolding(crate::specs::Reading::selection_at, bw_model::specs::CondTree::tree_of))]
-fn selection<'t>(
-    alloc: Global,
-    schema: &Schema,
-    tokens: &'t [Placed<'t>],
-) -> Result<(Cond, &'t [Placed<'t>]), Stop>
-    ensures { Reads (λ read. (tree_of read.0, lexemes read.1.now)) result (selection_at schema.now (lexemes tokens.now)) }
+fn selection<'t>(alloc: Global, schema: &Schema, tokens: &'t [Placed<'t>]) -> Read<'t, Cond>
+    ensures { ReadsFrom tree_of tokens.now result (selection_at schema.now) }
 {
     match after_keyword(Keyword::Where, tokens) {
         None => Ok((Cond::Always, tokens)),

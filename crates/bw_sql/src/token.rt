@@ -2,7 +2,7 @@
 use bw_model::{Keyword, Op};
 
 /// A mark that is no comparison.
-#[derive(Clone, Copy, Debug, PartialEq, Eq)]
+#[derive(Clone, Copy, PartialEq, Eq)]
 pub enum Mark {
     Open,
     Close,
@@ -14,7 +14,7 @@ pub enum Mark {
 }
 
 /// A token. Names and digits are as the statement spells them.
-#[derive(Clone, Copy, Debug)]
+#[derive(Clone, Copy)]
 pub enum Token<'a> {
     /// A word that isn't reserved.
     Name(&'a [u8]),
@@ -25,7 +25,7 @@ pub enum Token<'a> {
 }
 
 /// A token, and the byte at which it begins.
-#[derive(Clone, Copy, Debug)]
+#[derive(Clone, Copy)]
 pub struct Placed<'a> {
     pub token: Token<'a>,
     pub at: usize,

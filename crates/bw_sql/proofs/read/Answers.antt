@@ -11,7 +11,7 @@ returns-in-Err-clause-exact c short =
 
 pub returns-in-Some-clause-exact : goal.returns-in-Some-clause-exact
 returns-in-Some-clause-exact c short =
-    rw c.fault_at-in-Some.ensures
+    rw c.at_byte-in-Some.ensures
     (stopped_so c.args.schema.now c.args.text.now c.in_ok-lexed.lexed.tokens.items c.in-Ok.query (rw c.as_slice.ensures.value at c.in-Ok.ensures)
     c.in-Some.at (subst (λ stop. IsCut 0 c.args.text.now (spots c.in_ok-lexed.lexed.tokens.items) stop) c.in-Some.is c.in_ok-lexed.ensures))
 

@@ -1,49 +1,45 @@
 -- A condition is read level by level: brackets and NOT take one each.
-use Rattle.std.proofs.Common.{◌≤◌, ◌+◌, ◌*◌, length, map}
-use Rattle.bw_model.specs.declared.keyword.Keyword.TheVariants.{And, Or}
+use Rattle.std.proofs.Common.{ℕ, ◌≤◌, ◌+◌, ◌*◌, length, map}
 use Rattle.bw_model.specs.CondTree.{tree_of}
-use Rattle.bw_sql.specs.Reading.{after_keyword, factor_in, nested, repeated, term_in, with_front}
+use Rattle.bw_sql.specs.declared.condition.Connective.{Connective}
+use Rattle.bw_sql.specs.declared.condition.Connective.TheVariants.{And, Or}
+use Rattle.bw_sql.specs.Reading.{after_keyword, more_parts_in, nested, part_in, with_front, word_of}
 use Rattle.bw_sql.specs.Token.{lexemes}
 use Rattle.bw_sql.proofs.Repeats.{Repeats}
 use Rattle.bw_sql.proofs.condition.+condition.Given as goal
 
+-- a condition is joined of terms, and a term of factors
+abbrev rank : Connective → ℕ
+rank And = 0
+rank Or = 3
+
 abbrev pub decreases-primary : goal.decreases-primary
-decreases-primary l = 8 * l.levels + 0
+decreases-primary l = 16 * l.levels + 0
 
 abbrev pub decreases-test : goal.decreases-test
-decreases-test l = 8 * l.levels + 1
+decreases-test l = 16 * l.levels + 1
 
 abbrev pub decreases-factor : goal.decreases-factor
-decreases-factor l = 8 * l.levels + 2
+decreases-factor l = 16 * l.levels + 2
 
-abbrev pub decreases-more_factors : goal.decreases-more_factors
-decreases-more_factors l = 8 * l.levels + 3
+abbrev pub decreases-part : goal.decreases-part
+decreases-part l = 16 * l.levels + 3 + rank l.connective
 
-abbrev pub decreases-term : goal.decreases-term
-decreases-term l = 8 * l.levels + 4
+abbrev pub decreases-more_parts : goal.decreases-more_parts
+decreases-more_parts l = 16 * l.levels + 4 + rank l.connective
 
-abbrev pub decreases-more_terms : goal.decreases-more_terms
-decreases-more_terms l = 8 * l.levels + 5
+abbrev pub decreases-joined : goal.decreases-joined
+decreases-joined l = 16 * l.levels + 5 + rank l.connective
 
 abbrev pub decreases-condition : goal.decreases-condition
-decreases-condition l = 8 * l.levels + 6
+decreases-condition l = 16 * l.levels + 9
 
-abbrev pub invariant-more_factors-loop-next : goal.invariant-more_factors-loop-next
-invariant-more_factors-loop-next l = record {
+abbrev pub invariant-more_parts-loop-next : goal.invariant-more_parts-loop-next
+invariant-more_parts-loop-next l = record {
   shorter : length l.left.tokens.now ≤ length l.tokens;
-  read : Repeats (after_keyword And) (factor_in l.schema (nested l.schema l.levels)) (map tree_of l.parts.items) (length l.left.tokens.now) (lexemes l.left.tokens.now)
-      (with_front (map tree_of l.initial.parts.items) (repeated (length (lexemes l.tokens)) (after_keyword And) (factor_in l.schema (nested l.schema l.levels)) (lexemes l.tokens)));
+  read : Repeats (after_keyword (word_of l.connective)) (part_in l.schema (nested l.schema l.levels) l.connective) (map tree_of l.parts.items) (length l.left.tokens.now) (lexemes l.left.tokens.now)
+      (with_front (map tree_of l.initial.parts.items) (more_parts_in l.schema (nested l.schema l.levels) l.connective (lexemes l.tokens)));
 }
 
-abbrev pub decreases-more_factors-loop-next : goal.decreases-more_factors-loop-next
-decreases-more_factors-loop-next l = length l.left.tokens.now
-
-abbrev pub invariant-more_terms-loop-next : goal.invariant-more_terms-loop-next
-invariant-more_terms-loop-next l = record {
-  shorter : length l.left.tokens.now ≤ length l.tokens;
-  read : Repeats (after_keyword Or) (term_in l.schema (nested l.schema l.levels)) (map tree_of l.parts.items) (length l.left.tokens.now) (lexemes l.left.tokens.now)
-      (with_front (map tree_of l.initial.parts.items) (repeated (length (lexemes l.tokens)) (after_keyword Or) (term_in l.schema (nested l.schema l.levels)) (lexemes l.tokens)));
-}
-
-abbrev pub decreases-more_terms-loop-next : goal.decreases-more_terms-loop-next
-decreases-more_terms-loop-next l = length l.left.tokens.now
+abbrev pub decreases-more_parts-loop-next : goal.decreases-more_parts-loop-next
+decreases-more_parts-loop-next l = length l.left.tokens.now

@@ -1,6 +1,6 @@
 -- Each kind of byte begins its own kind of piece.
 use Rattle.std.proofs.Common.{◌∙◌, sym}
-use Rattle.bw_sql.proofs.Pieces.{blank_longest, word_longest, digits_longest, comment_longest, sign_longest, no_piece, split}
+use Rattle.bw_sql.proofs.Pieces.{blank_longest, word_longest, digits_longest, comment_longest, delimiter_longest, no_piece, split}
 use Rattle.bw_sql.proofs.lexer.first_piece.Goals as goal
 
 pub returns-in_err-token : goal.returns-in_err-token
@@ -27,4 +27,4 @@ returns-then-begins_comment c =
     (split _ _ _ _ _ c.comment_len.ensures.is s.front s.back)
 
 pub returns-in_ok-token : goal.returns-in_ok-token
-returns-in_ok-token c = sign_longest _ _ _ c.in_ok-first.ensures.cases.0 (sym c.is_blank.ensures ∙ c.if-is_blank.false) (sym c.begins_word.ensures ∙ c.if-begins_word.false) (sym c.is_ascii_digit.ensures.value ∙ c.if-is_ascii_digit.false) (sym c.begins_comment.ensures ∙ c.if-begins_comment.false) _ _ c.in_ok-token.ensures
+returns-in_ok-token c = delimiter_longest _ _ _ c.in_ok-first.ensures.cases.0 (sym c.is_blank.ensures ∙ c.if-is_blank.false) (sym c.begins_word.ensures ∙ c.if-begins_word.false) (sym c.is_ascii_digit.ensures.value ∙ c.if-is_ascii_digit.false) (sym c.begins_comment.ensures ∙ c.if-begins_comment.false) _ _ c.in_ok-token.ensures

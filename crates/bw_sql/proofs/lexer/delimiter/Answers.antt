@@ -1,7 +1,7 @@
 -- Of the comparisons and marks, those of two bytes come first.
-use Rattle.bw_sql.proofs.Signs.{short_longest, no_long, no_long_at_end}
-use Rattle.bw_sql.proofs.lexer.sign.Goals as goal
-use Rattle.bw_sql.proofs.lexer.sign.Goals.{in-Some+in_default-long_comparison, in_default}
+use Rattle.bw_sql.proofs.Delimiters.{short_longest, no_long, no_long_at_end}
+use Rattle.bw_sql.proofs.lexer.delimiter.Goals as goal
+use Rattle.bw_sql.proofs.lexer.delimiter.Goals.{in-Some+in_default-long_comparison, in_default}
 
 pub returns : goal.returns
 returns c = short_longest _ _ _ _ c.in_ok-first.ensures.cases.0

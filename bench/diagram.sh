@@ -1,0 +1,12 @@
+#!/usr/bin/env bash
+# Times the filling of a diagram: 65,534 nodes, 65,536 chains and 1,000,000 product rows that follow from the rows of their
+# cofactors. Run by hand on an idle machine: bench/diagram.sh. Each line is the least time of five runs, in microseconds.
+set -euo pipefail
+top=$(cd "$(dirname "$0")/.." && pwd)
+
+# the program is built, and proved, by its first run
+[ -x "$top/crates/bench_diagram/out/bench_diagram" ] || (cd "$top/crates/bench_diagram" && rt run > /dev/null 2>&1)
+
+for _ in 1 2 3 4 5; do
+    "$top/crates/bench_diagram/out/bench_diagram" 2>&1 > /dev/null
+done | sort -k 1,1 -k 2,2n | awk '!seen[$1]++'

@@ -1,0 +1,169 @@
+-- What each line leaves true.
+use Rattle.std.proofs.Common.{◌≡◌, ◌∙◌, refl, sym, ap₂, subst, ℕ, zero, suc, ◌+◌, ◌<◌, Bool, true, false, not, List, [], ◌∷◌, ◌++◌, length, Option, Some, None, slice_get, ◌⊎◌, inl, inr, ⊎_elim, arith, length-append, Result, Ok, Err}
+use Rattle.std.proofs.Math.Dec.{leb}
+use Rattle.std.proofs.lemmas.Bool.{ltb-true, eqb-true, leb-false}
+use Rattle.bw_model.specs.declared.column.Column.{Column}
+use Rattle.bw_model.specs.Variable.{variables_of}
+use Rattle.bw_model.specs.declared.fault.Fault.{Fault}
+use Rattle.bw_model.specs.Fault.{refused_if, nowhere, ◌>>=◌}
+use Rattle.bw_model.proofs.BitsLemmas.{both}
+use Rattle.bw_diagram.specs.declared.node.Node.{Node}
+use Rattle.bw_diagram.specs.declared.product.Product.{Product}
+use Rattle.bw_diagram.specs.declared.product.Reason.{Reason}
+use Rattle.bw_diagram.specs.Node.{child, obeys_node}
+use Rattle.bw_diagram.specs.declared.chain.Chain.{Chain}
+use Rattle.bw_diagram.specs.Chain.{IsChain, obeys_chain}
+use Rattle.bw_diagram.specs.Product.{joined, IsProduct}
+use Rattle.bw_diagram.specs.Facts.{Facts, AreTrue, no_facts, with_node, with_chain, with_row, judged_node, judged_chain, judged_if_named, judged_row, most_nodes, most_chains}
+use Rattle.bw_diagram.proofs.NodeLemmas.{node_value-append}
+use Rattle.bw_diagram.proofs.ChainLemmas.{IsChain-append, obeys_chain-chain}
+use Rattle.bw_diagram.proofs.ProductLemmas.{obeys_row-product}
+
+-- an item of a list with one more is an item of the list, or the one more
+pub slice_get-append_one : {A : Type 0} (xs : List A) (y : A) (k : ℕ) (x : A) → slice_get (xs ++ y ∷ []) k ≡ Some x → (slice_get xs k ≡ Some x) ⊎ ((k ≡ length xs) × (y ≡ x))
+slice_get-append_one [] y zero x is = inr (refl, cc)
+slice_get-append_one [] y (suc k) x is = cc
+slice_get-append_one (z ∷ xs) y zero x is = inl is
+slice_get-append_one (z ∷ xs) y (suc k) x is =
+    ⊎_elim (λ there. inl there) (λ last. inr (omega (arith, last.0), last.1)) (slice_get-append_one xs y k x is)
+
+-- what is true of the terminals alone
+pub no_facts-true : (columns : List Column) → AreTrue (no_facts columns)
+no_facts-true columns = record {
+  ordered = λ k node bit is. cc;
+  chains = λ k chain is. cc;
+  products = λ k row is. cc;
+}
+
+-- what a node's rule says
+pub record Obeys (variables : ℕ) (nodes : List Node) (number : ℕ) (node : Node) : Type 0 where
+  pub next : number ≡ 2 + length nodes
+  pub variable : node.v < variables
+  pub low : node.low < number
+  pub high : node.high < number
+
+pub obeys_node-is : (variables : ℕ) (nodes : List Node) (number : ℕ) (node : Node) → obeys_node variables nodes number node ≡ true → Obeys variables nodes number node
+unfolding obeys_node
+obeys_node-is variables nodes number node is =
+    let upper = both _ _ is in
+    let middle = both _ _ upper.0 in
+    let lower = both _ _ middle.0 in
+    record {
+      next = eqb-true number (2 + length nodes) lower.0;
+      variable = ltb-true node.v variables lower.1;
+      low = ltb-true node.low number middle.1;
+      high = ltb-true node.high number upper.1;
+    }
+
+IsProduct-append : (nodes more : List Node) (row : Product) → IsProduct nodes row → IsProduct (nodes ++ more) row
+IsProduct-append nodes more row product = record {
+  a_node = omega (arith, length-append nodes more, product.a_node);
+  b_node = omega (arith, length-append nodes more, product.b_node);
+  c_node = omega (arith, length-append nodes more, product.c_node);
+  joins = λ assignment. node_value-append nodes more assignment row.c product.c_node
+      ∙ product.joins assignment
+      ∙ sym (ap₂ (joined row.op) (node_value-append nodes more assignment row.a product.a_node) (node_value-append nodes more assignment row.b product.b_node));
+}
+
+-- what isn't refused by a test is what comes next
+passes : {A : Type 0} (test : Bool) (fault : Fault) (next : Result A Fault) (accepted : A) → refused_if test fault next ≡ Ok accepted → (test ≡ false) × (next ≡ Ok accepted)
+passes true fault next accepted is = cc
+passes false fault next accepted is = (refl, is)
+
+-- what isn't refused by two tests meets both
+judged-ok : {A : Type 0} (full broken : Bool) (no_room breach : Fault) (x accepted : A) → refused_if full no_room (refused_if broken breach (Ok x)) ≡ Ok accepted → (full ≡ false) × (broken ≡ false) × (x ≡ accepted)
+judged-ok full broken no_room breach x accepted is =
+    let room = passes full no_room (refused_if broken breach (Ok x)) accepted is in
+    let rule = passes broken breach (Ok x) accepted room.1 in
+    let same : x ≡ accepted = cc rule.1 in
+    (room.0, rule.0, same)
+
+-- what is accepted has room
+pub judged_node-room : (facts : Facts) (number : ℕ) (node accepted : Node) → judged_node facts number node ≡ Ok accepted → length facts.nodes < most_nodes
+unfolding judged_node
+judged_node-room facts number node accepted is = leb-false most_nodes (length facts.nodes) (passes _ _ _ accepted is).0
+
+pub judged_chain-room : (facts : Facts) (number : ℕ) (named : Option Chain) (accepted : Chain) → judged_chain facts number named ≡ Ok accepted → length facts.chains < most_chains
+unfolding judged_chain
+judged_chain-room facts number named accepted is = leb-false most_chains (length facts.chains) (passes _ _ _ accepted is).0
+
+not-false : (b : Bool) → not b ≡ false → b ≡ true
+not-false true is = refl
+not-false false is = cc
+
+-- a node that is accepted leaves all true
+pub judged_node-true : (facts : Facts) (number : ℕ) (node accepted : Node) → judged_node facts number node ≡ Ok accepted → AreTrue facts → AreTrue (record facts { nodes = facts.nodes ++ accepted ∷ [] })
+unfolding judged_node
+judged_node-true facts number node accepted is true_before =
+    let judged = judged-ok _ _ _ _ _ accepted is in
+    let obeys = obeys_node-is (variables_of facts.columns) facts.nodes number node (not-false _ judged.1) in
+    let P : Node → Type 0 = λ n. AreTrue (record facts { nodes = facts.nodes ++ n ∷ [] }) in
+    subst P judged.2 (with_node-true facts number node obeys true_before)
+  where
+    with_node-true : (facts : Facts) (number : ℕ) (node : Node) → Obeys (variables_of facts.columns) facts.nodes number node → AreTrue facts → AreTrue (record facts { nodes = facts.nodes ++ node ∷ [] })
+    with_node-true facts number node obeys true_before = record {
+      ordered = λ k other bit is. ⊎_elim (λ there. true_before.ordered k other bit there) (λ last. last_ordered k other bit last.0 last.1) (slice_get-append_one facts.nodes node k other is);
+      chains = λ k chain is. IsChain-append facts.columns facts.nodes (node ∷ []) chain (true_before.chains k chain is);
+      products = λ k row is. IsProduct-append facts.nodes (node ∷ []) row (true_before.products k row is);
+    }
+      where
+        children : (bit : Bool) → child bit node < number
+        children true = obeys.high
+        children false = obeys.low
+
+        last_ordered : (k : ℕ) (other : Node) (bit : Bool) → k ≡ length facts.nodes → node ≡ other → child bit other < 2 + k
+        last_ordered k other bit at same =
+            let here : child bit node < 2 + k = omega (arith, children bit, obeys.next) in
+            let P : Node → Type 0 = λ n. child bit n < 2 + k in subst P same here
+
+-- a product row that is accepted leaves all true
+pub judged_row-true : (facts : Facts) (number : ℕ) (row accepted : Product) (reason : Reason) → judged_row facts number row reason ≡ Ok accepted → AreTrue facts → AreTrue (record facts { rows = facts.rows ++ accepted ∷ [] })
+unfolding judged_row
+judged_row-true facts number row accepted reason is true_before =
+    let judged = judged-ok _ _ _ _ _ accepted is in
+    let product = obeys_row-product (variables_of facts.columns) facts.nodes facts.rows number row reason true_before.ordered true_before.products (not-false _ judged.1) in
+    let P : Product → Type 0 = λ r. AreTrue (record facts { rows = facts.rows ++ r ∷ [] }) in
+    subst P judged.2 (record {
+      ordered = true_before.ordered;
+      chains = true_before.chains;
+      products = λ k other is. ⊎_elim (λ there. true_before.products k other there) (λ last. subst (IsProduct facts.nodes) last.1 product) (slice_get-append_one facts.rows row k other is);
+    })
+
+-- a chain that is accepted leaves all true
+pub judged_chain-true : (facts : Facts) (number : ℕ) (named : Option Chain) (accepted : Chain) → judged_chain facts number named ≡ Ok accepted → AreTrue facts → AreTrue (record facts { chains = facts.chains ++ accepted ∷ [] })
+unfolding judged_chain
+judged_chain-true facts number named accepted is true_before =
+    if_named named (passes (leb most_chains (length facts.chains)) (nowhere 604) (judged_if_named facts number named) accepted is).1
+  where
+    if_named : (named : Option Chain) → judged_if_named facts number named ≡ Ok accepted → AreTrue (record facts { chains = facts.chains ++ accepted ∷ [] })
+    if_named None is = cc
+    if_named (Some chain) is =
+        let judged = judged-ok false (not (obeys_chain facts.columns facts.nodes facts.chains number chain)) (nowhere 604) (nowhere 603) chain accepted is in
+        let claimed = obeys_chain-chain facts.columns facts.nodes facts.chains number chain true_before.ordered true_before.chains (not-false (obeys_chain facts.columns facts.nodes facts.chains number chain) judged.1) in
+        let P : Chain → Type 0 = λ c. AreTrue (record facts { chains = facts.chains ++ c ∷ [] }) in
+        subst P judged.2 (record {
+          ordered = true_before.ordered;
+          chains = λ k other is. ⊎_elim (λ there. true_before.chains k other there) (λ last. subst (IsChain facts.columns facts.nodes) last.1 claimed) (slice_get-append_one facts.chains chain k other is);
+          products = true_before.products;
+        })
+
+-- what follows from an answer and is an answer follows from some answer
+bind-ok : {A B : Type 0} (r : Result A Fault) (f : A → B) (y : B) → (r >>= λ x. Ok (f x)) ≡ Ok y → (x : A) × (r ≡ Ok x) × (f x ≡ y)
+bind-ok (Ok x) f y is = (x, refl, cc)
+bind-ok (Err fault) f y is = cc
+
+-- lines that are accepted leave all true
+pub with_node-true : (facts after : Facts) (n : ℕ) (node : Node) → AreTrue facts → with_node facts n node ≡ Ok after → AreTrue after
+with_node-true facts after n node true_before is =
+    let found = bind-ok (judged_node facts n node) (λ node. record facts { nodes = facts.nodes ++ node ∷ [] }) after is in
+    subst AreTrue found.2 (judged_node-true facts n node found.0 found.1 true_before)
+
+pub with_chain-true : (facts after : Facts) (n : ℕ) (named : Option Chain) → AreTrue facts → with_chain facts n named ≡ Ok after → AreTrue after
+with_chain-true facts after n named true_before is =
+    let found = bind-ok (judged_chain facts n named) (λ chain. record facts { chains = facts.chains ++ chain ∷ [] }) after is in
+    subst AreTrue found.2 (judged_chain-true facts n named found.0 found.1 true_before)
+
+pub with_row-true : (facts after : Facts) (n : ℕ) (row : Product) (reason : Reason) → AreTrue facts → with_row facts n row reason ≡ Ok after → AreTrue after
+with_row-true facts after n row reason true_before is =
+    let found = bind-ok (judged_row facts n row reason) (λ row. record facts { rows = facts.rows ++ row ∷ [] }) after is in
+    subst AreTrue found.2 (judged_row-true facts n row found.0 reason found.1 true_before)

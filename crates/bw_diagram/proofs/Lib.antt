@@ -1,0 +1,4 @@
+pub mod ChainLemmas
+pub mod FactsLemmas
+pub mod NodeLemmas
+pub mod ProductLemmas

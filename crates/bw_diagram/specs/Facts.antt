@@ -1,0 +1,78 @@
+-- What a diagram holds, what it says of every assignment, and what each line makes of it.
+use Rattle.std.specs.Prelude.{◌≡◌, ℕ, not, List, [], ◌∷◌, ◌++◌, length, Option, Some, None, Result, Ok, Err, slice_get, nat_le}
+use Rattle.bw_model.specs.declared.column.Column.{Column}
+use Rattle.bw_model.specs.declared.fault.Fault.{Fault}
+use Rattle.bw_model.specs.Fault.{nowhere, refused_if, ◌>>=◌}
+use Rattle.bw_model.specs.Variable.{variables_of}
+use Rattle.bw_diagram.specs.declared.node.Node.{Node}
+use Rattle.bw_diagram.specs.declared.chain.Chain.{Chain}
+use Rattle.bw_diagram.specs.declared.product.Product.{Product}
+use Rattle.bw_diagram.specs.declared.product.Reason.{Reason}
+use Rattle.bw_diagram.specs.Node.{AreOrdered, obeys_node}
+use Rattle.bw_diagram.specs.Chain.{IsChain, obeys_chain}
+use Rattle.bw_diagram.specs.Product.{IsProduct, obeys_row}
+
+-- the columns that it is about, and its nodes, chains and product rows, each in the order of their numbers
+pub record Facts : Type 0 where
+  pub columns : List Column
+  pub nodes : List Node
+  pub chains : List Chain
+  pub rows : List Product
+
+-- at most so many of each
+abbrev pub most_nodes : ℕ
+most_nodes = 65534
+
+abbrev pub most_chains : ℕ
+most_chains = 65536
+
+abbrev pub most_products : ℕ
+most_products = 1048576
+
+-- Children come before their nodes, and each chain and each product row is true of every assignment.
+pub record AreTrue (facts : Facts) : Type 0 where
+  pub ordered : AreOrdered facts.nodes
+  pub chains : (k : ℕ) (chain : Chain) → slice_get facts.chains k ≡ Some chain → IsChain facts.columns facts.nodes chain
+  pub products : (k : ℕ) (row : Product) → slice_get facts.rows k ≡ Some row → IsProduct facts.nodes row
+
+-- what is held before any line
+abbrev pub no_facts : List Column → Facts
+no_facts columns = record { columns = columns; nodes = []; chains = []; rows = [] }
+
+-- A node that may come next under a number: 604 where there is no room, and then 601 where it breaks its rule.
+unfoldable pub judged_node : Facts → ℕ → Node → Result Node Fault
+judged_node facts number node =
+    refused_if (nat_le most_nodes (length facts.nodes)) (nowhere 604)
+    (refused_if (not (obeys_node (variables_of facts.columns) facts.nodes number node)) (nowhere 601) (Ok node))
+
+-- what is held after its line
+abbrev pub with_node : Facts → ℕ → Node → Result Facts Fault
+with_node facts number node =
+    judged_node facts number node >>= λ node. Ok (record facts { nodes = facts.nodes ++ node ∷ [] })
+
+-- A chain that may come next under a number, if its line's words name columns: 604 where there is no room, and then 603
+-- where they don't, or it breaks its rule.
+abbrev pub judged_if_named : Facts → ℕ → Option Chain → Result Chain Fault
+judged_if_named facts number None = Err (nowhere 603)
+judged_if_named facts number (Some chain) =
+    refused_if (not (obeys_chain facts.columns facts.nodes facts.chains number chain)) (nowhere 603) (Ok chain)
+
+unfoldable pub judged_chain : Facts → ℕ → Option Chain → Result Chain Fault
+judged_chain facts number named =
+    refused_if (nat_le most_chains (length facts.chains)) (nowhere 604) (judged_if_named facts number named)
+
+-- what is held after its line
+abbrev pub with_chain : Facts → ℕ → Option Chain → Result Facts Fault
+with_chain facts number named =
+    judged_chain facts number named >>= λ chain. Ok (record facts { chains = facts.chains ++ chain ∷ [] })
+
+-- A product row that may come next under a number: 604 where there is no room, and then 602 where it breaks its rule.
+unfoldable pub judged_row : Facts → ℕ → Product → Reason → Result Product Fault
+judged_row facts number row reason =
+    refused_if (nat_le most_products (length facts.rows)) (nowhere 604)
+    (refused_if (not (obeys_row (variables_of facts.columns) facts.nodes facts.rows number row reason)) (nowhere 602) (Ok row))
+
+-- what is held after its line
+abbrev pub with_row : Facts → ℕ → Product → Reason → Result Facts Fault
+with_row facts number row reason =
+    judged_row facts number row reason >>= λ row. Ok (record facts { rows = facts.rows ++ row ∷ [] })

@@ -1,0 +1,5 @@
+pub mod Chain
+pub mod Diagram
+pub mod Facts
+pub mod Node
+pub mod Product

@@ -1,0 +1,209 @@
+//! A diagram: nodes, chains and product rows, all true of every assignment.
+ghost use Rattle.std.specs.Prelude.{◌≡◌, ℕ, Some, OnErr, slice_get, IsTrue};
+ghost use Rattle.bw_model.specs.Fault.{Gives};
+ghost use Rattle.bw_model.specs.Variable.{Assignment};
+ghost use Rattle.bw_diagram.specs.Node.{node_at, node_value};
+ghost use Rattle.bw_diagram.specs.Chain.{IsChain, chain_named};
+ghost use Rattle.bw_diagram.specs.Product.{IsProduct};
+ghost use Rattle.bw_diagram.specs.Facts.{no_facts, judged_node, judged_chain, judged_row, with_node, with_chain, with_row};
+
+mod laws;
+mod steps;
+
+use crate::chain::{Chain, ChainLine};
+use crate::node::{self, Node};
+use crate::product::{Connective, Product, Reason};
+use bw_model::{Fault, Schema};
+pub use laws::{accepted_lines_are_true, later_nodes_change_no_value, whole_columns_are_spelled};
+use std::alloc::Global;
+use std::marker::Model;
+
+/// How many nodes a diagram has at most, terminals aside.
+const MOST_NODES: usize = 65_534;
+
+/// How many chains a diagram has at most.
+const MOST_CHAINS: usize = 65_536;
+
+/// How many product rows a diagram has at most.
+const MOST_PRODUCTS: usize = 1_048_576;
+
+/// The numbers of the faults.
+const NODE_RULE: u16 = 601;
+
+const ROW_RULE: u16 = 602;
+
+const CHAIN_RULE: u16 = 603;
+
+const TOO_MANY_LINES: u16 = 604;
+
+/// Nodes, chains and product rows over the variables of a schema, each added by the rule of its line, so
+/// that each is true of every assignment. It is seen as what it holds.
+#[derive(Debug, Drop)]
+pub struct Diagram<'a> {
+    schema: &'a Schema,
+    variables: u32,
+    nodes: Vec<Node>,
+    chains: Vec<Chain>,
+    rows: Vec<Product>,
+}
+
+impl<'a> Model for Diagram<'a> {
+    ghost use Rattle.bw_diagram.specs.Facts.{Facts};
+
+    ghost Value = { Facts };
+
+    ghost use Rattle.bw_diagram.specs.Diagram.{held, IsKept};
+
+    ghost view = { held };
+
+    ghost invariant = { IsKept };
+}
+
+impl<'a> Diagram<'a> {
+    /// The diagram of the terminals alone.
+    pub fn new(alloc: Global, schema: &'a Schema) -> Self
+        ensures { result ≡ no_facts schema.now.columns.items }
+    {
+        Diagram {
+            schema,
+            variables: schema.var_count(),
+            nodes: Vec::new(alloc),
+            chains: Vec::new(alloc),
+            rows: Vec::new(alloc),
+        }
+    }
+
+    /// Adds node `n`, which tests variable `v`: 604 where there is no room, 601 where `n` isn't the next
+    /// number, `v` no variable or a child not below `n`.
+    pub fn add_node(&mut self, n: u64, v: u64, low: u64, high: u64) -> Result<(), Fault>
+        ensures exact { Gives (λ _. self.new) result
+            (with_node self.old n (record { v = v; low = low; high = high })) }
+        ensures refused { OnErr result (self.new ≡ self.old) }
+    {
+        let node = self.accepted_node(n, v, low, high)?;
+        self.nodes.push(node)?;
+        Ok(())
+    }
+
+    /// Adds chain `n`: 604 where there is no room, 603 where `n` isn't the next number, a column's word names
+    /// none, the bits aren't there, `prev` isn't the chain over the bits below the top bit, or the node doesn't
+    /// choose by the top bits between what follows from that chain's node.
+    pub fn add_chain(&mut self, n: u64, line: ChainLine<'_>) -> Result<(), Fault>
+        ensures exact { Gives (λ _. self.new) result
+            (with_chain self.old n (chain_named self.old.columns line.entry)) }
+        ensures refused { OnErr result (self.new ≡ self.old) }
+    {
+        let chain = self.accepted_chain(n, line)?;
+        self.chains.push(chain)?;
+        Ok(())
+    }
+
+    /// Adds product row `n`: 604 where there is no room, 602 where `n` isn't the next number, `a`, `b` or `c`
+    /// no node, or the reason none.
+    pub fn add_row(
+        &mut self,
+        n: u64,
+        op: Connective,
+        a: u64,
+        b: u64,
+        c: u64,
+        reason: Reason,
+    ) -> Result<(), Fault>
+        ensures exact { Gives (λ _. self.new) result
+            (with_row self.old n (record { op = op; a = a; b = b; c = c }) reason) }
+        ensures refused { OnErr result (self.new ≡ self.old) }
+    {
+        let row = self.accepted_row(n, op, a, b, c, reason)?;
+        self.rows.push(row)?;
+        Ok(())
+    }
+
+    /// The node of these fields, if it may come next.
+    #[tactic(auto, unfolding(crate::specs::Facts::judged_node, crate::specs::Node::obeys_node))]
+    fn accepted_node(&self, n: u64, v: u64, low: u64, high: u64) -> Result<Node, Fault>
+        ensures { result ≡ judged_node self.now n (record { v = v; low = low; high = high }) }
+    {
+        if self.nodes.len() >= MOST_NODES {
+            return Err(Fault::new(TOO_MANY_LINES));
+        }
+        if n != self.nodes.len() as u64 + 2
+            || v >= u64::from(self.variables)
+            || low >= n
+            || high >= n
+        {
+            return Err(Fault::new(NODE_RULE));
+        }
+        Ok(Node {
+            v: v as u32,
+            low: low as u32,
+            high: high as u32,
+        })
+    }
+
+    /// The chain of a line, if it may come next.
+    #[tactic(auto, unfolding(crate::specs::Facts::judged_chain, crate::specs::Chain::obeys_chain))]
+    fn accepted_chain(&self, n: u64, line: ChainLine<'_>) -> Result<Chain, Fault>
+        ensures { result ≡ judged_chain self.now n (chain_named self.now.columns line.entry) }
+    {
+        if self.chains.len() >= MOST_CHAINS {
+            return Err(Fault::new(TOO_MANY_LINES));
+        }
+        match self.in_range(line) {
+            Some(chain) if n == self.chains.len() as u64 && self.is_step(chain) => Ok(chain),
+            _ => Err(Fault::new(CHAIN_RULE)),
+        }
+    }
+
+    /// The product row of these fields, if it may come next.
+    #[tactic(auto, unfolding(crate::specs::Facts::judged_row, crate::specs::Product::obeys_row))]
+    fn accepted_row(
+        &self,
+        n: u64,
+        op: Connective,
+        a: u64,
+        b: u64,
+        c: u64,
+        reason: Reason,
+    ) -> Result<Product, Fault>
+        ensures { result ≡ judged_row self.now n (record { op = op; a = a; b = b; c = c }) reason }
+    {
+        if self.rows.len() >= MOST_PRODUCTS {
+            return Err(Fault::new(TOO_MANY_LINES));
+        }
+        let next = 2 + self.nodes.len() as u64;
+        if n != self.rows.len() as u64 || a >= next || b >= next || c >= next {
+            return Err(Fault::new(ROW_RULE));
+        }
+        let row = Product {
+            op,
+            a: a as u32,
+            b: b as u32,
+            c: c as u32,
+        };
+        if !row.follows(self.variables, &self.nodes, &self.rows, reason) {
+            return Err(Fault::new(ROW_RULE));
+        }
+        Ok(row)
+    }
+
+    /// The node of a number. A terminal has none.
+    pub fn node(&self, n: u64) -> Option<Node>
+        ensures { result ≡ node_at self.now.nodes n }
+    {
+        node::node_at(&self.nodes, n)
+    }
+
+    /// The chain of a number.
+    pub fn chain(&self, n: u64) -> Option<Chain>
+        ensures { result ≡ slice_get self.now.chains n }
+    {
+        self.chains.get(n as usize).copied()
+    }
+
+    /// The product row of a number.
+    pub fn row(&self, n: u64) -> Option<Product>
+        ensures { result ≡ slice_get self.now.rows n }
+    {
+        self.rows.get(n as usize).copied()
+    }
+}

@@ -1,0 +1,27 @@
+//! Decision diagrams as a certificate cites them: nodes, chains and product rows, each true of every
+//! assignment of bits to the variables of a schema.
+//!
+//! The contract that the crates above use: what a [`Diagram`] holds is a list of nodes, one of chains and one
+//! of product rows. [`Diagram::add_node`], [`Diagram::add_chain`] and [`Diagram::add_row`] take a line exactly
+//! where it obeys the rule that `specs/Facts.antt` states on those lists, and what they hold is true: the laws
+//! [`Diagram::chains_are_true`] and [`Diagram::rows_are_true`] say so for every assignment. No order of
+//! variables is asked for.
+//!
+//! The diagrams and the products of nodes are those of Bryant (Graph-Based Algorithms for Boolean Function
+//! Manipulation, 1986). The chains and the lines' rules are this project's own. Read `diagram.rt` first, and
+//! then `specs/Facts.antt`.
+#![tactic(auto)]
+
+mod chain;
+mod diagram;
+mod node;
+mod product;
+#[cfg(test)]
+mod tests;
+
+pub use chain::{Chain, ChainKind, ChainLine};
+pub use diagram::{
+    Diagram, accepted_lines_are_true, later_nodes_change_no_value, whole_columns_are_spelled,
+};
+pub use node::Node;
+pub use product::{Connective, Product, Reason};

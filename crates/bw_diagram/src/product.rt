@@ -1,0 +1,104 @@
+//! Product rows: that a node is a connective of two others, and why.
+ghost use Rattle.std.specs.Prelude.{◌≡◌, slice_get};
+ghost use Rattle.bw_diagram.specs.Product.{is_shortcut, is_row, same_product, cofactor_row, follows};
+
+use crate::node::{Node, cofactor};
+
+/// A connective of two bits. `Diff` is "and not".
+#[derive(Clone, Copy, Debug, PartialEq, Eq)]
+pub enum Connective {
+    And,
+    Or,
+    Xor,
+    Diff,
+}
+
+/// A product row: node `c` is the connective of nodes `a` and `b`.
+#[derive(Clone, Copy, Debug, PartialEq, Eq)]
+pub struct Product {
+    pub op: Connective,
+    pub a: u32,
+    pub b: u32,
+    pub c: u32,
+}
+
+/// Why a product row is true.
+#[derive(Clone, Copy, Debug, PartialEq, Eq)]
+pub enum Reason {
+    /// It is one of the shortcuts of its connective, as `x AND x` is `x`.
+    Shortcut,
+    /// Two earlier rows say it of the cofactors: row `i` where variable `v` is 0, row `j` where it is 1.
+    Cofactors { v: u64, i: u64, j: u64 },
+}
+
+impl Product {
+    /// Whether the row is a shortcut of its connective.
+    #[tactic(auto, unfolding(crate::specs::Product::is_shortcut))]
+    fn is_shortcut(self) -> bool
+        ensures { result ≡ is_shortcut self.op self.a self.b self.c }
+    {
+        let Product { op, a, b, c } = self;
+        match op {
+            Connective::And => {
+                (a == 0 && c == 0)
+                    || (b == 0 && c == 0)
+                    || (a == 1 && c == b)
+                    || (b == 1 && c == a)
+                    || (a == b && c == a)
+            }
+            Connective::Or => {
+                (a == 0 && c == b)
+                    || (b == 0 && c == a)
+                    || (a == 1 && c == 1)
+                    || (b == 1 && c == 1)
+                    || (a == b && c == a)
+            }
+            Connective::Xor => { (a == 0 && c == b) || (b == 0 && c == a) || (a == b && c == 0) }
+            Connective::Diff => {
+                (a == 0 && c == 0) || (b == 0 && c == a) || (a == b && c == 0) || (b == 1 && c == 0)
+            }
+        }
+    }
+
+    /// The row of the cofactors of its nodes.
+    fn cofactor(self, nodes: &[Node], v: u64, bit: bool) -> Self
+        ensures { result ≡ cofactor_row nodes.now v bit self }
+    {
+        Product {
+            op: self.op,
+            a: cofactor(nodes, v, bit, self.a),
+            b: cofactor(nodes, v, bit, self.b),
+            c: cofactor(nodes, v, bit, self.c),
+        }
+    }
+
+    /// Whether this is the row of a number.
+    fn is_at(self, rows: &[Product], number: u64) -> bool
+        ensures { result ≡ is_row self (slice_get rows.now number) }
+    {
+        match rows.get(number as usize) {
+            Some(row) => *row == self,
+            None => false,
+        }
+    }
+
+    /// Whether the row follows from the rows before it, for a reason.
+    pub(crate) fn follows(
+        self,
+        variables: u32,
+        nodes: &[Node],
+        rows: &[Product],
+        reason: Reason,
+    ) -> bool
+        ensures { result ≡ follows variables nodes.now rows.now self reason }
+    {
+        match reason {
+            Reason::Shortcut => self.is_shortcut(),
+            Reason::Cofactors { v, i, j } => {
+                v < u64::from(variables)
+                    && self.cofactor(nodes, v, false).is_at(rows, i)
+                    && self.cofactor(nodes, v, true).is_at(rows, j)
+            }
+        }
+    }
+}

@@ -1,0 +1,229 @@
+//! The instruction that a line of a program text says.
+ghost use Rattle.std.specs.Prelude.{◌≡◌, ◌<◌, List, ℕ, map, drop, length, IfSome, IfOk, IfErr};
+ghost use Rattle.bw_model.specs.Lines.{line_of};
+ghost use Rattle.bw_program.specs.ProgramText.{register_of, natural_on, register_on, column_on, load_on, nulls_on, fill_on, three_on, not_on, byte_on, skip_on, instr_on, is_result_line, result_behind, IsProgramFault};
+
+use crate::instr::Instr;
+use crate::opcode::Opcode;
+use bw_model::{Fault, Line, Schema, code, natural_number};
+
+/// How many registers there are.
+const REGISTERS: u64 = 64;
+
+/// The instruction of this number that a line says, or the first fault there: its form (501), a register (502), a
+/// column, bit or slice (503), a column without nulls (507), a skip that doesn't go forward (504).
+#[tactic(auto, unfolding(crate::specs::ProgramText::instr_on))]
+pub(crate) fn instr_of(schema: &Schema, number: usize, line: &Line) -> Result<Instr, Fault>
+    ensures said { result ≡ instr_on schema.now.columns.items number (line_of line.now) }
+    ensures fault { IfErr result IsProgramFault }
+{
+    let words = line.words.as_slice();
+    let Some((word, rest)) = words.split_first() else {
+        return Err(Fault::at_line(code::PROGRAM_FORM, line.number));
+    };
+    let line = line.number;
+    let Some(opcode) = Opcode::of(word) else {
+        return Err(Fault::at_line(code::PROGRAM_FORM, line));
+    };
+    match opcode {
+        Opcode::Load => load_of(schema, line, rest),
+        Opcode::Nulls => nulls_of(schema, line, rest),
+        Opcode::Fill => fill_of(line, rest),
+        Opcode::And => {
+            let (r, x, y) = three_of(line, rest)?;
+            Ok(Instr::And(r, x, y))
+        }
+        Opcode::Or => {
+            let (r, x, y) = three_of(line, rest)?;
+            Ok(Instr::Or(r, x, y))
+        }
+        Opcode::Xor => {
+            let (r, x, y) = three_of(line, rest)?;
+            Ok(Instr::Xor(r, x, y))
+        }
+        Opcode::Not => not_of(line, rest),
+        Opcode::ByteLt => {
+            let (r, col, slice, byte) = byte_of(schema, line, rest)?;
+            Ok(Instr::ByteLt(r, col, slice, byte))
+        }
+        Opcode::ByteEq => {
+            let (r, col, slice, byte) = byte_of(schema, line, rest)?;
+            Ok(Instr::ByteEq(r, col, slice, byte))
+        }
+        Opcode::Skip => skip_of(number, line, rest),
+        Opcode::Result => Err(Fault::at_line(code::PROGRAM_FORM, line)),
+    }
+}
+
+fn load_of(schema: &Schema, line: u64, words: &[&[u8]]) -> Result<Instr, Fault>
+    ensures said { result ≡ load_on schema.now.columns.items line (map (λ word. word.now) words.now) }
+    ensures fault { IfErr result IsProgramFault }
+{
+    let [r, c, b] = words else {
+        return Err(Fault::at_line(code::PROGRAM_FORM, line));
+    };
+    let bit = natural_on(line, b)?;
+    let register = register_on(line, r)?;
+    let column = column_on(schema, line, c)?;
+    if bit >= u64::from(schema.width(column)) {
+        return Err(Fault::at_line(code::COLUMN_OR_BIT, line));
+    }
+    Ok(Instr::Load(register, column as u8, bit as u8))
+}
+
+/// A number without sign, or 501.
+fn natural_on(line: u64, word: &[u8]) -> Result<u64, Fault>
+    ensures said { result ≡ natural_on line word.now }
+    ensures fault { IfErr result IsProgramFault }
+{
+    natural_number(word).ok_or(Fault::at_line(code::PROGRAM_FORM, line))
+}
+
+/// A register, or 502.
+fn register_on(line: u64, word: &[u8]) -> Result<u8, Fault>
+    ensures register { result ≡ register_on line word.now }
+    ensures below { IfOk result (λ register. register < 64) }
+    ensures fault { IfErr result IsProgramFault }
+{
+    register_of(word).ok_or(Fault::at_line(code::REGISTER, line))
+}
+
+/// The register that a word names: `r` or `R`, and a number below 64.
+#[tactic(auto, unfolding(crate::specs::ProgramText::register_of))]
+fn register_of(word: &[u8]) -> Option<u8>
+    ensures register { result ≡ register_of word.now }
+    ensures below { IfSome result (λ register. register < 64) }
+{
+    let [b'r' | b'R', digits @ ..] = word else {
+        return None;
+    };
+    match natural_number(digits) {
+        Some(number) if number < REGISTERS => Some(number as u8),
+        _ => None,
+    }
+}
+
+/// A column, or 503.
+fn column_on(schema: &Schema, line: u64, word: &[u8]) -> Result<usize, Fault>
+    ensures column { result ≡ column_on schema.now.columns.items line word.now }
+    ensures there { IfOk result (λ column. column < length schema.now.columns.items) }
+    ensures fault { IfErr result IsProgramFault }
+{
+    schema
+        .column_named(word)
+        .ok_or(Fault::at_line(code::COLUMN_OR_BIT, line))
+}
+
+fn nulls_of(schema: &Schema, line: u64, words: &[&[u8]]) -> Result<Instr, Fault>
+    ensures said { result ≡ nulls_on schema.now.columns.items line (map (λ word. word.now) words.now) }
+    ensures fault { IfErr result IsProgramFault }
+{
+    let [r, c] = words else {
+        return Err(Fault::at_line(code::PROGRAM_FORM, line));
+    };
+    let register = register_on(line, r)?;
+    let column = column_on(schema, line, c)?;
+    if !schema.columns[column].nullable {
+        return Err(Fault::at_line(code::NO_NULLS, line));
+    }
+    Ok(Instr::Nulls(register, column as u8))
+}
+
+fn fill_of(line: u64, words: &[&[u8]]) -> Result<Instr, Fault>
+    ensures said { result ≡ fill_on line (map (λ word. word.now) words.now) }
+    ensures fault { IfErr result IsProgramFault }
+{
+    let [r, b] = words else {
+        return Err(Fault::at_line(code::PROGRAM_FORM, line));
+    };
+    let bit = natural_on(line, b)?;
+    if bit > 1 {
+        return Err(Fault::at_line(code::PROGRAM_FORM, line));
+    }
+    let register = register_on(line, r)?;
+    Ok(Instr::Fill(register, bit == 1))
+}
+
+/// Three registers.
+fn three_of(line: u64, words: &[&[u8]]) -> Result<(u8, u8, u8), Fault>
+    ensures said { result ≡ three_on line (map (λ word. word.now) words.now) }
+    ensures fault { IfErr result IsProgramFault }
+{
+    let [r, x, y] = words else {
+        return Err(Fault::at_line(code::PROGRAM_FORM, line));
+    };
+    let register = register_on(line, r)?;
+    let first = register_on(line, x)?;
+    let second = register_on(line, y)?;
+    Ok((register, first, second))
+}
+
+fn not_of(line: u64, words: &[&[u8]]) -> Result<Instr, Fault>
+    ensures said { result ≡ not_on line (map (λ word. word.now) words.now) }
+    ensures fault { IfErr result IsProgramFault }
+{
+    let [r, x] = words else {
+        return Err(Fault::at_line(code::PROGRAM_FORM, line));
+    };
+    let register = register_on(line, r)?;
+    let negated = register_on(line, x)?;
+    Ok(Instr::Not(register, negated))
+}
+
+/// A register, a column, a slice of its codes and a byte.
+fn byte_of(schema: &Schema, line: u64, words: &[&[u8]]) -> Result<(u8, u8, u8, u8), Fault>
+    ensures said { result ≡ byte_on schema.now.columns.items line (map (λ word. word.now) words.now) }
+    ensures fault { IfErr result IsProgramFault }
+{
+    let [r, c, s, b] = words else {
+        return Err(Fault::at_line(code::PROGRAM_FORM, line));
+    };
+    let slice = natural_on(line, s)?;
+    let byte = natural_on(line, b)?;
+    if byte > 255 {
+        return Err(Fault::at_line(code::PROGRAM_FORM, line));
+    }
+    let register = register_on(line, r)?;
+    let column = column_on(schema, line, c)?;
+    if slice >= schema.slices(column) as u64 {
+        return Err(Fault::at_line(code::COLUMN_OR_BIT, line));
+    }
+    Ok((register, column as u8, slice as u8, byte as u8))
+}
+
+fn skip_of(number: usize, line: u64, words: &[&[u8]]) -> Result<Instr, Fault>
+    ensures said { result ≡ skip_on number line (map (λ word. word.now) words.now) }
+    ensures fault { IfErr result IsProgramFault }
+{
+    let [x, l] = words else {
+        return Err(Fault::at_line(code::PROGRAM_FORM, line));
+    };
+    let target = natural_on(line, l)?;
+    let register = register_on(line, x)?;
+    if target <= number as u64 {
+        return Err(Fault::at_line(code::SKIP_TARGET, line));
+    }
+    Ok(Instr::Skip(register, target as usize))
+}
+
+/// Whether a line names the result.
+pub(crate) fn is_result_line(line: &Line) -> bool
+    ensures { result ≡ is_result_line (line_of line.now) }
+{
+    match line.words.first() {
+        None => false,
+        Some(word) => matches!(Opcode::of(word), Some(Opcode::Result)),
+    }
+}
+
+/// The result register that such a line names.
+pub(crate) fn result_of(line: &Line) -> Result<u8, Fault>
+    ensures register { result ≡ result_behind line.now.number (drop 1 (line_of line.now).words) }
+    ensures below { IfOk result (λ register. register < 64) }
+    ensures fault { IfErr result IsProgramFault }
+{
+    let [_, word] = line.words.as_slice() else {
+        return Err(Fault::at_line(code::PROGRAM_FORM, line.number));
+    };
+    register_on(line.number, word)
+}
