@@ -1,9 +1,9 @@
 -- Words made of bytes, 64 at a time.
-use Rattle.std.proofs.Common.{◌≡◌, ◌∙◌, sym, ap, ap₂, ℕ, zero, suc, ◌+◌, ◌-◌, ◌*◌, ◌%◌, ◌^◌, ◌<◌, ◌≤◌, Bool, cond, eqb, ◌==◌, List, [], ◌∷◌, ◌++◌, map, length, take, drop, set, replicate, bit_and, arith, w8}
+use Rattle.std.proofs.Common.{◌≡◌, ◌∙◌, sym, ap, ap₂, ℕ, zero, suc, ◌+◌, ◌-◌, ◌*◌, ◌%◌, ◌^◌, ◌<◌, ◌≤◌, Bool, cond, eqb, ltb, ◌==◌, List, [], ◌∷◌, ◌++◌, map, length, take, drop, set, replicate, bit_and, arith, w8}
 use Rattle.std.specs.Int.{bit_at}
 use Rattle.std.proofs.lemmas.Bool.{eq-eqb, ne_eqb}
 use Rattle.std.proofs.lemmas.List.{take_more_set, take-take, length-map}
-use Rattle.std.proofs.lemmas.Nat.{pow_pos}
+use Rattle.std.proofs.lemmas.Nat.{one_shl, pow_pos}
 use Rattle.std.proofs.lemmas.Nat.Bits.{and_pow, bit_at-lt}
 use Rattle.std.proofs.lemmas.Simd.{bitmask_splat, zip2_splat, map-map}
 use Rattle.std.proofs.Math.Seq.{take-add}
@@ -35,7 +35,7 @@ bit_by_mask bit n = ap (λ k. eqb k (2 ^ bit)) (and_pow n bit) ∙ shown (bit_at
     shown (suc zero) k lt some = eq-eqb (suc zero * k) k (omega arith)
     shown (suc (suc b)) k lt some = absurd (omega arith)
 
-pub bits_by_mask : (bytes : List ℕ) (bit place : ℕ) → length bytes ≡ 64 → place ≡ 2 ^ bit
+bits_by_mask : (bytes : List ℕ) (bit place : ℕ) → length bytes ≡ 64 → place ≡ 2 ^ bit
     → bits_from_least 64 (mask_l (map (top 7) (zip2 (λ a b. cond (eqb a b) 255 0) (zip2 bit_and bytes (replicate 64 place)) (replicate 64 place))) % 2 ^ 64)
     ≡ map (λ byte. bit_at byte bit == 1) bytes
 bits_by_mask bytes bit place long is =
@@ -47,3 +47,16 @@ bits_by_mask bytes bit place long is =
     let shown : map (λ x. eqb x place) masked ≡ map (λ byte. bit_at byte bit == 1) bytes =
     map-map (λ x. eqb x place) (λ x. bit_and x place) bytes ∙ (λ i. map (λ x. (ap (λ k. eqb (bit_and x k) k) is ∙ bit_by_mask bit x) i) bytes) in
     bits_of_flagged (λ byte. bit_at byte bit == 1) bytes word long (as_masked ∙ ap mask_l shown)
+
+pub below_splat : (bytes : List ℕ) (c : ℕ) → length bytes ≡ 64
+    → bits_from_least 64 (mask_l (map (top 7) (zip2 (λ a b. cond (ltb a b) 255 0) bytes (replicate 64 c))) % 2 ^ 64) ≡ map (λ byte. ltb byte c) bytes
+below_splat bytes c long = bits_of_flagged (λ byte. ltb byte c) bytes _ long (bitmask_splat w8 ltb bytes 64 c long (omega arith))
+
+pub equal_splat : (bytes : List ℕ) (c : ℕ) → length bytes ≡ 64
+    → bits_from_least 64 (mask_l (map (top 7) (zip2 (λ a b. cond (eqb a b) 255 0) bytes (replicate 64 c))) % 2 ^ 64) ≡ map (λ byte. eqb byte c) bytes
+equal_splat bytes c long = bits_of_flagged (λ byte. eqb byte c) bytes _ long (bitmask_splat w8 eqb bytes 64 c long (omega arith))
+
+pub bit_splat : (bytes : List ℕ) (bit : ℕ) → bit < 8 → length bytes ≡ 64
+    → bits_from_least 64 (mask_l (map (top 7) (zip2 (λ a b. cond (eqb a b) 255 0) (zip2 bit_and bytes (replicate 64 (1 * 2 ^ bit % 2 ^ 8))) (replicate 64 (1 * 2 ^ bit % 2 ^ 8)))) % 2 ^ 64)
+    ≡ map (λ byte. bit_at byte bit == 1) bytes
+bit_splat bytes bit below long = bits_by_mask bytes bit (1 * 2 ^ bit % 2 ^ 8) long (one_shl bit 8 below)

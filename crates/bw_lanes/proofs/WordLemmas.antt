@@ -1,5 +1,5 @@
 -- The lanes of words, and of words that are joined.
-use Rattle.std.proofs.Common.{◌≡◌, ◌∙◌, refl, sym, ap, ap₂, ℕ, zero, suc, ◌+◌, ◌*◌, ◌/◌, ◌%◌, ◌^◌, ◌<◌, ◌≤◌, Bool, true, false, not, cond, ◌==◌, ◌&&◌, List, [], ◌∷◌, ◌++◌, map, length, count_by, arith, w64, length-append, append_assoc, append-nil, inl, inr}
+use Rattle.std.proofs.Common.{◌≡◌, ◌∙◌, refl, sym, ap, ap₂, ℕ, zero, suc, ◌+◌, ◌*◌, ◌/◌, ◌%◌, ◌^◌, ◌<◌, ◌≤◌, Bool, true, false, not, cond, ◌==◌, ◌&&◌, ◌||◌, List, [], ◌∷◌, ◌++◌, map, length, count_by, arith, w64, length-append, append_assoc, append-nil, inl, inr}
 use Rattle.std.proofs.Math.Nat.{eq-zero-or-pos}
 use Rattle.std.proofs.Math.Bool.{and-true}
 use Rattle.std.proofs.Math.Nat.{two-pow-succ}
@@ -9,13 +9,14 @@ use Rattle.std.proofs.lemmas.List.{nil_from_length}
 use Rattle.std.proofs.lemmas.List.Folds.{list_all-append}
 use Rattle.std.proofs.lemmas.List.Sums.{sum_by-append, sum_by-cons, count_by-le-length}
 use Rattle.std.specs.Int.{bit_not}
-use Rattle.std.specs.Int.RustNames.{bit_or, count_ones}
+use Rattle.std.specs.Int.RustNames.{bit_or, count_ones, bit_xor}
 use Rattle.std.specs.Int.Bits.{or_zero_l}
 use Rattle.std.specs.Int.Count.{ones_step}
+use lib.Bits.{bit_and}
 use lib.Lanes.{zip2, Each1, fold_l, sum_l}
 use Rattle.std.specs.List.{list_all}
-use Rattle.bw_lanes.specs.Lanes.{bits_from_least, lanes_of_words}
-use Rattle.bw_lanes.proofs.BitLemmas.{length-bits_from_least, bits_from_least_more, bits_of_not}
+use Rattle.bw_lanes.specs.Lanes.{bits_from_least, lanes_of_words, lanes_of_bytes, differ}
+use Rattle.bw_lanes.proofs.BitLemmas.{length-bits_from_least, bits_from_least_more, bits_of_not, bits_of_and, bits_of_or, bits_of_xor}
 
 pub zip2-append : {A B C : Type 0} (f : A → B → C) (xs xs' : List A) (ys ys' : List B) → length xs ≡ length ys → zip2 f (xs ++ xs') (ys ++ ys') ≡ zip2 f xs ys ++ zip2 f xs' ys'
 zip2-append f [] xs' [] ys' same = refl
@@ -120,3 +121,22 @@ ones_in_words (word ∷ words) small =
 
 pub lanes_that_are_one : (words : List ℕ) → length words ≡ 8 → count_by (λ lane. lane) (lanes_of_words words) ≤ 512
 lanes_that_are_one words eight = omega (arith, count_by-le-length (λ lane. lane) (lanes_of_words words), length-lanes_of_words words)
+
+pub length-lanes_of_bytes : (bytes : List ℕ) → length (lanes_of_bytes bytes) ≡ 8 * length bytes
+unfolding lanes_of_bytes
+length-lanes_of_bytes [] = refl
+length-lanes_of_bytes (byte ∷ bytes) =
+    omega (arith, length-append (bits_from_least 8 byte) (lanes_of_bytes bytes), length-bits_from_least 8 byte, length-lanes_of_bytes bytes)
+
+-- bytes with the lanes of 8 words
+pub bytes_of_plane : (bytes words : List ℕ) → length words ≡ 8 → lanes_of_bytes bytes ≡ lanes_of_words words → length bytes ≡ 64
+bytes_of_plane bytes words eight same = omega (arith, length-lanes_of_bytes bytes, length-lanes_of_words words, ap length same)
+
+pub lanes_of_and : (xs ys : List ℕ) → length xs ≡ 8 → length ys ≡ 8 → lanes_of_words (zip2 bit_and xs ys) ≡ zip2 (λ x y. x && y) (lanes_of_words xs) (lanes_of_words ys)
+lanes_of_and xs ys eight other = lanes_joined (λ x y. x && y) bit_and (bits_of_and 64) xs ys (eight ∙ sym other)
+
+pub lanes_of_or : (xs ys : List ℕ) → length xs ≡ 8 → length ys ≡ 8 → lanes_of_words (zip2 bit_or xs ys) ≡ zip2 (λ x y. x || y) (lanes_of_words xs) (lanes_of_words ys)
+lanes_of_or xs ys eight other = lanes_joined (λ x y. x || y) bit_or (bits_of_or 64) xs ys (eight ∙ sym other)
+
+pub lanes_of_xor : (xs ys : List ℕ) → length xs ≡ 8 → length ys ≡ 8 → lanes_of_words (zip2 bit_xor xs ys) ≡ zip2 differ (lanes_of_words xs) (lanes_of_words ys)
+lanes_of_xor xs ys eight other = lanes_joined differ bit_xor (bits_of_xor 64) xs ys (eight ∙ sym other)

@@ -9,7 +9,7 @@ use Rattle.bw_model.specs.declared.cond.Operand.{Operand}
 use Rattle.bw_model.specs.declared.cond.Cond.{Cond, Cond-F, fold-roll-Cond}
 use Rattle.bw_model.specs.declared.cond.Cond.TheVariants.{Always, Cmp, Between, Among, IsNull, And, Or, Not, Test, rolls-Always, rolls-Cmp, rolls-Between, rolls-Among, rolls-IsNull, rolls-And, rolls-Or, rolls-Not, rolls-Test}
 use Rattle.bw_model.specs.Row.{Value}
-use Rattle.bw_model.specs.Truth.{truth, all_of, any_of, negation, is_truth, compared, between, among, is_null}
+use Rattle.bw_model.specs.Truth.{truth_from, all_of, any_of, negation, is_truth, compared, between, among, is_null}
 use Rattle.bw_model.specs.Cond.{truth_of, truth_step, names_within, within_step, operand_value, is_within}
 
 pub truth_of-Always : (row : List Value) → truth_of row Always ≡ Yes
@@ -28,7 +28,7 @@ pub truth_of-Among : (row : List Value) (x : Operand) (items : Vec Operand Globa
 unfolding truth_of
 truth_of-Among row x items = ap (truth_of row) (sym (rolls-Among x items)) ∙ fold-roll-Cond Truth (truth_step row) (Cond-F.Among x items)
 
-pub truth_of-IsNull : (row : List Value) (x : Operand) → truth_of row (IsNull x) ≡ truth (is_null (operand_value row x))
+pub truth_of-IsNull : (row : List Value) (x : Operand) → truth_of row (IsNull x) ≡ truth_from (is_null (operand_value row x))
 unfolding truth_of
 truth_of-IsNull row x = ap (truth_of row) (sym (rolls-IsNull x)) ∙ fold-roll-Cond Truth (truth_step row) (Cond-F.IsNull x)
 
@@ -44,7 +44,7 @@ pub truth_of-Not : (row : List Value) (part : Box Cond Global) → truth_of row 
 unfolding truth_of
 truth_of-Not row part = ap (truth_of row) (sym (rolls-Not part)) ∙ fold-roll-Cond Truth (truth_step row) (Cond-F.Not part)
 
-pub truth_of-Test : (row : List Value) (part : Box Cond Global) (t : Truth) → truth_of row (Test part t) ≡ truth (is_truth (truth_of row part.value) t)
+pub truth_of-Test : (row : List Value) (part : Box Cond Global) (t : Truth) → truth_of row (Test part t) ≡ truth_from (is_truth (truth_of row part.value) t)
 unfolding truth_of
 truth_of-Test row part t = ap (truth_of row) (sym (rolls-Test part t)) ∙ fold-roll-Cond Truth (truth_step row) (Cond-F.Test part t)
 

@@ -6,14 +6,14 @@ use Rattle.std.proofs.Common.{ℤ, pos, ◌-ℤ◌, cond, true, false, Option, S
 use Rattle.std.proofs.lemmas.Int.{ints}
 use Rattle.std.specs.Option.{SomeIff}
 use Rattle.std.proofs.lemmas.Bool.{le-leb, lt-leb, lt-ltb, le-ltb}
-use Rattle.bw_model.specs.Number.{decimal, where_64_bits_hold}
+use Rattle.bw_model.specs.Number.{digits_value, where_64_bits_hold}
 
-pub decimal-nothing : 0 ≡ min (decimal []) (2 ^ 64 - 1)
-unfolding decimal
+pub decimal-nothing : 0 ≡ min (digits_value []) (2 ^ 64 - 1)
+unfolding digits_value
 decimal-nothing = refl
 
-pub decimal_more : (digits : List ℕ) (i : ℕ) → i < length digits → decimal (take (i + 1) digits) ≡ 10 * decimal (take i digits) + (get_or digits i 0 - 48)
-unfolding decimal
+pub decimal_more : (digits : List ℕ) (i : ℕ) → i < length digits → digits_value (take (i + 1) digits) ≡ 10 * digits_value (take i digits) + (get_or digits i 0 - 48)
+unfolding digits_value
 decimal_more digits i h = fold_more (λ n digit. 10 * n + (digit - 48)) 0 digits i 0 h
 
 -- a number that is cut at the greatest of 64 bits takes one more digit
@@ -42,8 +42,8 @@ fold_grows : (n : ℕ) (digits : List ℕ) → n ≤ fold (λ n digit. 10 * n + 
 fold_grows n [] = omega arith
 fold_grows n (digit ∷ digits) = omega (arith, fold_grows (10 * n + (digit - 48)) digits)
 
-decimal_of_front : (digits : List ℕ) (i : ℕ) → decimal (take i digits) ≤ decimal digits
-unfolding decimal
+decimal_of_front : (digits : List ℕ) (i : ℕ) → digits_value (take i digits) ≤ digits_value digits
+unfolding digits_value
 decimal_of_front digits i =
     let step : ℕ → ℕ → ℕ = λ n digit. 10 * n + (digit - 48) in
     let whole : fold step 0 (take i digits ++ drop i digits) ≡ fold step (fold step 0 (take i digits)) (drop i digits) = fold-append step 0 (take i digits) (drop i digits) in
@@ -52,9 +52,9 @@ decimal_of_front digits i =
     omega (arith, fold_grows (fold step 0 (take i digits)) (drop i digits))
 
 -- where the digits so far and one more spell too much, all do
-pub too_much : (digits : List ℕ) (i n : ℕ) → i < length digits → n ≡ decimal (take i digits) → 2 ^ 64 ≤ 10 * n + (get_or digits i 0 - 48) → None ≡ where_64_bits_hold (decimal digits)
+pub too_much : (digits : List ℕ) (i n : ℕ) → i < length digits → n ≡ digits_value (take i digits) → 2 ^ 64 ≤ 10 * n + (get_or digits i 0 - 48) → None ≡ where_64_bits_hold (digits_value digits)
 too_much digits i n lt is over =
-    let past : ltb (decimal digits) (2 ^ 64) ≡ false = le-ltb _ _ (omega (arith, decimal_more digits i lt, decimal_of_front digits (i + 1))) in
+    let past : ltb (digits_value digits) (2 ^ 64) ≡ false = le-ltb _ _ (omega (arith, decimal_more digits i lt, decimal_of_front digits (i + 1))) in
     rw past refl
 
 pub enough : (n : ℕ) → n < 2 ^ 64 → Some n ≡ where_64_bits_hold n

@@ -5,7 +5,7 @@ use Rattle.bw_model.specs.declared.cond.Truth.{Truth}
 use Rattle.bw_model.specs.declared.cond.Cond.{Cond, Cond-F, fold-Cond, fold-roll-Cond, roll-Cond, ind-Cond}
 use Rattle.bw_model.specs.declared.cond.Cond.TheFolds.{map-Cond}
 use Rattle.bw_model.specs.Row.{Value}
-use Rattle.bw_model.specs.Truth.{truth, all_of, any_of, negation, is_truth}
+use Rattle.bw_model.specs.Truth.{truth_from, all_of, any_of, negation, is_truth}
 use Rattle.bw_model.specs.Cond.{truth_of, truth_step, names_within, within_step, is_whole, whole_step}
 use Rattle.bw_model.specs.CondTree.{CondTree, tree_of, tree_step, trees_of, tree_truth, tree_truths, tree_within, trees_within, is_whole_tree, are_whole_trees, count_of}
 
@@ -48,7 +48,7 @@ truth-known row (Cond-F.IsNull x) = refl
 truth-known row (Cond-F.And parts) = ap all_of (truths-known row parts.items)
 truth-known row (Cond-F.Or parts) = ap any_of (truths-known row parts.items)
 truth-known row (Cond-F.Not part) = ap negation part.value.1
-truth-known row (Cond-F.Test part t) = ap (λ s. truth (is_truth s t)) part.value.1
+truth-known row (Cond-F.Test part t) = ap (λ s. truth_from (is_truth s t)) part.value.1
 
 pub truth_of-tree_of : (row : List Value) (cond : Cond) → truth_of row cond ≡ tree_truth row (tree_of cond)
 unfolding truth_of

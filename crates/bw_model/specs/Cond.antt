@@ -8,7 +8,7 @@ use Rattle.bw_model.specs.declared.cond.Operand.TheVariants.{Col, Lit, Null}
 use Rattle.bw_model.specs.declared.cond.Cond.{Cond, Cond-F, fold-Cond}
 use Rattle.bw_model.specs.declared.cond.Cond.TheOpen.{Always, Cmp, Between, Among, IsNull, And, Or, Not, Test}
 use Rattle.bw_model.specs.Row.{Value, value_in}
-use Rattle.bw_model.specs.Truth.{truth, all_of, any_of, negation, is_truth, compared, between, among, is_null}
+use Rattle.bw_model.specs.Truth.{truth_from, all_of, any_of, negation, is_truth, compared, between, among, is_null}
 
 -- the value that an operand has in a row
 abbrev pub operand_value : List Value → Operand → Value
@@ -22,11 +22,11 @@ truth_step row Always = Yes
 truth_step row (Cmp op x y) = compared op (operand_value row x) (operand_value row y)
 truth_step row (Between x y z) = between (operand_value row x) (operand_value row y) (operand_value row z)
 truth_step row (Among x items) = among (operand_value row x) (map (operand_value row) items.items)
-truth_step row (IsNull x) = truth (is_null (operand_value row x))
+truth_step row (IsNull x) = truth_from (is_null (operand_value row x))
 truth_step row (And parts) = all_of parts.items
 truth_step row (Or parts) = any_of parts.items
 truth_step row (Not part) = negation part.value
-truth_step row (Test part t) = truth (is_truth part.value t)
+truth_step row (Test part t) = truth_from (is_truth part.value t)
 
 -- the truth of a condition on a row
 unfoldable pub truth_of : List Value → Cond → Truth

@@ -4,8 +4,8 @@ use Rattle.std.specs.List.{list_all}
 use Rattle.std.specs.Char.{is_ascii_digit}
 
 -- the number that decimal digits spell; 48 is the digit 0
-unfoldable pub decimal : List ℕ → ℕ
-decimal digits = fold (λ n digit. 10 * n + (digit - 48)) 0 digits
+unfoldable pub digits_value : List ℕ → ℕ
+digits_value digits = fold (λ n digit. 10 * n + (digit - 48)) 0 digits
 
 abbrev pub text_is_empty : List ℕ → Bool
 text_is_empty [] = true
@@ -21,9 +21,9 @@ abbrev pub where_64_bits_hold : ℕ → Option ℕ
 where_64_bits_hold n = if nat_lt n (2 ^ 64) then Some n else None
 
 unfoldable pub natural_of : List ℕ → Option ℕ
-natural_of text = if are_digits text then where_64_bits_hold (decimal text) else None
+natural_of text = if are_digits text then where_64_bits_hold (digits_value text) else None
 
 -- the number of a sign and digits, where 64 bits hold it: they hold the numbers from -2^63 to 2^63 - 1
 unfoldable pub number_of : Bool → List ℕ → Option ℤ
-number_of true digits = if nat_le (decimal digits) (2 ^ 63) then Some (pos 0 -ℤ pos (decimal digits)) else None
-number_of false digits = if nat_lt (decimal digits) (2 ^ 63) then Some (pos (decimal digits)) else None
+number_of true digits = if nat_le (digits_value digits) (2 ^ 63) then Some (pos 0 -ℤ pos (digits_value digits)) else None
+number_of false digits = if nat_lt (digits_value digits) (2 ^ 63) then Some (pos (digits_value digits)) else None

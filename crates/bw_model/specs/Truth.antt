@@ -8,9 +8,9 @@ use Rattle.bw_model.specs.declared.cond.Op.TheVariants.{Eq, Ne, Lt, Gt, Le, Ge}
 use Rattle.bw_model.specs.Row.{Value}
 
 -- TRUE or FALSE
-abbrev pub truth : Bool → Truth
-truth true = Yes
-truth false = No
+abbrev pub truth_from : Bool → Truth
+truth_from true = Yes
+truth_from false = No
 
 -- AND of two truth values is the least of them
 abbrev pub least : Truth → Truth → Truth
@@ -68,7 +68,7 @@ holds Ge x y = int_le y x
 abbrev pub compared : Op → Value → Value → Truth
 compared op None y = Unknown
 compared op (Some m) None = Unknown
-compared op (Some m) (Some n) = truth (holds op m n)
+compared op (Some m) (Some n) = truth_from (holds op m n)
 
 -- x BETWEEN y AND z is x >= y AND x <= z
 abbrev pub between : Value → Value → Value → Truth

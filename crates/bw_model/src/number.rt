@@ -2,7 +2,7 @@
 ghost use Rattle.std.specs.Prelude.{◌≡◌, ◌^◌, ◌-◌, min};
 ghost use Rattle.std.specs.List.{list_all};
 ghost use Rattle.std.specs.Char.{is_ascii_digit};
-ghost use Rattle.bw_model.specs.Number.{decimal, are_digits, number_of, natural_of, where_64_bits_hold};
+ghost use Rattle.bw_model.specs.Number.{digits_value, are_digits, number_of, natural_of, where_64_bits_hold};
 
 /// Whether a text is one digit or more, and nothing else.
 pub fn are_digits(text: &[u8]) -> bool
@@ -38,7 +38,7 @@ pub fn natural_number(text: &[u8]) -> Option<u64>
 
 /// What digits spell, where it is below 2^64.
 fn number_of_digits(digits: &[u8]) -> Option<u64>
-    ensures { result ≡ where_64_bits_hold (decimal digits.now) }
+    ensures { result ≡ where_64_bits_hold (digits_value digits.now) }
 {
     let mut number: u64 = 0;
     for digit in digits {
@@ -62,7 +62,7 @@ fn are_all_digits(text: &[u8]) -> bool
 
 /// What the digits spell, or the greatest `u64` where that is less.
 fn magnitude_of(digits: &[u8]) -> u64
-    ensures { result ≡ min (decimal digits.now) (2 ^ 64 - 1) }
+    ensures { result ≡ min (digits_value digits.now) (2 ^ 64 - 1) }
 {
     let mut magnitude: u64 = 0;
     for digit in digits {

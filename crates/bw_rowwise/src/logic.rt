@@ -1,12 +1,12 @@
 //! Three-valued logic, and comparisons in it, after SQL-92.
 ghost use Rattle.std.specs.Prelude.{◌≡◌};
-ghost use Rattle.bw_model.specs.Truth.{truth, least, greatest, negation, compared, between, holds};
+ghost use Rattle.bw_model.specs.Truth.{truth_from, least, greatest, negation, compared, between, holds};
 
 use bw_model::{Op, Truth, Value};
 
 /// TRUE or FALSE.
 pub fn truth_from(holds: bool) -> Truth
-    ensures { result ≡ truth holds }
+    ensures { result ≡ truth_from holds }
 {
     if holds { Truth::Yes } else { Truth::No }
 }

@@ -1,3 +1,4 @@
 pub mod CodeLemmas
 pub mod LaneLemmas
 pub mod ShapeLemmas
+pub mod SpanLemmas

@@ -1,6 +1,7 @@
 ghost use Rattle.std.specs.Prelude.{◌≡◌, ◌+◌, ◌<◌, ◌≤◌, length, map, suc};
 ghost use Rattle.std.specs.List.{range_with_len};
 ghost use Rattle.bw_model.specs.Variable.{first_variable, variables_of};
+ghost use Rattle.bw_segment.specs.Blocks.{block_start};
 
 use bw_model::{Fault, Schema};
 use std::alloc::Global;
@@ -12,7 +13,10 @@ pub struct Shape {
     pub schema: Schema,
     /// The first variable of each column, and behind them the number of variables.
     pub firsts: Vec<u32>,
+    /// The first byte of each column's block in a segment kept as byte slices, and behind them the number of bytes.
+    pub blocks: Vec<u32>,
     pub ghost found: { firsts.items ≡ map (first_variable schema.columns.items) (range_with_len 0 (length schema.columns.items + 1)) },
+    pub ghost placed: { blocks.items ≡ map (block_start schema.columns.items) (range_with_len 0 (length schema.columns.items + 1)) },
 }
 
 impl Shape {
@@ -29,13 +33,23 @@ impl Shape {
     {
         let schema = schema.copy(alloc)?;
         let mut firsts = Vec::with_capacity(alloc, schema.columns.len() + 1)?;
+        let mut blocks = Vec::with_capacity(alloc, schema.columns.len() + 1)?;
         let mut next = 0;
+        let mut end = 0;
         for col in 0..schema.columns.len() {
             firsts.push(next)?;
-            next += u32::from(schema.columns[col].nullable) + schema.width(col);
+            blocks.push(end)?;
+            let nulls = u32::from(schema.columns[col].nullable);
+            next += nulls + schema.width(col);
+            end += 64 * nulls + 512 * schema.slices(col) as u32;
         }
         firsts.push(next)?;
-        Ok(Shape { schema, firsts })
+        blocks.push(end)?;
+        Ok(Shape {
+            schema,
+            firsts,
+            blocks,
+        })
     }
 
     /// The first variable of a column: its null variable, if it has one, or else its top bit. For the number of
@@ -45,5 +59,29 @@ impl Shape {
         ensures { result ≡ first_variable self.now.schema.columns.items col }
     {
         self.firsts[col]
+    }
+
+    /// The first byte of a column's block in a segment kept as byte slices: its null plane, if it is nullable, in
+    /// 64 bytes, and then its slices from the most significant down, 512 bytes a slice. For the number of
+    /// columns, it is the number of bytes.
+    pub fn block_start(&self, col: usize) -> u32
+        requires { col ≤ length self.now.schema.columns.items }
+        ensures { result ≡ block_start self.now.schema.columns.items col }
+    {
+        self.blocks[col]
+    }
+
+    /// The column of a variable.
+    pub fn column_of(&self, var: u32) -> usize
+        requires { var < variables_of self.now.schema.columns.items }
+        ensures column { result < length self.now.schema.columns.items }
+        ensures from { first_variable self.now.schema.columns.items result ≤ var }
+        ensures to { var < first_variable self.now.schema.columns.items (result + 1) }
+    {
+        let mut col = 0;
+        while self.first_variable(col + 1) <= var {
+            col += 1;
+        }
+        col
     }
 }

@@ -6,7 +6,7 @@ use Rattle.bw_model.specs.declared.cond.Truth.{Truth}
 use Rattle.bw_model.specs.declared.keyword.Keyword.TheVariants as word
 use Rattle.bw_model.specs.declared.query.Item.{Item}
 use Rattle.bw_model.specs.declared.schema.Schema.{Schema}
-use Rattle.bw_model.specs.Number.{decimal, number_of}
+use Rattle.bw_model.specs.Number.{digits_value, number_of}
 use Rattle.bw_sql.specs.declared.reader.Refusal.TheVariants.{UnknownTable, UnknownColumn, Literal}
 use Rattle.bw_sql.specs.declared.token.Mark.TheVariants as mark
 use Rattle.bw_model.specs.Text.{same_text}
@@ -33,8 +33,8 @@ some_or_none false x y e = cc
 -- the number of digits that fit is the one that they spell
 pub fitting : (is_negative : Bool) (digits : List ℕ) (n : ℤ) → number_of is_negative digits ≡ Some n → n ≡ signed is_negative digits
 unfolding number_of
-fitting true digits n e = some_or_none (nat_le (decimal digits) (2 ^ 63)) (signed true digits) n e
-fitting false digits n e = some_or_none (nat_lt (decimal digits) (2 ^ 63)) (signed false digits) n e
+fitting true digits n e = some_or_none (nat_le (digits_value digits) (2 ^ 63)) (signed true digits) n e
+fitting false digits n e = some_or_none (nat_lt (digits_value digits) (2 ^ 63)) (signed false digits) n e
 
 too_deep : (depth : ℕ) → 0 + depth ≡ deepest_nesting → nat_le (suc depth) deepest_nesting ≡ false
 too_deep depth e = grind (arith, nat_tests)

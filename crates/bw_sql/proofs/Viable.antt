@@ -14,7 +14,7 @@ use Rattle.bw_model.specs.declared.keyword.Keyword.TheVariants as word
 use Rattle.bw_model.specs.declared.query.Item.{Item}
 use Rattle.bw_model.specs.declared.query.Item.TheVariants.{Plain, CountAll, Count, Sum, Min, Max}
 use Rattle.bw_model.specs.declared.schema.Schema.{Schema}
-use Rattle.bw_model.specs.Number.{decimal, number_of}
+use Rattle.bw_model.specs.Number.{digits_value, number_of}
 use Rattle.bw_model.specs.Text.{same_text}
 use Rattle.bw_sql.specs.declared.token.Mark.TheVariants as mark
 use Rattle.bw_sql.specs.Asked.{Asked}
@@ -271,7 +271,7 @@ unfolding is_met
 table_met schema = same_as_itself schema.name
 
 zero_fits : (schema : Schema) (is_negative : Bool) → is_met schema (Fits is_negative (48 ∷ [])) ≡ true
-unfolding is_met number_of decimal
+unfolding is_met number_of digits_value
 zero_fits schema true = refl
 zero_fits schema false = refl
 

@@ -5,7 +5,7 @@ use Rattle.bw_model.specs.declared.query.Item.{Item}
 use Rattle.bw_model.specs.declared.query.Item.TheVariants.{Plain}
 use Rattle.bw_model.specs.declared.schema.Schema.{Schema}
 use Rattle.bw_model.specs.Column.{column_named}
-use Rattle.bw_model.specs.Number.{decimal, number_of}
+use Rattle.bw_model.specs.Number.{digits_value, number_of}
 use Rattle.bw_model.specs.Text.{same_text}
 use Rattle.bw_sql.specs.declared.reader.Refusal.{Refusal}
 use Rattle.bw_sql.specs.declared.reader.Refusal.TheVariants.{UnknownTable, UnknownColumn, Literal, MixedItems, Nesting}
@@ -55,5 +55,5 @@ column_number schema text = column_or_first (column_named schema.columns.items t
 
 -- the number that a sign and digits spell
 abbrev pub signed : Bool → List ℕ → ℤ
-signed true digits = pos 0 -ℤ pos (decimal digits)
-signed false digits = pos (decimal digits)
+signed true digits = pos 0 -ℤ pos (digits_value digits)
+signed false digits = pos (digits_value digits)

@@ -1,7 +1,6 @@
-use Rattle.std.proofs.Common.{eqb, arith, w8}
-use Rattle.std.proofs.lemmas.Simd.{bitmask_splat}
-use Rattle.bw_lanes.proofs.BitLemmas.{bits_of_flagged}
+use Rattle.std.proofs.Common.{rules}
+use Rattle.bw_lanes.proofs.ByteLemmas.{equal_splat}
 use Rattle.bw_lanes.proofs.bytes.eq.Goals as goal
 
 pub returns : goal.returns
-returns c = bits_of_flagged (λ byte. eqb byte c.args.c) c.args.bytes _ c.fits-bytes.0 (bitmask_splat w8 eqb c.args.bytes 64 c.args.c c.fits-bytes.0 (omega arith))
+returns c = search (rules, equal_splat)

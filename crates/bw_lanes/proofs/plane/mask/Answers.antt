@@ -1,5 +1,6 @@
+use Rattle.std.proofs.Common.{rules}
 use Rattle.bw_lanes.proofs.MaskLemmas.{lanes_of_mask}
 use Rattle.bw_lanes.proofs.plane.mask.Goals as goal
 
 pub returns : goal.returns
-returns c = lanes_of_mask c.first_ones.result c.args.rows c.requires (rw c.rows_left.ensures at c.first_ones.ensures)
+returns c = search (rules, lanes_of_mask)

@@ -1,12 +1,12 @@
 -- Each turn takes one more digit; where that is too much, so is the whole.
 use Rattle.std.proofs.Common.{◌-◌, get_or, arith, refl, ap, ◌∙◌}
 use Rattle.std.proofs.lemmas.List.{take_all}
-use Rattle.bw_model.specs.Number.{decimal}
+use Rattle.bw_model.specs.Number.{digits_value}
 use Rattle.bw_model.proofs.Numbers.{decimal_more, too_much, enough}
 use Rattle.bw_model.proofs.number.number_of_digits.Goals as goal
 
 pub loop-digit-init : goal.loop-digit-init
-unfolding decimal
+unfolding digits_value
 loop-digit-init c = record { spelled = refl; fits = omega arith }
 
 pub returns-in_default : goal.returns-in_default
@@ -29,4 +29,4 @@ loop-digit-preserved c = record {
 pub returns : goal.returns
 returns c =
     let all = take_all c.loop-digit.digit-index c.args.digits.now c.loop-digit-test.false in
-    rw (c.loop-digit.invariant.spelled, all) (enough (decimal c.args.digits.now) (omega (arith, c.loop-digit.invariant.fits, c.loop-digit.invariant.spelled ∙ ap decimal all)))
+    rw (c.loop-digit.invariant.spelled, all) (enough (digits_value c.args.digits.now) (omega (arith, c.loop-digit.invariant.fits, c.loop-digit.invariant.spelled ∙ ap digits_value all)))

@@ -34,7 +34,7 @@ loop-lane-preserved c =
     let few = few_rows c.args.schema.now c.args.rows.now c.requires.group in
     let there : c.args.col < length (values_of row) =
     omega (arith, length_admitted columns (values_of row) (admitted_at columns c.args.rows.now c.loop-lane.lane row c.requires.group.admitted (omega arith) c.index-rows-lane.is)) in
-    let value = value_read (values_of row) c.args.col c.index.result.now there c.index.ensures in
+    let value : c.index.result.now ≡ value_in (values_of row) c.args.col = value_read (values_of row) c.args.col c.index.result.now there c.index.ensures in
     let null = ap bool_byte (negated c.is_none.result (is_some c.index.result.now) (sym c.is_none.ensures) ∙ ap (λ v. not (is_some v)) value) ∙ as_number (value_in (values_of row) c.args.col) in
     filled_more is_one c.args.rows.now c.loop-lane.nulls c.loop-lane.lane (bool_byte c.is_none.result) row (omega arith) few c.index-rows-lane.is null c.loop-lane.invariant
 

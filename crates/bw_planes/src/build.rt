@@ -1,0 +1,113 @@
+//! Planes built from rows, column by column, from the bytes of the codes.
+ghost use Rattle.std.specs.Prelude.{◌≡◌, ◌+◌, ◌-◌, ◌<◌, ℕ, true, length, IfOk, OnOk, IsOkUnless};
+ghost use Rattle.bw_lanes.specs.Lanes.{lanes_of_words};
+ghost use Rattle.bw_model.specs.Code.{width_at};
+ghost use Rattle.bw_model.specs.Fault.{no_memory};
+ghost use Rattle.bw_model.specs.Variable.{variables_of, first_variable, is_nullable};
+ghost use Rattle.bw_segment.specs.Meaning.{Meaning, meaning_of, IsGroup, variable_lanes};
+ghost use Rattle.bw_planes.specs.Planes.{ArePlanes};
+
+use crate::segment::PlaneSegment;
+use bw_lanes::{Plane, bytes_bit, to_bytes};
+use bw_model::{Fault, Row, Schema};
+use bw_segment::{Segment, Shape, codes_of, nulls_of, slices_of};
+use std::alloc::Global;
+use std::rc::Rc;
+
+impl PlaneSegment {
+    ghost use Rattle.std.specs.Prelude.{◌≡◌, IfOk, IsOkUnless};
+    ghost use Rattle.bw_model.specs.Fault.{no_memory};
+    ghost use Rattle.bw_segment.specs.Meaning.{meaning_of, IsGroup};
+
+    /// A segment that means these rows, 1 to 512, which the schema admits. It keeps a copy of the schema.
+    pub fn build(alloc: Global, schema: &Schema, rows: &[Row]) -> Result<Self, Fault>
+        requires { IsGroup (meaning_of schema.now rows.now) }
+        ensures means { IfOk result (λ segment. ⟦<PlaneSegment as Segment>⟧.meaning segment ≡ meaning_of schema.now rows.now) }
+        ensures only_memory { IsOkUnless result no_memory }
+    {
+        let shape = Rc::new(alloc, Shape::new(alloc, schema)?)?;
+        PlaneSegment::build_shared(alloc, &shape, rows)
+    }
+
+    /// The same for a table whose segments share its shape.
+    pub fn build_shared(alloc: Global, shape: &Rc<Shape>, rows: &[Row]) -> Result<Self, Fault>
+        requires { IsGroup (meaning_of shape.now.value.schema rows.now) }
+        ensures means { IfOk result (λ segment.
+            ⟦<PlaneSegment as Segment>⟧.meaning segment ≡ meaning_of shape.now.value.schema rows.now) }
+        ensures only_memory { IsOkUnless result no_memory }
+    {
+        let shared: &Shape = shape;
+        let bytes = planes_of(alloc, shared, rows)?;
+        let shape = shape.clone()?;
+        Ok(PlaneSegment {
+            shape,
+            rows: rows.len() as u32,
+            bytes,
+        })
+    }
+}
+
+/// The planes of rows, in the order of the variables.
+fn planes_of(alloc: Global, shape: &Shape, rows: &[Row]) -> Result<Vec<u8>, Fault>
+    requires { IsGroup (meaning_of shape.now.schema rows.now) }
+    ensures planes { IfOk result (λ bytes. ArePlanes (meaning_of shape.now.schema rows.now)
+        (variables_of shape.now.schema.columns.items) bytes.items) }
+    ensures only_memory { IsOkUnless result no_memory }
+{
+    let count = shape.schema.columns.len();
+    let mut bytes = Vec::with_capacity(alloc, 64 * shape.first_variable(count) as usize)?;
+    for col in 0..count {
+        if shape.schema.columns[col].nullable {
+            push_nulls(&mut bytes, shape, rows, col)?;
+        }
+        push_codes(&mut bytes, shape, rows, col)?;
+    }
+    Ok(bytes)
+}
+
+/// Adds the null plane of a column, whose planes come next.
+fn push_nulls(bytes: &mut Vec<u8>, shape: &Shape, rows: &[Row], col: usize) -> Result<(), Fault>
+    requires group { IsGroup (meaning_of shape.now.schema rows.now) }
+    requires column { col < length shape.now.schema.columns.items }
+    requires nullable { is_nullable shape.now.schema.columns.items col ≡ true }
+    requires before { ArePlanes (meaning_of shape.now.schema rows.now) (first_variable shape.now.schema.columns.items col) bytes.old.items }
+    ensures added { OnOk result (ArePlanes (meaning_of shape.now.schema rows.now)
+        (first_variable shape.now.schema.columns.items col + 1) bytes.new.items) }
+    ensures only_memory { IsOkUnless result no_memory }
+{
+    push(bytes, &bytes_bit(&nulls_of(&shape.schema, rows, col), 0))?;
+    Ok(())
+}
+
+/// Adds the planes of a column's codes, from the top bit down, which come next.
+fn push_codes(bytes: &mut Vec<u8>, shape: &Shape, rows: &[Row], col: usize) -> Result<(), Fault>
+    requires group { IsGroup (meaning_of shape.now.schema rows.now) }
+    requires column { col < length shape.now.schema.columns.items }
+    requires before { ArePlanes (meaning_of shape.now.schema rows.now)
+        (first_variable shape.now.schema.columns.items (col + 1) - width_at shape.now.schema.columns.items col) bytes.old.items }
+    ensures added { OnOk result (ArePlanes (meaning_of shape.now.schema rows.now)
+        (first_variable shape.now.schema.columns.items (col + 1)) bytes.new.items) }
+    ensures only_memory { IsOkUnless result no_memory }
+{
+    let width = shape.schema.width(col);
+    let slices = slices_of(
+        &codes_of(&shape.schema, rows, col),
+        shape.schema.slices(col),
+    );
+    for place in 0..width {
+        let bit = width - 1 - place;
+        push(bytes, &bytes_bit(&slices[bit as usize / 8], bit % 8))?;
+    }
+    Ok(())
+}
+
+/// Adds the bytes of a plane.
+fn push(bytes: &mut Vec<u8>, plane: &Plane) -> Result<(), Fault>
+    ensures added { OnOk result ((meaning : Meaning) (count : ℕ) → ArePlanes meaning count bytes.old.items
+        → lanes_of_words plane.now ≡ variable_lanes meaning count → ArePlanes meaning (count + 1) bytes.new.items) }
+    ensures only_memory { IsOkUnless result no_memory }
+{
+    let added = to_bytes(plane);
+    bytes.extend_from_slice(&added)?;
+    Ok(())
+}

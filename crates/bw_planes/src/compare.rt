@@ -1,0 +1,84 @@
+//! Comparisons of the numbers that planes spell with a constant, by two masks from the top plane down, after
+//! BitWeaving: the lanes that are below it, and those that are equal to it so far. Once none is equal, the
+//! planes that remain change nothing.
+ghost use Rattle.std.specs.Prelude.{◌≡◌, ◌==◌, ◌&&◌, ◌||◌, if◌then◌else◌, ◌+◌, ◌*◌, ◌^◌, ◌<◌, ◌≤◌, List, length, map, nat_lt, not};
+ghost use lib.Lanes.{zip2};
+ghost use Rattle.bw_lanes.specs.Lanes.{lanes_of_words};
+ghost use Rattle.bw_model.specs.Variable.{Assignment, spelled};
+ghost use Rattle.bw_planes.specs.Planes.{ArePlanesOf};
+
+use bw_lanes::{Plane, and, is_zero, load, not, or};
+
+/// The plane of ones.
+const ONES: Plane = [u64::MAX; 8];
+
+/// The lanes whose number, which so many planes spell from the top plane on, is below c.
+pub(crate) fn lt(bytes: &[u8], first: usize, count: u32, c: u8) -> Plane
+    requires planes { 64 * (first + count) ≤ length bytes.now }
+    requires byte { count ≤ 8 }
+    ensures { (lanes : List Assignment) → length lanes ≡ 512 → ArePlanesOf bytes.now first count lanes
+        → lanes_of_words result ≡ map (λ bits. nat_lt (spelled bits first count) c) lanes }
+{
+    if c as u32 >> count != 0 {
+        return ONES;
+    }
+    let mut below = [0; 8];
+    let mut equal = ONES;
+    for place in 0..count {
+        if is_zero(&equal) {
+            return below;
+        }
+        let plane = load(&bytes[64 * (first + place as usize)..]);
+        let one = c >> (count - 1 - place) & 1 == 1;
+        below = widened(&below, &equal, &plane, one);
+        equal = narrowed(&equal, &plane, one);
+    }
+    below
+}
+
+/// The lanes whose number, which so many planes spell from the top plane on, is c.
+pub(crate) fn eq(bytes: &[u8], first: usize, count: u32, c: u8) -> Plane
+    requires planes { 64 * (first + count) ≤ length bytes.now }
+    requires byte { count ≤ 8 }
+    ensures { (lanes : List Assignment) → length lanes ≡ 512 → ArePlanesOf bytes.now first count lanes
+        → lanes_of_words result ≡ map (λ bits. spelled bits first count == c) lanes }
+{
+    if c as u32 >> count != 0 {
+        return [0; 8];
+    }
+    let mut equal = ONES;
+    for place in 0..count {
+        if is_zero(&equal) {
+            return equal;
+        }
+        let plane = load(&bytes[64 * (first + place as usize)..]);
+        let one = c >> (count - 1 - place) & 1 == 1;
+        equal = narrowed(&equal, &plane, one);
+    }
+    equal
+}
+
+/// The lanes that were below so far, and those that were equal and have a 0 where the constant has a 1.
+#[tactic(auto, using(crate::proofs::CompareLemmas::zip2_map_right))]
+fn widened(below: &Plane, equal: &Plane, plane: &Plane, one: bool) -> Plane
+    ensures { lanes_of_words result ≡ (if one then zip2 (λ b n. b || n) (lanes_of_words below.now)
+        (zip2 (λ e p. e && not p) (lanes_of_words equal.now) (lanes_of_words plane.now)) else lanes_of_words below.now) }
+{
+    if one {
+        or(below, &and(equal, &not(plane)))
+    } else {
+        *below
+    }
+}
+
+/// The lanes that were equal so far and have this bit in a plane.
+#[tactic(auto, using(crate::proofs::CompareLemmas::zip2_map_right))]
+fn narrowed(equal: &Plane, plane: &Plane, one: bool) -> Plane
+    ensures { lanes_of_words result ≡ zip2 (λ e p. e && (if one then p else not p)) (lanes_of_words equal.now) (lanes_of_words plane.now) }
+{
+    if one {
+        and(equal, plane)
+    } else {
+        and(equal, &not(plane))
+    }
+}

@@ -1,0 +1,15 @@
+//! Segments kept as bit planes, after BitWeaving's vertical layout (Li and Patel): for each column its null
+//! plane, if it is nullable, and then a plane for each bit of its codes, from the top bit down.
+//!
+//! The contract that the crates above use: [`PlaneSegment::build`] gives a segment that means the rows given,
+//! and it answers as [`bw_segment::Segment`] says.
+//!
+//! Read `specs/Planes.antt` first, and then `segment.rt` and `build.rt`.
+#![tactic(auto)]
+
+mod build;
+mod compare;
+mod read;
+mod segment;
+
+pub use segment::PlaneSegment;
