@@ -1,0 +1,73 @@
+//! Programs and what they select.
+use crate::segments::{SCHEMA, assert_group, rows_of};
+use bw_lanes::{Plane, count};
+use bw_model::{Schema, Value};
+use bw_planes::PlaneSegment;
+use bw_program::Program;
+use bw_run::{Counts, run_segment};
+use std::alloc::Global;
+use std::process::Abort;
+use std::test::Fail;
+
+/// Runs a program over rows in planes.
+fn run(
+    rt: &impl Abort,
+    alloc: Global,
+    table: &[[Value; 2]],
+    text: &str,
+) -> Result<(Plane, Counts), Fail> {
+    let schema = Schema::parse(alloc, SCHEMA.as_bytes())?;
+    let program = Program::parse(alloc, &schema, text.as_bytes())?;
+    let rows = rows_of(alloc, table)?;
+    assert_group(rt, &schema, &rows);
+    let segment = PlaneSegment::build(alloc, &schema, &rows)?;
+    Ok(run_segment(&program, &segment))
+}
+
+#[test]
+fn programs_select_rows(rt: HostRuntime) -> Result<(), Fail> {
+    let five = [Some(5), None];
+    let two_hundred = [Some(200), None];
+    let first_bit = "LOAD r0 a 7\nSKIP r0 3\nFILL r0 1\nRESULT r0\n";
+    // rows, program, the first word of the plane, how many rows, loads and skips
+    for (name, rows, text, word, ones, loads, skips) in [
+        ("every lane but one", [five].as_slice(), "NOT r0 r0\nRESULT r0\n", 1, 1, 0, 0),
+        ("a skip that is taken", [five].as_slice(), "SKIP r5 2\nLOAD r0 a 7\nRESULT r0\n", 0, 0, 0, 1),
+        ("one row keeps the run going for all", [five, two_hundred].as_slice(), first_bit, 3, 2, 1, 0),
+        ("the top bit nowhere", [five].as_slice(), first_bit, 0, 0, 1, 1),
+        ("the top bit in the only row", [two_hundred].as_slice(), first_bit, 1, 1, 1, 0),
+        ("a byte below eight", [five, two_hundred].as_slice(), "BYTELT r0 a 0 8\nRESULT r0\n", 1, 1, 1, 0),
+        ("a byte that is 200", [five, two_hundred].as_slice(), "BYTEEQ r0 a 0 200\nRESULT r0\n", 2, 1, 1, 0),
+        ("nulls", [five, [Some(1), Some(0)]].as_slice(), "NULLS r0 b\nRESULT r0\n", 1, 1, 1, 0),
+    ] {
+        let (plane, counts) = run(&rt, rt.alloc(), rows, text)?;
+        assert_eq!(rt; plane[0], word, "{name}");
+        assert_eq!(rt; count(&plane), ones, "{name}");
+        assert_eq!(rt; counts.loads, loads, "{name}");
+        assert_eq!(rt; counts.skips, skips, "{name}");
+    }
+    Ok(())
+}
+
+/// `a >= 192`: the top two bits of a.
+const FROM_192: &str = "LOAD r0 a 7\nSKIP r0 4\nLOAD r1 a 6\nAND r0 r0 r1\nRESULT r0\n";
+
+#[test]
+fn whole_segments_stop_early(rt: HostRuntime) -> Result<(), Fail> {
+    let low = [[Some(5), Some(0)]; 512];
+    let (plane, counts) = run(&rt, rt.alloc(), &low, FROM_192)?;
+    assert_eq!(rt; count(&plane), 0);
+    assert_eq!(rt; counts.loads, 1);
+    assert_eq!(rt; counts.skips, 1);
+    let mut mixed = [[Some(5), Some(0)]; 512];
+    for (i, row) in mixed.iter_mut().enumerate() {
+        if i % 2 == 1 {
+            *row = [Some(200), Some(0)];
+        }
+    }
+    let (plane, counts) = run(&rt, rt.alloc(), &mixed, FROM_192)?;
+    assert_eq!(rt; count(&plane), 256);
+    assert_eq!(rt; counts.loads, 2);
+    assert_eq!(rt; counts.skips, 0);
+    Ok(())
+}
