@@ -5,11 +5,12 @@ use bw_model::{Schema, Value};
 use bw_planes::PlaneSegment;
 use bw_program::Program;
 use bw_run::{Counts, run_segment};
+use bw_slices::SliceSegment;
 use std::alloc::Global;
 use std::process::Abort;
 use std::test::Fail;
 
-/// Runs a program over rows in planes.
+/// Runs a program over rows in planes and in slices, which gives one answer.
 fn run(
     rt: &impl Abort,
     alloc: Global,
@@ -20,8 +21,14 @@ fn run(
     let program = Program::parse(alloc, &schema, text.as_bytes())?;
     let rows = rows_of(alloc, table)?;
     assert_group(rt, &schema, &rows);
-    let segment = PlaneSegment::build(alloc, &schema, &rows)?;
-    Ok(run_segment(&program, &segment))
+    let planes = PlaneSegment::build(alloc, &schema, &rows)?;
+    let (plane, counts) = run_segment(&program, &planes);
+    let slices = SliceSegment::build(alloc, &schema, &rows)?;
+    let (other, others) = run_segment(&program, &slices);
+    assert!(rt; plane == other, "{text}");
+    assert_eq!(rt; counts.loads, others.loads, "{text}");
+    assert_eq!(rt; counts.skips, others.skips, "{text}");
+    Ok((plane, counts))
 }
 
 #[test]
@@ -31,14 +38,78 @@ fn programs_select_rows(rt: HostRuntime) -> Result<(), Fail> {
     let first_bit = "LOAD r0 a 7\nSKIP r0 3\nFILL r0 1\nRESULT r0\n";
     // rows, program, the first word of the plane, how many rows, loads and skips
     for (name, rows, text, word, ones, loads, skips) in [
-        ("every lane but one", [five].as_slice(), "NOT r0 r0\nRESULT r0\n", 1, 1, 0, 0),
-        ("a skip that is taken", [five].as_slice(), "SKIP r5 2\nLOAD r0 a 7\nRESULT r0\n", 0, 0, 0, 1),
-        ("one row keeps the run going for all", [five, two_hundred].as_slice(), first_bit, 3, 2, 1, 0),
-        ("the top bit nowhere", [five].as_slice(), first_bit, 0, 0, 1, 1),
-        ("the top bit in the only row", [two_hundred].as_slice(), first_bit, 1, 1, 1, 0),
-        ("a byte below eight", [five, two_hundred].as_slice(), "BYTELT r0 a 0 8\nRESULT r0\n", 1, 1, 1, 0),
-        ("a byte that is 200", [five, two_hundred].as_slice(), "BYTEEQ r0 a 0 200\nRESULT r0\n", 2, 1, 1, 0),
-        ("nulls", [five, [Some(1), Some(0)]].as_slice(), "NULLS r0 b\nRESULT r0\n", 1, 1, 1, 0),
+        (
+            "every lane but one",
+            [five].as_slice(),
+            "NOT r0 r0\nRESULT r0\n",
+            1,
+            1,
+            0,
+            0,
+        ),
+        (
+            "a skip that is taken",
+            [five].as_slice(),
+            "SKIP r5 2\nLOAD r0 a 7\nRESULT r0\n",
+            0,
+            0,
+            0,
+            1,
+        ),
+        (
+            "one row keeps the run going for all",
+            [five, two_hundred].as_slice(),
+            first_bit,
+            3,
+            2,
+            1,
+            0,
+        ),
+        (
+            "the top bit nowhere",
+            [five].as_slice(),
+            first_bit,
+            0,
+            0,
+            1,
+            1,
+        ),
+        (
+            "the top bit in the only row",
+            [two_hundred].as_slice(),
+            first_bit,
+            1,
+            1,
+            1,
+            0,
+        ),
+        (
+            "a byte below eight",
+            [five, two_hundred].as_slice(),
+            "BYTELT r0 a 0 8\nRESULT r0\n",
+            1,
+            1,
+            1,
+            0,
+        ),
+        (
+            "a byte that is 200",
+            [five, two_hundred].as_slice(),
+            "BYTEEQ r0 a 0 200\nRESULT r0\n",
+            2,
+            1,
+            1,
+            0,
+        ),
+        (
+            "nulls",
+            [five, [Some(1), Some(0)]].as_slice(),
+            "NULLS r0 b\nRESULT r0\n",
+            1,
+            1,
+            1,
+            0,
+        ),
     ] {
         let (plane, counts) = run(&rt, rt.alloc(), rows, text)?;
         assert_eq!(rt; plane[0], word, "{name}");

@@ -11,5 +11,7 @@ mod build;
 mod compare;
 mod read;
 mod segment;
+#[cfg(test)]
+mod tests;
 
 pub use segment::PlaneSegment;

@@ -1,4 +1,5 @@
-pub mod ProgramLemmas
-pub mod TextLemmas
 pub mod InstrSpelling
+pub mod PrintLemmas
+pub mod ProgramLemmas
 pub mod ProgramSpelling
+pub mod TextLemmas

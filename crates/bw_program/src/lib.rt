@@ -12,7 +12,10 @@ mod instr;
 mod line;
 mod opcode;
 mod parse;
+mod print;
 mod program;
+#[cfg(test)]
+mod tests;
 
 pub use instr::Instr;
 pub use opcode::Opcode;

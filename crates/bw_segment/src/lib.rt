@@ -9,11 +9,13 @@
 #![tactic(auto)]
 
 mod codes;
+mod group;
 mod lanes;
 mod segment;
 mod shape;
 
 pub use codes::{bytes_of, codes_of, nulls_of, slices_of};
+pub use group::is_group;
 pub use lanes::lanes_hold_codes;
 pub use segment::Segment;
 pub use shape::Shape;

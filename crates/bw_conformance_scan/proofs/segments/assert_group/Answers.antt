@@ -19,5 +19,5 @@ returns g c =
       some = omega arith;
       few = omega arith;
       admitted = list_all-map (admits_values columns) values_of rows
-        ∙ sym (ap (list_all (λ (row : Row). admits_values columns (values_of row))) all) ∙ c.loop-row.invariant;
+          ∙ sym (ap (list_all (λ (row : Row). admits_values columns (values_of row))) all) ∙ c.loop-row.invariant;
     }

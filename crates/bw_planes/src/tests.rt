@@ -1,0 +1,85 @@
+//! The planes of a worked table, and what is read of them.
+use crate::PlaneSegment;
+use bw_lanes::count;
+use bw_model::{Fault, Row, Schema, Value};
+use bw_segment::{Segment, is_group};
+use std::alloc::Global;
+use std::test::Fail;
+
+/// A column of 8 bits that takes no null, and one of 5 bits that does.
+const SCHEMA: &[u8] = b"TABLE t\nCOLUMN a 0 255 NOT NULL\nCOLUMN b -10 10\n";
+
+const TABLE: [[Value; 2]; 5] = [
+    [Some(0), Some(-10)],
+    [Some(255), Some(10)],
+    [Some(7), None],
+    [Some(7), None],
+    [Some(8), Some(0)],
+];
+
+fn rows_of(alloc: Global) -> Result<Vec<Row>, Fault> {
+    let mut rows = Vec::new(alloc);
+    for [a, b] in &TABLE {
+        rows.push(Row {
+            values: vec![in alloc; *a, *b]?,
+        })?;
+    }
+    Ok(rows)
+}
+
+/// The first byte of each plane.
+const FIRST_BYTES: [u8; 14] = [
+    0x02, 0x02, 0x02, 0x02, 0x12, 0x0E, 0x0E, 0x0E, 0x0C, 0x02, 0x10, 0x02, 0x10, 0x00,
+];
+
+#[test]
+fn planes_stand_in_order(rt: HostRuntime) -> Result<(), Fail> {
+    let schema = Schema::parse(rt.alloc(), SCHEMA)?;
+    let rows = rows_of(rt.alloc())?;
+    assert!(rt; is_group(&schema, &rows));
+    let segment = PlaneSegment::build(rt.alloc(), &schema, &rows)?;
+    assert_eq!(rt; segment.bytes.len(), 64 * 14);
+    for (plane, first) in segment.bytes.chunks(64).zip(&FIRST_BYTES) {
+        assert_eq!(rt; plane.first().copied(), Some(*first));
+        assert!(rt; plane[1..].iter().all(|byte| *byte == 0));
+    }
+    Ok(())
+}
+
+/// How many rows have a 1 at a variable; none where there is no such variable.
+fn ones(segment: &impl Segment, var: u32) -> Option<u32> {
+    if var < segment.schema().var_count() {
+        Some(count(&segment.plane(var)))
+    } else {
+        None
+    }
+}
+
+/// How many rows, those past the last one too, have a byte below c, and how many have c.
+fn compared(segment: &impl Segment, col: usize, slice: usize, c: u8) -> Option<(u32, u32)> {
+    let schema = segment.schema();
+    if col < schema.columns.len() && slice < schema.slices(col) {
+        let below = count(&segment.byte_lt(col, slice, c));
+        Some((below, count(&segment.byte_eq(col, slice, c))))
+    } else {
+        None
+    }
+}
+
+#[test]
+fn segment_answers(rt: HostRuntime) -> Result<(), Fail> {
+    let schema = Schema::parse(rt.alloc(), SCHEMA)?;
+    let rows = rows_of(rt.alloc())?;
+    assert!(rt; is_group(&schema, &rows));
+    let segment = PlaneSegment::build(rt.alloc(), &schema, &rows)?;
+    assert_eq!(rt; segment.rows_in(), 5);
+    assert_eq!(rt; segment.schema().columns.len(), 2);
+    assert_eq!(rt; segment.value(0, 4), Some(8));
+    assert_eq!(rt; segment.value(1, 0), Some(-10));
+    assert_eq!(rt; segment.value(1, 3), None);
+    assert_eq!(rt; ones(&segment, 8), Some(2));
+    assert_eq!(rt; compared(&segment, 0, 0, 8), Some((510, 1)));
+    assert_eq!(rt; compared(&segment, 0, 0, 7), Some((508, 2)));
+    assert_eq!(rt; compared(&segment, 1, 0, 200), Some((512, 0)));
+    Ok(())
+}

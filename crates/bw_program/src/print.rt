@@ -1,0 +1,178 @@
+//! Program texts, written in their canonical form.
+ghost use Rattle.std.specs.Prelude.{◌≡◌, ◌++◌, ◌∷◌, ◌<◌, ℕ, [], List, IfOk, OnOk, IsOkUnless, IsTrue, length};
+ghost use Rattle.std.specs.Fmt.{decimal};
+ghost use Rattle.std.specs.List.{list_all};
+ghost use Rattle.bw_model.specs.declared.column.Column.{Column};
+ghost use Rattle.bw_model.specs.Fault.{no_memory};
+ghost use Rattle.bw_program.specs.Opcode.{opcode_spelling};
+ghost use Rattle.bw_program.specs.Operand.{operand_text, operands_text, operand_fits};
+ghost use Rattle.bw_program.specs.PrintText.{print_text, instr_words, result_words, line_text};
+ghost use Rattle.bw_program.specs.Program.{fits, instr_fits};
+
+use crate::instr::Instr;
+use crate::opcode::Opcode;
+use crate::program::Program;
+use bw_model::{Fault, Schema};
+use std::alloc::{AllocError, Global};
+
+impl Program {
+    /// The program's canonical text under a schema that has all that it names: capital keywords, single
+    /// blanks, names in the schema's spelling, numbers without leading zeros, and one line feed after each
+    /// line, of which the last is that of the result. Refused is want of memory alone (801).
+    pub fn print(&self, alloc: Global, schema: &Schema) -> Result<Vec<u8>, Fault>
+        requires { IsTrue (fits schema.now.columns.items self.now) }
+        ensures text { IfOk result
+            (λ text. text.items ≡ print_text schema.now.columns.items self.now) }
+        ensures only_memory { IsOkUnless result no_memory }
+    {
+        let mut text = Vec::new(alloc);
+        for number in 0..self.len() {
+            put_instr(alloc, schema, self.instr(number), &mut text)?;
+        }
+        put_result(alloc, schema, self.result(), &mut text)?;
+        Ok(text)
+    }
+}
+
+/// What stands behind an opcode.
+#[derive(Clone, Copy, Debug)]
+pub(crate) enum Operand {
+    Register(u8),
+    Column(u8),
+    Number(u64),
+    Nothing,
+}
+
+/// Appends an instruction's line.
+fn put_instr(
+    alloc: Global,
+    schema: &Schema,
+    instr: Instr,
+    text: &mut Vec<u8>,
+) -> Result<(), AllocError>
+    requires { IsTrue (instr_fits schema.now.columns.items instr) }
+    ensures { OnOk result (text.new.items
+        ≡ text.old.items ++ line_text (instr_words schema.now.columns.items instr)) }
+{
+    let (opcode, operands) = parts_of(instr);
+    put_line(alloc, schema, opcode, &operands, text)
+}
+
+/// Appends the line of the result register.
+#[tactic(auto, unfolding(crate::specs::Operand::operands_text, crate::specs::PrintText::line_end))]
+fn put_result(
+    alloc: Global,
+    schema: &Schema,
+    register: u8,
+    text: &mut Vec<u8>,
+) -> Result<(), AllocError>
+    ensures { OnOk result (text.new.items ≡ text.old.items ++ line_text (result_words register)) }
+{
+    let operands = [Operand::Register(register)];
+    put_line(alloc, schema, Opcode::Result, &operands, text)
+}
+
+/// An instruction's opcode, and what stands behind it.
+#[tactic(auto, unfolding(crate::specs::Operand::operands_text, crate::specs::PrintText::line_end))]
+fn parts_of(instr: Instr) -> (Opcode, [Operand; 4])
+    ensures text { (columns : List Column)
+        → opcode_spelling result.0 ++ operands_text columns result.1 ≡ line_text (instr_words columns instr) }
+    ensures fits { (columns : List Column) → IsTrue (instr_fits columns instr)
+        → IsTrue (list_all (operand_fits columns) result.1) }
+{
+    use Operand::{Column, Nothing, Number, Register};
+    match instr {
+        Instr::Load(r, column, bit) => {
+            let bit = Number(bit as u64);
+            (Opcode::Load, [Register(r), Column(column), bit, Nothing])
+        }
+        Instr::Nulls(r, column) => {
+            (
+                Opcode::Nulls,
+                [Register(r), Column(column), Nothing, Nothing],
+            )
+        }
+        Instr::Fill(r, bit) => {
+            let bit = Number(bit as u64);
+            (Opcode::Fill, [Register(r), bit, Nothing, Nothing])
+        }
+        Instr::And(r, x, y) => (
+            Opcode::And,
+            [Register(r), Register(x), Register(y), Nothing],
+        ),
+        Instr::Or(r, x, y) => (Opcode::Or, [Register(r), Register(x), Register(y), Nothing]),
+        Instr::Xor(r, x, y) => (
+            Opcode::Xor,
+            [Register(r), Register(x), Register(y), Nothing],
+        ),
+        Instr::Not(r, x) => (Opcode::Not, [Register(r), Register(x), Nothing, Nothing]),
+        Instr::ByteLt(r, column, slice, k) => {
+            let (slice, k) = (Number(slice as u64), Number(k as u64));
+            (Opcode::ByteLt, [Register(r), Column(column), slice, k])
+        }
+        Instr::ByteEq(r, column, slice, k) => {
+            let (slice, k) = (Number(slice as u64), Number(k as u64));
+            (Opcode::ByteEq, [Register(r), Column(column), slice, k])
+        }
+        Instr::Skip(x, target) => {
+            let target = Number(target as u64);
+            (Opcode::Skip, [Register(x), target, Nothing, Nothing])
+        }
+    }
+}
+
+/// Appends a line.
+fn put_line(
+    alloc: Global,
+    schema: &Schema,
+    opcode: Opcode,
+    operands: &[Operand],
+    text: &mut Vec<u8>,
+) -> Result<(), AllocError>
+    requires { IsTrue (list_all (operand_fits schema.now.columns.items) operands.now) }
+    ensures { OnOk result (text.new.items ≡ text.old.items
+        ++ (opcode_spelling opcode ++ operands_text schema.now.columns.items operands.now)) }
+{
+    text.extend_from_slice(opcode.spelling())?;
+    for operand in operands {
+        put_operand(alloc, schema, *operand, text)?;
+    }
+    text.push(b'\n')?;
+    Ok(())
+}
+
+/// Appends a blank and an operand, if there is one.
+fn put_operand(
+    alloc: Global,
+    schema: &Schema,
+    operand: Operand,
+    text: &mut Vec<u8>,
+) -> Result<(), AllocError>
+    requires { IsTrue (operand_fits schema.now.columns.items operand) }
+    ensures { OnOk result (text.new.items
+        ≡ text.old.items ++ operand_text schema.now.columns.items operand) }
+{
+    match operand {
+        Operand::Register(register) => {
+            text.extend_from_slice(b" r")?;
+            put_number(alloc, register as u64, text)
+        }
+        Operand::Column(column) => {
+            text.push(b' ')?;
+            text.extend_from_slice(schema.columns[column as usize].name.as_bytes())
+        }
+        Operand::Number(number) => {
+            text.push(b' ')?;
+            put_number(alloc, number, text)
+        }
+        Operand::Nothing => Ok(()),
+    }
+}
+
+/// Appends a number's decimal digits.
+fn put_number(alloc: Global, number: u64, text: &mut Vec<u8>) -> Result<(), AllocError>
+    ensures { OnOk result (text.new.items ≡ text.old.items ++ decimal number) }
+{
+    let digits = number.to_string(alloc)?;
+    text.extend_from_slice(digits.as_bytes())
+}

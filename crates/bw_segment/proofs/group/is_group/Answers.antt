@@ -1,0 +1,31 @@
+use Rattle.std.proofs.Common.{◌≡◌, ◌∙◌, sym, ap, map, length, take_all, arith}
+use Rattle.std.specs.List.{list_all}
+use Rattle.std.proofs.lemmas.List.{length-map}
+use Rattle.std.proofs.lemmas.Bool.{true≢false}
+use Rattle.bw_model.specs.Column.{admits_values}
+use Rattle.bw_model.specs.Groups.{group_size}
+use Rattle.bw_model.specs.Row.{values_of}
+use Rattle.bw_segment.proofs.CodeLemmas.{admitted_at, few_rows}
+use Rattle.bw_segment.proofs.group.is_group.Goals as goal
+
+pub returns-then-count-eq0-clause-none : goal.returns-then-count-eq0-clause-none
+returns-then-count-eq0-clause-none c = λ no group. let same = length-map c.args.rows.now values_of in let some = group.some in omega arith
+
+pub returns-then-count-gt512-clause-none : goal.returns-then-count-gt512-clause-none
+returns-then-count-gt512-clause-none c = λ no group. let few = few_rows c.args.schema.now c.args.rows.now group in omega arith
+
+pub returns-then-not-admits-clause-none : goal.returns-then-not-admits-clause-none
+returns-then-not-admits-clause-none c = λ no group.
+    let admitted = admitted_at c.args.schema.now.columns.items c.args.rows.now c.loop-row.row-index c.row-item.result group.admitted (omega arith) c.row-item.is in
+    true≢false (sym admitted ∙ sym c.admits.ensures ∙ c.if-not-admits.true)
+
+pub returns-clause-group : goal.returns-clause-group
+unfolding group_size
+returns-clause-group c = λ yes.
+    let rows = c.args.rows.now in
+    let same = length-map rows values_of in
+    record {
+      some = omega arith;
+      few = omega arith;
+      admitted = sym (ap (λ l. list_all (admits_values c.args.schema.now.columns.items) (map values_of l)) (take_all c.loop-row.row-index rows (omega arith))) ∙ c.loop-row.invariant;
+    }

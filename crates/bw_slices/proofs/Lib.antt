@@ -1,0 +1,4 @@
+pub mod BlockLemmas
+pub mod BuildLemmas
+pub mod MeaningLemmas
+pub mod SliceLemmas

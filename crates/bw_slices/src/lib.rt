@@ -1,0 +1,16 @@
+//! Segments kept as byte slices, after ByteSlice (Feng, Lo, Kao and Xu): for each column its null plane, if it is
+//! nullable, and then the bytes of its codes by significance, from the most significant down, one a row.
+//!
+//! The contract that the crates above use: [`SliceSegment::build`] gives a segment that means the rows given,
+//! and it answers as [`bw_segment::Segment`] says.
+//!
+//! Read `specs/Slices.antt` first, and then `segment.rt` and `build.rt`.
+#![tactic(auto)]
+
+mod build;
+mod read;
+mod segment;
+#[cfg(test)]
+mod tests;
+
+pub use segment::SliceSegment;

@@ -1,0 +1,96 @@
+ghost use Rattle.std.specs.Prelude.{◌≡◌, ◌<◌, ◌&&◌, length};
+ghost use Rattle.bw_segment.specs.Blocks.{block_start};
+ghost use Rattle.bw_segment.specs.Meaning.{IsGroup};
+ghost use Rattle.bw_slices.specs.Slices.{slices_meaning, AreSlices};
+
+use crate::read::{bit, slice_at, start_of};
+use bw_lanes::{Plane, bytes_bit, bytes_eq, bytes_lt, load};
+use bw_model::{Schema, Value};
+use bw_segment::{Segment, Shape};
+use std::rc::Rc;
+
+/// A segment kept as byte slices. A column's block has its null plane, if it is nullable, in 64 bytes, of which bit
+/// i mod 8, the least first, of byte i / 8 is row i's, and then its slices from the most significant down, 512 bytes
+/// a slice, byte i being row i's; past the last row all is 0. That is the text of a table file's segment, so that
+/// a reader can fill `bytes` from a file, judge them, and then has the segment.
+#[derive(Drop)]
+pub struct SliceSegment {
+    pub shape: Rc<Shape>,
+    pub rows: u32,
+    pub bytes: Vec<u8>,
+    pub ghost group: { IsGroup (slices_meaning shape.value.schema rows bytes.items) },
+    pub ghost slices: { AreSlices (slices_meaning shape.value.schema rows bytes.items)
+        (block_start shape.value.schema.columns.items (length shape.value.schema.columns.items)) bytes.items },
+}
+
+impl Segment for SliceSegment {
+    ghost meaning = { λ segment. slices_meaning segment.shape.value.schema segment.rows segment.bytes.items };
+
+    fn schema(&self) -> &Schema {
+        &self.shape.schema
+    }
+
+    fn rows_in(&self) -> u32 {
+        self.rows
+    }
+
+    fn plane(&self, var: u32) -> Plane {
+        let shape: &Shape = &self.shape;
+        let col = shape.column_of(var);
+        let bit = shape.first_variable(col + 1) - 1 - var;
+        if bit < shape.schema.width(col) {
+            let start = start_of(shape, col, bit as usize / 8);
+            bytes_bit(slice_at(&self.bytes, start), bit % 8)
+        } else {
+            load(&self.bytes[shape.block_start(col) as usize..])
+        }
+    }
+
+    fn byte_lt(&self, col: usize, slice: usize, c: u8) -> Plane {
+        bytes_lt(slice_at(&self.bytes, start_of(&self.shape, col, slice)), c)
+    }
+
+    fn byte_eq(&self, col: usize, slice: usize, c: u8) -> Plane {
+        bytes_eq(slice_at(&self.bytes, start_of(&self.shape, col, slice)), c)
+    }
+
+    fn value(&self, col: usize, row: usize) -> Value {
+        if self.is_null(col, row) {
+            None
+        } else {
+            Some(self.shape.schema.value(col, self.code(col, row)))
+        }
+    }
+
+    ghost is_group = { λ segment. segment.group };
+}
+
+impl SliceSegment {
+    ghost use Rattle.bw_slices.specs.Slices.{null_spelled, code_spelled};
+
+    /// Whether a row is null in a column.
+    fn is_null(&self, col: usize, row: usize) -> bool
+        requires column { col < length self.now.shape.value.schema.columns.items }
+        requires row { row < self.now.rows }
+        ensures { result ≡ null_spelled self.now.shape.value.schema.columns.items self.now.bytes.items col row }
+    {
+        self.shape.schema.columns[col].nullable
+            && bit(&self.bytes, self.shape.block_start(col) as usize, row)
+    }
+
+    /// The code of a row in a column, that of null being 0.
+    fn code(&self, col: usize, row: usize) -> u64
+        requires column { col < length self.now.shape.value.schema.columns.items }
+        requires row { row < self.now.rows }
+        ensures { result ≡ code_spelled self.now.shape.value.schema.columns.items self.now.bytes.items col row }
+    {
+        let shape: &Shape = &self.shape;
+        let slices = shape.schema.slices(col);
+        let mut code = 0;
+        for place in 0..slices {
+            let start = start_of(shape, col, slices - 1 - place);
+            code = 256 * code + u64::from(self.bytes[start + row]);
+        }
+        code
+    }
+}
