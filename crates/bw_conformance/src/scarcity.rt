@@ -16,14 +16,14 @@ const LEFT: usize = 64 * 1024;
 const STEP: usize = 16;
 
 /// How many blocks are taken at most: the largest have 8 GiB, of an address space of 2^47 bytes.
-const MOST_BLOCKS: usize = 32_768;
+const MAX_BLOCKS: usize = 32_768;
 
 /// Takes blocks of memory, the largest first, until none is left but for a hole.
 fn take_all(alloc: Global) -> Result<Vec<Vec<u8>>, Fail> {
-    let mut blocks = Vec::with_capacity(alloc, MOST_BLOCKS)?;
+    let mut blocks = Vec::with_capacity(alloc, MAX_BLOCKS)?;
     let hole: Vec<u8> = Vec::with_capacity(alloc, LEFT)?;
     let mut size = 8 << 30;
-    for _ in 0..MOST_BLOCKS {
+    for _ in 0..MAX_BLOCKS {
         match Vec::with_capacity(alloc, size) {
             Ok(block) => blocks.push(block)?,
             Err(_) if size > 8 => size /= 2,

@@ -14,14 +14,16 @@ const FIRST_ROWS: [u64; 8] = [0, 64, 128, 192, 256, 320, 384, 448];
 
 /// The lanes that are 1 in both.
 pub fn and(a: &Plane, b: &Plane) -> Plane
-    ensures { lanes_of_words result ≡ zip2 (λ x y. x && y) (lanes_of_words a.now) (lanes_of_words b.now) }
+    ensures { lanes_of_words result
+        ≡ zip2 (λ x y. x && y) (lanes_of_words a.now) (lanes_of_words b.now) }
 {
     (u64x8::from_array(*a) & u64x8::from_array(*b)).to_array()
 }
 
 /// The lanes that are 1 in either.
 pub fn or(a: &Plane, b: &Plane) -> Plane
-    ensures { lanes_of_words result ≡ zip2 (λ x y. x || y) (lanes_of_words a.now) (lanes_of_words b.now) }
+    ensures { lanes_of_words result
+        ≡ zip2 (λ x y. x || y) (lanes_of_words a.now) (lanes_of_words b.now) }
 {
     (u64x8::from_array(*a) | u64x8::from_array(*b)).to_array()
 }
@@ -104,7 +106,8 @@ fn rows_left(rows: u32) -> u64x8
 
 /// A word for each count: its lowest bits, so many and at most all, are 1, and the others 0.
 fn first_ones(counts: u64x8) -> u64x8
-    ensures { lanes_of_words result ≡ flat_map (λ n. replicate (min n 64) true ++ replicate (64 - n) false) counts }
+    ensures { lanes_of_words result
+        ≡ flat_map (λ n. replicate (min n 64) true ++ replicate (64 - n) false) counts }
 {
     let ones = u64x8::splat(u64::MAX);
     let some = !(ones << counts.simd_min(u64x8::splat(63)));

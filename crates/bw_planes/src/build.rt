@@ -22,7 +22,8 @@ impl PlaneSegment {
     /// A segment that means these rows, 1 to 512, which the schema admits. It keeps a copy of the schema.
     pub fn build(alloc: Global, schema: &Schema, rows: &[Row]) -> Result<Self, Fault>
         requires { IsGroup (meaning_of schema.now rows.now) }
-        ensures means { IfOk result (λ segment. ⟦<PlaneSegment as Segment>⟧.meaning segment ≡ meaning_of schema.now rows.now) }
+        ensures means { IfOk result (λ segment.
+            ⟦<PlaneSegment as Segment>⟧.meaning segment ≡ meaning_of schema.now rows.now) }
         ensures only_memory { IsOkUnless result no_memory }
     {
         let shape = Rc::new(alloc, Shape::new(alloc, schema)?)?;
@@ -33,7 +34,8 @@ impl PlaneSegment {
     pub fn build_shared(alloc: Global, shape: &Rc<Shape>, rows: &[Row]) -> Result<Self, Fault>
         requires { IsGroup (meaning_of shape.now.value.schema rows.now) }
         ensures means { IfOk result (λ segment.
-            ⟦<PlaneSegment as Segment>⟧.meaning segment ≡ meaning_of shape.now.value.schema rows.now) }
+            ⟦<PlaneSegment as Segment>⟧.meaning segment
+            ≡ meaning_of shape.now.value.schema rows.now) }
         ensures only_memory { IsOkUnless result no_memory }
     {
         let shared: &Shape = shape;
@@ -70,7 +72,8 @@ fn push_nulls(bytes: &mut Vec<u8>, shape: &Shape, rows: &[Row], col: usize) -> R
     requires group { IsGroup (meaning_of shape.now.schema rows.now) }
     requires column { col < length shape.now.schema.columns.items }
     requires nullable { is_nullable shape.now.schema.columns.items col ≡ true }
-    requires before { ArePlanes (meaning_of shape.now.schema rows.now) (first_variable shape.now.schema.columns.items col) bytes.old.items }
+    requires before { ArePlanes (meaning_of shape.now.schema rows.now)
+        (first_variable shape.now.schema.columns.items col) bytes.old.items }
     ensures added { OnOk result (ArePlanes (meaning_of shape.now.schema rows.now)
         (first_variable shape.now.schema.columns.items col + 1) bytes.new.items) }
     ensures only_memory { IsOkUnless result no_memory }
@@ -84,7 +87,8 @@ fn push_codes(bytes: &mut Vec<u8>, shape: &Shape, rows: &[Row], col: usize) -> R
     requires group { IsGroup (meaning_of shape.now.schema rows.now) }
     requires column { col < length shape.now.schema.columns.items }
     requires before { ArePlanes (meaning_of shape.now.schema rows.now)
-        (first_variable shape.now.schema.columns.items (col + 1) - width_at shape.now.schema.columns.items col) bytes.old.items }
+        (first_variable shape.now.schema.columns.items (col + 1)
+        - width_at shape.now.schema.columns.items col) bytes.old.items }
     ensures added { OnOk result (ArePlanes (meaning_of shape.now.schema rows.now)
         (first_variable shape.now.schema.columns.items (col + 1)) bytes.new.items) }
     ensures only_memory { IsOkUnless result no_memory }
@@ -103,8 +107,10 @@ fn push_codes(bytes: &mut Vec<u8>, shape: &Shape, rows: &[Row], col: usize) -> R
 
 /// Adds the bytes of a plane.
 fn push(bytes: &mut Vec<u8>, plane: &Plane) -> Result<(), Fault>
-    ensures added { OnOk result ((meaning : Meaning) (count : ℕ) → ArePlanes meaning count bytes.old.items
-        → lanes_of_words plane.now ≡ variable_lanes meaning count → ArePlanes meaning (count + 1) bytes.new.items) }
+    ensures added { OnOk result ((meaning : Meaning) (count : ℕ)
+        → ArePlanes meaning count bytes.old.items
+        → lanes_of_words plane.now ≡ variable_lanes meaning count
+        → ArePlanes meaning (count + 1) bytes.new.items) }
     ensures only_memory { IsOkUnless result no_memory }
 {
     let added = to_bytes(plane);

@@ -16,7 +16,8 @@ const ONES: Plane = [u64::MAX; 8];
 pub(crate) fn lt(bytes: &[u8], first: usize, count: u32, c: u8) -> Plane
     requires planes { 64 * (first + count) ≤ length bytes.now }
     requires byte { count ≤ 8 }
-    ensures { (lanes : List Assignment) → length lanes ≡ 512 → ArePlanesOf bytes.now first count lanes
+    ensures { (lanes : List Assignment) → length lanes ≡ 512
+        → ArePlanesOf bytes.now first count lanes
         → lanes_of_words result ≡ map (λ bits. nat_lt (spelled bits first count) c) lanes }
 {
     if c as u32 >> count != 0 {
@@ -40,7 +41,8 @@ pub(crate) fn lt(bytes: &[u8], first: usize, count: u32, c: u8) -> Plane
 pub(crate) fn eq(bytes: &[u8], first: usize, count: u32, c: u8) -> Plane
     requires planes { 64 * (first + count) ≤ length bytes.now }
     requires byte { count ≤ 8 }
-    ensures { (lanes : List Assignment) → length lanes ≡ 512 → ArePlanesOf bytes.now first count lanes
+    ensures { (lanes : List Assignment) → length lanes ≡ 512
+        → ArePlanesOf bytes.now first count lanes
         → lanes_of_words result ≡ map (λ bits. spelled bits first count == c) lanes }
 {
     if c as u32 >> count != 0 {
@@ -62,7 +64,8 @@ pub(crate) fn eq(bytes: &[u8], first: usize, count: u32, c: u8) -> Plane
 #[tactic(auto, using(crate::proofs::CompareLemmas::zip2_map_right))]
 fn widened(below: &Plane, equal: &Plane, plane: &Plane, one: bool) -> Plane
     ensures { lanes_of_words result ≡ (if one then zip2 (λ b n. b || n) (lanes_of_words below.now)
-        (zip2 (λ e p. e && not p) (lanes_of_words equal.now) (lanes_of_words plane.now)) else lanes_of_words below.now) }
+        (zip2 (λ e p. e && not p) (lanes_of_words equal.now) (lanes_of_words plane.now))
+        else lanes_of_words below.now) }
 {
     if one {
         or(below, &and(equal, &not(plane)))
@@ -74,7 +77,8 @@ fn widened(below: &Plane, equal: &Plane, plane: &Plane, one: bool) -> Plane
 /// The lanes that were equal so far and have this bit in a plane.
 #[tactic(auto, using(crate::proofs::CompareLemmas::zip2_map_right))]
 fn narrowed(equal: &Plane, plane: &Plane, one: bool) -> Plane
-    ensures { lanes_of_words result ≡ zip2 (λ e p. e && (if one then p else not p)) (lanes_of_words equal.now) (lanes_of_words plane.now) }
+    ensures { lanes_of_words result ≡ zip2 (λ e p. e && (if one then p else not p))
+        (lanes_of_words equal.now) (lanes_of_words plane.now) }
 {
     if one {
         and(equal, plane)

@@ -24,7 +24,8 @@ pub struct PlaneSegment {
 }
 
 impl Segment for PlaneSegment {
-    ghost meaning = { λ segment. planes_meaning segment.shape.value.schema segment.rows segment.bytes.items };
+    ghost meaning = { λ segment.
+        planes_meaning segment.shape.value.schema segment.rows segment.bytes.items };
 
     fn schema(&self) -> &Schema {
         &self.shape.schema
@@ -71,10 +72,13 @@ impl PlaneSegment {
     fn planes_of_byte(&self, col: usize, slice: usize) -> (usize, u32)
         requires column { col < length self.now.shape.value.schema.columns.items }
         requires slice { slice < slices_at self.now.shape.value.schema.columns.items col }
-        ensures first { result.0 ≡ first_variable self.now.shape.value.schema.columns.items (col + 1)
+        ensures first { result.0
+            ≡ first_variable self.now.shape.value.schema.columns.items (col + 1)
             - (8 * slice + bits_in_slice self.now.shape.value.schema.columns.items col slice) }
-        ensures count { result.1 ≡ bits_in_slice self.now.shape.value.schema.columns.items col slice }
-        ensures within { result.0 + result.1 ≤ variables_of self.now.shape.value.schema.columns.items }
+        ensures count { result.1
+            ≡ bits_in_slice self.now.shape.value.schema.columns.items col slice }
+        ensures within { result.0 + result.1
+            ≤ variables_of self.now.shape.value.schema.columns.items }
         ensures byte { result.1 ≤ 8 }
     {
         let width = self.shape.schema.width(col);
@@ -89,7 +93,8 @@ impl PlaneSegment {
         requires column { col < length self.now.shape.value.schema.columns.items }
         requires row { row < self.now.rows }
         ensures { result ≡ (is_nullable self.now.shape.value.schema.columns.items col
-            && row_bits self.now.bytes.items row (first_variable self.now.shape.value.schema.columns.items col)) }
+            && row_bits self.now.bytes.items row
+            (first_variable self.now.shape.value.schema.columns.items col)) }
     {
         self.shape.schema.columns[col].nullable
             && bit(&self.bytes, self.shape.first_variable(col) as usize, row)
@@ -100,7 +105,8 @@ impl PlaneSegment {
         requires column { col < length self.now.shape.value.schema.columns.items }
         requires row { row < self.now.rows }
         ensures { result ≡ spelled (row_bits self.now.bytes.items row)
-            (bit_variable self.now.shape.value.schema.columns.items col (width_at self.now.shape.value.schema.columns.items col - 1))
+            (bit_variable self.now.shape.value.schema.columns.items col
+            (width_at self.now.shape.value.schema.columns.items col - 1))
             (width_at self.now.shape.value.schema.columns.items col) }
     {
         let width = self.shape.schema.width(col) as usize;

@@ -1,5 +1,9 @@
 pub mod InstrSpelling
+pub mod MachineLaws
 pub mod PrintLemmas
+pub mod PrintedLines
+pub mod PrintedNumbers
+pub mod PrintedText
 pub mod ProgramLemmas
 pub mod ProgramSpelling
 pub mod TextLemmas

@@ -249,8 +249,8 @@ instr_sound columns end number _ _ (text.conjunction {r = r} {a = a} {b = b} o x
 instr_sound columns end number _ _ (text.disjunction {r = r} {a = a} {b = b} o x y z) = (all_true _ _ (all_true _ _ (register_is r _ x) (register_is a _ y)) (register_is b _ z), refl)
 instr_sound columns end number _ _ (text.difference {r = r} {a = a} {b = b} o x y z) = (all_true _ _ (all_true _ _ (register_is r _ x) (register_is a _ y)) (register_is b _ z), refl)
 instr_sound columns end number _ _ (text.negation {r = r} {a = a} o x y) = (all_true _ _ (register_is r _ x) (register_is a _ y), refl)
-instr_sound columns end number _ _ (text.below {r = r} {c = c} o x y s lt b le) = (register_is r _ x, all_true _ _ (column_is columns c _ y) (lt-ltb _ _ lt))
-instr_sound columns end number _ _ (text.same {r = r} {c = c} o x y s lt b le) = (register_is r _ x, all_true _ _ (column_is columns c _ y) (lt-ltb _ _ lt))
+instr_sound columns end number _ _ (text.below {r = r} {c = c} o x y s lt b le) = (all_true _ _ (register_is r _ x) (le-leb _ _ le), all_true _ _ (column_is columns c _ y) (lt-ltb _ _ lt))
+instr_sound columns end number _ _ (text.same {r = r} {c = c} o x y s lt b le) = (all_true _ _ (register_is r _ x) (le-leb _ _ le), all_true _ _ (column_is columns c _ y) (lt-ltb _ _ lt))
 instr_sound columns end number _ _ (text.skip {a = a} o x l forward near) = (all_true _ _ (all_true _ _ (register_is a _ x) (lt-ltb _ _ forward)) (le-leb _ _ near), refl)
 
 lines_sound : (columns : List Column) (end number : ℕ) (lines : List NumberedWords) (instrs : List Instr) (result : ℕ) → SpellsLines columns end number lines instrs result →

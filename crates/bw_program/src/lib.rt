@@ -9,6 +9,7 @@
 #![tactic(auto)]
 
 mod instr;
+mod laws;
 mod line;
 mod opcode;
 mod parse;
@@ -18,5 +19,7 @@ mod program;
 mod tests;
 
 pub use instr::Instr;
+pub use laws::{places_are_reached, runs_go_on};
 pub use opcode::Opcode;
+pub use print::canonical_texts_spell_programs;
 pub use program::Program;

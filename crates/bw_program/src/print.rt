@@ -7,7 +7,10 @@ ghost use Rattle.bw_model.specs.Fault.{no_memory};
 ghost use Rattle.bw_program.specs.Opcode.{opcode_spelling};
 ghost use Rattle.bw_program.specs.Operand.{operand_text, operands_text, operand_fits};
 ghost use Rattle.bw_program.specs.PrintText.{print_text, instr_words, result_words, line_text};
-ghost use Rattle.bw_program.specs.Program.{fits, instr_fits};
+ghost use Rattle.bw_model.specs.Column.{names_of};
+ghost use Rattle.bw_model.specs.Name.{is_name, are_apart};
+ghost use Rattle.bw_program.specs.Program.{ProgramShape, is_program, fits, instr_fits};
+ghost use Rattle.bw_program.specs.ProgramText.{IsProgramText};
 
 use crate::instr::Instr;
 use crate::opcode::Opcode;
@@ -16,15 +19,19 @@ use bw_model::{Fault, Schema};
 use std::alloc::{AllocError, Global};
 
 impl Program {
-    /// The program's canonical text under a schema that has all that it names: capital keywords, single
-    /// blanks, names in the schema's spelling, numbers without leading zeros, and one line feed after each
-    /// line, of which the last is that of the result. Refused is want of memory alone (801).
+    /// The program's canonical text under a schema that has all that it names: capital keywords,
+    /// single blanks, names in the schema's spelling, numbers without leading zeros, and one line
+    /// feed after each line, of which the last is that of the result. Refused is want of memory
+    /// alone (801).
     pub fn print(&self, alloc: Global, schema: &Schema) -> Result<Vec<u8>, Fault>
         requires { IsTrue (fits schema.now.columns.items self.now) }
         ensures text { IfOk result
             (λ text. text.items ≡ print_text schema.now.columns.items self.now) }
+        ensures spelled { IsTrue (list_all is_name (names_of schema.now.columns.items))
+            → IfOk result (λ text. IsProgramText schema.now.columns.items text.items self.now) }
         ensures only_memory { IsOkUnless result no_memory }
     {
+        let _ = &self.instrs;
         let mut text = Vec::new(alloc);
         for number in 0..self.len() {
             put_instr(alloc, schema, self.instr(number), &mut text)?;
@@ -33,6 +40,15 @@ impl Program {
         Ok(text)
     }
 }
+
+/// A law: the canonical text of a program spells it, under columns whose names are apart and that
+/// have all that the program names. So a program that is printed is read back as it was.
+pub fn canonical_texts_spell_programs()
+    ensures { (columns : List Column) (program : ProgramShape)
+        → IsTrue (are_apart (names_of columns)) → IsTrue (list_all is_name (names_of columns))
+        → IsTrue (is_program program) → IsTrue (fits columns program)
+        → IsProgramText columns (print_text columns program) program }
+{}
 
 /// What stands behind an opcode.
 #[derive(Clone, Copy, Debug)]
@@ -75,8 +91,8 @@ fn put_result(
 /// An instruction's opcode, and what stands behind it.
 #[tactic(auto, unfolding(crate::specs::Operand::operands_text, crate::specs::PrintText::line_end))]
 fn parts_of(instr: Instr) -> (Opcode, [Operand; 4])
-    ensures text { (columns : List Column)
-        → opcode_spelling result.0 ++ operands_text columns result.1 ≡ line_text (instr_words columns instr) }
+    ensures text { (columns : List Column) → opcode_spelling result.0
+        ++ operands_text columns result.1 ≡ line_text (instr_words columns instr) }
     ensures fits { (columns : List Column) → IsTrue (instr_fits columns instr)
         → IsTrue (list_all (operand_fits columns) result.1) }
 {

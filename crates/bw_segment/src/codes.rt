@@ -47,7 +47,8 @@ pub fn bytes_of(codes: &[u64; 512], slice: usize) -> [u8; 512]
 /// The lowest bytes of each code, so many: for each byte those of all codes, of which byte 0 is the least.
 pub fn slices_of(codes: &[u64; 512], count: usize) -> [[u8; 512]; 8]
     requires { count ≤ 8 }
-    ensures { (slice : ℕ) → slice < count → slice_index_or result slice [] ≡ map (byte_of slice) codes.now }
+    ensures { (slice : ℕ) → slice < count
+        → slice_index_or result slice [] ≡ map (byte_of slice) codes.now }
 {
     let mut slices = [[0; 512]; 8];
     for slice in 0..count {

@@ -7,14 +7,17 @@ ghost use Rattle.bw_segment.specs.Meaning.{Meaning, IsGroup, variable_lanes, byt
 
 /// A law: the bits and the bytes in a group's lanes are those of its codes as they are stored, and its nulls.
 pub fn lanes_hold_codes()
-    ensures nulls { (meaning : Meaning) (col variable : ℕ) → IsGroup meaning → col < length meaning.columns
+    ensures nulls { (meaning : Meaning) (col variable : ℕ) → IsGroup meaning
+        → col < length meaning.columns
         → null_variable meaning.columns col ≡ Some variable
         → map (λ null. has_bit null 0) (null_lanes meaning col) ≡ variable_lanes meaning variable }
-    ensures bits { (meaning : Meaning) (col bit : ℕ) → IsGroup meaning → col < length meaning.columns
+    ensures bits { (meaning : Meaning) (col bit : ℕ) → IsGroup meaning
+        → col < length meaning.columns
         → bit < width_at meaning.columns col
         → map (λ code. has_bit code bit) (code_lanes meaning col)
         ≡ variable_lanes meaning (bit_variable meaning.columns col bit) }
-    ensures bytes { (meaning : Meaning) (col slice : ℕ) → IsGroup meaning → col < length meaning.columns
+    ensures bytes { (meaning : Meaning) (col slice : ℕ) → IsGroup meaning
+        → col < length meaning.columns
         → slice < slices_at meaning.columns col
         → map (byte_of slice) (code_lanes meaning col) ≡ byte_lanes meaning col slice }
 {}

@@ -33,13 +33,15 @@ pub trait Segment {
     fn byte_lt(&self, col: usize, slice: usize, c: u8) -> Plane
         requires column { col < length (meaning self.now).columns }
         requires slice { slice < slices_at (meaning self.now).columns col }
-        ensures { lanes_of_words result ≡ map (λ byte. nat_lt byte c) (byte_lanes (meaning self.now) col slice) };
+        ensures { lanes_of_words result
+            ≡ map (λ byte. nat_lt byte c) (byte_lanes (meaning self.now) col slice) };
 
     /// The rows in which such a byte is c.
     fn byte_eq(&self, col: usize, slice: usize, c: u8) -> Plane
         requires column { col < length (meaning self.now).columns }
         requires slice { slice < slices_at (meaning self.now).columns col }
-        ensures { lanes_of_words result ≡ map (λ byte. byte == c) (byte_lanes (meaning self.now) col slice) };
+        ensures { lanes_of_words result
+            ≡ map (λ byte. byte == c) (byte_lanes (meaning self.now) col slice) };
 
     /// The value of a row, from 0, in a column.
     fn value(&self, col: usize, row: usize) -> Value

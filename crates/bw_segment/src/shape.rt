@@ -15,8 +15,10 @@ pub struct Shape {
     pub firsts: Vec<u32>,
     /// The first byte of each column's block in a segment kept as byte slices, and behind them the number of bytes.
     pub blocks: Vec<u32>,
-    pub ghost found: { firsts.items ≡ map (first_variable schema.columns.items) (range_with_len 0 (length schema.columns.items + 1)) },
-    pub ghost placed: { blocks.items ≡ map (block_start schema.columns.items) (range_with_len 0 (length schema.columns.items + 1)) },
+    pub ghost found: { firsts.items
+        ≡ map (first_variable schema.columns.items) (range_with_len 0 (length schema.columns.items + 1)) },
+    pub ghost placed: { blocks.items
+        ≡ map (block_start schema.columns.items) (range_with_len 0 (length schema.columns.items + 1)) },
 }
 
 impl Shape {
@@ -28,7 +30,8 @@ impl Shape {
     /// The shape of a table whose schema is an equal one.
     pub fn new(alloc: Global, schema: &Schema) -> Result<Self, Fault>
         ensures name { IfOk result (λ shape. shape.schema.name ≡ schema.now.name) }
-        ensures columns { IfOk result (λ shape. shape.schema.columns.items ≡ schema.now.columns.items) }
+        ensures columns { IfOk result (λ shape.
+            shape.schema.columns.items ≡ schema.now.columns.items) }
         ensures only_memory { IsOkUnless result no_memory }
     {
         let schema = schema.copy(alloc)?;

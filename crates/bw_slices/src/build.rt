@@ -22,7 +22,8 @@ impl SliceSegment {
     /// A segment that means these rows, 1 to 512, which the schema admits. It keeps a copy of the schema.
     pub fn build(alloc: Global, schema: &Schema, rows: &[Row]) -> Result<Self, Fault>
         requires { IsGroup (meaning_of schema.now rows.now) }
-        ensures means { IfOk result (λ segment. ⟦<SliceSegment as Segment>⟧.meaning segment ≡ meaning_of schema.now rows.now) }
+        ensures means { IfOk result (λ segment.
+            ⟦<SliceSegment as Segment>⟧.meaning segment ≡ meaning_of schema.now rows.now) }
         ensures only_memory { IsOkUnless result no_memory }
     {
         let shape = Rc::new(alloc, Shape::new(alloc, schema)?)?;
@@ -33,7 +34,8 @@ impl SliceSegment {
     pub fn build_shared(alloc: Global, shape: &Rc<Shape>, rows: &[Row]) -> Result<Self, Fault>
         requires { IsGroup (meaning_of shape.now.value.schema rows.now) }
         ensures means { IfOk result (λ segment.
-            ⟦<SliceSegment as Segment>⟧.meaning segment ≡ meaning_of shape.now.value.schema rows.now) }
+            ⟦<SliceSegment as Segment>⟧.meaning segment
+            ≡ meaning_of shape.now.value.schema rows.now) }
         ensures only_memory { IsOkUnless result no_memory }
     {
         let shared: &Shape = shape;
@@ -51,7 +53,8 @@ impl SliceSegment {
 fn slices_of(alloc: Global, shape: &Shape, rows: &[Row]) -> Result<Vec<u8>, Fault>
     requires { IsGroup (meaning_of shape.now.schema rows.now) }
     ensures slices { IfOk result (λ bytes. AreSlices (meaning_of shape.now.schema rows.now)
-        (block_start shape.now.schema.columns.items (length shape.now.schema.columns.items)) bytes.items) }
+        (block_start shape.now.schema.columns.items (length shape.now.schema.columns.items))
+        bytes.items) }
     ensures only_memory { IsOkUnless result no_memory }
 {
     let count = shape.schema.columns.len();
@@ -70,7 +73,8 @@ fn push_nulls(bytes: &mut Vec<u8>, shape: &Shape, rows: &[Row], col: usize) -> R
     requires group { IsGroup (meaning_of shape.now.schema rows.now) }
     requires column { col < length shape.now.schema.columns.items }
     requires nullable { is_nullable shape.now.schema.columns.items col ≡ true }
-    requires before { AreSlices (meaning_of shape.now.schema rows.now) (block_start shape.now.schema.columns.items col) bytes.old.items }
+    requires before { AreSlices (meaning_of shape.now.schema rows.now)
+        (block_start shape.now.schema.columns.items col) bytes.old.items }
     ensures added { OnOk result (AreSlices (meaning_of shape.now.schema rows.now)
         (block_start shape.now.schema.columns.items col + 64) bytes.new.items) }
     ensures only_memory { IsOkUnless result no_memory }
@@ -86,7 +90,8 @@ fn push_codes(bytes: &mut Vec<u8>, shape: &Shape, rows: &[Row], col: usize) -> R
     requires group { IsGroup (meaning_of shape.now.schema rows.now) }
     requires column { col < length shape.now.schema.columns.items }
     requires before { AreSlices (meaning_of shape.now.schema rows.now)
-        (block_start shape.now.schema.columns.items (col + 1) - 512 * slices_at shape.now.schema.columns.items col) bytes.old.items }
+        (block_start shape.now.schema.columns.items (col + 1)
+        - 512 * slices_at shape.now.schema.columns.items col) bytes.old.items }
     ensures added { OnOk result (AreSlices (meaning_of shape.now.schema rows.now)
         (block_start shape.now.schema.columns.items (col + 1)) bytes.new.items) }
     ensures only_memory { IsOkUnless result no_memory }

@@ -23,7 +23,8 @@ pub(crate) fn start_of(shape: &Shape, col: usize, slice: usize) -> usize
     requires column { col < length shape.now.schema.columns.items }
     requires slice { slice < slices_at shape.now.schema.columns.items col }
     ensures start { result ≡ slice_start shape.now.schema.columns.items col slice }
-    ensures within { result + 512 ≤ block_start shape.now.schema.columns.items (length shape.now.schema.columns.items) }
+    ensures within { result + 512
+        ≤ block_start shape.now.schema.columns.items (length shape.now.schema.columns.items) }
 {
     shape.block_start(col + 1) as usize - 512 * (slice + 1)
 }

@@ -20,11 +20,13 @@ pub struct SliceSegment {
     pub bytes: Vec<u8>,
     pub ghost group: { IsGroup (slices_meaning shape.value.schema rows bytes.items) },
     pub ghost slices: { AreSlices (slices_meaning shape.value.schema rows bytes.items)
-        (block_start shape.value.schema.columns.items (length shape.value.schema.columns.items)) bytes.items },
+        (block_start shape.value.schema.columns.items (length shape.value.schema.columns.items))
+        bytes.items },
 }
 
 impl Segment for SliceSegment {
-    ghost meaning = { λ segment. slices_meaning segment.shape.value.schema segment.rows segment.bytes.items };
+    ghost meaning = { λ segment.
+        slices_meaning segment.shape.value.schema segment.rows segment.bytes.items };
 
     fn schema(&self) -> &Schema {
         &self.shape.schema
@@ -72,7 +74,8 @@ impl SliceSegment {
     fn is_null(&self, col: usize, row: usize) -> bool
         requires column { col < length self.now.shape.value.schema.columns.items }
         requires row { row < self.now.rows }
-        ensures { result ≡ null_spelled self.now.shape.value.schema.columns.items self.now.bytes.items col row }
+        ensures { result
+            ≡ null_spelled self.now.shape.value.schema.columns.items self.now.bytes.items col row }
     {
         self.shape.schema.columns[col].nullable
             && bit(&self.bytes, self.shape.block_start(col) as usize, row)
@@ -82,7 +85,8 @@ impl SliceSegment {
     fn code(&self, col: usize, row: usize) -> u64
         requires column { col < length self.now.shape.value.schema.columns.items }
         requires row { row < self.now.rows }
-        ensures { result ≡ code_spelled self.now.shape.value.schema.columns.items self.now.bytes.items col row }
+        ensures { result
+            ≡ code_spelled self.now.shape.value.schema.columns.items self.now.bytes.items col row }
     {
         let shape: &Shape = &self.shape;
         let slices = shape.schema.slices(col);

@@ -35,12 +35,12 @@ fn slices_stand_in_order(rt: HostRuntime) -> Result<(), Fail> {
     let segment = SliceSegment::build(rt.alloc(), &schema, &rows)?;
     assert_eq!(rt; segment.bytes.len(), 512 + 64 + 512);
     assert_eq!(rt;
-        segment.bytes[..5],
+        &segment.bytes[..5],
         [0x00, 0xFF, 0x07, 0x07, 0x08].as_slice()
     );
     assert_eq!(rt; segment.bytes[512], 0x0C);
     assert_eq!(rt;
-        segment.bytes[576..581],
+        &segment.bytes[576..581],
         [0x00, 0x14, 0x00, 0x00, 0x0A].as_slice()
     );
     assert_eq!(rt; segment.bytes.iter().filter(|byte| **byte != 0).count(), 7);

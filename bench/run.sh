@@ -1,0 +1,14 @@
+#!/usr/bin/env bash
+# Times runs of scan programs over 10,000 segments of 512 rows in planes, the straight loops of kernels that they are
+# measured against, programs of a hundred times one instruction, and the reading of a program text of 4,096 lines.
+# Run by hand on an idle machine: bench/run.sh. Each line is the least time of five runs, each the least of thirty
+# rounds: nanoseconds a segment, and for the text microseconds.
+set -euo pipefail
+top=$(cd "$(dirname "$0")/.." && pwd)
+
+# the program is built, and proved, by its first run
+[ -x "$top/crates/bench_run/out/bench_run" ] || (cd "$top/crates/bench_run" && rt run > /dev/null 2>&1)
+
+for _ in 1 2 3 4 5; do
+    "$top/crates/bench_run/out/bench_run" 2>&1 > /dev/null | awk '{ print NR, $0 }'
+done | sort -k 1,1n -k 2,2n | awk '!seen[$1]++' | cut -d ' ' -f 2-

@@ -1,0 +1,23 @@
+//! Laws of the segment machine, for what stands on its runs.
+ghost use Rattle.std.specs.Prelude.{◌≡◌, ◌+◌, ◌<◌, ◌⊎◌, ℕ, List};
+ghost use Rattle.bw_model.specs.declared.column.Column.{Column};
+ghost use Rattle.bw_model.specs.Variable.{Assignment};
+ghost use Rattle.bw_program.specs.Machine.{State, Reaches, FallsThrough, SkipsTo, start, state_after, steps_from};
+ghost use Rattle.bw_program.specs.Program.{ProgramShape};
+
+/// A law: a run of more steps goes on from the state of fewer, and no step leaves the state where it begins.
+pub fn runs_go_on()
+    ensures begins { (columns : List Column) (lanes : List Assignment) (program : ProgramShape)
+        → state_after columns lanes program 0 ≡ start lanes }
+    ensures on { (columns : List Column) (lanes : List Assignment) (program : ProgramShape) (steps more : ℕ)
+        → state_after columns lanes program (steps + more)
+        ≡ steps_from columns lanes program (state_after columns lanes program steps) more }
+{}
+
+/// A law: a place after the first is reached by falling through from the place before it, or by a skip into it
+/// that is taken.
+pub fn places_are_reached()
+    ensures { (columns : List Column) (lanes : List Assignment) (program : ProgramShape) (place : ℕ) (state : State)
+        → Reaches columns lanes program place state → 0 < place
+        → FallsThrough columns lanes program place state ⊎ SkipsTo columns lanes program place state }
+{}
