@@ -1,7 +1,7 @@
 //! What texts spell, and the first fault in them, written by hand.
 ghost use Rattle.std.specs.Prelude.{⊤};
 
-use crate::field::{at_record, value_of, without_blanks};
+use crate::field::{value_of, without_blanks};
 use crate::{RowTaker, read_rows};
 use bw_model::{Fault, Row, Schema, Value};
 use std::alloc::Global;
@@ -85,7 +85,7 @@ fn first_faults(rt: HostRuntime) -> Result<(), Fail> {
         ("a,b\n1, \n1\n", 206, 1),
     ] {
         let fault = values_in(rt.alloc(), text.as_bytes()).err();
-        assert_eq!(rt; fault, Some(at_record(code, number)), "{text:?}");
+        assert_eq!(rt; fault, Some(Fault::at_record(code, number)), "{text:?}");
     }
     Ok(())
 }
@@ -112,7 +112,11 @@ fn fields(rt: HostRuntime) -> Result<(), Fail> {
     ] {
         for column in schema.columns.iter().take(1) {
             let value = value_of(column, field.as_bytes(), 3);
-            assert_eq!(rt; value, want.map_err(|code| at_record(code, 3)), "{field:?}");
+            assert_eq!(rt;
+                value,
+                want.map_err(|code| Fault::at_record(code, 3)),
+                "{field:?}"
+            );
         }
     }
     Ok(())

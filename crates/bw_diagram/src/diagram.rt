@@ -19,13 +19,13 @@ use std::alloc::Global;
 use std::marker::Model;
 
 /// How many nodes a diagram has at most, terminals aside.
-const MOST_NODES: usize = 65_534;
+const MAX_NODES: usize = 65_534;
 
 /// How many chains a diagram has at most.
-const MOST_CHAINS: usize = 65_536;
+const MAX_CHAINS: usize = 65_536;
 
 /// How many product rows a diagram has at most.
-const MOST_PRODUCTS: usize = 1_048_576;
+const MAX_PRODUCTS: usize = 1_048_576;
 
 /// The numbers of the faults.
 const NODE_RULE: u16 = 601;
@@ -123,7 +123,7 @@ impl<'a> Diagram<'a> {
     fn accepted_node(&self, n: u64, v: u64, low: u64, high: u64) -> Result<Node, Fault>
         ensures { result ≡ judged_node self.now n (record { v = v; low = low; high = high }) }
     {
-        if self.nodes.len() >= MOST_NODES {
+        if self.nodes.len() >= MAX_NODES {
             return Err(Fault::new(TOO_MANY_LINES));
         }
         if n != self.nodes.len() as u64 + 2
@@ -145,7 +145,7 @@ impl<'a> Diagram<'a> {
     fn accepted_chain(&self, n: u64, line: ChainLine<'_>) -> Result<Chain, Fault>
         ensures { result ≡ judged_chain self.now n (chain_named self.now.columns line.entry) }
     {
-        if self.chains.len() >= MOST_CHAINS {
+        if self.chains.len() >= MAX_CHAINS {
             return Err(Fault::new(TOO_MANY_LINES));
         }
         match self.in_range(line) {
@@ -167,7 +167,7 @@ impl<'a> Diagram<'a> {
     ) -> Result<Product, Fault>
         ensures { result ≡ judged_row self.now n (record { op = op; a = a; b = b; c = c }) reason }
     {
-        if self.rows.len() >= MOST_PRODUCTS {
+        if self.rows.len() >= MAX_PRODUCTS {
             return Err(Fault::new(TOO_MANY_LINES));
         }
         let next = 2 + self.nodes.len() as u64;

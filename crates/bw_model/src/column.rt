@@ -1,3 +1,4 @@
+//! A column of a schema.
 ghost use Rattle.std.specs.Prelude.{◌<ℤ◌, ◌≤ℤ◌, ◌-ℤ◌, ◌^◌, pos};
 
 use crate::name::Name;

@@ -1,3 +1,5 @@
+//! Conditions of rows: comparisons of columns and constants, joined by NOT, AND and OR.
+
 /// A truth value of SQL-92: `No` is FALSE and `Yes` is TRUE.
 #[derive(Clone, Copy, Debug, PartialEq, Eq)]
 pub enum Truth {

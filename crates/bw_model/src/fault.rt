@@ -1,3 +1,4 @@
+//! Faults: what is wrong, by its number, and where.
 ghost use Rattle.std.specs.Prelude.{◌≡◌, Some};
 ghost use Rattle.bw_model.specs.Fault.{no_memory, nowhere, at_byte, at_line, at_record, place_text};
 

@@ -1,3 +1,4 @@
+//! The 17 reserved words of statements and schema texts.
 ghost use Rattle.std.specs.Prelude.{◌≡◌, Some};
 ghost use Rattle.bw_model.specs.Text.{same_text};
 ghost use Rattle.bw_model.specs.Keyword.{spelling, keyword_of};

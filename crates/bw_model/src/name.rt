@@ -1,3 +1,4 @@
+//! Names of tables and columns.
 ghost use Rattle.std.specs.Prelude.{◌≡◌, IfOk, IsTrue};
 ghost use Rattle.bw_model.specs.Name.{is_name};
 ghost use Rattle.bw_model.specs.Text.{same_text};

@@ -1,3 +1,4 @@
+//! Queries: what is asked for, and of which rows.
 use crate::cond::Cond;
 
 /// What a query asks for: a column by its number from 0, or an aggregate.

@@ -1,3 +1,4 @@
+//! Rows of a table, and their values.
 use crate::fault::Fault;
 use std::alloc::Global;
 

@@ -1,3 +1,4 @@
+//! A schema: the name of a table and its columns.
 ghost use Rattle.std.specs.Prelude.{◌≤◌, length, IsTrue};
 ghost use Rattle.bw_model.specs.Name.{are_apart};
 ghost use Rattle.bw_model.specs.Column.{names_of};

@@ -1,3 +1,4 @@
+//! Texts compared ignoring case, and the words that names are made of.
 ghost use Rattle.std.specs.Prelude.{◌≡◌};
 ghost use Rattle.std.specs.List.{list_all};
 ghost use Rattle.bw_model.specs.Text.{same_text, is_word, begins_word, goes_on_in_word};

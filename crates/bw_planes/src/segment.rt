@@ -1,3 +1,4 @@
+//! A segment kept as bit planes, and what it answers.
 ghost use Rattle.std.specs.Prelude.{◌≡◌, ◌*◌, ◌+◌, ◌<◌, ◌≤◌, length, slice_index_or, false};
 ghost use Rattle.bw_model.specs.Variable.{variables_of};
 ghost use Rattle.bw_segment.specs.Meaning.{IsGroup};

@@ -1,5 +1,5 @@
 -- The size of a total, and totals of one more row.
-use Rattle.std.proofs.Common.{◌≡◌, ◌∙◌, refl, ap, ℕ, ℤ, pos, ◌+◌, ◌≤◌, ◌+ℤ◌, List, [], ◌∷◌, ◌++◌, length, length-append, append-nil, Option, Some, None, FitsSigned, w64, arith}
+use Rattle.std.proofs.Common.{◌≡◌, ◌∙◌, refl, sym, ap, ◌⊎◌, inl, inr, ℕ, ℤ, pos, ◌+◌, ◌≤◌, ◌+ℤ◌, List, [], ◌∷◌, ◌++◌, length, length-append, append-nil, Option, Some, None, FitsSigned, w64, arith}
 use Rattle.std.specs.Option.{option_map, option_to_list}
 use Rattle.std.specs.List.{fold, reduce, cons_option}
 use Rattle.std.specs.Int.{int_min, int_max}
@@ -10,7 +10,7 @@ use Rattle.bw_model.specs.declared.query.Item.{Item}
 use Rattle.bw_model.specs.declared.query.Item.TheVariants.{Plain, CountAll, Count, Sum, Min, Max}
 use Rattle.bw_model.specs.Row.{Value, value_in}
 use Rattle.bw_model.specs.Total.{total, present}
-use Rattle.bw_rowwise.specs.Accumulator.{Tally, tally_of, IsTotalOfRows, answer_with, including}
+use Rattle.bw_rowwise.specs.Accumulator.{Tally, tally_of, IsTotalOfRows, answer_with, including, of_both}
 
 pub small_one : (rows : ℕ) (n : ℤ) → FitsSigned w64 n → IsTotalOfRows (rows + 1) (Some n)
 small_one rows n fits x is =
@@ -19,15 +19,24 @@ small_one rows n fits x is =
 pub small_more : (rows : ℕ) (answer : Option ℤ) → IsTotalOfRows rows answer → IsTotalOfRows (rows + 1) answer
 small_more rows answer small x is = let s = small x is in (omega (arith, ints), omega (arith, ints))
 
-pub small_sum : (rows : ℕ) (answer : Option ℤ) (m n total : ℤ) (next : Option ℤ) → answer ≡ Some m → IsTotalOfRows rows answer → FitsSigned w64 n → total ≡ m +ℤ n → next ≡ Some total → IsTotalOfRows (rows + 1) next
-small_sum rows answer m n total next is small fits sum then x e =
-    let s = small m is in
-    let same : total ≡ x = cc in (omega (arith, ints), omega (arith, ints))
+pub small_sum : (rows : ℕ) (m n sum : ℤ) (next : Option ℤ) → IsTotalOfRows rows (Some m) → FitsSigned w64 n → sum ≡ m +ℤ n → next ≡ Some sum → IsTotalOfRows (rows + 1) next
+small_sum rows m n sum next small fits is then x e =
+    let s = small m refl in
+    let same : sum ≡ x = cc in (omega (arith, ints), omega (arith, ints))
 
-pub small_least : (rows : ℕ) (answer : Option ℤ) (m n total : ℤ) (next : Option ℤ) → answer ≡ Some m → IsTotalOfRows rows answer → FitsSigned w64 n → total ≡ int_min m n → next ≡ Some total → IsTotalOfRows (rows + 1) next
-small_least rows answer m n total next is small fits least then x e =
-    let s = small m is in
-    let same : total ≡ x = cc in (omega (arith, ints, clamps), omega (arith, ints, clamps))
+pub small_greatest : (rows : ℕ) (m n greatest : ℤ) (next : Option ℤ) → IsTotalOfRows rows (Some m) → FitsSigned w64 n → greatest ≡ int_max m n → next ≡ Some greatest → IsTotalOfRows (rows + 1) next
+small_greatest rows m n greatest next small fits is then x e =
+    let s = small m refl in
+    let same : greatest ≡ x = cc in (omega (arith, ints, clamps), omega (arith, ints, clamps))
+
+-- all but the least and the greatest add
+pub adds : (item : Item) (m n : ℤ) →
+    ((column : ℕ) × (item ≡ Plain column)) ⊎ ((item ≡ CountAll) ⊎ (((column : ℕ) × (item ≡ Count column)) ⊎ ((column : ℕ) × (item ≡ Sum column)))) →
+    m +ℤ n ≡ of_both item m n
+adds item m n (inl (column, is)) = ap (λ (item : Item). of_both item m n) (sym is)
+adds item m n (inr (inl is)) = ap (λ (item : Item). of_both item m n) (sym is)
+adds item m n (inr (inr (inl (column, is)))) = ap (λ (item : Item). of_both item m n) (sym is)
+adds item m n (inr (inr (inr (column, is)))) = ap (λ (item : Item). of_both item m n) (sym is)
 
 pub small_below : (rows limit : ℕ) (answer : Option ℤ) → rows ≤ limit → IsTotalOfRows rows answer → IsTotalOfRows limit answer
 small_below rows limit answer le small x is = let s = small x is in (omega (arith, ints), omega (arith, ints))

@@ -23,14 +23,27 @@ including f answer None = answer
 including f None (Some n) = Some n
 including f (Some m) (Some n) = Some (f m n)
 
+-- what a row adds to an aggregate: null adds nothing
+abbrev pub added_by : Item → List Value → Value
+added_by (Plain column) row = None
+added_by CountAll row = Some (pos 1)
+added_by (Count column) row = option_map (λ _. pos 1) (value_in row column)
+added_by (Sum column) row = value_in row column
+added_by (Min column) row = value_in row column
+added_by (Max column) row = value_in row column
+
+-- what an aggregate makes of two numbers
+abbrev pub of_both : Item → ℤ → ℤ → ℤ
+of_both (Plain column) a b = a +ℤ b
+of_both CountAll a b = a +ℤ b
+of_both (Count column) a b = a +ℤ b
+of_both (Sum column) a b = a +ℤ b
+of_both (Min column) a b = int_min a b
+of_both (Max column) a b = int_max a b
+
 -- the total of an aggregate over some rows and one more, from the total over the rows
 abbrev pub answer_with : Item → Option ℤ → List Value → Option ℤ
-answer_with (Plain column) answer row = None
-answer_with CountAll answer row = including (λ a b. a +ℤ b) answer (Some (pos 1))
-answer_with (Count column) answer row = including (λ a b. a +ℤ b) answer (option_map (λ _. pos 1) (value_in row column))
-answer_with (Sum column) answer row = including (λ a b. a +ℤ b) answer (value_in row column)
-answer_with (Min column) answer row = including int_min answer (value_in row column)
-answer_with (Max column) answer row = including int_max answer (value_in row column)
+answer_with item answer row = including (of_both item) answer (added_by item row)
 
 -- a tally and one more row
 abbrev pub tally_with : Tally → List Value → Tally

@@ -1,3 +1,4 @@
+//! The test of a group: 1 to 512 rows that a schema admits.
 ghost use Rattle.std.specs.Prelude.{◌≡◌, true, false};
 ghost use Rattle.bw_segment.specs.Meaning.{meaning_of, IsGroup};
 

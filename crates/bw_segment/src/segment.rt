@@ -1,3 +1,4 @@
+//! What every segment answers, in whichever layout.
 ghost use Rattle.std.specs.Prelude.{◌≡◌, ◌<◌, ◌≤◌, ◌==◌, length, map, nat_lt, slice_index_or, []};
 ghost use Rattle.bw_lanes.specs.Lanes.{lanes_of_words};
 ghost use Rattle.bw_model.specs.Code.{slices_at};

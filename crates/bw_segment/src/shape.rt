@@ -1,3 +1,4 @@
+//! Where the variables and the blocks of a table's columns begin.
 ghost use Rattle.std.specs.Prelude.{◌≡◌, ◌+◌, ◌<◌, ◌≤◌, length, map, suc};
 ghost use Rattle.std.specs.List.{range_with_len};
 ghost use Rattle.bw_model.specs.Variable.{first_variable, variables_of};

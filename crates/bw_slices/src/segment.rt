@@ -1,3 +1,4 @@
+//! A segment kept as byte slices, and what it answers.
 ghost use Rattle.std.specs.Prelude.{◌≡◌, ◌<◌, ◌&&◌, length};
 ghost use Rattle.bw_segment.specs.Blocks.{block_start};
 ghost use Rattle.bw_segment.specs.Meaning.{IsGroup};

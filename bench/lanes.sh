@@ -1,0 +1,16 @@
+#!/usr/bin/env bash
+# Times the kernels over bytes and the building of segments of 512 rows and four columns, and the same in plain C
+# (gcc -O2). Run by hand on an idle machine: bench/lanes.sh [CALLS]. Each line has the nanoseconds of a call, and a number
+# to which each call added.
+set -euo pipefail
+top=$(cd "$(dirname "$0")/.." && pwd)
+calls=${1:-5000000}
+folder=$(mktemp -d)
+trap 'rm -r "$folder"' EXIT
+
+[ -x "$top/crates/bench_lanes/out/bench_lanes" ] || (cd "$top/crates/bench_lanes" && rt run > /dev/null)
+gcc -O2 -o "$folder/lanes" "$top/bench/lanes.c"
+echo 'this repository'
+"$top/crates/bench_lanes/out/bench_lanes" "$calls" | sed 's/^/    /'
+echo 'plain C, gcc -O2'
+"$folder/lanes" "$calls" | sed 's/^/    /'
