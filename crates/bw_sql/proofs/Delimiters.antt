@@ -26,11 +26,11 @@ is_short (Punct Plus) c h = let e : c ≡ 43 = cc in rw e refl
 is_short (Punct Minus) c h = let e : c ≡ 45 = cc in rw e refl
 
 -- a delimiter of more bytes has two
-record Long (c d : ℕ) (more : List ℕ) : Type 0 where
-  is_long : is_long_delimiter c d ≡ true
-  ends : more ≡ []
+pub record Long (c d : ℕ) (more : List ℕ) : Type 0 where
+  pub is_long : is_long_delimiter c d ≡ true
+  pub ends : more ≡ []
 
-is_long : (t : Lexeme) (c d : ℕ) (more : List ℕ) → IsDelimiter (c ∷ d ∷ more) t → Long c d more
+pub is_long : (t : Lexeme) (c d : ℕ) (more : List ℕ) → IsDelimiter (c ∷ d ∷ more) t → Long c d more
 is_long (Name text) c d more h = absurd h
 is_long (Digits text) c d more h = absurd h
 is_long (Reserved w) c d more h = absurd h

@@ -12,9 +12,9 @@ use Rattle.bw_model.specs.Keyword.{keyword_of}
 use Rattle.bw_model.specs.Number.{are_digits}
 use Rattle.bw_model.specs.Text.{begins_word, goes_on_in_word, is_word}
 use Rattle.bw_sql.specs.declared.token.Mark.TheVariants.{Open, Close, Comma, Star, Semicolon, Plus, Minus}
-use Rattle.bw_sql.specs.Piece.{Piece, Gap, Token, IsPiece, IsDelimiter, IsLongest, IsLongestDelimiter, BeginsNoPiece, BeginsNoDelimiter, is_blank, is_in_comment, begins_comment}
+use Rattle.bw_sql.specs.Piece.{Piece, Gap, Token, IsPiece, IsDelimiter, IsLongest, IsLongestDelimiter, BeginsNoPiece, BeginsNoDelimiter, is_blank, is_in_comment, is_long_delimiter, begins_comment}
 use Rattle.bw_sql.specs.Token.{Lexeme, Name, Digits, Reserved, Compare, Punct, word_lexeme, lexeme_or_name}
-use Rattle.bw_sql.proofs.Delimiters.{no_empty_delimiter}
+use Rattle.bw_sql.proofs.Delimiters.{is_long, no_empty_delimiter}
 
 -- all of what passes from the front on passes
 pub all_run : (p : ℕ → Bool) (xs : List ℕ) → list_all p (take_while p xs) ≡ true
@@ -151,22 +151,8 @@ digits_go c d tail (delimiter t h) = absurd (both_ways (is_ascii_digit c) (other
 
 -- what goes on behind a dash
 pub dash_delimiter : (t : Lexeme) (c : ℕ) (tail : List ℕ) → c ≡ 45 → IsDelimiter (c ∷ tail) t → tail ≡ []
-dash_delimiter (Name text) c tail is h = absurd h
-dash_delimiter (Digits text) c tail is h = absurd h
-dash_delimiter (Reserved w) c tail is h = absurd h
-dash_delimiter (Compare Eq) c tail is h = let e : c ≡ 61 = cc in absurd (omega arith)
-dash_delimiter (Compare Ne) c tail is h = let e : c ≡ 60 = cc in absurd (omega arith)
-dash_delimiter (Compare Lt) c tail is h = let e : c ≡ 60 = cc in absurd (omega arith)
-dash_delimiter (Compare Gt) c tail is h = let e : c ≡ 62 = cc in absurd (omega arith)
-dash_delimiter (Compare Le) c tail is h = let e : c ≡ 60 = cc in absurd (omega arith)
-dash_delimiter (Compare Ge) c tail is h = let e : c ≡ 62 = cc in absurd (omega arith)
-dash_delimiter (Punct Open) c tail is h = let e : c ≡ 40 = cc in absurd (omega arith)
-dash_delimiter (Punct Close) c tail is h = let e : c ≡ 41 = cc in absurd (omega arith)
-dash_delimiter (Punct Comma) c tail is h = let e : c ≡ 44 = cc in absurd (omega arith)
-dash_delimiter (Punct Star) c tail is h = let e : c ≡ 42 = cc in absurd (omega arith)
-dash_delimiter (Punct Semicolon) c tail is h = let e : c ≡ 59 = cc in absurd (omega arith)
-dash_delimiter (Punct Plus) c tail is h = let e : c ≡ 43 = cc in absurd (omega arith)
-dash_delimiter (Punct Minus) c tail is h = cc
+dash_delimiter t c [] is h = refl
+dash_delimiter t c (d ∷ more) is h = let none : is_long_delimiter 45 d ≡ true = rw is at (is_long t c d more h).is_long in cc
 
 comment_goes : (c : ℕ) → c ≡ 45 → (tail : List ℕ) → Kind c tail → list_all is_in_comment tail ≡ true
 comment_goes c is [] (blank h) = refl
