@@ -1,6 +1,6 @@
 -- The rows that a CSV text spells under columns, or the first fault in it. How bytes are cut into records and fields is
 -- the csv crate's.
-use Rattle.std.specs.Prelude.{◌≡◌, ◌+◌, ◌-◌, ◌^◌, ℕ, ℤ, Bool, true, false, List, [], ◌∷◌, ◌||◌, ◌&&◌, not, ◌==◌, length, Option, Some, None, Result, Ok, Err, IsOkAnd, IsTrue, if◌then◌else◌, codes, int_le, nat_le, nat_lt, slice_index, drop, take}
+use Rattle.std.specs.Prelude.{◌≡◌, ◌+◌, ◌-◌, ℕ, ℤ, Bool, true, false, List, [], ◌∷◌, ◌||◌, ◌&&◌, not, ◌==◌, length, Option, Some, None, Result, Ok, Err, IsOkAnd, IsTrue, if◌then◌else◌, codes, int_le, nat_le, nat_lt, slice_index, drop, take}
 use Rattle.std.specs.List.{prefix_len, suffix_len}
 use Rattle.csv.specs.Reading.{records, strip_bom, default_config}
 use Rattle.bw_model.specs.declared.column.Column.{Column}

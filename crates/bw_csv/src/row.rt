@@ -1,6 +1,7 @@
 //! The row of a record.
-ghost use Rattle.std.specs.Prelude.{◌≡◌, ◌≤◌, ◌+◌, ◌^◌, [], true, false, length, Ok, Err, OnOk, IfOk, IfErr, IsTrue};
+ghost use Rattle.std.specs.Prelude.{◌≡◌, ◌≤◌, ◌+◌, [], true, false, length, Ok, Err, OnOk, IfOk, IfErr, IsTrue};
 ghost use Rattle.csv.specs.Records.{fields_of};
+ghost use Rattle.bw_model.specs.Limits.{most_rows};
 ghost use Rattle.bw_model.specs.Row.{values_of};
 ghost use Rattle.bw_csv.specs.Records.{IsOpen, coming};
 ghost use Rattle.bw_csv.specs.Rows.{is_aside, is_heading, row_of_record, rows_behind, rows_from, with_row, values_of_fields, GivesButAside, IsRowsFault, stands_at};
@@ -57,7 +58,7 @@ pub(crate) fn read_row(
 ) -> Result<bool, Fault>
     requires { IsOpen records.old }
     ensures some { IfOk result (λ found. found ≡ true → rows_from columns.now number (coming records.old) ≡ with_row (values_of row.new) (rows_from columns.now (number + 1) (coming records.new))) }
-    ensures open { IfOk result (λ found. found ≡ true → IsOpen records.new × (number ≤ 2 ^ 24) × (length (values_of row.new) ≡ length columns.now)) }
+    ensures open { IfOk result (λ found. found ≡ true → IsOpen records.new × (number ≤ most_rows) × (length (values_of row.new) ≡ length columns.now)) }
     ensures none { IfOk result (λ found. found ≡ false → rows_from columns.now number (coming records.old) ≡ Ok []) }
     ensures row { IfErr result (λ fault. is_aside fault ≡ false → rows_from columns.now number (coming records.old) ≡ Err fault) }
     ensures fault { IfErr result IsRowsFault }
@@ -80,7 +81,7 @@ fn read_record(
 ) -> Result<(), Fault>
     ensures row { OnOk result (row_of_record number columns.now (fields_of fields.now) ≡ Ok (values_of row.new)) }
     ensures first { IfErr result (λ fault. is_aside fault ≡ false → row_of_record number columns.now (fields_of fields.now) ≡ Err fault) }
-    ensures within { OnOk result (number ≤ 2 ^ 24) }
+    ensures within { OnOk result (number ≤ most_rows) }
     ensures fault { IfErr result IsRowsFault }
     ensures place { IfErr result (λ fault. IsTrue (stands_at number fault)) }
 {

@@ -4,11 +4,12 @@
 //! after it is a row. Spaces and tabs at both ends of a field are dropped; what is then empty, or `NULL` in
 //! any case, is null, and anything else must be a sign or none and one digit or more. How the bytes are cut
 //! into records and fields is the `csv` crate's, which drops one byte order mark at the start.
-ghost use Rattle.std.specs.Prelude.{◌≡◌, ◌+◌, ◌<◌, ◌^◌, ℕ, List, [], ◌∷◌, ◌++◌, length, OnOk, IfOk, IfErr, IsTrue, vec_len};
+ghost use Rattle.std.specs.Prelude.{◌≡◌, ◌+◌, ◌<◌, ℕ, List, [], ◌∷◌, ◌++◌, length, OnOk, IfOk, IfErr, IsTrue, vec_len};
 ghost use Rattle.std.specs.List.{list_all};
 ghost use Rattle.bw_model.specs.Column.{admits_values};
 ghost use Rattle.bw_model.specs.declared.column.Column.{Column};
 ghost use Rattle.bw_model.specs.Fault.{no_memory};
+ghost use Rattle.bw_model.specs.Limits.{most_rows};
 ghost use Rattle.bw_model.specs.Row.{Value, values_of};
 ghost use Rattle.bw_csv.specs.Records.{IsOpen, coming};
 ghost use Rattle.bw_csv.specs.Rows.{rows_of, rows_from, Hands, IsRowsFault, stands_at, stands_behind};
@@ -35,7 +36,7 @@ pub trait RowTaker {
     /// Takes the next row. An `Err`, which is want of memory, ends the reading.
     fn take(&mut self, row: &Row) -> Result<(), Fault>
         requires wide { length (values_of row.now) ≡ width self.old }
-        requires room { rows self.old < 2 ^ 24 }
+        requires room { rows self.old < most_rows }
         ensures width { OnOk result (width self.new ≡ width self.old) }
         ensures rows { OnOk result (rows self.new ≡ rows self.old + 1) }
         ensures led { OnOk result ((start : Self) → (before : List (List Value)) → led start before self.old

@@ -1,5 +1,6 @@
 //! The total of rows that come one at a time, or as a list.
-ghost use Rattle.std.specs.Prelude.{◌≡◌, ◌+◌, ◌<◌, ◌≤◌, ◌^◌, List, [], ◌∷◌, ◌++◌, length, map, All, IsTrue};
+ghost use Rattle.std.specs.Prelude.{◌≡◌, ◌+◌, ◌<◌, ◌≤◌, List, [], ◌∷◌, ◌++◌, length, map, All, IsTrue};
+ghost use Rattle.bw_model.specs.Limits.{most_rows};
 ghost use Rattle.bw_model.specs.Row.{Value, values_of};
 ghost use Rattle.bw_model.specs.Total.{total, is_aggregate, item_within};
 ghost use Rattle.bw_rowwise.specs.Accumulator.{tally_of, tally_with};
@@ -17,14 +18,15 @@ pub struct Accumulator {
 }
 
 impl Model for Accumulator {
-    ghost use Rattle.std.specs.Prelude.{◌≤◌, ◌^◌};
+    ghost use Rattle.std.specs.Prelude.{◌≤◌};
+    ghost use Rattle.bw_model.specs.Limits.{most_rows};
     ghost use Rattle.bw_rowwise.specs.Accumulator.{Tally, IsTotalOfRows};
 
     ghost Value = { Tally };
 
     ghost view = { λ a. record { item = a.item; count = a.rows; answer = a.total } };
 
-    ghost invariant = { λ a. (a.rows ≤ 2 ^ 24) × IsTotalOfRows a.rows a.total };
+    ghost invariant = { λ a. (a.rows ≤ most_rows) × IsTotalOfRows a.rows a.total };
 
     ghost inverse = { λ t. record { item = t.item; rows = t.count; total = t.answer } };
 }
@@ -48,7 +50,7 @@ impl Accumulator {
 
     /// Adds a row to those so far. It has the aggregate's column.
     pub fn add(&mut self, row: &Row)
-        requires room { self.old.count < 2 ^ 24 }
+        requires room { self.old.count < most_rows }
         requires column { IsTrue (item_within (length (values_of row.now)) self.old.item) }
         ensures step { self.new ≡ tally_with self.old (values_of row.now) }
         ensures total { (rows : List (List Value)) → self.old ≡ tally_of self.old.item rows
@@ -73,7 +75,7 @@ impl Accumulator {
 pub fn aggregate(item: &Item, rows: &[Row]) -> Option<i128>
     requires aggregate { IsTrue (is_aggregate item.now) }
     requires columns { All (λ row. IsTrue (item_within (length (values_of row)) item.now)) rows.now }
-    requires count { length rows.now ≤ 2 ^ 24 }
+    requires count { length rows.now ≤ most_rows }
     ensures { result ≡ total item.now (map values_of rows.now) }
 {
     let mut accumulator = Accumulator::new(*item);

@@ -1,6 +1,7 @@
 //! A total, and what one more row makes of it. A null counts for nothing.
-ghost use Rattle.std.specs.Prelude.{◌≡◌, ◌+◌, ◌<◌, ◌^◌, ◌+ℤ◌, ℕ, pos, Some, FitsSigned, IsTrue, length};
+ghost use Rattle.std.specs.Prelude.{◌≡◌, ◌+◌, ◌<◌, ◌+ℤ◌, ℕ, pos, Some, FitsSigned, IsTrue, length};
 ghost use Rattle.std.specs.Int.{w64};
+ghost use Rattle.bw_model.specs.Limits.{most_rows};
 ghost use Rattle.bw_model.specs.Row.{values_of};
 ghost use Rattle.bw_model.specs.Total.{item_within};
 ghost use Rattle.bw_rowwise.specs.Accumulator.{answer_with, added_by, of_both, IsTotalOfRows};
@@ -11,7 +12,7 @@ use bw_model::{Item, Row, Value};
 /// aggregate's column.
 #[tactic(auto, using(crate::proofs::TotalLemmas::small_one, crate::proofs::TotalLemmas::small_more))]
 pub fn answer_with(item: Item, answer: Option<i128>, row: &Row) -> Option<i128>
-    requires few { IsTotalOfRows (2 ^ 24) answer }
+    requires few { IsTotalOfRows most_rows answer }
     requires column { IsTrue (item_within (length (values_of row.now)) item) }
     ensures value { result ≡ answer_with item answer (values_of row.now) }
     ensures small { (rows : ℕ) → IsTotalOfRows rows answer → IsTotalOfRows (rows + 1) result }
@@ -38,7 +39,7 @@ fn added_by(item: Item, row: &Row) -> Value
 
 /// What an aggregate makes of its total and one more number.
 fn of_both(item: Item, total: i128, n: i64) -> i128
-    requires { IsTotalOfRows (2 ^ 24) (Some total) }
+    requires { IsTotalOfRows most_rows (Some total) }
     ensures value { result ≡ of_both item total n }
     ensures fits { FitsSigned w64 n }
     ensures small { (rows : ℕ) → IsTotalOfRows rows (Some total)
@@ -53,7 +54,7 @@ fn of_both(item: Item, total: i128, n: i64) -> i128
 
 /// The sum of two numbers.
 fn plus(sum: i128, n: i64) -> i128
-    requires { IsTotalOfRows (2 ^ 24) (Some sum) }
+    requires { IsTotalOfRows most_rows (Some sum) }
     ensures sum { result ≡ sum +ℤ n }
     ensures fits { FitsSigned w64 n }
 {

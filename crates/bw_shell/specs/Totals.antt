@@ -1,5 +1,6 @@
 -- Totals that rows are added to.
-use Rattle.std.specs.Prelude.{ℕ, ◌^◌, Bool, ◌&&◌, nat_le, nat_lt}
+use Rattle.std.specs.Prelude.{ℕ, Bool, ◌&&◌, nat_le, nat_lt}
+use Rattle.bw_model.specs.Limits.{most_rows}
 use Rattle.bw_model.specs.Total.{item_within}
 use Rattle.bw_rowwise.specs.Accumulator.{Tally}
 
@@ -9,4 +10,4 @@ is_of width rows tally = item_within width tally.item && nat_le tally.count rows
 
 -- the total can take one more row of so many values
 abbrev pub has_room : ℕ → Tally → Bool
-has_room width tally = item_within width tally.item && nat_lt tally.count (2 ^ 24)
+has_room width tally = item_within width tally.item && nat_lt tally.count most_rows

@@ -1,5 +1,5 @@
 -- A record's fault is that of the rows from it on.
-use Rattle.std.proofs.Common.{◌∙◌, ap, ℕ}
+use Rattle.std.proofs.Common.{◌∙◌, ap}
 use Rattle.std.proofs.lemmas.Result.{err_from_is_err_and}
 use Rattle.bw_csv.specs.Rows.{rows_from}
 use Rattle.bw_csv.proofs.RowLemmas.{rows_from-fault}
