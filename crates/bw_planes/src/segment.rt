@@ -12,8 +12,8 @@ use bw_segment::{Segment, Shape};
 use std::rc::Rc;
 
 /// A segment kept as bit planes. They are kept as bytes, in the order of the variables, 64 bytes a plane:
-/// bit i mod 8, the least first, of byte i / 8 is row i's, and 0 past the last row. That is the text of a table
-/// file's segment, so that a reader can fill `bytes` from a file, judge them, and then has the segment.
+/// bit i mod 8, the least first, of byte i / 8 is row i's, and 0 past the last row. The fields
+/// are public so that a reader of such bytes can judge them, and then has the segment.
 #[derive(Drop)]
 pub struct PlaneSegment {
     pub shape: Rc<Shape>,

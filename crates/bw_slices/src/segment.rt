@@ -12,8 +12,8 @@ use std::rc::Rc;
 
 /// A segment kept as byte slices. A column's block has its null plane, if it is nullable, in 64 bytes, of which bit
 /// i mod 8, the least first, of byte i / 8 is row i's, and then its slices from the most significant down, 512 bytes
-/// a slice, byte i being row i's; past the last row all is 0. That is the text of a table file's segment, so that
-/// a reader can fill `bytes` from a file, judge them, and then has the segment.
+/// a slice, byte i being row i's; past the last row all is 0. The fields are public so that a
+/// reader of such bytes can judge them, and then has the segment.
 #[derive(Drop)]
 pub struct SliceSegment {
     pub shape: Rc<Shape>,
