@@ -13,7 +13,7 @@ mod steps;
 use crate::chain::{Chain, ChainLine};
 use crate::node::{self, Node};
 use crate::product::{Connective, Product, Reason};
-use bw_model::{Fault, Schema};
+use bw_model::{Fault, Schema, code};
 pub use laws::{accepted_lines_are_true, later_nodes_change_no_value, whole_columns_are_spelled};
 use std::alloc::Global;
 use std::marker::Model;
@@ -26,15 +26,6 @@ const MAX_CHAINS: usize = 65_536;
 
 /// How many product rows a diagram has at most.
 const MAX_PRODUCTS: usize = 1_048_576;
-
-/// The numbers of the faults.
-const NODE_RULE: u16 = 601;
-
-const ROW_RULE: u16 = 602;
-
-const CHAIN_RULE: u16 = 603;
-
-const TOO_MANY_LINES: u16 = 604;
 
 /// Nodes, chains and product rows over the variables of a schema, each added by the rule of its line, so
 /// that each is true of every assignment. It is seen as what it holds.
@@ -124,14 +115,14 @@ impl<'a> Diagram<'a> {
         ensures { result ≡ judged_node self.now n (record { v = v; low = low; high = high }) }
     {
         if self.nodes.len() >= MAX_NODES {
-            return Err(Fault::new(TOO_MANY_LINES));
+            return Err(Fault::new(code::LIMIT));
         }
         if n != self.nodes.len() as u64 + 2
             || v >= u64::from(self.variables)
             || low >= n
             || high >= n
         {
-            return Err(Fault::new(NODE_RULE));
+            return Err(Fault::new(code::NODE));
         }
         Ok(Node {
             v: v as u32,
@@ -146,11 +137,11 @@ impl<'a> Diagram<'a> {
         ensures { result ≡ judged_chain self.now n (chain_named self.now.columns line.entry) }
     {
         if self.chains.len() >= MAX_CHAINS {
-            return Err(Fault::new(TOO_MANY_LINES));
+            return Err(Fault::new(code::LIMIT));
         }
         match self.in_range(line) {
             Some(chain) if n == self.chains.len() as u64 && self.is_step(chain) => Ok(chain),
-            _ => Err(Fault::new(CHAIN_RULE)),
+            _ => Err(Fault::new(code::CHAIN_ROW)),
         }
     }
 
@@ -168,11 +159,11 @@ impl<'a> Diagram<'a> {
         ensures { result ≡ judged_row self.now n (record { op = op; a = a; b = b; c = c }) reason }
     {
         if self.rows.len() >= MAX_PRODUCTS {
-            return Err(Fault::new(TOO_MANY_LINES));
+            return Err(Fault::new(code::LIMIT));
         }
         let next = 2 + self.nodes.len() as u64;
         if n != self.rows.len() as u64 || a >= next || b >= next || c >= next {
-            return Err(Fault::new(ROW_RULE));
+            return Err(Fault::new(code::PRODUCT_ROW));
         }
         let row = Product {
             op,
@@ -181,7 +172,7 @@ impl<'a> Diagram<'a> {
             c: c as u32,
         };
         if !row.follows(self.variables, &self.nodes, &self.rows, reason) {
-            return Err(Fault::new(ROW_RULE));
+            return Err(Fault::new(code::PRODUCT_ROW));
         }
         Ok(row)
     }

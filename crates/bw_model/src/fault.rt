@@ -6,8 +6,8 @@ use std::alloc::{AllocError, AllocFailed};
 use std::fmt;
 use thiserror::Error;
 
-/// The numbers of the faults. The hundreds tell the part: 1 the schema, 2 the CSV, 4 the statement, 5 the program,
-/// 7 a device, 8 memory.
+/// The numbers of the faults. The hundreds tell the part: 1 the schema, 2 the CSV, 3 the table file, 4 the statement,
+/// 5 the program, 6 its certificate, 7 a device, 8 memory.
 pub mod code {
     pub const SCHEMA_FORM: u16 = 101;
 
@@ -39,6 +39,26 @@ pub mod code {
 
     pub const CSV_FAULT: u16 = 209;
 
+    pub const MAGIC: u16 = 301;
+
+    pub const VERSION: u16 = 302;
+
+    pub const LAYOUT: u16 = 303;
+
+    pub const HEADER: u16 = 304;
+
+    pub const TRUNCATED: u16 = 305;
+
+    pub const CODE_TOO_LARGE: u16 = 306;
+
+    pub const NULL_WITH_CODE: u16 = 307;
+
+    pub const PADDING: u16 = 308;
+
+    pub const BYTES_AFTER_END: u16 = 309;
+
+    pub const ROW_COUNT: u16 = 310;
+
     pub const CHARACTER: u16 = 401;
 
     pub const SYNTAX: u16 = 402;
@@ -68,6 +88,30 @@ pub mod code {
     pub const NO_RESULT: u16 = 506;
 
     pub const NO_NULLS: u16 = 507;
+
+    pub const PROGRAM_FILE_TOO_LONG: u16 = 508;
+
+    pub const NODE: u16 = 601;
+
+    pub const PRODUCT_ROW: u16 = 602;
+
+    pub const CHAIN_ROW: u16 = 603;
+
+    pub const LIMIT: u16 = 604;
+
+    pub const CERTIFICATE_FORM: u16 = 605;
+
+    pub const CONDITION_LINE: u16 = 606;
+
+    pub const INSTRUCTION_LINE: u16 = 607;
+
+    pub const JOIN: u16 = 608;
+
+    pub const REGISTER_UNKNOWN: u16 = 609;
+
+    pub const END: u16 = 610;
+
+    pub const NO_PROGRAM: u16 = 651;
 
     pub const READ_FAILED: u16 = 701;
 
@@ -185,6 +229,16 @@ const fn text_of(code: u16) -> &'static str {
         code::TOO_MANY_ROWS => "too many rows",
         code::CSV_TOO_LONG => "csv too long",
         code::CSV_FAULT => "csv fault",
+        code::MAGIC => "magic",
+        code::VERSION => "version",
+        code::LAYOUT => "layout",
+        code::HEADER => "header",
+        code::TRUNCATED => "truncated",
+        code::CODE_TOO_LARGE => "code too large",
+        code::NULL_WITH_CODE => "null with a code",
+        code::PADDING => "padding",
+        code::BYTES_AFTER_END => "bytes after the end",
+        code::ROW_COUNT => "row count",
         code::CHARACTER => "character",
         code::SYNTAX => "syntax",
         code::UNKNOWN_TABLE => "unknown table",
@@ -200,6 +254,18 @@ const fn text_of(code: u16) -> &'static str {
         code::PROGRAM_TOO_LONG => "program too long",
         code::NO_RESULT => "no result",
         code::NO_NULLS => "column has no nulls",
+        code::PROGRAM_FILE_TOO_LONG => "program file too long",
+        code::NODE => "node",
+        code::PRODUCT_ROW => "product row",
+        code::CHAIN_ROW => "chain row",
+        code::LIMIT => "limit",
+        code::CERTIFICATE_FORM => "line form",
+        code::CONDITION_LINE => "condition line",
+        code::INSTRUCTION_LINE => "instruction line",
+        code::JOIN => "join",
+        code::REGISTER_UNKNOWN => "register unknown",
+        code::END => "end",
+        code::NO_PROGRAM => "no program within the limits",
         code::READ_FAILED => "read failed",
         code::WRITE_FAILED => "write failed",
         code::OUT_OF_MEMORY => "out of memory",
