@@ -13,8 +13,7 @@ use Rattle.bw_file.specs.Sink.{is_write_fault, TookPart, GoesOut, Went}
 use Rattle.bw_file.specs.Source.{Came}
 use Rattle.bw_sql.specs.Refusal.{is_statement_fault, IsStatementFault}
 use Rattle.bw_sql.specs.Statement.{IsReadAs, Parses}
-use Rattle.bw_shell.specs.Answer.{answer_of}
-use Rattle.bw_shell.specs.Direct.{IsSchemaFrom, SchemaTold, CsvTold, IsAnswer, csv_from, answer_from}
+use Rattle.bw_shell.specs.Direct.{IsSchemaFrom, SchemaTold, CsvTold, IsAnswer, answer_of, csv_from, answer_from}
 
 -- what came of a source, and the text of an answer, or a fault
 abbrev Arrival : Type 0

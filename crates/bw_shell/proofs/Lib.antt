@@ -1,9 +1,4 @@
-pub mod AnswerLemmas
 pub mod DirectExits
 pub mod Directs
-pub mod PlainFields
-pub mod PlainNames
-pub mod Rows
 pub mod TakenBytes
 pub mod Texts
-pub mod TotalsLemmas

@@ -7,7 +7,10 @@ use Rattle.bw_model.specs.declared.schema.Schema.{Schema}
 use Rattle.bw_model.specs.Fault.{nowhere, no_memory, is_memory, ◌>>=◌}
 use Rattle.bw_model.specs.SchemaText.{schema_of, schema_shape, IsSchemaText}
 use Rattle.bw_sql.specs.Statement.{IsReadAs}
-use Rattle.bw_shell.specs.Answer.{answer_of}
+use Rattle.bw_model.specs.declared.column.Column.{Column}
+use Rattle.bw_model.specs.Column.{names_of}
+use Rattle.bw_csv.specs.Rows.{rows_of}
+use Rattle.bw_answer.specs.Answer.{csv_text, meaning}
 
 -- the schema that what came spells, or the fault: a failed read, a text past the limit, or the text's first fault
 abbrev pub IsSchemaFrom : Result (Option (List ℕ)) Fault → Result Schema Fault → Type 0
@@ -35,6 +38,10 @@ CsvTold came (Err fault) = MatchBool (is_memory fault) (came ≡ Err no_memory) 
 -- a fault of a schema text or of a statement, which is answered before the CSV is read
 abbrev pub is_before_csv : Fault → Bool
 is_before_csv fault = (nat_le 101 fault.code && nat_le fault.code 106) || (nat_le 401 fault.code && nat_le fault.code 408)
+
+-- the text of the answer to a query over the rows that a CSV text spells, or the first fault in that text
+abbrev pub answer_of : List Column → Query → List ℕ → Result (List ℕ) Fault
+answer_of columns query csv = rows_of columns csv >>= λ rows. Ok (csv_text (meaning (names_of columns) query rows))
 
 -- the text of the answer to a statement that was read, or the first fault behind it
 abbrev pub answer_from : Schema → Result Query Fault → Result (Option (List ℕ)) Fault → Result (List ℕ) Fault

@@ -1,18 +1,23 @@
 //! A query answered straight from a CSV text.
-ghost use Rattle.std.specs.Prelude.{◌≡◌, ◌+◌, ◌-◌, ◌^◌, ◌<◌, ℕ, List, Option, Result, false, IfErr, IsTrue, OnOk};
+ghost use Rattle.std.specs.Prelude.{◌≡◌, ◌+◌, ◌-◌, ◌^◌, ◌<◌, ◌≤◌, ℕ, List, Option, Result, false, length, vec_len, IfErr, IsTrue, OnOk};
+ghost use Rattle.std.specs.List.{list_all};
 ghost use Rattle.bw_model.specs.declared.fault.Fault.{Fault};
 ghost use Rattle.bw_file.specs.Sink.{is_write_fault, Went};
 ghost use Rattle.bw_model.specs.Fault.{nowhere};
 ghost use Rattle.bw_model.specs.Limits.{longest_schema, longest_csv};
 ghost use Rattle.bw_file.specs.Source.{Came, TookAtMost, EndsWith};
-ghost use Rattle.bw_csv.specs.Rows.{is_aside};
-ghost use Rattle.bw_shell.specs.Direct.{IsAnswer, SchemaTold, CsvTold, is_before_csv};
+ghost use Rattle.bw_model.specs.Cond.{names_within};
+ghost use Rattle.bw_model.specs.Total.{item_within};
+ghost use Rattle.bw_sql.specs.Items.{AreOfOneKind};
+ghost use Rattle.bw_csv.specs.Rows.{is_aside, GivesButAside, IsRowsFault};
+ghost use Rattle.bw_shell.specs.Direct.{IsAnswer, answer_of, SchemaTold, CsvTold, is_before_csv};
 
-use crate::answer::answer_text;
 use crate::input::{Input, read_limited};
 use crate::output::write_whole;
+use bw_answer::Answer;
+use bw_csv::read_rows;
 use bw_file::{Sink, Source};
-use bw_model::{Fault, MAX_SCHEMA_LEN, Schema, code};
+use bw_model::{Fault, MAX_SCHEMA_LEN, Query, Schema, code};
 use bw_sql::parse;
 use std::alloc::Global;
 
@@ -100,4 +105,18 @@ fn read_csv<C: Source>(alloc: Global, source: &mut C) -> Result<Vec<u8>, Fault>
         Input::Whole(text) => Ok(text),
         Input::Over => Err(Fault::new(code::CSV_TOO_LONG)),
     }
+}
+
+/// The text of the answer over the rows of a CSV text. Refuses as [`read_rows`] does.
+fn answer_text(alloc: Global, schema: &Schema, query: &Query, csv: &[u8]) -> Result<Vec<u8>, Fault>
+    requires names { IsTrue (names_within (vec_len schema.now.columns) query.now.cond) }
+    requires items { IsTrue (list_all (item_within (vec_len schema.now.columns)) query.now.items.items) }
+    requires some { 1 ≤ length query.now.items.items }
+    requires kinds { AreOfOneKind query.now.items.items }
+    ensures text { GivesButAside (λ text. text.items) result (answer_of schema.now.columns.items query.now csv.now) }
+    ensures fault { IfErr result IsRowsFault }
+{
+    let mut answer = Answer::new(alloc, schema, query)?;
+    read_rows(alloc, schema, csv, &mut answer)?;
+    answer.into_text()
 }

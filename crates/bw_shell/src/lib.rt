@@ -7,15 +7,10 @@
 //! Read `input.rt` first, and then `specs/Source.antt` and `specs/Sink.antt` of `bw_file`.
 #![tactic(auto)]
 
-mod answer;
-mod csv_text;
 mod direct_call;
 mod input;
-mod kept;
-mod listing;
 mod output;
 mod reports;
-mod totals;
 
 pub use direct_call::{MAX_CSV_LEN, direct};
 pub use input::{Input, read_limited};

@@ -1,0 +1,102 @@
+-- The text of an answer.
+use Rattle.std.proofs.Common.{◌≡◌, ◌∙◌, ℕ, Bool, true, false, List, [], ◌∷◌, ◌++◌, refl, sym, ap, map, filter, length}
+use Rattle.std.proofs.lemmas.List.{append-nil, length-map}
+use Rattle.std.specs.List.{list_all}
+use Rattle.bw_model.specs.declared.query.Item.{Item}
+use Rattle.bw_model.specs.declared.query.Item.TheVariants.{Plain, CountAll, Count, Sum, Min, Max}
+use Rattle.bw_model.specs.declared.query.Query.{Query}
+use Rattle.bw_model.specs.Row.{Value}
+use Rattle.bw_model.specs.Total.{is_aggregate, total}
+use Rattle.bw_rowwise.specs.Accumulator.{Tally, tally_of}
+use Rattle.bw_sql.specs.Items.{AreOfOneKind}
+use Rattle.bw_model.specs.Selection.{kept}
+use Rattle.bw_answer.specs.Answer.{csv_text, heading_of, listed, lists_rows, meaning, record_text, value_text, totalled}
+use Rattle.bw_answer.specs.AreOver.{text_over}
+use Rattle.bw_answer.proofs.Rows.{listed_more}
+use Rattle.bw_answer.proofs.TotalsLemmas.{both}
+
+one_record : (fields : List (List ℕ)) → csv_text (fields ∷ []) ≡ record_text fields
+unfolding csv_text
+one_record fields = append-nil (record_text fields)
+
+-- the heading's record and then those of the rows
+pub meaning_with_rows : (names : List (List ℕ)) (query : Query) (rows : List (List Value)) → lists_rows query.items.items ≡ true
+    → csv_text (meaning names query rows) ≡ text_over names query rows
+unfolding csv_text meaning
+meaning_with_rows names query rows e = rw e refl
+
+-- the heading's record and then that of the totals
+totals_behind : (names : List (List ℕ)) (query : Query) (rows : List (List Value)) → lists_rows query.items.items ≡ false
+    → csv_text (meaning names query rows) ≡ record_text (map (heading_of names) query.items.items) ++ csv_text (totalled query rows ∷ [])
+unfolding csv_text meaning
+totals_behind names query rows e = rw e refl
+
+pub meaning_with_totals : (names : List (List ℕ)) (query : Query) (rows : List (List Value)) → lists_rows query.items.items ≡ false
+    → csv_text (meaning names query rows) ≡ text_over names query rows ++ record_text (totalled query rows)
+meaning_with_totals names query rows e =
+    totals_behind names query rows e
+    ∙ ap (λ (l : List ℕ). record_text (map (heading_of names) query.items.items) ++ l) (one_record (totalled query rows))
+    ∙ ap (λ (l : List ℕ). l ++ record_text (totalled query rows)) (sym (heading_alone names query rows e))
+  where
+    heading_alone : (names : List (List ℕ)) (query : Query) (rows : List (List Value)) → lists_rows query.items.items ≡ false
+        → text_over names query rows ≡ record_text (map (heading_of names) query.items.items)
+    heading_alone names query rows e = rw e (append-nil (record_text (map (heading_of names) query.items.items)))
+
+-- one more row that is listed
+pub text_over_more : (names : List (List ℕ)) (query : Query) (before : List (List Value)) (row : List Value) → lists_rows query.items.items ≡ true
+    → text_over names query before ++ csv_text (listed query (row ∷ [])) ≡ text_over names query (before ++ row ∷ [])
+text_over_more names query before row e =
+    rw e (listed_more query before row (record_text (map (heading_of names) query.items.items)))
+
+-- rows that are totalled add nothing to the text
+pub text_over_same : (names : List (List ℕ)) (query : Query) (before rows : List (List Value)) → lists_rows query.items.items ≡ false
+    → text_over names query before ≡ text_over names query rows
+text_over_same names query before rows e = rw e refl
+
+-- items that don't list rows are aggregates
+pub aggregates : (items : List Item) → AreOfOneKind items → lists_rows items ≡ false → list_all is_aggregate items ≡ true
+aggregates items (false, kind) e = kind
+aggregates [] (true, kind) e = refl
+aggregates (Plain column ∷ items) (true, kind) e = absurd (cc e)
+aggregates (CountAll ∷ items) (true, kind) e = absurd (cc kind)
+aggregates (Count column ∷ items) (true, kind) e = absurd (cc kind)
+aggregates (Sum column ∷ items) (true, kind) e = absurd (cc kind)
+aggregates (Min column ∷ items) (true, kind) e = absurd (cc kind)
+aggregates (Max column ∷ items) (true, kind) e = absurd (cc kind)
+
+-- the totals of aggregates
+pub all_aggregates : (items : List Item) → list_all is_aggregate items ≡ true → filter is_aggregate items ≡ items
+all_aggregates [] e = refl
+all_aggregates (item ∷ items) e = let parts = both (is_aggregate item) (list_all is_aggregate items) e in rw (parts.0, all_aggregates items parts.1) refl
+
+-- the record of totals over the rows that are kept
+spelled_totals : (items : List Item) (rows : List (List Value)) → map (λ (tally : Tally). value_text tally.answer) (map (λ item. tally_of item rows) items) ≡ map (λ item. value_text (total item rows)) items
+spelled_totals [] rows = refl
+spelled_totals (item ∷ items) rows = ap (λ (l : List (List ℕ)). value_text (total item rows) ∷ l) (spelled_totals items rows)
+
+pub totals_fields : (query : Query) (tallies : List Tally) (rows : List (List Value)) → list_all is_aggregate query.items.items ≡ true
+    → tallies ≡ map (λ item. tally_of item (kept query.cond rows)) (filter is_aggregate query.items.items)
+    → map (λ (tally : Tally). value_text tally.answer) tallies ≡ totalled query rows
+totals_fields query tallies rows all is =
+    let those : tallies ≡ map (λ item. tally_of item (kept query.cond rows)) query.items.items =
+    is ∙ ap (λ (items : List Item). map (λ item. tally_of item (kept query.cond rows)) items) (all_aggregates query.items.items all) in
+    ap (map (λ (tally : Tally). value_text tally.answer)) those ∙ spelled_totals query.items.items (kept query.cond rows)
+
+-- there are as many totals as items
+pub totals_count : (items : List Item) (tallies : List Tally) (rows : List (List Value)) → list_all is_aggregate items ≡ true
+    → tallies ≡ map (λ item. tally_of item rows) (filter is_aggregate items) → length tallies ≡ length items
+totals_count items tallies rows all is =
+    ap length is ∙ length-map (filter is_aggregate items) (λ item. tally_of item rows) ∙ ap length (all_aggregates items all)
+
+-- over no rows there is the heading alone
+nothing_listed : (query : Query) → csv_text (listed query []) ≡ []
+unfolding csv_text
+nothing_listed query = refl
+
+heading_first_by : (names : List (List ℕ)) (query : Query) (b : Bool) → lists_rows query.items.items ≡ b
+    → record_text (map (heading_of names) query.items.items) ≡ text_over names query []
+heading_first_by names query true e = rw (e, nothing_listed query) (sym (append-nil (record_text (map (heading_of names) query.items.items))))
+heading_first_by names query false e = rw e (sym (append-nil (record_text (map (heading_of names) query.items.items))))
+
+pub heading_first : (names : List (List ℕ)) (query : Query) → record_text (map (heading_of names) query.items.items) ≡ text_over names query []
+heading_first names query = heading_first_by names query (lists_rows query.items.items) refl

@@ -1,0 +1,5 @@
+pub mod AnswerLemmas
+pub mod PlainFields
+pub mod PlainNames
+pub mod Rows
+pub mod TotalsLemmas

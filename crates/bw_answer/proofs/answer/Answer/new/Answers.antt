@@ -1,0 +1,38 @@
+-- An answer over no rows.
+use Rattle.std.proofs.Common.{◌≡◌, ◌∙◌, sym, ap, subst, List, [], ℕ, refl, true}
+use Rattle.std.specs.List.{list_all}
+use Rattle.bw_model.specs.declared.query.Item.{Item}
+use Rattle.bw_model.specs.Total.{item_within}
+use Rattle.bw_model.specs.Column.{names_of}
+use Rattle.bw_answer.specs.Answer.{lists_rows}
+use Rattle.bw_answer.specs.Draft.{Holds}
+use Rattle.bw_answer.proofs.AnswerLemmas.{aggregates, heading_first}
+use Rattle.bw_answer.proofs.TotalsLemmas.{is_of-new}
+use Rattle.bw_answer.proofs.answer.Answer.new.Goals as goal
+
+pub invariant_of-result-clause-totalling : goal.invariant_of-result-clause-totalling
+invariant_of-result-clause-totalling c = λ e. aggregates c.args.query.now.items.items c.requires.kinds (ap lists_rows (sym c.deref-3.ensures.value) ∙ sym c.lists_rows.ensures ∙ e)
+
+-- each item is within so many columns
+within : (width columns : ℕ) (items : List Item) → width ≡ columns → list_all (item_within columns) items ≡ true → list_all (item_within width) items ≡ true
+within width columns items same = subst (λ (n : ℕ). list_all (item_within n) items ≡ true) (sym same)
+
+pub invariant_of-result-clause-items : goal.invariant_of-result-clause-items
+invariant_of-result-clause-items c = within _ _ c.args.query.now.items.items c.len.ensures c.requires.items
+
+pub invariant_of-result-clause-room : goal.invariant_of-result-clause-room
+invariant_of-result-clause-room c =
+    rw (c.in_ok-totals_of.ensures.totals, c.deref-4.ensures.value)
+    (is_of-new c.len.result c.args.query.now.items.items (within _ _ c.args.query.now.items.items c.len.ensures c.requires.items))
+
+pub returns-clause-over : goal.returns-clause-over
+returns-clause-over c =
+    let names = names_of c.args.schema.now.columns.items in
+    let query = c.args.query.now in
+    let heading = rw (c.deref.ensures.value, c.deref-2.ensures.value) at (c.in_ok-push_heading.ensures.heading [] c.new-text.ensures) in (
+      refl,
+      record {
+        written = subst (λ (text : List ℕ). Holds c.push_heading.new.text text []) (heading_first names query) heading;
+        totalled = λ e. rw c.deref-4.ensures.value at c.in_ok-totals_of.ensures.totals;
+      },
+    )

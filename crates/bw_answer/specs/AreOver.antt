@@ -1,0 +1,22 @@
+-- The text and the totals of an answer that has taken rows.
+use Rattle.std.specs.Prelude.{◌≡◌, ℕ, false, List, [], ◌++◌, map, filter, if◌then◌else◌}
+use Rattle.bw_model.specs.declared.query.Query.{Query}
+use Rattle.bw_model.specs.Row.{Value}
+use Rattle.bw_model.specs.Selection.{kept}
+use Rattle.bw_model.specs.Total.{is_aggregate}
+use Rattle.bw_rowwise.specs.Accumulator.{Tally, tally_of}
+use Rattle.bw_answer.specs.Answer.{csv_text, heading_of, listed, lists_rows, record_text}
+use Rattle.bw_answer.specs.Draft.{Holds}
+use Rattle.bw_answer.specs.declared.csv_text.CsvText.{CsvText}
+
+-- the heading record of a query over columns of these names, and behind it the records of the rows that are kept, where
+-- the query lists them
+abbrev pub text_over : List (List ℕ) → Query → List (List Value) → List ℕ
+text_over names query rows =
+    record_text (map (heading_of names) query.items.items) ++ (if lists_rows query.items.items then csv_text (listed query rows) else [])
+
+-- a text and totals are those of a query, over a table of columns of these names, of which these rows were taken
+pub record AreOver (names : List (List ℕ)) (query : Query) (rows : List (List Value)) (text : CsvText) (totals : List Tally) : Type 0 where
+  pub written : Holds text (text_over names query rows) []
+  pub totalled : lists_rows query.items.items ≡ false
+      → totals ≡ map (λ item. tally_of item (kept query.cond rows)) (filter is_aggregate query.items.items)

@@ -1,0 +1,15 @@
+-- An answer that has taken rows.
+use Rattle.std.specs.Prelude.{◌≡◌, ℕ, List, ◌++◌}
+use Rattle.bw_model.specs.declared.query.Query.{Query}
+use Rattle.bw_model.specs.Row.{Value}
+use Rattle.bw_answer.specs.AreOver.{AreOver}
+use Rattle.bw_answer.specs.declared.answer.Answer.{Answer}
+
+-- the answer to this query, over a table of columns of these names, has taken these rows
+abbrev pub IsOver : List (List ℕ) → Query → List (List Value) → Answer → Type 0
+IsOver names query rows answer = (answer.query.now ≡ query) × AreOver names query rows answer.text answer.totals.items
+
+-- an answer, whichever rows it had taken, has taken these too
+abbrev pub GoesOver : Answer → List (List Value) → Answer → Type 0
+GoesOver start rows now =
+    (names : List (List ℕ)) (query : Query) (before : List (List Value)) → IsOver names query before start → IsOver names query (before ++ rows) now

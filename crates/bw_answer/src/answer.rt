@@ -1,0 +1,154 @@
+//! The answer to a query over rows that come one at a time, as CSV text.
+ghost use Rattle.std.specs.Prelude.{◌≡◌, ◌≤◌, ◌+◌, ◌++◌, ◌∷◌, List, [], ℕ, false, IsTrue, IfOk, IfErr, OnOk, length, vec_len};
+ghost use Rattle.std.specs.List.{list_all};
+ghost use Rattle.bw_model.specs.Column.{names_of};
+ghost use Rattle.bw_model.specs.Cond.{names_within};
+ghost use Rattle.bw_model.specs.Fault.{no_memory};
+ghost use Rattle.bw_model.specs.Row.{Value, values_of};
+ghost use Rattle.bw_model.specs.Total.{is_aggregate, item_within};
+ghost use Rattle.bw_sql.specs.Items.{AreOfOneKind};
+ghost use Rattle.bw_answer.specs.Answer.{csv_text, lists_rows, meaning};
+ghost use Rattle.bw_answer.specs.AreOver.{AreOver};
+ghost use Rattle.bw_answer.specs.Totals.{is_of, has_room};
+
+use crate::csv_text::CsvText;
+use crate::heading::push_heading;
+use crate::listing::push_kept;
+use crate::totals::{add_kept, push_totals, totals_of};
+use bw_csv::RowTaker;
+use bw_model::{Fault, Item, Query, Row, Schema};
+use bw_rowwise::Accumulator;
+use std::alloc::Global;
+
+/// Takes the rows of a table of so many columns, one after another, and makes the text of the answer to a query: the
+/// heading, and then a record for each row that is kept, or one record of totals over them.
+#[derive(Drop)]
+pub struct Answer<'a> {
+    width: usize,
+    rows: u32,
+    query: &'a Query,
+    /// Whether the query lists rows, and doesn't total them.
+    lists: bool,
+    /// The heading, and then the records of the rows that are kept, where the query lists them.
+    text: CsvText,
+    /// The total of each aggregate, over the rows that are kept.
+    totals: Vec<Accumulator>,
+    ghost names: { IsTrue (names_within width query.now.cond) },
+    ghost items: { IsTrue (list_all (item_within width) query.now.items.items) },
+    ghost some: { 1 ≤ length query.now.items.items },
+    ghost listing: { lists ≡ lists_rows query.now.items.items },
+    ghost totalling: { lists ≡ false → IsTrue (list_all is_aggregate query.now.items.items) },
+    ghost totalled: { lists ≡ false → 1 ≤ vec_len totals },
+    ghost room: { IsTrue (list_all (is_of width rows) totals.items) },
+}
+
+impl<'a> Answer<'a> {
+    ghost use Rattle.bw_answer.specs.Over.{IsOver, GoesOver};
+
+    /// The answer over no rows.
+    ///
+    /// That the query has an item, that its items are all columns or all aggregates, and that the schema has each
+    /// column that it names, is the caller's condition. Refuses as 801 alone.
+    pub fn new(alloc: Global, schema: &Schema, query: &'a Query) -> Result<Self, Fault>
+        requires names { IsTrue (names_within (vec_len schema.now.columns) query.now.cond) }
+        requires items { IsTrue (list_all (item_within (vec_len schema.now.columns)) query.now.items.items) }
+        requires some { 1 ≤ length query.now.items.items }
+        requires kinds { AreOfOneKind query.now.items.items }
+        ensures over { IfOk result (λ answer. IsOver (names_of schema.now.columns.items) query.now [] answer) }
+        ensures starts { IfOk result (λ answer. GoesOver answer [] answer) }
+        ensures width { IfOk result (λ answer. answer.width ≡ vec_len schema.now.columns) }
+        ensures rows { IfOk result (λ answer. answer.rows ≡ 0) }
+        ensures only_memory { IfErr result (λ fault. fault ≡ no_memory) }
+    {
+        let mut text = CsvText::new(alloc);
+        push_heading(alloc, &schema.columns, &query.items, &mut text)?;
+        Ok(Answer {
+            width: schema.columns.len(),
+            rows: 0,
+            query,
+            lists: lists_rows(&query.items),
+            text,
+            totals: totals_of(alloc, &query.items)?,
+        })
+    }
+
+    /// The text of the answer over the rows that were taken. Refuses as 801 alone.
+    pub fn into_text(self) -> Result<Vec<u8>, Fault>
+        ensures text { IfOk result (λ text. (names : List (List ℕ)) → (query : Query) → (rows : List (List Value))
+            → IsOver names query rows self.entry → text.items ≡ csv_text (meaning names query rows)) }
+        ensures only_memory { IfErr result (λ fault. fault ≡ no_memory) }
+    {
+        let Answer {
+            width: _,
+            rows: _,
+            query: _,
+            lists,
+            mut text,
+            totals,
+        } = self;
+        if !lists {
+            push_totals(&mut text, &totals)?;
+        }
+        text.into_bytes()
+    }
+}
+
+impl RowTaker for Answer<'_> {
+    ghost width = { λ answer. answer.width };
+
+    ghost rows = { λ answer. answer.rows };
+
+    ghost use Rattle.bw_answer.specs.Over.{GoesOver};
+
+    ghost led = { GoesOver };
+
+    fn take(&mut self, row: &Row) -> Result<(), Fault> {
+        put_row(
+            &mut self.text,
+            &mut self.totals,
+            self.query,
+            self.lists,
+            row,
+        )?;
+        self.rows += 1;
+        Ok(())
+    }
+}
+
+/// Adds a row to the text or to the totals, if it is kept.
+fn put_row(
+    text: &mut CsvText,
+    totals: &mut [Accumulator],
+    query: &Query,
+    lists: bool,
+    row: &Row,
+) -> Result<(), Fault>
+    requires names { IsTrue (names_within (length (values_of row.now)) query.now.cond) }
+    requires items { IsTrue (list_all (item_within (length (values_of row.now))) query.now.items.items) }
+    requires lists { lists ≡ lists_rows query.now.items.items }
+    requires room { IsTrue (list_all (has_room (length (values_of row.now))) totals.old) }
+    ensures over { OnOk result ((names : List (List ℕ)) → (rows : List (List Value))
+        → AreOver names query.now rows text.old totals.old
+        → AreOver names query.now (rows ++ values_of row.now ∷ []) text.new totals.new) }
+    ensures counts { OnOk result ((rows : ℕ) → IsTrue (list_all (is_of (length (values_of row.now)) rows) totals.old)
+        → IsTrue (list_all (is_of (length (values_of row.now)) (rows + 1)) totals.new)) }
+    ensures left { IfErr result (λ _. totals.new ≡ totals.old) }
+    ensures only_memory { IfErr result (λ fault. fault ≡ no_memory) }
+{
+    if lists {
+        push_kept(text, query, row)?;
+    } else {
+        add_kept(totals, query, row);
+    }
+    Ok(())
+}
+
+/// Whether items ask for rows: the first is a column. Else they ask for totals.
+fn lists_rows(items: &[Item]) -> bool
+    ensures { result ≡ lists_rows items.now }
+{
+    match items {
+        [Item::Plain(_), ..] => true,
+        _ => false,
+    }
+}

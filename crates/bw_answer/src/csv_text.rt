@@ -1,0 +1,104 @@
+//! A CSV text in the making: fields joined by commas, each record ended by a line feed, numbers in decimal and
+//! null as `NULL`.
+ghost use Rattle.std.specs.Prelude.{◌≡◌, ℕ, [], ◌∷◌, ◌++◌, List, IsTrue, OnOk, IfOk, IfErr};
+ghost use Rattle.bw_model.specs.Fault.{no_memory};
+ghost use Rattle.bw_answer.specs.Answer.{record_text, value_text};
+ghost use Rattle.bw_answer.specs.Field.{is_plain};
+ghost use Rattle.bw_answer.specs.Draft.{Drafts, Holds, is_begun};
+
+use bw_model::{Fault, code};
+use csv::{Error, Writer, WriterBuilder};
+use std::alloc::Global;
+
+/// The records so far, and the fields so far of the next one.
+#[derive(Drop)]
+pub struct CsvText {
+    writer: Writer<Vec<u8>>,
+    /// The digits of a number, in the same memory for each.
+    digits: String,
+}
+
+impl CsvText {
+    /// A text without records.
+    pub fn new(alloc: Global) -> Self
+        ensures { Holds result [] [] }
+    {
+        CsvText {
+            writer: WriterBuilder::new()
+                .flexible(true)
+                .from_writer(Vec::new(alloc)),
+            digits: String::new(alloc),
+        }
+    }
+
+    /// Adds a field to the record at hand.
+    pub fn push_field(&mut self, field: &[u8]) -> Result<(), Fault>
+        requires { IsTrue (is_plain field.now) }
+        ensures field { OnOk result ((ended : List ℕ) → (fields : List (List ℕ)) → Holds self.old ended fields
+            → Holds self.new ended (fields ++ field.now ∷ [])) }
+        ensures only_memory { IfErr result (λ fault. fault ≡ no_memory) }
+    {
+        write_field(&mut self.writer, field)
+    }
+
+    /// Adds a number, or null, to the record at hand.
+    #[tactic(auto, using(crate::proofs::PlainFields::plain_numbers), unfolding(crate::specs::Field::is_plain))]
+    pub fn push_number(&mut self, number: Option<i128>) -> Result<(), Fault>
+        ensures field { OnOk result ((ended : List ℕ) → (fields : List (List ℕ)) → Holds self.old ended fields
+            → Holds self.new ended (fields ++ value_text number ∷ [])) }
+        ensures only_memory { IfErr result (λ fault. fault ≡ no_memory) }
+    {
+        match number {
+            None => write_field(&mut self.writer, b"NULL"),
+            Some(n) => {
+                self.digits.clear();
+                write!(self.digits, "{n}")?;
+                write_field(&mut self.writer, self.digits.as_bytes())
+            }
+        }
+    }
+
+    /// Ends the record at hand, which has a field.
+    pub fn end_record(&mut self) -> Result<(), Fault>
+        ensures ended { OnOk result ((ended : List ℕ) → (fields : List (List ℕ)) → IsTrue (is_begun fields)
+            → Holds self.old ended fields → Holds self.new (ended ++ record_text fields) []) }
+        ensures only_memory { IfErr result (λ fault. fault ≡ no_memory) }
+    {
+        match self.writer.end_record() {
+            Ok(()) => Ok(()),
+            Err(error) => Err(refusal(error)),
+        }
+    }
+
+    /// The text of the records.
+    pub fn into_bytes(self) -> Result<Vec<u8>, Fault>
+        ensures text { IfOk result (λ text. (ended : List ℕ) → Holds self ended [] → text.items ≡ ended) }
+        ensures only_memory { IfErr result (λ fault. fault ≡ no_memory) }
+    {
+        let CsvText { writer, digits: _ } = self;
+        match writer.into_inner() {
+            Ok(text) => Ok(text),
+            Err(_) => Err(Fault::new(code::OUT_OF_MEMORY)),
+        }
+    }
+}
+
+/// Adds a field to the record at hand.
+fn write_field(writer: &mut Writer<Vec<u8>>, field: &[u8]) -> Result<(), Fault>
+    requires { IsTrue (is_plain field.now) }
+    ensures field { OnOk result ((ended : List ℕ) → (fields : List (List ℕ)) → Drafts writer.old ended fields
+        → Drafts writer.new ended (fields ++ field.now ∷ [])) }
+    ensures only_memory { IfErr result (λ fault. fault ≡ no_memory) }
+{
+    match writer.write_field(field) {
+        Ok(()) => Ok(()),
+        Err(error) => Err(refusal(error)),
+    }
+}
+
+/// Only memory can fail, since the text is kept in memory and its records may differ in length.
+fn refusal(_error: Error) -> Fault
+    ensures { result ≡ no_memory }
+{
+    Fault::new(code::OUT_OF_MEMORY)
+}

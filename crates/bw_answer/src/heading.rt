@@ -1,0 +1,70 @@
+//! The heading record of an answer.
+ghost use Rattle.std.specs.Prelude.{◌≡◌, ◌≤◌, ◌++◌, List, [], ℕ, IsTrue, IfErr, OnOk, length, map};
+ghost use Rattle.std.specs.List.{list_all};
+ghost use Rattle.bw_model.specs.Column.{names_of};
+ghost use Rattle.bw_model.specs.Fault.{no_memory};
+ghost use Rattle.bw_model.specs.Total.{item_within};
+ghost use Rattle.bw_answer.specs.Answer.{call_of, heading_of, record_text};
+ghost use Rattle.bw_answer.specs.Draft.{Holds};
+ghost use Rattle.bw_answer.specs.Field.{is_plain};
+
+use crate::csv_text::CsvText;
+use bw_model::{Column, Fault, Item};
+use std::alloc::Global;
+
+/// Adds the heading record: columns in the schema's spelling, and aggregates as `SUM(a)` or `COUNT(*)`.
+pub(crate) fn push_heading(
+    alloc: Global,
+    columns: &[Column],
+    items: &[Item],
+    text: &mut CsvText,
+) -> Result<(), Fault>
+    requires columns { IsTrue (list_all (item_within (length columns.now)) items.now) }
+    requires some { 1 ≤ length items.now }
+    ensures heading { OnOk result ((ended : List ℕ) → Holds text.old ended []
+        → Holds text.new (ended ++ record_text (map (heading_of (names_of columns.now)) items.now)) []) }
+    ensures only_memory { IfErr result (λ fault. fault ≡ no_memory) }
+{
+    let mut heading = Vec::new(alloc);
+    for item in items {
+        put_heading(&mut heading, columns, *item)?;
+        text.push_field(&heading)?;
+    }
+    text.end_record()
+}
+
+/// Puts the heading of an item in the place of another.
+#[tactic(auto, using(crate::proofs::PlainNames::plain_headings), unfolding(crate::specs::Field::is_plain))]
+fn put_heading(heading: &mut Vec<u8>, columns: &[Column], item: Item) -> Result<(), Fault>
+    requires { IsTrue (item_within (length columns.now) item) }
+    ensures heading { OnOk result (heading.new.items ≡ heading_of (names_of columns.now) item) }
+    ensures plain { OnOk result (IsTrue (is_plain heading.new.items)) }
+    ensures only_memory { IfErr result (λ fault. fault ≡ no_memory) }
+{
+    heading.clear();
+    match item {
+        Item::Plain(column) => heading.extend_from_slice(columns[column].name.as_bytes())?,
+        Item::CountAll => heading.extend_from_slice(b"COUNT(*)")?,
+        Item::Count(column) => put_call(heading, b"COUNT", &columns[column])?,
+        Item::Sum(column) => put_call(heading, b"SUM", &columns[column])?,
+        Item::Min(column) => put_call(heading, b"MIN", &columns[column])?,
+        Item::Max(column) => put_call(heading, b"MAX", &columns[column])?,
+    }
+    Ok(())
+}
+
+/// Puts the call of a function at a column in the place of another heading.
+#[tactic(auto, using(crate::proofs::PlainNames::plain_call))]
+fn put_call(heading: &mut Vec<u8>, function: &[u8], column: &Column) -> Result<(), Fault>
+    requires { IsTrue (is_plain function.now) }
+    ensures call { OnOk result (heading.new.items ≡ call_of function.now column.now.name) }
+    ensures plain { OnOk result (IsTrue (is_plain heading.new.items)) }
+    ensures only_memory { IfErr result (λ fault. fault ≡ no_memory) }
+{
+    heading.clear();
+    heading.extend_from_slice(function)?;
+    heading.extend_from_slice(b"(")?;
+    heading.extend_from_slice(column.name.as_bytes())?;
+    heading.extend_from_slice(b")")?;
+    Ok(())
+}
