@@ -1,7 +1,7 @@
 //! The answer to a query over rows that come one at a time, as CSV text.
-ghost use Rattle.std.specs.Prelude.{◌≡◌, ◌≤◌, ◌+◌, ◌++◌, ◌∷◌, List, [], ℕ, false, IsTrue, IfOk, IfErr, OnOk, length, vec_len};
+ghost use Rattle.std.specs.Prelude.{◌≡◌, ◌==◌, ◌≤◌, ◌+◌, ◌++◌, ◌∷◌, List, [], ℕ, false, IsTrue, IfOk, IfErr, OnOk, length, vec_len};
 ghost use Rattle.std.specs.List.{list_all};
-ghost use Rattle.bw_model.specs.Column.{names_of};
+ghost use Rattle.bw_model.specs.Column.{admits_values, names_of};
 ghost use Rattle.bw_model.specs.Cond.{names_within};
 ghost use Rattle.bw_model.specs.Fault.{no_memory};
 ghost use Rattle.bw_model.specs.Row.{Value, values_of};
@@ -56,7 +56,8 @@ impl<'a> Answer<'a> {
         requires kinds { AreOfOneKind query.now.items.items }
         ensures over { IfOk result (λ answer. IsOver (names_of schema.now.columns.items) query.now [] answer) }
         ensures starts { IfOk result (λ answer. GoesOver answer [] answer) }
-        ensures width { IfOk result (λ answer. answer.width ≡ vec_len schema.now.columns) }
+        ensures takes { IfOk result (λ answer. (row : List Value) → IsTrue (admits_values schema.now.columns.items row)
+            → IsTrue (length row == answer.width)) }
         ensures rows { IfOk result (λ answer. answer.rows ≡ 0) }
         ensures only_memory { IfErr result (λ fault. fault ≡ no_memory) }
     {
@@ -94,7 +95,7 @@ impl<'a> Answer<'a> {
 }
 
 impl RowTaker for Answer<'_> {
-    ghost width = { λ answer. answer.width };
+    ghost takes = { λ answer row. length row == answer.width };
 
     ghost rows = { λ answer. answer.rows };
 

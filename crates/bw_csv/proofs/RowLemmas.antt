@@ -1,5 +1,5 @@
 -- The rows of a text, one more at a time.
-use Rattle.std.proofs.Common.{◌≡◌, ◌∙◌, ℕ, ℤ, ◌+◌, ◌^◌, suc, ltb, List, [], ◌∷◌, ◌++◌, length, Option, Some, None, Result, Ok, Err, Bool, true, false, refl, ap, eqb}
+use Rattle.std.proofs.Common.{◌≡◌, ◌∙◌, ℕ, ℤ, ◌+◌, ◌^◌, ltb, List, [], ◌∷◌, ◌++◌, length, Option, Some, None, Result, Ok, Err, Bool, true, false, refl, ap, eqb}
 use Rattle.std.specs.Prelude.{◌&&◌, not, int_le, if◌then◌else◌}
 use Rattle.std.specs.Prelude.{IfOk, IsOkAnd, IsTrue}
 use Rattle.std.specs.List.{list_all}
@@ -81,16 +81,6 @@ row_admitted number columns fields row e = tested (eqb (length fields) (length c
     tested true true h = cc h
     tested false late h = cc h
 
--- a row that columns admit has a value for each
-admitted-length : (columns : List Column) (row : List Value) → admits_values columns row ≡ true → length row ≡ length columns
-admitted-length [] [] e = refl
-admitted-length [] (value ∷ row) e = cc e
-admitted-length (column ∷ columns) [] e = cc e
-admitted-length (column ∷ columns) (value ∷ row) e = ap (λ (n : ℕ). suc n) (admitted-length columns row (and_right (admits_value column value) (admits_values columns row) e))
-
-pub row-length : (number : ℕ) (columns : List Column) (fields : List (List ℕ)) (row : List Value) → row_of_record number columns fields ≡ Ok row → length row ≡ length columns
-row-length number columns fields row e = admitted-length columns row (row_admitted number columns fields row e)
-
 -- the rows of a record and of those behind it
 pub rows_from-next : (columns : List Column) (number : ℕ) (fields : List (List ℕ)) (row : List Value) (records more : List (List (List ℕ)))
     → records ≡ fields ∷ more → row_of_record number columns fields ≡ Ok row → rows_from columns number records ≡ with_row row (rows_from columns (number + 1) more)
@@ -106,7 +96,7 @@ pub rows_from-end : (columns : List Column) (number : ℕ) (records : List (List
 unfolding rows_from
 rows_from-end columns number records e = rw e refl
 
-pub ruleset rows_of_records = (rows_from-next, rows_from-fault, rows_from-end, row-length)
+pub ruleset rows_of_records = (rows_from-next, rows_from-fault, rows_from-end, row_admitted)
 
 -- a taker that was led through the rows so far of a whole, of which those of the records to come are left
 unfoldable pub LedSoFar : {K : Type 0} → (K → List (List Value) → K → Type 0) → K → K → Result (List (List Value)) Fault → List Column → ℕ → List (List (List ℕ)) → Type 0

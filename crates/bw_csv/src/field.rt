@@ -1,19 +1,30 @@
 //! The value that a field spells.
 ghost use Rattle.std.specs.Prelude.{◌≡◌, ℕ, ◌<◌, ◌≤◌, length, IfErr, IsTrue};
 ghost use Rattle.bw_model.specs.Row.{Value};
-ghost use Rattle.bw_csv.specs.Rows.{is_blank, without_front_blanks, without_end_blanks, without_blanks, is_null_text, is_minus, unsigned, number_value, value_of_field, GivesButAside, IsRowsFault, stands_at};
+ghost use Rattle.bw_csv.specs.Rows.{is_blank, without_front_blanks, without_end_blanks, without_blanks, is_null_text, is_minus, unsigned, number_value, text_value, within_bounds, value_of_field, GivesButAside, IsRowsFault, stands_at};
 
-use bw_model::{Column, Fault, Value, are_digits, code, is_same_text, whole_number};
+use bw_model::{Column, Fault, Value, code, is_same_text, number_in};
 
 /// The value that a field spells in a column, or its fault: no whole number (204), a null in a column that has
-/// none (206), or a number outside the column's bounds (205).
+/// none (206), or a number outside the column's bounds (205). Most fields are digits alone, which are read in one pass.
 #[tactic(auto, unfolding(crate::specs::Rows::value_of_field))]
 pub(crate) fn value_of(column: &Column, field: &[u8], number: u32) -> Result<Value, Fault>
     ensures value { GivesButAside (λ value. value) result (value_of_field number column.now field.now) }
     ensures fault { IfErr result IsRowsFault }
     ensures place { IfErr result (λ fault. IsTrue (stands_at number fault)) }
 {
-    let text = without_blanks(field);
+    match number_in(false, field) {
+        Some(n) => within_bounds(column, n, number),
+        None => value_of_text(column, without_blanks(field), number),
+    }
+}
+
+/// The value that a text without blanks at its ends spells.
+fn value_of_text(column: &Column, text: &[u8], number: u32) -> Result<Value, Fault>
+    ensures value { GivesButAside (λ value. value) result (text_value number column.now text.now) }
+    ensures fault { IfErr result IsRowsFault }
+    ensures place { IfErr result (λ fault. IsTrue (stands_at number fault)) }
+{
     if !is_null_text(text) {
         return number_of(column, is_minus(text), unsigned(text), number);
     }
@@ -30,10 +41,19 @@ fn number_of(column: &Column, is_negative: bool, digits: &[u8], number: u32) -> 
     ensures fault { IfErr result IsRowsFault }
     ensures place { IfErr result (λ fault. IsTrue (stands_at number fault)) }
 {
-    if !are_digits(digits) {
-        return Err(Fault::at_record(code::NOT_A_NUMBER, number));
+    match number_in(is_negative, digits) {
+        Some(n) => within_bounds(column, n, number),
+        None => Err(Fault::at_record(code::NOT_A_NUMBER, number)),
     }
-    match whole_number(is_negative, digits) {
+}
+
+/// A number that 64 bits hold, where they do, within the bounds of a column.
+fn within_bounds(column: &Column, spelled: Option<i64>, number: u32) -> Result<Value, Fault>
+    ensures value { GivesButAside (λ value. value) result (within_bounds number column.now spelled) }
+    ensures fault { IfErr result IsRowsFault }
+    ensures place { IfErr result (λ fault. IsTrue (stands_at number fault)) }
+{
+    match spelled {
         Some(n) if column.lo <= n && n <= column.hi => Ok(Some(n)),
         _ => Err(Fault::at_record(code::OUT_OF_RANGE, number)),
     }

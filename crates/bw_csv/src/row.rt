@@ -1,6 +1,7 @@
 //! The row of a record.
 ghost use Rattle.std.specs.Prelude.{◌≡◌, ◌≤◌, ◌+◌, [], true, false, length, Ok, Err, OnOk, IfOk, IfErr, IsTrue};
 ghost use Rattle.csv.specs.Records.{fields_of};
+ghost use Rattle.bw_model.specs.Column.{admits_values};
 ghost use Rattle.bw_model.specs.Limits.{most_rows};
 ghost use Rattle.bw_model.specs.Row.{values_of};
 ghost use Rattle.bw_csv.specs.Records.{IsOpen, coming};
@@ -58,7 +59,7 @@ pub(crate) fn read_row(
 ) -> Result<bool, Fault>
     requires { IsOpen records.old }
     ensures some { IfOk result (λ found. found ≡ true → rows_from columns.now number (coming records.old) ≡ with_row (values_of row.new) (rows_from columns.now (number + 1) (coming records.new))) }
-    ensures open { IfOk result (λ found. found ≡ true → IsOpen records.new × (number ≤ most_rows) × (length (values_of row.new) ≡ length columns.now)) }
+    ensures open { IfOk result (λ found. found ≡ true → IsOpen records.new × (number ≤ most_rows) × IsTrue (admits_values columns.now (values_of row.new))) }
     ensures none { IfOk result (λ found. found ≡ false → rows_from columns.now number (coming records.old) ≡ Ok []) }
     ensures row { IfErr result (λ fault. is_aside fault ≡ false → rows_from columns.now number (coming records.old) ≡ Err fault) }
     ensures fault { IfErr result IsRowsFault }

@@ -4,7 +4,7 @@
 //! after it is a row. Spaces and tabs at both ends of a field are dropped; what is then empty, or `NULL` in
 //! any case, is null, and anything else must be a sign or none and one digit or more. How the bytes are cut
 //! into records and fields is the `csv` crate's, which drops one byte order mark at the start.
-ghost use Rattle.std.specs.Prelude.{◌≡◌, ◌+◌, ◌<◌, ℕ, List, [], ◌∷◌, ◌++◌, length, OnOk, IfOk, IfErr, IsTrue, vec_len};
+ghost use Rattle.std.specs.Prelude.{◌≡◌, ◌+◌, ◌<◌, ℕ, List, [], ◌∷◌, ◌++◌, Bool, OnOk, IfOk, IfErr, IsTrue};
 ghost use Rattle.std.specs.List.{list_all};
 ghost use Rattle.bw_model.specs.Column.{admits_values};
 ghost use Rattle.bw_model.specs.declared.column.Column.{Column};
@@ -24,8 +24,8 @@ pub const MAX_ROWS: u32 = 1 << 24;
 
 /// Who is handed the rows of a text, one after another.
 pub trait RowTaker {
-    /// How many values each row has.
-    ghost width: { Self → ℕ };
+    /// Whether it can take a row of these values.
+    ghost takes: { Self → List Value → Bool };
 
     /// How many rows it has been handed.
     ghost rows: { Self → ℕ };
@@ -35,16 +35,17 @@ pub trait RowTaker {
 
     /// Takes the next row. An `Err`, which is want of memory, ends the reading.
     fn take(&mut self, row: &Row) -> Result<(), Fault>
-        requires wide { length (values_of row.now) ≡ width self.old }
+        requires fits { IsTrue (takes self.old (values_of row.now)) }
         requires room { rows self.old < most_rows }
-        ensures width { OnOk result (width self.new ≡ width self.old) }
+        ensures takes { OnOk result (takes self.new ≡ takes self.old) }
         ensures rows { OnOk result (rows self.new ≡ rows self.old + 1) }
         ensures led { OnOk result ((start : Self) → (before : List (List Value)) → led start before self.old
             → led start (before ++ values_of row.now ∷ []) self.new) }
         ensures only_memory { IfErr result (λ fault. fault ≡ no_memory) };
 }
 
-/// Hands the rows of a CSV text to a taker, in order.
+/// Hands the rows of a CSV text to a taker, in order. That the taker takes each row that the columns admit is the
+/// caller's condition.
 ///
 /// Refuses at the first record that is wrong: a text without one (201), a heading of other names (202); then
 /// for each row its number of fields (203), a row past 2^24 (207), and its fields from the left: no whole
@@ -57,7 +58,7 @@ pub fn read_rows<K: RowTaker>(
     text: &[u8],
     taker: &mut K,
 ) -> Result<(), Fault>
-    requires wide { K.width taker.old ≡ vec_len schema.now.columns }
+    requires takes { (row : List Value) → IsTrue (admits_values schema.now.columns.items row) → IsTrue (K.takes taker.old row) }
     requires fresh { K.rows taker.old ≡ 0 }
     requires starts { K.led taker.old [] taker.old }
     ensures handed { Hands K.led (rows_of schema.now.columns.items text.now) taker.old taker.new result }
@@ -81,7 +82,7 @@ fn hand_rows<K: RowTaker>(
     taker: &mut K,
 ) -> Result<(), Fault>
     requires open { IsOpen records.old }
-    requires wide { K.width taker.old ≡ length columns.now }
+    requires takes { (row : List Value) → IsTrue (admits_values columns.now row) → IsTrue (K.takes taker.old row) }
     requires fresh { K.rows taker.old ≡ 0 }
     requires starts { K.led taker.old [] taker.old }
     ensures handed { Hands K.led (rows_from columns.now 1 (coming records.old)) taker.old taker.new result }

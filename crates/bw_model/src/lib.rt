@@ -35,7 +35,7 @@ pub use groups::{groups_make_the_table, kept_rows_are_selected, lanes_are_rows_a
 pub use keyword::{KEYWORDS, Keyword};
 pub use lines::{Line, Lines};
 pub use name::{Name, is_name};
-pub use number::{are_digits, natural_number, whole_number};
+pub use number::{natural_number, number_in, whole_number};
 pub use parse::{MAX_COLUMNS, MAX_SCHEMA_LEN};
 pub use query::{Item, Query};
 pub use row::{Row, Value};

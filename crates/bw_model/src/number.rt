@@ -1,11 +1,11 @@
 //! Whole numbers as decimal digits spell them.
-ghost use Rattle.std.specs.Prelude.{◌≡◌, ◌^◌, ◌-◌, min};
+ghost use Rattle.std.specs.Prelude.{◌≡◌, ◌^◌, ◌-◌, ℕ, List, Some, None, min, if◌then◌else◌};
 ghost use Rattle.std.specs.List.{list_all};
 ghost use Rattle.std.specs.Char.{is_ascii_digit};
 ghost use Rattle.bw_model.specs.Number.{digits_value, are_digits, number_of, natural_of, where_64_bits_hold};
 
 /// Whether a text is one digit or more, and nothing else.
-pub fn are_digits(text: &[u8]) -> bool
+fn are_digits(text: &[u8]) -> bool
     ensures { result ≡ are_digits text.now }
 {
     !text.is_empty() && are_all_digits(text)
@@ -15,11 +15,17 @@ pub fn are_digits(text: &[u8]) -> bool
 pub fn whole_number(is_negative: bool, digits: &[u8]) -> Option<i64>
     ensures { result ≡ number_of is_negative digits.now }
 {
-    let magnitude = magnitude_of(digits);
-    if is_negative {
-        0i64.checked_sub_unsigned(magnitude)
-    } else {
-        0i64.checked_add_unsigned(magnitude)
+    signed(is_negative, magnitude_of(digits))
+}
+
+/// The whole number of a sign and a text of decimal digits, in one pass: none where the text is another one, and none
+/// inside where 64 bits don't hold the number.
+pub fn number_in(is_negative: bool, text: &[u8]) -> Option<Option<i64>>
+    ensures { result ≡ if are_digits text.now then Some (number_of is_negative text.now) else None }
+{
+    match magnitude_in(text) {
+        None => None,
+        Some(magnitude) => Some(signed(is_negative, magnitude)),
     }
 }
 
@@ -70,4 +76,33 @@ fn magnitude_of(digits: &[u8]) -> u64
         magnitude = magnitude.saturating_mul(10).saturating_add(units);
     }
     magnitude
+}
+
+/// The same for a text of digits; none for another one.
+fn magnitude_in(text: &[u8]) -> Option<u64>
+    ensures { result ≡ if are_digits text.now then Some (min (digits_value text.now) (2 ^ 64 - 1)) else None }
+{
+    if text.is_empty() {
+        return None;
+    }
+    let mut magnitude: u64 = 0;
+    for digit in text {
+        if !digit.is_ascii_digit() {
+            return None;
+        }
+        let units = u64::from(digit.saturating_sub(b'0'));
+        magnitude = magnitude.saturating_mul(10).saturating_add(units);
+    }
+    Some(magnitude)
+}
+
+/// The whole number of a sign and the magnitude of digits, where 64 bits hold it.
+fn signed(is_negative: bool, magnitude: u64) -> Option<i64>
+    ensures { (digits : List ℕ) → magnitude ≡ min (digits_value digits) (2 ^ 64 - 1) → result ≡ number_of is_negative digits }
+{
+    if is_negative {
+        0i64.checked_sub_unsigned(magnitude)
+    } else {
+        0i64.checked_add_unsigned(magnitude)
+    }
 }

@@ -12,7 +12,7 @@ use crate::column::Column;
 use crate::fault::{Fault, code};
 use crate::lines::{Line, Lines};
 use crate::name::{Name, is_name};
-use crate::number::{are_digits, whole_number};
+use crate::number::number_in;
 use crate::schema::Schema;
 use crate::text::is_same_text;
 use std::alloc::Global;
@@ -155,11 +155,7 @@ fn bound_of(text: &[u8]) -> Option<i64>
 fn signed_digits(is_negative: bool, digits: &[u8]) -> Option<i64>
     ensures { result ≡ signed_digits is_negative digits.now }
 {
-    if are_digits(digits) {
-        whole_number(is_negative, digits)
-    } else {
-        None
-    }
+    number_in(is_negative, digits)?
 }
 
 /// Whether a column has this name, ignoring case.

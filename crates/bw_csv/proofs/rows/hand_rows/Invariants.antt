@@ -1,4 +1,4 @@
-use Rattle.std.proofs.Common.{◌≡◌, ◌+◌, ◌-◌, ◌^◌, ◌≤◌, length}
+use Rattle.std.proofs.Common.{◌≡◌, ◌+◌, ◌-◌, ◌^◌, ◌≤◌}
 use Rattle.bw_csv.specs.Records.{IsOpen, coming}
 use Rattle.bw_csv.specs.Rows.{rows_from}
 use Rattle.bw_csv.proofs.RowLemmas.{LedSoFar}
@@ -8,7 +8,7 @@ use Rattle.bw_csv.proofs.rows.hand_rows.Given as goal
 abbrev pub invariant-rows : goal.invariant-rows
 invariant-rows g l = record {
   reads : IsOpen l.records;
-  width : g.K.RowTaker.width l.taker ≡ length l.columns;
+  takes : g.K.RowTaker.takes l.taker ≡ g.K.RowTaker.takes l.initial.taker;
   count : g.K.RowTaker.rows l.taker + 1 ≡ l.number;
   within : l.number ≤ 2 ^ 24 + 1;
   so_far : LedSoFar g.K.RowTaker.led l.initial.taker l.taker (rows_from l.columns 1 (coming l.initial.records)) l.columns l.number (coming l.records);

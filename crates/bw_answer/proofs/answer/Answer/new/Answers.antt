@@ -1,12 +1,13 @@
 -- An answer over no rows.
-use Rattle.std.proofs.Common.{◌≡◌, ◌∙◌, sym, ap, subst, List, [], ℕ, refl, true}
+use Rattle.std.proofs.Common.{◌≡◌, ◌∙◌, sym, ap, subst, List, [], ℕ, refl, true, length, arith}
 use Rattle.std.specs.List.{list_all}
 use Rattle.bw_model.specs.declared.query.Item.{Item}
 use Rattle.bw_model.specs.Total.{item_within}
 use Rattle.bw_model.specs.Column.{names_of}
 use Rattle.bw_answer.specs.Answer.{lists_rows}
 use Rattle.bw_answer.specs.Draft.{Holds}
-use Rattle.bw_answer.proofs.AnswerLemmas.{aggregates, heading_first}
+use Rattle.bw_answer.proofs.AnswerLemmas.{aggregates, admitted-length, heading_first}
+use Rattle.std.proofs.lemmas.Bool.{eq-eqb}
 use Rattle.bw_answer.proofs.TotalsLemmas.{is_of-new}
 use Rattle.bw_answer.proofs.answer.Answer.new.Goals as goal
 
@@ -24,6 +25,11 @@ pub invariant_of-result-clause-room : goal.invariant_of-result-clause-room
 invariant_of-result-clause-room c =
     rw (c.in_ok-totals_of.ensures.totals, c.deref-4.ensures.value)
     (is_of-new c.len.result c.args.query.now.items.items (within _ _ c.args.query.now.items.items c.len.ensures c.requires.items))
+
+pub returns-clause-takes : goal.returns-clause-takes
+returns-clause-takes c = λ row admitted.
+    let long = admitted-length c.args.schema.now.columns.items row admitted in
+    eq-eqb (length row) c.len.result (omega (arith, long, c.args.schema.now.columns.ok.0, c.len.ensures))
 
 pub returns-clause-over : goal.returns-clause-over
 returns-clause-over c =

@@ -1,5 +1,6 @@
 -- One more row, behind those that the answer had taken.
 use Rattle.std.proofs.Common.{◌≡◌, ◌∙◌, List, [], ◌∷◌, ◌++◌, length, subst, sym, append_assoc}
+use Rattle.std.proofs.lemmas.Bool.{eqb-true}
 use Rattle.std.proofs.lemmas.List.{with_items_is}
 use Rattle.bw_model.specs.Row.{values_of}
 use Rattle.bw_rowwise.specs.Accumulator.{Tally}
@@ -10,7 +11,8 @@ use Rattle.bw_answer.proofs.answer.AnswerRowTaker.take.Goals as goal
 pub put_row-requires-clause-room : goal.put_row-requires-clause-room
 put_row-requires-clause-room c =
     let self = c.args.self.now in
-    rw (c.deref_mut.ensures.value, c.requires.wide) (has_room-from self.width self.rows self.totals.items c.requires.room self.room)
+    let wide : length (values_of c.args.row.now) ≡ self.width = eqb-true _ _ c.requires.fits in
+    rw (c.deref_mut.ensures.value, wide) (has_room-from self.width self.rows self.totals.items c.requires.room self.room)
 
 pub returns-clause-led : goal.returns-clause-led
 returns-clause-led c = λ start before led names query first over.

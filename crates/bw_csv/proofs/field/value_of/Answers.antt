@@ -1,0 +1,11 @@
+-- A field of digits alone spells them.
+use Rattle.std.proofs.Common.{◌∙◌, sym, subst}
+use Rattle.bw_csv.specs.Rows.{GivesButAside}
+use Rattle.bw_csv.proofs.DigitsAlone.{read_digits}
+use Rattle.bw_csv.proofs.field.value_of.Goals as goal
+
+pub returns-in-Some-clause-value : goal.returns-in-Some-clause-value
+returns-in-Some-clause-value c =
+    subst (λ expected. GivesButAside (λ value. value) c.within_bounds.result expected)
+    (sym (read_digits c.args.number c.args.column.now c.args.field.now c.in-Some.n (sym c.in-Some.is ∙ c.number_in.ensures)))
+    c.within_bounds.ensures.value
