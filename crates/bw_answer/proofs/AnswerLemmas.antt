@@ -1,9 +1,7 @@
 -- The text of an answer.
-use Rattle.std.proofs.Common.{◌≡◌, ◌∙◌, ℕ, suc, ◌&&◌, Bool, true, false, List, [], ◌∷◌, ◌++◌, refl, sym, ap, map, filter, length}
+use Rattle.std.proofs.Common.{◌≡◌, ◌∙◌, ℕ, Bool, true, false, List, [], ◌∷◌, ◌++◌, refl, sym, ap, map, filter, length}
 use Rattle.std.proofs.lemmas.List.{append-nil, length-map}
 use Rattle.std.specs.List.{list_all}
-use Rattle.bw_model.specs.declared.column.Column.{Column}
-use Rattle.bw_model.specs.Column.{admits_value, admits_values}
 use Rattle.bw_model.specs.declared.query.Item.{Item}
 use Rattle.bw_model.specs.declared.query.Item.TheVariants.{Plain, CountAll, Count, Sum, Min, Max}
 use Rattle.bw_model.specs.declared.query.Query.{Query}
@@ -102,14 +100,3 @@ heading_first_by names query false e = rw e (sym (append-nil (record_text (map (
 
 pub heading_first : (names : List (List ℕ)) (query : Query) → record_text (map (heading_of names) query.items.items) ≡ text_over names query []
 heading_first names query = heading_first_by names query (lists_rows query.items.items) refl
-
--- a row that columns admit has a value for each
-and_right : (a b : Bool) → (a && b) ≡ true → b ≡ true
-and_right true b e = e
-and_right false b e = absurd (cc e)
-
-pub admitted-length : (columns : List Column) (row : List Value) → admits_values columns row ≡ true → length row ≡ length columns
-admitted-length [] [] e = refl
-admitted-length [] (value ∷ row) e = absurd (cc e)
-admitted-length (column ∷ columns) [] e = absurd (cc e)
-admitted-length (column ∷ columns) (value ∷ row) e = ap suc (admitted-length columns row (and_right (admits_value column value) (admits_values columns row) e))

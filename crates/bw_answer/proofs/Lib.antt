@@ -1,4 +1,5 @@
 pub mod AnswerLemmas
+pub mod CountLemmas
 pub mod PlainFields
 pub mod PlainNames
 pub mod Rows

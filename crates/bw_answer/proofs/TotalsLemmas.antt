@@ -67,7 +67,7 @@ is_of-with width rows row (t ∷ ts) e =
     and_true _ _ (and_true _ _ here.0 (le-leb _ _ count)) (is_of-with width rows row ts parts.1)
 
 -- while f is written over the elements of a list, the one at hand is as it was
-untouched : {X : Type 0} (f : X → X) (xs : List X) (i : ℕ) (d : X) → i < length xs → get_or (map f (take i xs) ++ drop i xs) i d ≡ get_or xs i d
+pub untouched : {X : Type 0} (f : X → X) (xs : List X) (i : ℕ) (d : X) → i < length xs → get_or (map f (take i xs) ++ drop i xs) i d ≡ get_or xs i d
 untouched f [] i d h = absurd (omega arith)
 untouched f (x ∷ xs) zero d h = refl
 untouched f (x ∷ xs) (suc i) d h = untouched f xs i d (omega arith)

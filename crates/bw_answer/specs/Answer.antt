@@ -66,3 +66,12 @@ record_text fields = join_with_byte 44 fields ++ 10 ∷ []
 
 unfoldable pub csv_text : List (List (List ℕ)) → List ℕ
 csv_text records = flat_map record_text records
+
+-- the item asks for the number of rows
+abbrev pub is_count_all : Item → Bool
+is_count_all (Plain column) = false
+is_count_all CountAll = true
+is_count_all (Count column) = false
+is_count_all (Sum column) = false
+is_count_all (Min column) = false
+is_count_all (Max column) = false

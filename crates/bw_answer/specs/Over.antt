@@ -13,3 +13,7 @@ IsOver names query rows answer = (answer.query.now ≡ query) × AreOver names q
 abbrev pub GoesOver : Answer → List (List Value) → Answer → Type 0
 GoesOver start rows now =
     (names : List (List ℕ)) (query : Query) (before : List (List Value)) → IsOver names query before start → IsOver names query (before ++ rows) now
+
+-- the query of an answer
+abbrev pub asked_by : Answer → Query
+asked_by answer = answer.query.now

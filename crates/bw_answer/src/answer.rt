@@ -1,23 +1,24 @@
 //! The answer to a query over rows that come one at a time, as CSV text.
-ghost use Rattle.std.specs.Prelude.{◌≡◌, ◌==◌, ◌≤◌, ◌+◌, ◌++◌, ◌∷◌, List, [], ℕ, false, IsTrue, IfOk, IfErr, OnOk, length, vec_len};
+ghost use Rattle.std.specs.Prelude.{◌≡◌, ◌==◌, ◌≤◌, ◌+◌, ◌++◌, ◌∷◌, List, [], ℕ, true, false, IsTrue, IfOk, IfErr, OnOk, length, vec_len};
 ghost use Rattle.std.specs.List.{list_all};
 ghost use Rattle.bw_model.specs.Column.{admits_values, names_of};
 ghost use Rattle.bw_model.specs.Cond.{names_within};
 ghost use Rattle.bw_model.specs.Fault.{no_memory};
+ghost use Rattle.bw_model.specs.Limits.{most_rows};
 ghost use Rattle.bw_model.specs.Row.{Value, values_of};
 ghost use Rattle.bw_model.specs.Total.{is_aggregate, item_within};
 ghost use Rattle.bw_sql.specs.Items.{AreOfOneKind};
-ghost use Rattle.bw_answer.specs.Answer.{csv_text, lists_rows, meaning};
-ghost use Rattle.bw_answer.specs.AreOver.{AreOver};
+ghost use Rattle.bw_answer.specs.Answer.{csv_text, is_count_all, lists_rows, meaning};
+ghost use Rattle.bw_answer.specs.AreOver.{AreOver, CountsRows};
 ghost use Rattle.bw_answer.specs.Totals.{is_of, has_room};
 
 use crate::csv_text::CsvText;
 use crate::heading::push_heading;
 use crate::listing::push_kept;
-use crate::totals::{add_kept, push_totals, totals_of};
+use crate::totals::{add_count, add_kept, push_totals, totals_of};
 use bw_csv::RowTaker;
-use bw_model::{Fault, Item, Query, Row, Schema};
-use bw_rowwise::Accumulator;
+use bw_model::{Fault, Item, Query, Row, Schema, admitted_rows_have_each_value};
+use bw_rowwise::{Accumulator, keeps_all};
 use std::alloc::Global;
 
 /// Takes the rows of a table of so many columns, one after another, and makes the text of the answer to a query: the
@@ -43,7 +44,8 @@ pub struct Answer<'a> {
 }
 
 impl<'a> Answer<'a> {
-    ghost use Rattle.bw_answer.specs.Over.{IsOver, GoesOver};
+    ghost use Rattle.bw_answer.specs.Over.{IsOver, GoesOver, asked_by};
+    ghost use Rattle.bw_answer.specs.declared.answer.Answer.{Answer};
 
     /// The answer over no rows.
     ///
@@ -61,6 +63,7 @@ impl<'a> Answer<'a> {
         ensures rows { IfOk result (λ answer. answer.rows ≡ 0) }
         ensures only_memory { IfErr result (λ fault. fault ≡ no_memory) }
     {
+        admitted_rows_have_each_value();
         let mut text = CsvText::new(alloc);
         push_heading(alloc, &schema.columns, &query.items, &mut text)?;
         Ok(Answer {
@@ -71,6 +74,27 @@ impl<'a> Answer<'a> {
             text,
             totals: totals_of(alloc, &query.items)?,
         })
+    }
+
+    /// Whether the query keeps every row and asks for nothing but their number: then no row need be looked at.
+    pub fn counts_rows(&self) -> bool
+        ensures { result ≡ true → CountsRows (asked_by self.now) }
+    {
+        keeps_all(&self.query.cond) && count_all_alone(&self.query.items)
+    }
+
+    /// Takes so many rows, whichever they are. That the query asks for nothing but their number, and that there is
+    /// room for them, is the caller's condition.
+    pub fn take_count(&mut self, count: u32)
+        requires counts { CountsRows (asked_by self.old) }
+        requires room { self.old.rows + count ≤ most_rows }
+        ensures over { (start : Answer) (before rows : List (List Value)) → length rows ≡ count
+            → GoesOver start before self.old → GoesOver start (before ++ rows) self.new }
+        ensures width { self.new.width ≡ self.old.width }
+        ensures rows { self.new.rows ≡ self.old.rows + count }
+    {
+        add_count(&mut self.totals, count);
+        self.rows += count;
     }
 
     /// The text of the answer over the rows that were taken. Refuses as 801 alone.
@@ -152,4 +176,18 @@ fn lists_rows(items: &[Item]) -> bool
         [Item::Plain(_), ..] => true,
         _ => false,
     }
+}
+
+/// Whether items ask for nothing but the number of rows.
+fn count_all_alone(items: &[Item]) -> bool
+    ensures { result ≡ list_all is_count_all items.now }
+{
+    items.iter().all(|item| is_count_all(*item))
+}
+
+/// Whether an item asks for the number of rows.
+fn is_count_all(item: Item) -> bool
+    ensures { result ≡ is_count_all item }
+{
+    matches!(item, Item::CountAll)
 }

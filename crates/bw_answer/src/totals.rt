@@ -1,13 +1,14 @@
 //! The totals that a query asks for.
-ghost use Rattle.std.specs.Prelude.{◌≡◌, ◌≤◌, ◌+◌, ◌++◌, ◌∷◌, ℕ, List, [], IsTrue, IfOk, IfErr, OnOk, length, map, filter};
+ghost use Rattle.std.specs.Prelude.{◌≡◌, ◌≤◌, ◌+◌, ◌++◌, ◌∷◌, ℕ, List, [], IsTrue, IfOk, IfErr, OnOk, length, map, filter, All};
 ghost use Rattle.std.specs.List.{list_all};
 ghost use Rattle.bw_model.specs.Cond.{names_within};
 ghost use Rattle.bw_model.specs.declared.query.Item.{Item};
 ghost use Rattle.bw_model.specs.Fault.{no_memory};
+ghost use Rattle.bw_model.specs.Limits.{most_rows};
 ghost use Rattle.bw_model.specs.Row.{Value, values_of};
 ghost use Rattle.bw_model.specs.Selection.{kept};
 ghost use Rattle.bw_model.specs.Total.{is_aggregate};
-ghost use Rattle.bw_rowwise.specs.Accumulator.{tally_of};
+ghost use Rattle.bw_rowwise.specs.Accumulator.{counted, tally_of};
 ghost use Rattle.bw_answer.specs.Answer.{record_text, value_text};
 ghost use Rattle.bw_answer.specs.Draft.{Holds};
 ghost use Rattle.bw_answer.specs.Totals.{is_of, has_room};
@@ -59,6 +60,16 @@ fn add_row(totals: &mut [Accumulator], row: &Row)
 {
     for total in totals.iter_mut() {
         total.add(row);
+    }
+}
+
+/// Adds so many rows, whichever they are, to each total, as to a count of rows.
+pub(crate) fn add_count(totals: &mut [Accumulator], count: u32)
+    requires { All (λ tally. tally.count + count ≤ most_rows) totals.old }
+    ensures { totals.new ≡ map (λ tally. counted tally count) totals.old }
+{
+    for total in totals.iter_mut() {
+        total.add_count(count);
     }
 }
 

@@ -1,7 +1,8 @@
 //! Laws of groups, lanes and selections, for the crates that scan a table group by group.
-ghost use Rattle.std.specs.Prelude.{◌≡◌, ◌+◌, ◌-◌, ◌/◌, ◌<◌, ◌≤◌, ◌++◌, ℕ, Bool, List, [], ◌∷◌, map, length, take, drop, slice_index_or, All};
+ghost use Rattle.std.specs.Prelude.{◌≡◌, ◌+◌, ◌-◌, ◌/◌, ◌<◌, ◌≤◌, ◌++◌, ℕ, Bool, List, [], ◌∷◌, map, length, take, drop, slice_index_or, All, IsTrue};
 ghost use Rattle.bw_model.specs.declared.cond.Cond.{Cond};
 ghost use Rattle.bw_model.specs.declared.column.Column.{Column};
+ghost use Rattle.bw_model.specs.Column.{admits_values};
 ghost use Rattle.bw_model.specs.Row.{Value};
 ghost use Rattle.bw_model.specs.Groups.{group_size, groups_of, together, lanes_of};
 ghost use Rattle.bw_model.specs.Selection.{positions_from, positions_of, picked, selection, selected, kept};
@@ -41,4 +42,9 @@ pub fn kept_rows_are_selected()
         → positions_from position (front ++ back) ≡ positions_from position front ++ positions_from (position + length front) back }
     ensures picked { (front back : List Bool) (rows others : List (List Value)) → length front ≡ length rows
         → picked (front ++ back) (rows ++ others) ≡ picked front rows ++ picked back others }
+{}
+
+/// A law: a row that columns admit has a value for each of them.
+pub fn admitted_rows_have_each_value()
+    ensures { (columns : List Column) (row : List Value) → IsTrue (admits_values columns row) → length row ≡ length columns }
 {}

@@ -31,7 +31,10 @@ mod variable;
 pub use column::Column;
 pub use cond::{Cond, Op, Operand, Truth};
 pub use fault::{Fault, Place, code};
-pub use groups::{groups_make_the_table, kept_rows_are_selected, lanes_are_rows_and_zeros};
+pub use groups::{
+    admitted_rows_have_each_value, groups_make_the_table, kept_rows_are_selected,
+    lanes_are_rows_and_zeros,
+};
 pub use keyword::{KEYWORDS, Keyword};
 pub use lines::{Line, Lines};
 pub use name::{Name, is_name};

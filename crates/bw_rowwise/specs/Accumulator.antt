@@ -49,6 +49,10 @@ answer_with item answer row = including (of_both item) answer (added_by item row
 abbrev pub tally_with : Tally → List Value → Tally
 tally_with tally row = record { item = tally.item; count = tally.count + 1; answer = answer_with tally.item tally.answer row }
 
+-- a tally of rows that are counted alone, and so many more
+abbrev pub counted : Tally → ℕ → Tally
+counted tally more = record { item = tally.item; count = tally.count + more; answer = Some (pos (tally.count + more)) }
+
 -- a total of so many rows is at most as many times 2^63 in size, as each value is at most 2^63
 abbrev pub IsTotalOfRows : ℕ → Option ℤ → Type 0
 IsTotalOfRows count answer =

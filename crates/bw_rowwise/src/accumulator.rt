@@ -1,9 +1,10 @@
 //! The total of rows that come one at a time, or as a list.
 ghost use Rattle.std.specs.Prelude.{◌≡◌, ◌+◌, ◌<◌, ◌≤◌, List, [], ◌∷◌, ◌++◌, length, map, All, IsTrue};
 ghost use Rattle.bw_model.specs.Limits.{most_rows};
+ghost use Rattle.bw_model.specs.declared.query.Item.TheVariants.{CountAll};
 ghost use Rattle.bw_model.specs.Row.{Value, values_of};
 ghost use Rattle.bw_model.specs.Total.{total, is_aggregate, item_within};
-ghost use Rattle.bw_rowwise.specs.Accumulator.{tally_of, tally_with};
+ghost use Rattle.bw_rowwise.specs.Accumulator.{tally_of, tally_with, counted};
 
 use crate::total::answer_with;
 use bw_model::{Item, Row};
@@ -60,6 +61,21 @@ impl Accumulator {
             item: self.item,
             rows: self.rows + 1,
             total: answer_with(self.item, self.total, row),
+        };
+    }
+
+    /// Adds so many rows, whichever they are, to a count of rows. Of other totals it makes such a count.
+    pub fn add_count(&mut self, count: u32)
+        requires { self.old.count + count ≤ most_rows }
+        ensures total { (rows more : List (List Value)) → length more ≡ count → self.old ≡ tally_of CountAll rows
+            → self.new ≡ tally_of CountAll (rows ++ more) }
+        ensures step { self.new ≡ counted self.old count }
+    {
+        let rows = self.rows + count;
+        *self = Accumulator {
+            item: self.item,
+            rows,
+            total: Some(i128::from(rows)),
         };
     }
 

@@ -1,10 +1,10 @@
 //! The truth of a condition on a row, and the rows that it keeps.
-ghost use Rattle.std.specs.Prelude.{◌≡◌, length, map, All, IsTrue, IfOk, IsOkUnless};
+ghost use Rattle.std.specs.Prelude.{◌≡◌, List, true, length, map, All, IsTrue, IfOk, IsOkUnless};
 ghost use Rattle.std.specs.List.{list_all};
 ghost use Rattle.bw_model.specs.Truth.{among, all_of, any_of};
-ghost use Rattle.bw_model.specs.Cond.{truth_of, names_within, is_within, operand_value};
+ghost use Rattle.bw_model.specs.Cond.{truth_of, is_kept, names_within, is_within, operand_value};
 ghost use Rattle.bw_model.specs.Selection.{kept};
-ghost use Rattle.bw_model.specs.Row.{values_of};
+ghost use Rattle.bw_model.specs.Row.{Value, values_of};
 ghost use Rattle.bw_model.specs.Fault.{no_memory};
 
 use crate::logic::{between, both, compared, either, opposite, truth_from};
@@ -31,6 +31,14 @@ pub fn truth(cond: &Cond, row: &Row) -> Truth
         Cond::Not(part) => opposite(truth(part, row)),
         Cond::Test(part, wanted) => truth_from(truth(part, row) == *wanted),
     }
+}
+
+/// Whether a condition is the one that keeps every row.
+#[tactic(auto, using(bw_model::proofs::CondLemmas::truths))]
+pub fn keeps_all(cond: &Cond) -> bool
+    ensures { result ≡ true → (values : List Value) → IsTrue (is_kept cond.now values) }
+{
+    matches!(cond, Cond::Always)
 }
 
 /// Copies of the rows on which a condition is TRUE, in their order. Each row has every column that the

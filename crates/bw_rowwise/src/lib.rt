@@ -17,4 +17,4 @@ mod tests;
 mod total;
 
 pub use accumulator::{Accumulator, aggregate};
-pub use condition::{select, truth};
+pub use condition::{keeps_all, select, truth};

@@ -1,4 +1,4 @@
--- The parts of an answer straight from a CSV text.
+-- What a call that reads a schema was told.
 use Rattle.std.proofs.Common.{◌≡◌, ℕ, List, Bool, true, false, Option, Some, Result, Ok, Err, IfOk, refl, sym, subst}
 use Rattle.std.specs.Prelude.{MatchBool}
 use Rattle.bw_model.specs.declared.fault.Fault.{Fault}
@@ -6,7 +6,7 @@ use Rattle.bw_model.specs.declared.schema.Schema.{Schema}
 use Rattle.bw_model.specs.Fault.{Gives, no_memory, is_memory}
 use Rattle.bw_model.specs.SchemaText.{schema_of, schema_shape, IsSchemaText}
 use Rattle.bw_file.specs.Source.{Came}
-use Rattle.bw_shell.specs.Direct.{IsSchemaFrom, SchemaTold}
+use Rattle.bw_shell.specs.Arrived.{IsSchemaFrom, SchemaTold}
 
 -- bytes that came are no failure of the source
 abbrev CameSome : ℕ → Option (List ℕ) → Option (List ℕ) → ℕ → ℕ → (Result (Option (List ℕ)) Fault → Type 0) → Type 0

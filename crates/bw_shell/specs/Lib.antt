@@ -1,3 +1,4 @@
+pub mod Arrived
 pub mod Direct
 pub mod Input
 pub mod Report

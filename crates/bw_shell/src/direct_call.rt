@@ -10,19 +10,16 @@ ghost use Rattle.bw_model.specs.Cond.{names_within};
 ghost use Rattle.bw_model.specs.Total.{item_within};
 ghost use Rattle.bw_sql.specs.Items.{AreOfOneKind};
 ghost use Rattle.bw_csv.specs.Rows.{is_aside, GivesButAside, IsRowsFault};
-ghost use Rattle.bw_shell.specs.Direct.{IsAnswer, answer_of, SchemaTold, CsvTold, is_before_csv};
+ghost use Rattle.bw_shell.specs.Direct.{IsAnswer, answer_of, is_before_csv};
 
-use crate::input::{Input, read_limited};
+use crate::inputs::{read_csv, read_schema};
 use crate::output::write_whole;
 use bw_answer::Answer;
 use bw_csv::read_rows;
 use bw_file::{Sink, Source};
-use bw_model::{Fault, MAX_SCHEMA_LEN, Query, Schema, code};
+use bw_model::{Fault, Query, Schema};
 use bw_sql::parse;
 use std::alloc::Global;
-
-/// A CSV text has at most this many bytes.
-pub const MAX_CSV_LEN: u64 = 1 << 30;
 
 /// Answers a statement over the rows of a CSV text, under the schema of a schema text, and writes the answer
 /// as CSV text: a heading record and then the records, fields joined by commas and each record ended by a
@@ -74,37 +71,6 @@ pub fn direct<S: Source, C: Source, K: Sink>(
     let csv = read_csv(alloc, csv_source)?;
     let text = answer_text(alloc, &schema, &query, &csv)?;
     write_whole(sink, &text)
-}
-
-fn read_schema<S: Source>(alloc: Global, source: &mut S) -> Result<Schema, Fault>
-    requires { S.failures source.old < 2 ^ 64 - 1 }
-    ensures told { (came : Result (Option (List ℕ)) Fault)
-        × Came longest_schema (S.to_come source.old) (S.to_come source.new) (S.failures source.old) (S.failures source.new) came
-        × SchemaTold came result }
-    ensures took { TookAtMost (longest_schema + 1) (S.to_come source.old) (S.to_come source.new) }
-    ensures failed { EndsWith (nowhere 701) (S.failures source.old) (S.failures source.new) result }
-    ensures fault { IfErr result (λ fault. is_write_fault fault ≡ false) }
-{
-    match read_limited(alloc, source, MAX_SCHEMA_LEN as u64)? {
-        Input::Whole(text) => Schema::parse(alloc, &text),
-        Input::Over => Err(Fault::new(code::SCHEMA_TOO_LONG)),
-    }
-}
-
-fn read_csv<C: Source>(alloc: Global, source: &mut C) -> Result<Vec<u8>, Fault>
-    requires { C.failures source.old < 2 ^ 64 - 1 }
-    ensures told { (came : Result (Option (List ℕ)) Fault)
-        × Came longest_csv (C.to_come source.old) (C.to_come source.new) (C.failures source.old) (C.failures source.new) came
-        × CsvTold came result }
-    ensures took { TookAtMost (longest_csv + 1) (C.to_come source.old) (C.to_come source.new) }
-    ensures failed { EndsWith (nowhere 701) (C.failures source.old) (C.failures source.new) result }
-    ensures fault { IfErr result (λ fault. is_write_fault fault ≡ false) }
-    ensures later { IfErr result (λ fault. is_before_csv fault ≡ false) }
-{
-    match read_limited(alloc, source, MAX_CSV_LEN)? {
-        Input::Whole(text) => Ok(text),
-        Input::Over => Err(Fault::new(code::CSV_TOO_LONG)),
-    }
 }
 
 /// The text of the answer over the rows of a CSV text. Refuses as [`read_rows`] does.

@@ -9,10 +9,13 @@
 
 mod direct_call;
 mod input;
+mod inputs;
 mod output;
 mod reports;
+mod table_rows;
 
-pub use direct_call::{MAX_CSV_LEN, direct};
+pub use direct_call::direct;
 pub use input::{Input, read_limited};
+pub use inputs::MAX_CSV_LEN;
 pub use output::write_whole;
 pub use reports::report;

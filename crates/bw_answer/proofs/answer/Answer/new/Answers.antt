@@ -6,7 +6,7 @@ use Rattle.bw_model.specs.Total.{item_within}
 use Rattle.bw_model.specs.Column.{names_of}
 use Rattle.bw_answer.specs.Answer.{lists_rows}
 use Rattle.bw_answer.specs.Draft.{Holds}
-use Rattle.bw_answer.proofs.AnswerLemmas.{aggregates, admitted-length, heading_first}
+use Rattle.bw_answer.proofs.AnswerLemmas.{aggregates, heading_first}
 use Rattle.std.proofs.lemmas.Bool.{eq-eqb}
 use Rattle.bw_answer.proofs.TotalsLemmas.{is_of-new}
 use Rattle.bw_answer.proofs.answer.Answer.new.Goals as goal
@@ -28,7 +28,7 @@ invariant_of-result-clause-room c =
 
 pub returns-clause-takes : goal.returns-clause-takes
 returns-clause-takes c = λ row admitted.
-    let long = admitted-length c.args.schema.now.columns.items row admitted in
+    let long = c.admitted_rows_have_each_value.ensures c.args.schema.now.columns.items row admitted in
     eq-eqb (length row) c.len.result (omega (arith, long, c.args.schema.now.columns.ok.0, c.len.ensures))
 
 pub returns-clause-over : goal.returns-clause-over

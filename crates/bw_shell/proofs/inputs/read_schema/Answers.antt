@@ -1,6 +1,6 @@
 -- What came is the text that was read.
 use Rattle.bw_shell.proofs.Directs.{schema_told}
-use Rattle.bw_shell.proofs.direct_call.read_schema.Goals as goal
+use Rattle.bw_shell.proofs.inputs.read_schema.Goals as goal
 
 pub returns-in-Whole-clause-told : goal.returns-in-Whole-clause-told
 returns-in-Whole-clause-told g c =

@@ -1,0 +1,61 @@
+-- Rows that are counted alone.
+use Rattle.std.proofs.Common.{◌≡◌, ℕ, ◌+◌, ◌≤◌, ◌<◌, List, [], ◌∷◌, true, false, map, filter, length, get_or, refl, ap, arith, nat_le}
+use Rattle.std.specs.List.{list_all}
+use Rattle.std.proofs.lemmas.Bool.{leb-true, le-leb}
+use Rattle.std.proofs.lemmas.List.Sums.{AllPass-from_list_all}
+use Rattle.bw_model.specs.declared.cond.Cond.{Cond}
+use Rattle.bw_model.specs.declared.query.Item.{Item}
+use Rattle.bw_model.specs.declared.query.Item.TheVariants.{Plain, CountAll, Count, Sum, Min, Max}
+use Rattle.bw_model.specs.Cond.{is_kept}
+use Rattle.bw_model.specs.Row.{Value}
+use Rattle.bw_model.specs.Selection.{kept}
+use Rattle.bw_model.specs.Total.{is_aggregate, item_within}
+use Rattle.bw_rowwise.specs.Accumulator.{Tally, tally_of, counted}
+use Rattle.bw_answer.specs.Answer.{is_count_all, lists_rows}
+use Rattle.bw_answer.specs.Totals.{is_of}
+use Rattle.bw_answer.proofs.TotalsLemmas.{and_true, both}
+
+-- where a condition keeps every row, all are kept
+pub every_kept : (cond : Cond) (rows : List (List Value)) → ((row : List Value) → is_kept cond row ≡ true) → kept cond rows ≡ rows
+every_kept cond [] every = refl
+every_kept cond (row ∷ rows) every = rw (every row) (ap (λ (l : List (List Value)). row ∷ l) (every_kept cond rows every))
+
+-- what counts all lists no rows
+pub counts_list_nothing : (items : List Item) → 1 ≤ length items → list_all is_count_all items ≡ true → lists_rows items ≡ false
+counts_list_nothing [] some e = absurd (omega (arith, some))
+counts_list_nothing (Plain column ∷ items) some e = absurd (cc e)
+counts_list_nothing (CountAll ∷ items) some e = refl
+counts_list_nothing (Count column ∷ items) some e = refl
+counts_list_nothing (Sum column ∷ items) some e = refl
+counts_list_nothing (Min column ∷ items) some e = refl
+counts_list_nothing (Max column ∷ items) some e = refl
+
+-- counts of rows, and so many more
+one_counted : (rows more : List (List Value)) (n : ℕ) → length more ≡ length rows + n → counted (tally_of CountAll rows) n ≡ tally_of CountAll more
+one_counted rows more n e = rw e refl
+
+pub all_counted : (items : List Item) (rows more : List (List Value)) (n : ℕ) → length more ≡ length rows + n → list_all is_count_all items ≡ true
+    → map (λ (tally : Tally). counted tally n) (map (λ item. tally_of item rows) (filter is_aggregate items)) ≡ map (λ item. tally_of item more) (filter is_aggregate items)
+all_counted [] rows more n e all = refl
+all_counted (Plain column ∷ items) rows more n e all = absurd (cc all)
+all_counted (CountAll ∷ items) rows more n e all = λ i. one_counted rows more n e i ∷ all_counted items rows more n e all i
+all_counted (Count column ∷ items) rows more n e all = absurd (cc all)
+all_counted (Sum column ∷ items) rows more n e all = absurd (cc all)
+all_counted (Min column ∷ items) rows more n e all = absurd (cc all)
+all_counted (Max column ∷ items) rows more n e all = absurd (cc all)
+
+-- totals of so many rows and more
+pub is_of-counted : (width rows n : ℕ) (tallies : List Tally) → list_all (is_of width rows) tallies ≡ true
+    → list_all (is_of width (rows + n)) (map (λ (tally : Tally). counted tally n) tallies) ≡ true
+is_of-counted width rows n [] e = refl
+is_of-counted width rows n (t ∷ ts) e =
+    let parts = both (is_of width rows t) (list_all (is_of width rows) ts) e in
+    let here = both (item_within width t.item) (nat_le t.count rows) parts.0 in
+    let count : t.count + n ≤ rows + n = omega (arith, leb-true t.count rows here.1) in
+    and_true _ _ (and_true _ _ here.0 (le-leb _ _ count)) (is_of-counted width rows n ts parts.1)
+
+-- each has room for so many more
+pub count_within : (width rows : ℕ) (tallies : List Tally) (k : ℕ) (d : Tally) → k < length tallies → list_all (is_of width rows) tallies ≡ true → (get_or tallies k d).count ≤ rows
+count_within width rows tallies k d h e =
+    let here = AllPass-from_list_all (is_of width rows) tallies e k d h in
+    leb-true _ rows (both (item_within width (get_or tallies k d).item) (nat_le (get_or tallies k d).count rows) here).1

@@ -1,0 +1,48 @@
+-- Each total counts the rows, and the text stays.
+use Rattle.std.proofs.Common.{◌≡◌, ◌∙◌, ◌+◌, ◌≤◌, ℕ, List, [], ◌++◌, true, length, length-append, map, filter, subst, sym, ap, arith}
+use Rattle.std.specs.List.{list_all}
+use Rattle.std.proofs.lemmas.List.{with_items_is}
+use Rattle.bw_model.specs.Selection.{kept}
+use Rattle.bw_model.specs.Total.{is_aggregate}
+use Rattle.bw_rowwise.specs.Accumulator.{Tally, counted, tally_of}
+use Rattle.bw_answer.specs.Answer.{is_count_all}
+use Rattle.bw_answer.specs.Draft.{Holds}
+use Rattle.bw_answer.specs.Totals.{is_of}
+use Rattle.bw_answer.proofs.AnswerLemmas.{text_over_same}
+use Rattle.bw_answer.proofs.CountLemmas.{all_counted, counts_list_nothing, every_kept, is_of-counted}
+use Rattle.bw_answer.proofs.answer.Answer.take_count.Goals as goal
+
+pub invariant_of-self-clause-room : goal.invariant_of-self-clause-room
+invariant_of-self-clause-room c =
+    let self = c.args.self.now in
+    let after = c.add_count.new.totals in
+    let size : length after ≡ self.totals.len = c.add_count.auto.totals ∙ c.deref_mut.ensures.len in
+    let old : list_all (is_of self.width self.rows) c.deref_mut.result.now ≡ true = rw c.deref_mut.ensures.value self.room in
+    let more : list_all (is_of self.width (self.rows + c.args.count)) after ≡ true =
+    rw c.add_count.ensures (is_of-counted self.width self.rows c.args.count c.deref_mut.result.now old) in
+    subst (λ (tallies : List Tally). list_all (is_of self.width (self.rows + c.args.count)) tallies ≡ true) (sym (with_items_is self.totals after size)) more
+
+pub returns-clause-over : goal.returns-clause-over
+returns-clause-over c = λ start before rows long led names query first over.
+    let self = c.args.self.now in
+    let after = c.add_count.new.totals in
+    let size : length after ≡ self.totals.len = c.add_count.auto.totals ∙ c.deref_mut.ensures.len in
+    let so_far = led names query first over in
+    let items = query.items.items in
+    let all : list_all is_count_all items ≡ true = rw so_far.0 at c.requires.counts.alone in
+    let some : 1 ≤ length items = rw so_far.0 at self.some in
+    let none = counts_list_nothing items some all in
+    let old = first ++ before in
+    let new = first ++ (before ++ rows) in
+    let every = rw so_far.0 at c.requires.counts.every in
+    let long_new : length (kept query.cond new) ≡ length (kept query.cond old) + c.args.count =
+    rw (every_kept query.cond new every, every_kept query.cond old every) (omega (arith, length-append first (before ++ rows), length-append first before, length-append before rows, long)) in
+    let totals : after ≡ map (λ item. tally_of item (kept query.cond new)) (filter is_aggregate items) =
+    c.add_count.ensures ∙ ap (map (λ (tally : Tally). counted tally c.args.count)) (c.deref_mut.ensures.value ∙ so_far.1.totalled none)
+    ∙ all_counted items (kept query.cond old) (kept query.cond new) c.args.count long_new all in (
+      so_far.0,
+      record {
+        written = subst (λ (text : List ℕ). Holds self.text text []) (text_over_same names query old new none) so_far.1.written;
+        totalled = λ _. with_items_is self.totals after size ∙ totals;
+      },
+    )

@@ -1,0 +1,117 @@
+-- Where a call that reads a schema and a CSV and writes a text ends: at the schema, at the CSV, at what is made of it, or
+-- when the text goes out.
+use Rattle.std.proofs.Common.{◌≡◌, ℕ, List, Bool, true, false, ◌&&◌, ◌||◌, ◌==◌, Option, Some, None, Result, Ok, Err, refl, sym, subst, ◌∙◌, ap}
+use Rattle.std.specs.Prelude.{MatchBool, IsOkAnd}
+use Rattle.std.specs.Io.KnownBytes.{Appends, Keeps}
+use Rattle.std.proofs.lemmas.Bool.{eqb-true}
+use Rattle.bw_model.specs.declared.fault.Fault.{Fault}
+use Rattle.bw_model.specs.declared.schema.Schema.{Schema}
+use Rattle.bw_model.specs.Fault.{no_memory, is_memory, ◌>>=◌}
+use Rattle.bw_csv.specs.Rows.{is_aside, is_any_record, is_rows_fault, IsRowsFault}
+use Rattle.bw_file.specs.Sink.{is_write_fault, TookPart, GoesOut, Went}
+use Rattle.bw_file.specs.Source.{Came}
+use Rattle.bw_shell.specs.Arrived.{IsSchemaFrom, SchemaTold, CsvTold, csv_from}
+
+-- what came of a source, and the text that goes out, or a fault
+abbrev pub Arrival : Type 0
+Arrival = Result (Option (List ℕ)) Fault
+
+abbrev pub Given : Type 0
+Given = Result (List ℕ) Fault
+
+abbrev pub unread : Arrival
+unread = Err no_memory
+
+-- sources gave P and Q, and what is given for them went W
+abbrev pub Ends : (Arrival → Type 0) → (Arrival → Type 0) → (Arrival → Arrival → Given → Type 0) → (Given → Type 0) → Type 0
+Ends P Q Is W = (schema csv : Arrival) × (given : Given) × P schema × Q csv × Is schema csv given × W given
+
+-- a fault was answered that is the one of what was given, but for those set aside
+abbrev pub IsFaultOf : Fault → Given → Type 0
+IsFaultOf fault given = is_aside fault ≡ false → given ≡ Err fault
+
+-- a source that gave its bytes has failed no more than one that found no memory
+pub unread_schema : (limit : ℕ) (old new : Option (List ℕ)) (before after : ℕ) (came : Arrival) (schema : Schema)
+    → Came limit old new before after came → IsSchemaFrom came (Ok schema) → Came limit old new before after unread
+unread_schema limit old new before after (Ok (Some text)) schema came from =
+    let same : no_memory ≡ no_memory = refl in
+    (same, came.1)
+unread_schema limit old new before after (Ok None) schema came from = absurd (cc from)
+unread_schema limit old new before after (Err fault) schema came from = absurd (cc from)
+
+pub never_read : (limit : ℕ) (old : Option (List ℕ)) (count : ℕ) → Came limit old old count count unread
+never_read limit old count =
+    let same : no_memory ≡ no_memory = refl in
+    let kept : count ≡ count = refl in
+    (same, kept)
+
+keeps_itself : (old : Option (List ℕ)) → Keeps old old
+keeps_itself None = tt
+keeps_itself (Some xs) = refl
+
+-- a call that wrote nothing
+pub wrote_nothing : (old : Option (List ℕ)) (count : ℕ) (fault : Fault) (given : Given) → is_write_fault fault ≡ false → IsFaultOf fault given
+    → Went {T = Unit {0}} is_aside old old count count given (Err fault)
+wrote_nothing old count fault given other is =
+    let kept : count ≡ count = refl in
+    (λ w. absurd (cc (w, other)), λ w. (keeps_itself old, kept, is))
+
+aside_memory : (fault : Fault) → is_memory fault ≡ true → is_aside fault ≡ true
+aside_memory fault m = ap (λ b. b || ((fault.code == 209) && is_any_record fault.place)) m
+
+pub memory_is_aside : (fault : Fault) (given : Given) → is_memory fault ≡ true → IsFaultOf fault given
+memory_is_aside fault given m other = absurd (cc (aside_memory fault m, other))
+
+-- the schema was refused
+schema_exit_by : (P Q : Arrival → Type 0) (Is : Arrival → Arrival → Given → Type 0) (W : Given → Type 0) (came : Arrival) (fault : Fault) (memory : Bool) → is_memory fault ≡ memory
+    → ((came : Arrival) (fault : Fault) → IsSchemaFrom came (Err fault) → Is came unread (Err fault))
+    → P came → Q unread → MatchBool memory (came ≡ unread) (IsSchemaFrom came (Err fault)) → ((given : Given) → IsFaultOf fault given → W given)
+    → Ends P Q Is W
+schema_exit_by P Q Is W came fault true m refused p q told w =
+    let none : Given = Err no_memory in
+    let from : Err no_memory ≡ Err no_memory = refl in
+    (unread, unread, none, subst P told p, q, refused unread no_memory from, w none (memory_is_aside fault none m))
+schema_exit_by P Q Is W came fault false m refused p q told w =
+    let given : Given = Err fault in
+    let is : given ≡ Err fault = refl in
+    (came, unread, given, p, q, refused came fault told, w given (λ other. is))
+
+pub schema_exit : (P Q : Arrival → Type 0) (Is : Arrival → Arrival → Given → Type 0) (W : Given → Type 0) (came : Arrival) (fault : Fault)
+    → ((came : Arrival) (fault : Fault) → IsSchemaFrom came (Err fault) → Is came unread (Err fault))
+    → P came → Q unread → SchemaTold came (Err fault) → ((given : Given) → IsFaultOf fault given → W given) → Ends P Q Is W
+schema_exit P Q Is W came fault refused p q told w = schema_exit_by P Q Is W came fault (is_memory fault) refl refused p q told w
+
+-- the CSV's source failed, or gave more bytes than its limit
+csv_fault_by : (make : List ℕ → Given) (csv : Arrival) (fault : Fault) (memory : Bool) → is_memory fault ≡ memory
+    → MatchBool memory (csv ≡ unread) (csv_from csv ≡ Err fault) → IsFaultOf fault (csv_from csv >>= make)
+csv_fault_by make csv fault true m told other = memory_is_aside fault (csv_from csv >>= make) m other
+csv_fault_by make csv fault false m told other = ap (λ bytes. bytes >>= make) told
+
+pub csv_exit : (P Q : Arrival → Type 0) (Is : Arrival → Arrival → Given → Type 0) (W : Given → Type 0) (came csv : Arrival) (make : List ℕ → Given) (fault : Fault)
+    → Is came csv (csv_from csv >>= make) → P came → Q csv → CsvTold csv (Err fault)
+    → ((given : Given) → IsFaultOf fault given → W given) → Ends P Q Is W
+csv_exit P Q Is W came csv make fault is p q told w =
+    (came, csv, (csv_from csv >>= make), p, q, is, w (csv_from csv >>= make) (csv_fault_by make csv fault (is_memory fault) refl told))
+
+-- the CSV came, and what the rest of the call answered is what is made of it
+pub text_exit : (P Q : Arrival → Type 0) (Is : Arrival → Arrival → Given → Type 0) (W : Given → Type 0) (came csv : Arrival) (make : List ℕ → Given) (bytes : List ℕ)
+    → Is came (Ok (Some bytes)) (make bytes) → P came → Q csv → csv ≡ Ok (Some bytes) → W (make bytes) → Ends P Q Is W
+text_exit P Q Is W came csv make bytes is p q told w = (came, Ok (Some bytes), make bytes, p, subst Q told q, is, w)
+
+-- the text went out, or up to a failed write
+pub went_out : (old new : Option (List ℕ)) (before after : ℕ) (text : List ℕ) (given : Given) (result : Result (Unit {0}) Fault) → given ≡ Ok text
+    → GoesOut old new before after text result → Went is_aside old new before after given result
+went_out old new before after text given (Ok x) is goes = (subst (λ g. IsOkAnd g (Appends old new)) (sym is) goes.0, goes.1)
+went_out old new before after text given (Err fault) is goes =
+    let write : is_write_fault fault ≡ true = ap is_write_fault goes.0 in
+    (λ w. (goes.0, subst (λ g. IsOkAnd g (TookPart old new)) (sym is) goes.1, goes.2), λ other. absurd (cc (write, other)))
+
+-- faults of other kinds are no failed writes, whatever their places
+pub other_fault : (allowed : Fault → Bool) (fault : Fault) (write : Bool) → is_write_fault fault ≡ write → allowed fault ≡ true
+    → allowed (record { code = 702; place = fault.place }) ≡ false → write ≡ false
+other_fault allowed fault true e is none =
+    absurd (cc (sym is ∙ ap (λ code. allowed (record { code = code; place = fault.place })) (eqb-true fault.code 702 e) ∙ none))
+other_fault allowed fault false e is none = refl
+
+pub rows_write_nothing : (fault : Fault) → IsRowsFault fault → is_write_fault fault ≡ false
+rows_write_nothing fault is = other_fault is_rows_fault fault (is_write_fault fault) refl is refl
