@@ -1,4 +1,5 @@
 pub mod BitLemmas
 pub mod ByteLemmas
 pub mod MaskLemmas
+pub mod StoredLemmas
 pub mod WordLemmas

@@ -1,5 +1,5 @@
 -- The lanes of words, and of words that are joined.
-use Rattle.std.proofs.Common.{◌≡◌, ◌∙◌, refl, sym, ap, ap₂, ℕ, zero, suc, ◌+◌, ◌*◌, ◌/◌, ◌%◌, ◌^◌, ◌<◌, ◌≤◌, Bool, true, false, not, cond, ◌==◌, ◌&&◌, ◌||◌, List, [], ◌∷◌, ◌++◌, map, length, count_by, arith, w64, length-append, append_assoc, append-nil, inl, inr}
+use Rattle.std.proofs.Common.{get_or, ◌≡◌, ◌∙◌, refl, sym, ap, ap₂, ℕ, zero, suc, ◌+◌, ◌-◌, ◌*◌, ◌/◌, ◌%◌, ◌^◌, ◌<◌, ◌≤◌, Bool, true, false, not, cond, ◌==◌, ◌&&◌, ◌||◌, List, [], ◌∷◌, ◌++◌, map, flat_map, replicate, length, count_by, arith, w64, length-append, append_assoc, append-nil, inl, inr}
 use Rattle.std.proofs.Math.Nat.{eq-zero-or-pos}
 use Rattle.std.proofs.Math.Bool.{and-true}
 use Rattle.std.proofs.Math.Nat.{two-pow-succ}
@@ -16,7 +16,8 @@ use lib.Bits.{bit_and}
 use lib.Lanes.{zip2, Each1, fold_l, sum_l}
 use Rattle.std.specs.List.{list_all}
 use Rattle.bw_lanes.specs.Lanes.{bits_from_least, lanes_of_words, lanes_of_bytes, differ}
-use Rattle.bw_lanes.proofs.BitLemmas.{length-bits_from_least, bits_from_least_more, bits_of_not, bits_of_and, bits_of_or, bits_of_xor}
+use Rattle.std.proofs.lemmas.Nat.Bits.{shr_and_one}
+use Rattle.bw_lanes.proofs.BitLemmas.{bit_in_numbers, length-bits_from_least, bits_from_least_more, bits_of_not, bits_of_and, bits_of_or, bits_of_xor}
 
 pub zip2-append : {A B C : Type 0} (f : A → B → C) (xs xs' : List A) (ys ys' : List B) → length xs ≡ length ys → zip2 f (xs ++ xs') (ys ++ ys') ≡ zip2 f xs ys ++ zip2 f xs' ys'
 zip2-append f [] xs' [] ys' same = refl
@@ -140,3 +141,20 @@ lanes_of_or xs ys eight other = lanes_joined (λ x y. x || y) bit_or (bits_of_or
 
 pub lanes_of_xor : (xs ys : List ℕ) → length xs ≡ 8 → length ys ≡ 8 → lanes_of_words (zip2 bit_xor xs ys) ≡ zip2 differ (lanes_of_words xs) (lanes_of_words ys)
 lanes_of_xor xs ys eight other = lanes_joined differ bit_xor (bits_of_xor 64) xs ys (eight ∙ sym other)
+
+-- the lane of a row in a plane that is kept as words
+pub lane_of_words : (words : List ℕ) (row : ℕ) → row < 64 * length words → get_or (lanes_of_words words) row false ≡ (bit_and (get_or words (row / 64) 0 / 2 ^ (row % 64)) 1 == 1)
+unfolding lanes_of_words
+lane_of_words words row lt =
+    let place : row ≡ 64 * (row / 64) + row % 64 = omega arith in
+    ap (λ i. get_or (flat_map (bits_from_least 64) words) i false) place ∙ bit_in_numbers 64 words (row / 64) (row % 64) (omega arith) (omega arith)
+    ∙ ap (λ b. b == 1) (sym (shr_and_one (get_or words (row / 64) 0) (row % 64)))
+
+-- planes of zeros and of ones
+pub zeros_are_zero : lanes_of_words (replicate 8 0) ≡ replicate 512 false
+unfolding lanes_of_words bits_from_least
+zeros_are_zero = refl
+
+pub ones_are_one : lanes_of_words (replicate 8 (2 ^ 64 - 1)) ≡ replicate 512 true
+unfolding lanes_of_words bits_from_least
+ones_are_one = refl

@@ -1,5 +1,5 @@
 -- Planes and their lanes: 512 bits, one a row.
-use Rattle.std.specs.Prelude.{ℕ, ◌==◌, Bool, true, false, not, List, map}
+use Rattle.std.specs.Prelude.{ℕ, zero, suc, ◌+◌, ◌*◌, ◌==◌, Bool, true, false, not, List, [], ◌∷◌, map, take, drop, if◌then◌else◌}
 use Rattle.std.specs.Int.{bit_at}
 use Rattle.std.specs.List.{flat_map, range_with_len}
 
@@ -19,3 +19,17 @@ lanes_of_bytes bytes = flat_map (bits_from_least 8) bytes
 abbrev pub differ : Bool → Bool → Bool
 differ true y = not y
 differ false y = y
+
+-- the number of some bits, the least first
+abbrev pub number_of_bits : List Bool → ℕ
+number_of_bits [] = 0
+number_of_bits (bit ∷ bits) = (if bit then 1 else 0) + 2 * number_of_bits bits
+
+-- so many bytes, each the number of eight lanes
+abbrev pub bytes_from : ℕ → List Bool → List ℕ
+bytes_from zero lanes = []
+bytes_from (suc count) lanes = number_of_bits (take 8 lanes) ∷ bytes_from count (drop 8 lanes)
+
+-- the 64 bytes of 512 lanes
+unfoldable pub bytes_of_lanes : List Bool → List ℕ
+bytes_of_lanes lanes = bytes_from 64 lanes

@@ -14,5 +14,5 @@ mod stored;
 mod tests;
 
 pub use bytes::{bytes_bit, bytes_eq, bytes_lt};
-pub use plane::{Plane, and, count, count_and, is_zero, mask, not, or, xor};
+pub use plane::{Plane, and, count, count_and, is_zero, lane, mask, not, or, xor};
 pub use stored::{load, to_bytes};

@@ -1,5 +1,5 @@
 //! Planes: one bit of each of 512 rows, and the operations on them, by vectors of words.
-ghost use Rattle.std.specs.Prelude.{◌≡◌, ◌-◌, ◌≤◌, ◌++◌, ◌&&◌, ◌||◌, true, false, not, map, count_by, replicate, min};
+ghost use Rattle.std.specs.Prelude.{◌≡◌, ◌-◌, ◌<◌, ◌≤◌, ◌++◌, ◌&&◌, ◌||◌, true, false, not, map, count_by, replicate, min, slice_index_or};
 ghost use Rattle.std.specs.List.{flat_map, list_all};
 ghost use lib.Lanes.{zip2};
 ghost use Rattle.bw_lanes.specs.Lanes.{lanes_of_words, differ};
@@ -47,6 +47,14 @@ pub fn is_zero(plane: &Plane) -> bool
     ensures { result ≡ list_all not (lanes_of_words plane.now) }
 {
     has_no_one(u64x8::from_array(*plane))
+}
+
+/// The lane of a row, from 0.
+pub fn lane(plane: &Plane, row: usize) -> bool
+    requires { row < 512 }
+    ensures { result ≡ slice_index_or (lanes_of_words plane.now) row false }
+{
+    plane[row / 64] >> (row % 64) & 1 == 1
 }
 
 /// How many lanes are 1.

@@ -1,6 +1,6 @@
 //! Planes as they are kept: 64 bytes, row i's bit being bit i mod 8, the least first, of byte i / 8.
 ghost use Rattle.std.specs.Prelude.{◌≡◌, ◌≤◌, length, take};
-ghost use Rattle.bw_lanes.specs.Lanes.{lanes_of_words, lanes_of_bytes};
+ghost use Rattle.bw_lanes.specs.Lanes.{lanes_of_words, lanes_of_bytes, bytes_of_lanes};
 
 use crate::plane::Plane;
 use std::simd::prelude::*;
@@ -15,7 +15,7 @@ pub fn load(bytes: &[u8]) -> Plane
 
 /// The bytes of a plane.
 pub fn to_bytes(plane: &Plane) -> [u8; 64]
-    ensures { lanes_of_bytes result ≡ lanes_of_words plane.now }
+    ensures { result ≡ bytes_of_lanes (lanes_of_words plane.now) }
 {
     bytes_of(u64x8::from_array(*plane)).to_array()
 }
@@ -29,7 +29,7 @@ fn words_of(bytes: u8x64) -> u64x8
 
 /// The bytes of words, the least of each first.
 fn bytes_of(words: u64x8) -> u8x64
-    ensures { lanes_of_bytes result ≡ lanes_of_words words }
+    ensures { result ≡ bytes_of_lanes (lanes_of_words words) }
 {
     words.to_le_bytes()
 }

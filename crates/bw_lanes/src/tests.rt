@@ -1,7 +1,7 @@
 //! Worked planes and bytes, and each kernel once.
 use crate::{
-    Plane, and, bytes_bit, bytes_eq, bytes_lt, count, count_and, is_zero, load, mask, not, or,
-    to_bytes, xor,
+    Plane, and, bytes_bit, bytes_eq, bytes_lt, count, count_and, is_zero, lane, load, mask, not,
+    or, to_bytes, xor,
 };
 
 /// Bytes of which byte i is i mod 256.
@@ -60,5 +60,6 @@ fn planes_are_joined_and_kept(rt: HostRuntime) {
     assert_eq!(rt; xor(&or(&MIXED, &first), &both), xor(&MIXED, &first));
     assert_eq!(rt; count(&not(&MIXED)) + count(&MIXED), 512);
     assert_eq!(rt; to_bytes(&MIXED)[0], 0xEF);
+    assert!(rt; lane(&MIXED, 256) && !lane(&MIXED, 257) && lane(&MIXED, 319));
     assert_eq!(rt; load(to_bytes(&MIXED).as_slice()), MIXED);
 }

@@ -8,7 +8,8 @@ use Rattle.std.specs.List.{list_all}
 use Rattle.bw_model.proofs.BitsLemmas.{both}
 use Rattle.std.proofs.lemmas.Nat.Bits.{shr_and_one}
 use Rattle.std.proofs.lemmas.Simd.{zip2_of_maps, splat_is_map}
-use Rattle.bw_lanes.specs.Lanes.{lanes_of_words, lanes_of_bytes, bits_from_least}
+use Rattle.bw_lanes.specs.Lanes.{lanes_of_words, lanes_of_bytes}
+use Rattle.bw_lanes.proofs.WordLemmas.{zeros_are_zero, ones_are_one}
 use Rattle.std.proofs.lemmas.List.{take-take}
 use Rattle.bw_planes.specs.Planes.{ArePlanesOf}
 use lib.Lanes.{zip2}
@@ -99,7 +100,7 @@ kept_order s t u w p apart lu lw = elim (cases_lt s t) [
       (le-ltb _ _ (omega arith) ∙ sym (le-ltb s t not_less), ne_eqb _ _ (λ e. omega arith))
 ]
 
-spelled_split : (bits : Assignment) (first count more : ℕ) → spelled bits first (count + more) ≡ spelled bits first count * 2 ^ more + spelled bits (first + count) more
+pub spelled_split : (bits : Assignment) (first count more : ℕ) → spelled bits first (count + more) ≡ spelled bits first count * 2 ^ more + spelled bits (first + count) more
 spelled_split bits first count zero = ap (spelled bits first) (add-zero count) ∙ omega arith
 spelled_split bits first count (suc more) =
     let next : count + suc more ≡ suc (count + more) = omega arith in
@@ -134,14 +135,6 @@ equal_stopped (bits ∷ lanes) first place rest c none =
     let each = both (not (eqb (spelled bits first place) (c / 2 ^ rest))) (list_all not (map (λ bits. eqb (spelled bits first place) (c / 2 ^ rest)) lanes)) none in
     let apart = not-true _ each.0 in
     ap₂ ◌∷◌ (apart ∙ sym (stopped bits first place rest c apart).1) (equal_stopped lanes first place rest c each.1)
-
-zeros_are_zero : lanes_of_words (replicate 8 0) ≡ replicate 512 false
-unfolding lanes_of_words bits_from_least
-zeros_are_zero = refl
-
-ones_are_one : lanes_of_words (replicate 8 (2 ^ 64 - 1)) ≡ replicate 512 true
-unfolding lanes_of_words bits_from_least
-ones_are_one = refl
 
 pub zeros_everywhere : (lanes : List Assignment) (test : Assignment → Bool) → length lanes ≡ 512 → ((bits : Assignment) → test bits ≡ false) → lanes_of_words (replicate 8 0) ≡ map test lanes
 zeros_everywhere lanes test all never = zeros_are_zero ∙ splat_is_map lanes 512 false all ∙ (λ i. map (λ bits. sym (never bits) i) lanes)

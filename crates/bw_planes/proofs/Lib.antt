@@ -1,3 +1,5 @@
-pub mod BuildLemmas
+pub mod BlockLemmas
 pub mod CompareLemmas
+pub mod JudgeLemmas
+pub mod LayoutLemmas
 pub mod SegmentLemmas

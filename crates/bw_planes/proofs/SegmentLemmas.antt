@@ -1,11 +1,8 @@
 -- What planes mean, row by row, and where the planes of a column stand.
-use Rattle.std.proofs.Common.{◌≡◌, ◌∙◌, refl, sym, ap, ap₂, subst, ℕ, zero, suc, ℤ, pos, ◌+◌, ◌-◌, ◌*◌, ◌/◌, ◌%◌, ◌^◌, ◌<◌, ◌≤◌, ◌+ℤ◌, ◌-ℤ◌, int_le, unsigned_abs, Bool, true, false, cond, ◌==◌, ◌&&◌, List, [], ◌∷◌, map, length, take, drop, get_or, Some, None, add-one, bit_and, arith}
+use Rattle.std.proofs.Common.{◌≡◌, ◌∙◌, refl, sym, ap, ap₂, subst, ℕ, ◌+◌, ◌-◌, ◌*◌, ◌/◌, ◌%◌, ◌^◌, ◌<◌, ◌≤◌, Bool, true, false, cond, ◌==◌, ◌&&◌, List, [], map, length, take, drop, get_or, Some, None, add-one, bit_and, arith}
 use Rattle.std.specs.Int.{bit_at}
-use Rattle.std.specs.List.{list_all}
 use Rattle.std.proofs.lemmas.List.{get_or-take, get_or-drop, length-take, length-drop}
-use Rattle.std.proofs.lemmas.List.FromFn.{length-map-range_with_len, get_or-map-range_with_len}
 use Rattle.std.proofs.lemmas.List.Sums.{sum_by-take-le}
-use Rattle.std.proofs.lemmas.Int.{ints}
 use Rattle.std.proofs.Math.Pow.{pow_mono}
 use Rattle.std.proofs.lemmas.Simd.{map-map}
 use Rattle.std.proofs.lemmas.Nat.Bits.{shr_and_one}
@@ -13,52 +10,54 @@ use mir.Val.{bool_byte}
 use Rattle.bw_lanes.proofs.BitLemmas.{lane_of_bytes}
 use Rattle.bw_model.specs.declared.column.Column.{Column}
 use Rattle.bw_model.specs.declared.schema.Schema.{Schema}
-use Rattle.bw_model.specs.Row.{Value, value_in}
+use Rattle.bw_model.specs.Row.{value_in}
 use Rattle.bw_model.specs.Code.{span_at, width_at, slices_at, value_at}
-use Rattle.bw_model.specs.Column.{admits_value, admits_values}
+use Rattle.bw_model.specs.Column.{admits_values}
 use Rattle.bw_model.specs.Groups.{group_size, lanes_of}
 use Rattle.bw_model.specs.Stored.{bits_in_slice, byte_spelled}
-use Rattle.bw_model.specs.Variable.{Assignment, variable_count, variables_of, first_variable, is_nullable, bit_variable, spelled, row_of, value_assigned}
-use Rattle.bw_model.proofs.BitsLemmas.{both}
+use Rattle.bw_model.specs.Variable.{Assignment, variable_count, variables_of, first_variable, is_nullable, bit_variable, spelled, value_assigned, assignment_of, bits_of}
+use Rattle.bw_model.proofs.BitsLemmas.{row_of-bits_of}
 use Rattle.bw_model.proofs.GroupLemmas.{lanes_of-length}
 use Rattle.bw_model.proofs.PlaceLemmas.{value_in-row_of}
 use Rattle.bw_model.proofs.VariableLemmas.{width_before_next}
 use Rattle.bw_segment.proofs.SpanLemmas.{all_at, within_span}
 use Rattle.bw_segment.specs.Meaning.{Meaning, IsGroup, byte_lanes}
-use Rattle.bw_planes.specs.Planes.{ArePlanes, ArePlanesOf, row_bits, rows_spelled, planes_meaning}
+use Rattle.bw_segment.specs.Layout.{rows_spelled}
+use Rattle.bw_segment.proofs.SoundLemmas.{length-rows_spelled}
+use Rattle.bw_planes.specs.Planes.{ArePlanes, ArePlanesOf, row_bits, plane_layout, planes_meaning}
+use Rattle.bw_planes.proofs.BlockLemmas.{row_of_lane}
 use Rattle.bw_planes.proofs.CompareLemmas.{spelled_more, spelled_below}
-
-pub length-rows_spelled : (columns : List Column) (count : ℕ) (bytes : List ℕ) → length (rows_spelled columns count bytes) ≡ count
-unfolding rows_spelled
-length-rows_spelled columns count bytes = length-map-range_with_len (λ row. row_of columns (row_bits bytes row)) 0 count
 
 pub rows_are_few : (schema : Schema) (count : ℕ) (bytes : List ℕ) → IsGroup (planes_meaning schema count bytes) → (1 ≤ count) × (count ≤ 512)
 unfolding group_size
 rows_are_few schema count bytes group =
-    let all = length-rows_spelled schema.columns.items count bytes in
+    let all = length-rows_spelled plane_layout schema.columns.items count bytes in
     (omega (arith, group.some, all), omega (arith, group.few, all))
 
-row_at : (columns : List Column) (count row : ℕ) (bytes : List ℕ) → row < count → get_or (rows_spelled columns count bytes) row [] ≡ row_of columns (row_bits bytes row)
-unfolding rows_spelled
-row_at columns count row bytes lt = get_or-map-range_with_len (λ row. row_of columns (row_bits bytes row)) 0 count row row [] lt (omega arith)
-
 -- the value of a row in a column
-pub value_at_row : (columns : List Column) (count row col : ℕ) (bytes : List ℕ) → row < count → col < length columns
-    → value_in (get_or (rows_spelled columns count bytes) row []) col ≡ value_assigned columns (row_bits bytes row) col
-value_at_row columns count row col bytes lt there = ap (λ values. value_in values col) (row_at columns count row bytes lt) ∙ value_in-row_of columns (row_bits bytes row) col there
+pub value_at_row : (schema : Schema) (count row col : ℕ) (bytes : List ℕ) → IsGroup (planes_meaning schema count bytes) → ArePlanes (planes_meaning schema count bytes) (variables_of schema.columns.items) bytes → row < count → col < length schema.columns.items
+    → value_in (get_or (rows_spelled plane_layout schema.columns.items count bytes) row []) col ≡ value_assigned schema.columns.items (row_bits bytes row) col
+value_at_row schema count row col bytes group planes lt there =
+    let columns = schema.columns.items in
+    let rows = rows_spelled plane_layout columns count bytes in
+    let values = get_or rows row [] in
+    let within : row < length rows = omega (arith, length-rows_spelled plane_layout columns count bytes) in
+    let admitted : admits_values columns values ≡ true = all_at (admits_values columns) rows row [] group.admitted within in
+    ap (λ v. value_in v col) (sym (row_of-bits_of columns values admitted)) ∙ value_in-row_of columns (assignment_of (bits_of columns values)) col there
+    ∙ (λ i. value_assigned columns (λ variable. sym (row_of_lane (planes_meaning schema count bytes) bytes row group planes within variable) i) col)
 
 -- the code of a row that isn't null is one of the column's
-pub code_in_span : (schema : Schema) (count row col : ℕ) (bytes : List ℕ) → IsGroup (planes_meaning schema count bytes) → row < count → col < length schema.columns.items
+pub code_in_span : (schema : Schema) (count row col : ℕ) (bytes : List ℕ) → IsGroup (planes_meaning schema count bytes) → ArePlanes (planes_meaning schema count bytes) (variables_of schema.columns.items) bytes → row < count → col < length schema.columns.items
     → (is_nullable schema.columns.items col && row_bits bytes row (first_variable schema.columns.items col)) ≡ false
     → spelled (row_bits bytes row) (bit_variable schema.columns.items col (width_at schema.columns.items col - 1)) (width_at schema.columns.items col) ≤ span_at schema.columns.items col
-code_in_span schema count row col bytes group lt there some =
+code_in_span schema count row col bytes group planes lt there some =
     let columns = schema.columns.items in
     let bits : Assignment = row_bits bytes row in
     let code = spelled bits (bit_variable columns col (width_at columns col - 1)) (width_at columns col) in
-    let rows = rows_spelled columns count bytes in
-    let admitted : admits_values columns (get_or rows row []) ≡ true = all_at (admits_values columns) rows row [] group.admitted (omega (arith, length-rows_spelled columns count bytes)) in
+    let rows = rows_spelled plane_layout columns count bytes in
+    let admitted : admits_values columns (get_or rows row []) ≡ true = all_at (admits_values columns) rows row [] group.admitted (omega (arith, length-rows_spelled plane_layout columns count bytes)) in
     let value : value_in (get_or rows row []) col ≡ Some (value_at columns col code) =
-    value_at_row columns count row col bytes lt there ∙ ap (λ null. cond null None (Some (value_at columns col code))) some in
+    value_at_row schema count row col bytes group planes lt there ∙ ap (λ null. cond null None (Some (value_at columns col code))) some in
     within_span columns (get_or rows row []) col code admitted there value
 
 -- a column's planes stand before the next column's, and these within all

@@ -1,21 +1,22 @@
 //! Planes built from rows, column by column, from the bytes of the codes.
-ghost use Rattle.std.specs.Prelude.{◌≡◌, ◌+◌, ◌-◌, ◌<◌, ℕ, true, length, IfOk, OnOk, IsOkUnless};
-ghost use Rattle.bw_lanes.specs.Lanes.{lanes_of_words};
+ghost use Rattle.std.specs.Prelude.{◌≡◌, ◌<◌, ◌++◌, length, map, IfOk, OnOk, IsOkUnless};
+ghost use Rattle.bw_lanes.specs.Lanes.{bytes_of_lanes, lanes_of_words};
 ghost use Rattle.bw_model.specs.Code.{width_at};
 ghost use Rattle.bw_model.specs.Fault.{no_memory};
-ghost use Rattle.bw_model.specs.Variable.{variables_of, first_variable, is_nullable};
-ghost use Rattle.bw_segment.specs.Meaning.{Meaning, meaning_of, IsGroup, variable_lanes};
-ghost use Rattle.bw_planes.specs.Planes.{ArePlanes};
+ghost use Rattle.bw_model.specs.Row.{values_of};
+ghost use Rattle.bw_segment.specs.Layout.{segment_text};
+ghost use Rattle.bw_segment.specs.Meaning.{meaning_of, IsGroup, stored_codes};
+ghost use Rattle.bw_planes.specs.Planes.{plane_layout, planes_text};
 
 use crate::segment::PlaneSegment;
 use bw_lanes::{Plane, bytes_bit, to_bytes};
 use bw_model::{Fault, Row, Schema};
-use bw_segment::{Segment, Shape, codes_of, nulls_of, slices_of};
+use bw_segment::{Segment, Shape, codes_of, slices_of};
 use std::alloc::Global;
 use std::rc::Rc;
 
 impl PlaneSegment {
-    ghost use Rattle.std.specs.Prelude.{◌≡◌, IfOk, IsOkUnless};
+    ghost use Rattle.std.specs.Prelude.{◌≡◌, IfOk, OnErr, IsOkUnless};
     ghost use Rattle.bw_model.specs.Fault.{no_memory};
     ghost use Rattle.bw_segment.specs.Meaning.{meaning_of, IsGroup};
 
@@ -41,56 +42,52 @@ impl PlaneSegment {
         let shared: &Shape = shape;
         let bytes = planes_of(alloc, shared, rows)?;
         let shape = shape.clone()?;
-        Ok(PlaneSegment {
-            shape,
-            rows: rows.len() as u32,
-            bytes,
-        })
+        Ok(PlaneSegment::of_blocks(shape, rows.len() as u32, bytes))
+    }
+
+    /// Adds the bytes of a segment of these rows, 1 to 512, which the schema admits. Where memory is refused
+    /// nothing was added.
+    pub fn append(
+        alloc: Global,
+        bytes: &mut Vec<u8>,
+        shape: &Shape,
+        rows: &[Row],
+    ) -> Result<(), Fault>
+        requires { IsGroup (meaning_of shape.now.schema rows.now) }
+        ensures added { OnOk result (bytes.new.items ≡ bytes.old.items
+            ++ segment_text plane_layout shape.now.schema.columns.items (map values_of rows.now)) }
+        ensures refused { OnErr result (bytes.new.items ≡ bytes.old.items) }
+        ensures only_memory { IsOkUnless result no_memory }
+    {
+        let added = planes_of(alloc, shape, rows)?;
+        bytes.extend_from_slice(&added)?;
+        Ok(())
     }
 }
 
-/// The planes of rows, in the order of the variables.
+/// The bytes of a segment of rows.
 fn planes_of(alloc: Global, shape: &Shape, rows: &[Row]) -> Result<Vec<u8>, Fault>
     requires { IsGroup (meaning_of shape.now.schema rows.now) }
-    ensures planes { IfOk result (λ bytes. ArePlanes (meaning_of shape.now.schema rows.now)
-        (variables_of shape.now.schema.columns.items) bytes.items) }
+    ensures text { IfOk result (λ bytes. bytes.items
+        ≡ segment_text plane_layout shape.now.schema.columns.items (map values_of rows.now)) }
     ensures only_memory { IsOkUnless result no_memory }
 {
     let count = shape.schema.columns.len();
     let mut bytes = Vec::with_capacity(alloc, 64 * shape.first_variable(count) as usize)?;
     for col in 0..count {
-        if shape.schema.columns[col].nullable {
-            push_nulls(&mut bytes, shape, rows, col)?;
-        }
+        shape.push_nulls(&mut bytes, rows, col)?;
         push_codes(&mut bytes, shape, rows, col)?;
     }
     Ok(bytes)
 }
 
-/// Adds the null plane of a column, whose planes come next.
-fn push_nulls(bytes: &mut Vec<u8>, shape: &Shape, rows: &[Row], col: usize) -> Result<(), Fault>
-    requires group { IsGroup (meaning_of shape.now.schema rows.now) }
-    requires column { col < length shape.now.schema.columns.items }
-    requires nullable { is_nullable shape.now.schema.columns.items col ≡ true }
-    requires before { ArePlanes (meaning_of shape.now.schema rows.now)
-        (first_variable shape.now.schema.columns.items col) bytes.old.items }
-    ensures added { OnOk result (ArePlanes (meaning_of shape.now.schema rows.now)
-        (first_variable shape.now.schema.columns.items col + 1) bytes.new.items) }
-    ensures only_memory { IsOkUnless result no_memory }
-{
-    push(bytes, &bytes_bit(&nulls_of(&shape.schema, rows, col), 0))?;
-    Ok(())
-}
-
-/// Adds the planes of a column's codes, from the top bit down, which come next.
+/// Adds the planes of a column's codes, from the top bit down.
 fn push_codes(bytes: &mut Vec<u8>, shape: &Shape, rows: &[Row], col: usize) -> Result<(), Fault>
     requires group { IsGroup (meaning_of shape.now.schema rows.now) }
     requires column { col < length shape.now.schema.columns.items }
-    requires before { ArePlanes (meaning_of shape.now.schema rows.now)
-        (first_variable shape.now.schema.columns.items (col + 1)
-        - width_at shape.now.schema.columns.items col) bytes.old.items }
-    ensures added { OnOk result (ArePlanes (meaning_of shape.now.schema rows.now)
-        (first_variable shape.now.schema.columns.items (col + 1)) bytes.new.items) }
+    ensures added { OnOk result (bytes.new.items ≡ bytes.old.items
+        ++ planes_text (width_at shape.now.schema.columns.items col)
+            (stored_codes shape.now.schema.columns.items (map values_of rows.now) col)) }
     ensures only_memory { IsOkUnless result no_memory }
 {
     let width = shape.schema.width(col);
@@ -107,10 +104,8 @@ fn push_codes(bytes: &mut Vec<u8>, shape: &Shape, rows: &[Row], col: usize) -> R
 
 /// Adds the bytes of a plane.
 fn push(bytes: &mut Vec<u8>, plane: &Plane) -> Result<(), Fault>
-    ensures added { OnOk result ((meaning : Meaning) (count : ℕ)
-        → ArePlanes meaning count bytes.old.items
-        → lanes_of_words plane.now ≡ variable_lanes meaning count
-        → ArePlanes meaning (count + 1) bytes.new.items) }
+    ensures added { OnOk result (bytes.new.items
+        ≡ bytes.old.items ++ bytes_of_lanes (lanes_of_words plane.now)) }
     ensures only_memory { IsOkUnless result no_memory }
 {
     let added = to_bytes(plane);

@@ -13,14 +13,14 @@ use bw_lanes::{Plane, and, is_zero, load, not, or};
 const ONES: Plane = [u64::MAX; 8];
 
 /// The lanes whose number, which so many planes spell from the top plane on, is below c.
-pub(crate) fn lt(bytes: &[u8], first: usize, count: u32, c: u8) -> Plane
+pub(crate) fn lt(bytes: &[u8], first: usize, count: u32, c: u64) -> Plane
     requires planes { 64 * (first + count) ≤ length bytes.now }
-    requires byte { count ≤ 8 }
+    requires count { count ≤ 63 }
     ensures { (lanes : List Assignment) → length lanes ≡ 512
         → ArePlanesOf bytes.now first count lanes
         → lanes_of_words result ≡ map (λ bits. nat_lt (spelled bits first count) c) lanes }
 {
-    if c as u32 >> count != 0 {
+    if c >> count != 0 {
         return ONES;
     }
     let mut below = [0; 8];

@@ -9,9 +9,12 @@
 
 mod build;
 mod compare;
+mod judge;
+mod layout;
 mod read;
 mod segment;
 #[cfg(test)]
 mod tests;
 
+pub use layout::planes_keep_codes;
 pub use segment::PlaneSegment;

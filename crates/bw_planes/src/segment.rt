@@ -1,8 +1,11 @@
 //! A segment kept as bit planes, and what it answers.
 ghost use Rattle.std.specs.Prelude.{◌≡◌, ◌*◌, ◌+◌, ◌<◌, ◌≤◌, length, slice_index_or, false};
+ghost use Rattle.bw_model.specs.Groups.{group_size};
 ghost use Rattle.bw_model.specs.Variable.{variables_of};
+ghost use Rattle.bw_segment.specs.BlockFault.{IsSound};
+ghost use Rattle.bw_segment.specs.Layout.{block_size, segment_size, segment_text, rows_spelled};
 ghost use Rattle.bw_segment.specs.Meaning.{IsGroup};
-ghost use Rattle.bw_planes.specs.Planes.{planes_meaning, ArePlanes, plane_lanes};
+ghost use Rattle.bw_planes.specs.Planes.{planes_meaning, plane_layout, ArePlanes};
 
 use crate::compare::{eq, lt};
 use crate::read::{bit, number};
@@ -12,8 +15,7 @@ use bw_segment::{Segment, Shape};
 use std::rc::Rc;
 
 /// A segment kept as bit planes. They are kept as bytes, in the order of the variables, 64 bytes a plane:
-/// bit i mod 8, the least first, of byte i / 8 is row i's, and 0 past the last row. The fields
-/// are public so that a reader of such bytes can judge them, and then has the segment.
+/// bit i mod 8, the least first, of byte i / 8 is row i's, and 0 past the last row.
 #[derive(Drop)]
 pub struct PlaneSegment {
     pub shape: Rc<Shape>,
@@ -22,6 +24,8 @@ pub struct PlaneSegment {
     pub ghost group: { IsGroup (planes_meaning shape.value.schema rows bytes.items) },
     pub ghost planes: { ArePlanes (planes_meaning shape.value.schema rows bytes.items)
         (variables_of shape.value.schema.columns.items) bytes.items },
+    pub ghost text: { bytes.items ≡ segment_text plane_layout shape.value.schema.columns.items
+        (rows_spelled plane_layout shape.value.schema.columns.items rows bytes.items) },
 }
 
 impl Segment for PlaneSegment {
@@ -42,7 +46,7 @@ impl Segment for PlaneSegment {
 
     fn byte_lt(&self, col: usize, slice: usize, c: u8) -> Plane {
         let (first, count) = self.planes_of_byte(col, slice);
-        lt(&self.bytes, first, count, c)
+        lt(&self.bytes, first, count, u64::from(c))
     }
 
     fn byte_eq(&self, col: usize, slice: usize, c: u8) -> Plane {
@@ -62,6 +66,51 @@ impl Segment for PlaneSegment {
 }
 
 impl PlaneSegment {
+    /// The segment of so many rows whose blocks are these bytes, each without fault.
+    pub fn of_blocks(shape: Rc<Shape>, rows: u32, bytes: Vec<u8>) -> Self
+        requires some { 1 ≤ rows }
+        requires few { rows ≤ group_size }
+        requires sound { IsSound plane_layout shape.value.schema.columns.items rows bytes.items }
+        ensures means { ⟦<PlaneSegment as Segment>⟧.meaning result
+            ≡ planes_meaning shape.value.schema rows bytes.items }
+    {
+        PlaneSegment { shape, rows, bytes }
+    }
+
+    /// How many bytes a column's block takes.
+    pub fn block_size(shape: &Shape, col: usize) -> usize
+        requires { col < length shape.now.schema.columns.items }
+        ensures size { result ≡ block_size plane_layout shape.now.schema.columns.items col }
+        ensures bound { result ≤ 4096 }
+    {
+        shape.null_size(col) + 64 * shape.schema.width(col) as usize
+    }
+
+    /// How many bytes a segment takes.
+    pub fn segment_size(shape: &Shape) -> usize
+        ensures { result ≡ segment_size plane_layout shape.now.schema.columns.items }
+    {
+        64 * shape.first_variable(shape.schema.columns.len()) as usize
+    }
+
+    /// The bytes of the segment, whose memory is used again for another one.
+    pub fn into_bytes(self) -> Vec<u8>
+        ensures { result.items ≡ segment_text plane_layout
+            (⟦<PlaneSegment as Segment>⟧.meaning self).columns
+            (⟦<PlaneSegment as Segment>⟧.meaning self).rows }
+    {
+        self.bytes
+    }
+
+    /// The bytes of the segment: the blocks of its columns, in order.
+    pub fn bytes(&self) -> &[u8]
+        ensures { result.now ≡ segment_text plane_layout
+            (⟦<PlaneSegment as Segment>⟧.meaning self.now).columns
+            (⟦<PlaneSegment as Segment>⟧.meaning self.now).rows }
+    {
+        &self.bytes
+    }
+
     ghost use Rattle.std.specs.Prelude.{◌-◌};
     ghost use Rattle.std.specs.Prelude.{◌&&◌};
     ghost use Rattle.bw_model.specs.Code.{width_at, slices_at, span_at};

@@ -2,7 +2,7 @@
 use crate::PlaneSegment;
 use bw_lanes::count;
 use bw_model::{Fault, Row, Schema, Value};
-use bw_segment::{Segment, is_group};
+use bw_segment::{Segment, Shape, is_group};
 use std::alloc::Global;
 use std::test::Fail;
 
@@ -44,6 +44,24 @@ fn planes_stand_in_order(rt: HostRuntime) -> Result<(), Fail> {
         assert!(rt; plane[1..].iter().all(|byte| *byte == 0));
     }
     Ok(())
+}
+
+/// What is judged of a column's block in which one byte is another one, in a segment of so many rows.
+fn judged(segment: &PlaneSegment, col: usize, rows: u32, at: usize, byte: u8) -> Option<u16> {
+    let (first, last) = if col == 0 { (0, 8 * 64) } else { (8 * 64, 14 * 64) };
+    let mut block = [0; 8 * 64];
+    let bytes = segment.bytes();
+    if bytes.len() != 14 * 64 || col > 1 || rows > 512 || at >= last - first {
+        return None;
+    }
+    let size = last - first;
+    block[..size].copy_from_slice(&bytes[first..last]);
+    block[at] = byte;
+    let shape: &Shape = &segment.shape;
+    if col < shape.schema.columns.len() && shape.first_variable(col + 1) == (last / 64) as u32 {
+        return PlaneSegment::judge(shape, col, rows, &block[..size]);
+    }
+    None
 }
 
 /// How many rows have a 1 at a variable; none where there is no such variable.

@@ -21,7 +21,8 @@ use Rattle.bw_model.specs.Variable.{Assignment, first_variable, null_variable, b
 use Rattle.bw_model.proofs.BitsLemmas.{both}
 use Rattle.bw_model.proofs.PlaceLemmas.{code_bit_at, null_bit_at_variable}
 use Rattle.bw_model.proofs.StoredLemmas.{byte_of_bits, spelled_zero}
-use Rattle.bw_segment.specs.Meaning.{Meaning, IsGroup, variable_lanes, byte_lanes, code_lanes, null_lanes}
+use Rattle.bw_segment.specs.Layout.{null_bits}
+use Rattle.bw_segment.specs.Meaning.{Meaning, IsGroup, variable_lanes, byte_lanes, stored_codes, code_lanes, null_lanes}
 
 map-append : {A B : Type 0} (f : A → B) (xs ys : List A) → map f (xs ++ ys) ≡ map f xs ++ map f ys
 map-append f [] ys = refl
@@ -64,16 +65,29 @@ nulls_in_lanes meaning col variable group lt is =
     shown true = refl
     shown false = refl
 
+-- the null bits of rows
+pub bits_of_nulls : (meaning : Meaning) (col : ℕ) → map (λ null. has_bit null 0) (null_lanes meaning col) ≡ null_bits meaning.rows col
+unfolding null_lanes null_bits
+bits_of_nulls meaning col =
+    let null = λ (row : List Value). cond (is_null (value_in row col)) 1 0 in
+    let count = group_size - length meaning.rows in
+    map-append (λ null. has_bit null 0) (map null meaning.rows) (replicate count 0)
+    ∙ ap₂ ◌++◌ (map-map (λ null. has_bit null 0) null meaning.rows ∙ (λ i. map (λ row. shown (is_null (value_in row col)) i) meaning.rows)) (map-replicate (λ null. has_bit null 0) count 0)
+  where
+    shown : (b : Bool) → has_bit (cond b 1 0) 0 ≡ b
+    shown true = refl
+    shown false = refl
+
 pub bits_in_lanes : (meaning : Meaning) (col bit : ℕ) → IsGroup meaning → col < length meaning.columns → bit < width_at meaning.columns col
     → map (λ code. has_bit code bit) (code_lanes meaning col) ≡ variable_lanes meaning (bit_variable meaning.columns col bit)
-unfolding code_lanes
+unfolding stored_codes
 bits_in_lanes meaning col bit group lt below =
     lanes_agree meaning (λ row. stored_at meaning.columns col (value_in row col)) (λ code. has_bit code bit) (λ bits. bits (bit_variable meaning.columns col bit)) group
     (λ values admitted. sym (code_bit_at meaning.columns values col bit admitted lt below)) (ap (λ k. k == 1) (bit_at-zero bit))
 
 pub bytes_in_lanes : (meaning : Meaning) (col slice : ℕ) → IsGroup meaning → col < length meaning.columns → slice < slices_at meaning.columns col
     → map (byte_of slice) (code_lanes meaning col) ≡ byte_lanes meaning col slice
-unfolding code_lanes
+unfolding stored_codes
 bytes_in_lanes meaning col slice group lt there =
     lanes_agree meaning (λ row. stored_at meaning.columns col (value_in row col)) (byte_of slice) (byte_spelled meaning.columns col slice) group
     (λ values admitted. sym (byte_of_bits meaning.columns values col slice admitted lt there)) none
@@ -102,10 +116,12 @@ bit_of_byte code bit =
     ap (bit_at code) place ∙ ap (λ k. code / k % 2) (pow-add 2 (8 * (bit / 8)) (bit % 8)) ∙ ap (λ k. k % 2) (sym (div-div-eq-div-mul code (2 ^ (8 * (bit / 8))) (2 ^ (bit % 8)))) in
     sym low ∙ ap (λ l. get_or l (bit % 8) false) (bits_of_low 8 part) ∙ high ∙ ap (λ k. k == 1) (sym above)
 
+-- a bit of codes, in the bytes where it stands
+pub bits_of_bytes : (codes : List ℕ) (bit : ℕ) → map (λ byte. bit_at byte (bit % 8) == 1) (map (byte_of (bit / 8)) codes) ≡ map (λ code. has_bit code bit) codes
+bits_of_bytes codes bit = map-map (λ byte. bit_at byte (bit % 8) == 1) (byte_of (bit / 8)) codes ∙ (λ i. map (λ code. bit_of_byte code bit i) codes)
+
 -- the plane of a bit of a column's codes
 pub code_plane : (meaning : Meaning) (col bit : ℕ) → IsGroup meaning → col < length meaning.columns → bit < width_at meaning.columns col
     → map (λ byte. bit_at byte (bit % 8) == 1) (map (byte_of (bit / 8)) (code_lanes meaning col)) ≡ variable_lanes meaning (bit_variable meaning.columns col bit)
 code_plane meaning col bit group lt below =
-    map-map (λ byte. bit_at byte (bit % 8) == 1) (byte_of (bit / 8)) (code_lanes meaning col)
-    ∙ (λ i. map (λ code. bit_of_byte code bit i) (code_lanes meaning col))
-    ∙ bits_in_lanes meaning col bit group lt below
+    bits_of_bytes (code_lanes meaning col) bit ∙ bits_in_lanes meaning col bit group lt below

@@ -1,4 +1,9 @@
 pub mod CodeLemmas
+pub mod FaultLemmas
 pub mod LaneLemmas
+pub mod LayoutLemmas
 pub mod ShapeLemmas
+pub mod SoundLemmas
 pub mod SpanLemmas
+pub mod TextLemmas
+pub mod ValueLemmas

@@ -1,13 +1,17 @@
 -- Where the variables of each column begin.
-use Rattle.std.proofs.Common.{◌≡◌, ◌∙◌, sym, ap, ℕ, ◌+◌, ◌<◌, ◌≤◌, List, map, length, get_or, arith, ◌*◌, ◌/◌, take_all}
+use Rattle.std.proofs.Common.{◌≡◌, ◌∙◌, sym, ap, ℕ, zero, suc, ◌+◌, ◌<◌, ◌≤◌, cond, false, List, [], ◌∷◌, map, length, get_or, take, arith, ◌*◌, ◌/◌, take_all}
 use Rattle.std.specs.List.{range_with_len}
 use Rattle.std.proofs.lemmas.List.{get_or-map}
 use Rattle.std.proofs.lemmas.List.FromFn.{length-map-range_with_len, get_or-map-range_with_len}
-use Rattle.std.proofs.lemmas.List.Sums.{sum_by_more}
+use Rattle.std.proofs.lemmas.List.Sums.{sum_by_more, sum_by-cons}
 use Rattle.bw_model.specs.declared.column.Column.{Column}
 use Rattle.bw_model.specs.Code.{width_of, width_at, slices_at}
 use Rattle.bw_segment.specs.Blocks.{block_size, block_start}
-use Rattle.bw_model.specs.Variable.{null_count, variable_count, variables_of, first_variable}
+use Rattle.bw_model.specs.Variable.{null_count, variable_count, variables_of, first_variable, is_nullable}
+
+-- what is read of a column
+pub nullable_read : (columns : List Column) (col : ℕ) (column : Column) → col < length columns → column ≡ get_or columns col column → is_nullable columns col ≡ column.nullable
+nullable_read columns col column lt is = get_or-map (λ (c : Column). c.nullable) columns col column false lt ∙ ap (λ (c : Column). c.nullable) (sym is)
 
 -- a column's variables stand before the next column's
 pub first_variable_more : (columns : List Column) (col : ℕ) (column : Column) → col < length columns → column ≡ get_or columns col column
@@ -33,3 +37,10 @@ start_at start columns starts col d found le = ap (λ l. get_or l col d) found �
 -- behind the last column all variables are counted
 pub next_of_last : (columns : List Column) (col : ℕ) → length columns ≤ col → first_variable columns col ≡ variables_of columns
 next_of_last columns col le = ap variables_of (take_all col columns le)
+
+-- the same, by the numbers of the columns
+pub variable_next : (columns : List Column) (col : ℕ) → col < length columns → first_variable columns (suc col) ≡ first_variable columns col + (cond (is_nullable columns col) 1 0 + width_at columns col)
+variable_next [] col lt = absurd (omega arith)
+variable_next (c ∷ columns) zero lt = sum_by-cons variable_count c [] ∙ omega arith
+variable_next (c ∷ columns) (suc col) lt =
+    omega (arith, sum_by-cons variable_count c (take (suc col) columns), sum_by-cons variable_count c (take col columns), variable_next columns col (omega arith))

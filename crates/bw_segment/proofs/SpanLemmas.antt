@@ -1,5 +1,5 @@
 -- The codes of admitted values are those of their columns.
-use Rattle.std.proofs.Common.{◌≡◌, ◌∙◌, sym, ap, ℕ, zero, suc, ℤ, pos, ◌+◌, ◌<◌, ◌≤◌, ◌+ℤ◌, ◌-ℤ◌, int_le, unsigned_abs, Bool, true, ◌&&◌, List, [], ◌∷◌, length, get_or, Some, arith}
+use Rattle.std.proofs.Common.{◌≡◌, ◌∙◌, sym, ap, ℕ, zero, suc, ℤ, pos, ◌<◌, ◌≤◌, ◌+ℤ◌, ◌-ℤ◌, int_le, unsigned_abs, Bool, true, ◌&&◌, List, [], ◌∷◌, length, get_or, Some, arith}
 use Rattle.std.specs.List.{list_all}
 use Rattle.std.proofs.lemmas.Int.{ints}
 use Rattle.bw_model.specs.declared.column.Column.{Column}

@@ -1,2 +1,4 @@
+pub mod BlockFault
 pub mod Blocks
+pub mod Layout
 pub mod Meaning

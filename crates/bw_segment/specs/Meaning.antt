@@ -29,10 +29,14 @@ variable_lanes meaning variable = map (λ bits. bits variable) (lanes_of meaning
 abbrev pub byte_lanes : Meaning → ℕ → ℕ → List ℕ
 byte_lanes meaning column slice = map (byte_spelled meaning.columns column slice) (lanes_of meaning.columns meaning.rows)
 
--- the code of a column in each of the lanes as it is stored, that of null and of padding rows being 0
-unfoldable pub code_lanes : Meaning → ℕ → List ℕ
-code_lanes meaning column =
-    map (λ row. stored_at meaning.columns column (value_in row column)) meaning.rows ++ replicate (group_size - length meaning.rows) 0
+-- the code of a column in each of the 512 lanes of some rows as it is stored, that of null and of padding rows being 0
+unfoldable pub stored_codes : List Column → List (List Value) → ℕ → List ℕ
+stored_codes columns rows column =
+    map (λ row. stored_at columns column (value_in row column)) rows ++ replicate (group_size - length rows) 0
+
+-- the same of a group's rows
+abbrev pub code_lanes : Meaning → ℕ → List ℕ
+code_lanes meaning column = stored_codes meaning.columns meaning.rows column
 
 -- in each of the lanes 1 where the column is null, and else 0
 unfoldable pub null_lanes : Meaning → ℕ → List ℕ

@@ -8,14 +8,18 @@
 //! BitWeaving's vertical one (Li and Patel) and of ByteSlice (Feng, Lo, Kao and Xu). Read `segment.rt` first.
 #![tactic(auto)]
 
+mod block;
 mod codes;
 mod group;
 mod lanes;
+mod layout;
 mod segment;
 mod shape;
 
+pub use block::fault_of_lanes;
 pub use codes::{bytes_of, codes_of, nulls_of, slices_of};
 pub use group::is_group;
 pub use lanes::lanes_hold_codes;
+pub use layout::{blocks_are_added, sound_bytes_spell_a_group, text_of_a_group_is_sound};
 pub use segment::Segment;
 pub use shape::Shape;

@@ -1,5 +1,5 @@
 -- Where an answer straight from a CSV text ends.
-use Rattle.std.proofs.Common.{◌≡◌, ℕ, List, Bool, true, false, Some, Result, Ok, Err, refl}
+use Rattle.std.proofs.Common.{◌≡◌, ℕ, List, Bool, true, false, Result, Ok, Err, refl}
 use Rattle.bw_model.specs.declared.fault.Fault.{Fault}
 use Rattle.bw_model.specs.declared.query.Query.{Query}
 use Rattle.bw_model.specs.declared.schema.Schema.{Schema}
@@ -7,7 +7,7 @@ use Rattle.bw_model.specs.Fault.{no_memory, is_memory}
 use Rattle.bw_file.specs.Sink.{is_write_fault}
 use Rattle.bw_sql.specs.Refusal.{is_statement_fault, IsStatementFault}
 use Rattle.bw_sql.specs.Statement.{IsReadAs, Parses}
-use Rattle.bw_shell.specs.Arrived.{IsSchemaFrom, csv_from}
+use Rattle.bw_shell.specs.Arrived.{IsSchemaFrom}
 use Rattle.bw_shell.specs.Direct.{IsAnswer, answer_from}
 use Rattle.bw_shell.proofs.Exits.{Arrival, Given, Ends, IsFaultOf, memory_is_aside, other_fault, unread}
 

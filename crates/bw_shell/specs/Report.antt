@@ -3,6 +3,9 @@ use Rattle.std.specs.Prelude.{◌≡◌, ◌==◌, ℕ, Bool, false, nat_lt, if�
 use Rattle.std.specs.List.{list_any}
 use Rattle.bw_model.specs.declared.fault.Fault.{Fault}
 use Rattle.bw_file.specs.Sink.{GoesOut}
+use Rattle.bw_shell.specs.declared.served.By.{By}
+use Rattle.bw_shell.specs.declared.served.By.TheVariants.{Program, Rows}
+use Rattle.bw_shell.specs.declared.served.Served.{Served}
 
 -- the exit status of a fault, by the hundred that its number is of: 6xx is the certificate's, 7xx a
 -- device's and 8xx memory's
@@ -21,3 +24,13 @@ IsLine line = (words : List ℕ) × (has_line_feed words ≡ false) × (line ≡
 abbrev pub PrintsLine : Option (List ℕ) → Option (List ℕ) → ℕ → ℕ → Type 0
 PrintsLine old new before after =
     (line : List ℕ) × IsLine line × ((outcome : Result (Unit {0}) Fault) × GoesOut old new before after line outcome)
+
+-- who served a query
+abbrev pub by_text : By → List ℕ
+by_text Program = codes "program"
+by_text Rows = codes "rows"
+
+-- one line that tells who served a query, and then how: its only line feed is at its end
+abbrev pub IsStatsLine : Served → List ℕ → Type 0
+IsStatsLine served line =
+    (words : List ℕ) × (has_line_feed words ≡ false) × (line ≡ ((codes "served " ++ by_text served.by) ++ words) ++ codes "\n")

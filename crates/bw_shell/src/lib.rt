@@ -12,10 +12,12 @@ mod input;
 mod inputs;
 mod output;
 mod reports;
+mod served;
 mod table_rows;
 
 pub use direct_call::direct;
 pub use input::{Input, read_limited};
 pub use inputs::MAX_CSV_LEN;
 pub use output::write_whole;
-pub use reports::report;
+pub use reports::{report, stats_line};
+pub use served::{By, Served};

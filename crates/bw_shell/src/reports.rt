@@ -1,9 +1,11 @@
 //! Lines that a call prints beside its result, put together without memory.
-ghost use Rattle.std.specs.Prelude.{◌≡◌, ◌-◌, ◌^◌, ◌<◌, ◌≤◌, false, length};
+ghost use Rattle.std.specs.Prelude.{◌≡◌, ◌-◌, ◌^◌, ◌<◌, ◌≤◌, ℕ, List, false, length};
 ghost use Rattle.std.specs.Fmt.InlineText.{inline_text};
-ghost use Rattle.bw_shell.specs.Report.{status_of, has_line_feed, IsLine, PrintsLine};
+ghost use Rattle.bw_shell.specs.Report.{status_of, has_line_feed, IsLine, PrintsLine, IsStatsLine, by_text};
+ghost use Rattle.bw_file.specs.Sink.{GoesOut};
 
 use crate::output::write_whole;
+use crate::served::{By, Served};
 use bw_file::Sink;
 use bw_model::Fault;
 use std::fmt::InlineText;
@@ -63,6 +65,46 @@ pub fn report<K: Sink>(fault: &Fault, sink: &mut K) -> u8
     status_of(fault)
 }
 
+/// Gives the line of how a query was served, as `served rows segments 1 loads 0 skips 0`, with its end.
+fn line_of_served(served: &Served) -> InlineText<LINE>
+    ensures { IsStatsLine served.now (inline_text result) }
+{
+    let counts = InlineText::<WORDS>::new()
+        .and_str(" segments ", 10)
+        .and(served.segments, 10)
+        .and_str(" loads ", 7)
+        .and(served.loads, 20)
+        .and_str(" skips ", 7)
+        .and(served.skips, 20);
+    InlineText::new()
+        .and_str("served ", 7)
+        .and_str(by_text(served.by), 7)
+        .and_str(on_one_line(counts.as_str()), WORDS)
+        .and_str("\n", 1)
+}
+
+/// Who served a query, in a word.
+fn by_text(by: By) -> &'static str
+    ensures words { result.now ≡ by_text by }
+    ensures short { length result.now ≤ 7 }
+{
+    match by {
+        By::Program => "program",
+        By::Rows => "rows",
+    }
+}
+
+/// Writes the line of how a query was served. Refuses as 702 alone. That the sink's count of failures can rise is the
+/// caller's condition.
+pub fn stats_line<K: Sink>(served: &Served, sink: &mut K) -> Result<(), Fault>
+    requires { K.failures sink.old < 2 ^ 64 - 1 }
+    ensures { (line : List ℕ) × IsStatsLine served.now line
+        × GoesOut (K.taken sink.old) (K.taken sink.new) (K.failures sink.old) (K.failures sink.new) line result }
+{
+    let line = line_of_served(served);
+    write_whole(sink, line.as_str().as_bytes())
+}
+
 #[cfg(test)]
 mod tests {
     use super::*;
@@ -96,6 +138,45 @@ mod tests {
             );
             let text = sink.into_inner();
             assert!(rt; text.as_slice().starts_with(line.as_bytes()), "at {code}");
+        }
+        Ok(())
+    }
+
+    #[test]
+    fn served_queries_are_told(rt: HostRuntime) -> Result<(), Fail> {
+        let table = [
+            (
+                By::Rows,
+                1,
+                0,
+                0,
+                "served rows segments 1 loads 0 skips 0\n",
+            ),
+            (
+                By::Program,
+                2,
+                3,
+                1,
+                "served program segments 2 loads 3 skips 1\n",
+            ),
+            (
+                By::Program,
+                u32::MAX,
+                u64::MAX,
+                u64::MAX,
+                "served program segments 4294967295 loads 18446744073709551615 skips 18446744073709551615\n",
+            ),
+        ];
+        for (by, segments, loads, skips, line) in table {
+            let served = Served {
+                by,
+                segments,
+                loads,
+                skips,
+            };
+            let mut sink = ToWrite::new(Vec::new(rt.alloc()));
+            stats_line(&served, &mut sink)?;
+            assert_eq!(rt; sink.into_inner().as_slice(), line.as_bytes());
         }
         Ok(())
     }

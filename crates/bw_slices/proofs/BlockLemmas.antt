@@ -3,8 +3,8 @@ use Rattle.std.proofs.Common.{◌≡◌, ◌∙◌, ap, subst, ℕ, zero, suc, �
 use Rattle.std.proofs.lemmas.List.{take-take}
 use Rattle.std.proofs.lemmas.List.Sums.{sum_by-cons, sum_by-take-le}
 use Rattle.bw_model.specs.declared.column.Column.{Column}
-use Rattle.bw_model.specs.Code.{width_at, slices_at}
-use Rattle.bw_model.specs.Variable.{variable_count, first_variable, is_nullable}
+use Rattle.bw_model.specs.Code.{slices_at}
+use Rattle.bw_model.specs.Variable.{is_nullable}
 use Rattle.bw_segment.specs.Blocks.{block_size, block_start}
 use Rattle.bw_slices.specs.Slices.{slice_start}
 
@@ -16,12 +16,6 @@ block_next [] col lt = absurd (omega arith)
 block_next (c ∷ columns) zero lt = sum_by-cons block_size c [] ∙ omega arith
 block_next (c ∷ columns) (suc col) lt =
     omega (arith, sum_by-cons block_size c (take (suc col) columns), sum_by-cons block_size c (take col columns), block_next columns col (omega arith))
-
-pub variable_next : (columns : List Column) (col : ℕ) → col < length columns → first_variable columns (suc col) ≡ first_variable columns col + (cond (is_nullable columns col) 1 0 + width_at columns col)
-variable_next [] col lt = absurd (omega arith)
-variable_next (c ∷ columns) zero lt = sum_by-cons variable_count c [] ∙ omega arith
-variable_next (c ∷ columns) (suc col) lt =
-    omega (arith, sum_by-cons variable_count c (take (suc col) columns), sum_by-cons variable_count c (take col columns), variable_next columns col (omega arith))
 
 pub blocks_in_order : (columns : List Column) (a b : ℕ) → a ≤ b → block_start columns a ≤ block_start columns b
 blocks_in_order columns a b le =

@@ -1,4 +1,5 @@
 pub mod BlockLemmas
-pub mod BuildLemmas
+pub mod JudgeLemmas
+pub mod LayoutLemmas
 pub mod MeaningLemmas
 pub mod SliceLemmas

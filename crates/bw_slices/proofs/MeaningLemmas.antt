@@ -1,16 +1,12 @@
--- The rows that the slices of some rows spell are these.
+-- The values that slices spell are those of the rows that they mean.
 use Rattle.std.proofs.Common.{◌≡◌, ◌∙◌, refl, sym, ap, ap₂, ℕ, zero, suc, ◌+◌, ◌-◌, ◌*◌, ◌/◌, ◌^◌, ◌<◌, ◌≤◌, ◌-ℤ◌, int_le, unsigned_abs, Bool, true, false, cond, ◌&&◌, List, [], ◌∷◌, ◌++◌, map, length, drop, get_or, replicate, unwrap_or, Some, None, arith}
-use Rattle.std.specs.List.{range_with_len}
 use Rattle.std.proofs.Math.ListN.{get_or-append}
 use Rattle.std.proofs.Math.Nat.{div-div-eq-div-mul, div-eq_of_lt, div-one}
 use Rattle.std.proofs.Math.Pow.{pow_mono}
 use Rattle.std.proofs.lemmas.List.{get_or-map, get_or-take, get_or-drop, length-map}
-use Rattle.std.proofs.lemmas.List.FromFn.{fill_by_all}
 use Rattle.std.proofs.lemmas.Nat.{pow-add}
 use Rattle.bw_model.specs.declared.column.Column.{Column}
-use Rattle.bw_model.specs.declared.row.Row.{Row}
-use Rattle.bw_model.specs.declared.schema.Schema.{Schema}
-use Rattle.bw_model.specs.Row.{Value, value_in, values_of}
+use Rattle.bw_model.specs.Row.{Value, value_in}
 use Rattle.bw_model.specs.Code.{width_at, slices_at, value_at, value_of_code, stored_code, has_bit}
 use Rattle.bw_model.specs.Column.{admits_value, admits_values}
 use Rattle.bw_model.specs.Groups.{group_size}
@@ -20,20 +16,35 @@ use Rattle.bw_model.specs.Variable.{is_nullable}
 use Rattle.bw_model.proofs.BitsLemmas.{both, value_of_distance}
 use Rattle.bw_model.proofs.StoredLemmas.{stored_below}
 use Rattle.bw_segment.specs.Blocks.{block_start}
-use Rattle.bw_segment.specs.Meaning.{Meaning, meaning_of, IsGroup, code_lanes, null_lanes}
-use Rattle.bw_segment.proofs.CodeLemmas.{length_admitted}
+use Rattle.bw_segment.specs.Meaning.{Meaning, IsGroup, stored_codes, code_lanes, null_lanes}
 use Rattle.bw_segment.proofs.SpanLemmas.{all_at}
-use Rattle.bw_slices.specs.Slices.{AreSlices, slice_start, null_plane_lanes, number_from, code_spelled, null_spelled, value_spelled, rows_spelled, slices_meaning}
+use Rattle.bw_slices.specs.Slices.{AreSlices, slice_start, null_plane_lanes, number_from, code_spelled, null_spelled, value_spelled}
 use Rattle.bw_slices.proofs.BlockLemmas.{slice_within, nulls_within}
-use Rattle.bw_slices.proofs.BuildLemmas.{length-null_lanes, length-code_lanes, one_if}
+use Rattle.bw_segment.proofs.ValueLemmas.{null_admitted}
+use Rattle.std.proofs.lemmas.List.{length-replicate}
+use Rattle.std.proofs.Common.{length-append}
 
--- a null is admitted by a nullable column alone
-null_admitted : (columns : List Column) (values : List Value) (col : ℕ) → admits_values columns values ≡ true → col < length columns → is_nullable columns col ≡ false → is_null (value_in values col) ≡ false
-null_admitted [] values col admitted lt never = absurd (omega arith)
-null_admitted (c ∷ columns) [] col admitted lt never = cc
-null_admitted (c ∷ columns) (None ∷ values) zero admitted lt never = sym (both c.nullable (admits_values columns values) admitted).0 ∙ never
-null_admitted (c ∷ columns) (Some n ∷ values) zero admitted lt never = refl
-null_admitted (c ∷ columns) (value ∷ values) (suc col) admitted lt never = null_admitted columns values col (both (admits_value c value) (admits_values columns values) admitted).1 (omega arith) never
+-- 1 where it is true
+abbrev pub one_if : Bool → ℕ
+one_if b = cond b 1 0
+
+length_padded : (xs : List ℕ) (count : ℕ) → length xs ≡ count → count ≤ 512 → length (xs ++ replicate (512 - count) 0) ≡ 512
+length_padded xs count long few =
+    let zeros : List ℕ = replicate (512 - count) 0 in
+    let padding : length zeros ≡ 512 - count = length-replicate (512 - count) 0 in
+    omega (arith, length-append xs zeros, long, padding)
+
+pub length-null_lanes : (meaning : Meaning) (col : ℕ) → IsGroup meaning → length (null_lanes meaning col) ≡ 512
+unfolding null_lanes group_size
+length-null_lanes meaning col group =
+    let null = λ (row : List Value). one_if (is_null (value_in row col)) in
+    length_padded (map null meaning.rows) (length meaning.rows) (length-map meaning.rows null) group.few
+
+pub length-code_lanes : (meaning : Meaning) (col : ℕ) → IsGroup meaning → length (code_lanes meaning col) ≡ 512
+unfolding stored_codes group_size
+length-code_lanes meaning col group =
+    let code = λ (row : List Value). stored_at meaning.columns col (value_in row col) in
+    length_padded (map code meaning.rows) (length meaning.rows) (length-map meaning.rows code) group.few
 
 -- the value of the code that an admitted value has
 value_admitted : (columns : List Column) (values : List Value) (col : ℕ) → admits_values columns values ≡ true → col < length columns → is_null (value_in values col) ≡ false
@@ -49,7 +60,7 @@ value_admitted (c ∷ columns) (Some n ∷ values) zero admitted lt some =
 value_admitted (c ∷ columns) (value ∷ values) (suc col) admitted lt some = value_admitted columns values col (both (admits_value c value) (admits_values columns values) admitted).1 (omega arith) some
 
 -- the bytes of a number spell it, the most significant first
-number_of_bytes : (byte : ℕ → ℕ) (slices n : ℕ) → n < 2 ^ (8 * slices) → ((place : ℕ) → place < slices → byte place ≡ byte_of (slices - suc place) n) → (count : ℕ) → count ≤ slices
+pub number_of_bytes : (byte : ℕ → ℕ) (slices n : ℕ) → n < 2 ^ (8 * slices) → ((place : ℕ) → place < slices → byte place ≡ byte_of (slices - suc place) n) → (count : ℕ) → count ≤ slices
     → number_from byte count ≡ n / 2 ^ (8 * (slices - count))
 number_of_bytes byte slices n small each zero le = let all : slices - 0 ≡ slices = omega arith in sym (ap (λ k. n / 2 ^ (8 * k)) all ∙ div-eq_of_lt small)
 number_of_bytes byte slices n small each (suc count) le =
@@ -90,7 +101,7 @@ module _ (meaning : Meaning) (bytes : List ℕ) (group : IsGroup meaning) (slice
 
   row_byte : (row col slice : ℕ) → row < length meaning.rows → col < length meaning.columns → slice < slices_at meaning.columns col
       → get_or bytes (slice_start meaning.columns col slice + row) 0 ≡ byte_of slice (stored_at meaning.columns col (value_in (get_or meaning.rows row []) col))
-  unfolding code_lanes
+  unfolding stored_codes
   row_byte row col slice lt there below =
       let start = slice_start meaning.columns col slice in
       let code = λ (values : List Value). stored_at meaning.columns col (value_in values col) in
@@ -112,7 +123,7 @@ module _ (meaning : Meaning) (bytes : List ℕ) (group : IsGroup meaning) (slice
       number_of_bytes (λ place. get_or bytes (slice_start meaning.columns col (count - suc place) + row) 0) count n small (λ place less. row_byte row col (count - suc place) lt there (omega arith)) count (omega arith)
       ∙ ap (λ k. n / 2 ^ (8 * k)) none ∙ div-one n
 
-  value_of_row : (row col : ℕ) → row < length meaning.rows → col < length meaning.columns → value_in (get_or meaning.rows row []) col ≡ value_spelled meaning.columns bytes row col
+  pub value_of_row : (row col : ℕ) → row < length meaning.rows → col < length meaning.columns → value_in (get_or meaning.rows row []) col ≡ value_spelled meaning.columns bytes row col
   value_of_row row col lt there = go (is_null (value_in values col)) refl
     where
       values : List Value
@@ -138,21 +149,3 @@ module _ (meaning : Meaning) (bytes : List ℕ) (group : IsGroup meaning) (slice
       go false some =
           sym (ap (λ b. cond b None (Some (value_at meaning.columns col (code_spelled meaning.columns bytes col row)))) (null_is ∙ some)
           ∙ ap (λ n. Some (value_at meaning.columns col n)) (row_code row col lt there admitted) ∙ value_admitted meaning.columns values col admitted there some)
-
-  rows_of_slices : rows_spelled meaning.columns (length meaning.rows) bytes ≡ meaning.rows
-  unfolding rows_spelled
-  rows_of_slices =
-      sym (fill_by_all (λ row. map (value_spelled meaning.columns bytes row) (range_with_len 0 (length meaning.columns))) meaning.rows (length meaning.rows) [] refl
-      (λ row lt.
-      let values = get_or meaning.rows row [] in
-      let admitted = all_at (admits_values meaning.columns) meaning.rows row [] group.admitted lt in
-      fill_by_all (value_spelled meaning.columns bytes row) values (length meaning.columns) None (length_admitted meaning.columns values admitted) (λ col there. value_of_row row col lt there)))
-
--- the slices of rows mean these
-pub slices_mean : (schema : Schema) (rows : List Row) (bytes : List ℕ) → IsGroup (meaning_of schema rows) → AreSlices (meaning_of schema rows) (block_start schema.columns.items (length schema.columns.items)) bytes
-    → slices_meaning schema (length rows) bytes ≡ meaning_of schema rows
-slices_mean schema rows bytes group slices =
-    let meaning = meaning_of schema rows in
-    let count : length rows ≡ length meaning.rows = sym (length-map rows values_of) in
-    ap (λ n. slices_meaning schema n bytes) count
-    ∙ ap (λ (found : List (List Value)). (let m : Meaning = record { name = schema.name; columns = schema.columns.items; rows = found } in m)) (rows_of_slices meaning bytes group slices)

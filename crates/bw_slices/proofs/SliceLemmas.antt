@@ -4,9 +4,7 @@ use Rattle.std.specs.Int.{bit_at}
 use Rattle.std.proofs.lemmas.List.{get_or-take, get_or-drop, length-take, length-drop}
 use Rattle.std.proofs.lemmas.Nat.Bits.{shr_and_one}
 use Rattle.bw_lanes.specs.Lanes.{lanes_of_bytes}
-use Rattle.std.specs.List.{range_with_len}
 use Rattle.std.proofs.Math.Nat.{pow-suc}
-use Rattle.std.proofs.lemmas.List.FromFn.{length-map-range_with_len, get_or-map-range_with_len}
 use Rattle.bw_model.specs.declared.column.Column.{Column}
 use Rattle.bw_model.specs.declared.schema.Schema.{Schema}
 use Rattle.bw_model.specs.Row.{value_in}
@@ -18,8 +16,12 @@ use Rattle.bw_model.specs.Column.{admits_values}
 use Rattle.bw_model.specs.Groups.{group_size}
 use Rattle.bw_segment.specs.Meaning.{Meaning, IsGroup, byte_lanes, variable_lanes}
 use Rattle.bw_segment.proofs.SpanLemmas.{all_at, within_span}
-use Rattle.bw_slices.proofs.BlockLemmas.{null_count_of, variable_next, slice_within, nulls_within}
-use Rattle.bw_slices.specs.Slices.{AreSlices, slice_bytes, null_plane_lanes, number_from, code_spelled, null_spelled, value_spelled, rows_spelled, slices_meaning}
+use Rattle.bw_slices.proofs.BlockLemmas.{null_count_of, slice_within, nulls_within}
+use Rattle.bw_slices.specs.Slices.{AreSlices, slice_bytes, null_plane_lanes, number_from, code_spelled, null_spelled, value_spelled, slice_layout, slices_meaning}
+use Rattle.bw_segment.specs.Layout.{rows_spelled}
+use Rattle.bw_segment.proofs.SoundLemmas.{length-rows_spelled}
+use Rattle.bw_segment.proofs.ShapeLemmas.{variable_next}
+use Rattle.bw_slices.proofs.MeaningLemmas.{value_of_row}
 use Rattle.bw_lanes.proofs.BitLemmas.{lane_of_bytes}
 
 -- the bit of a row in its byte
@@ -32,34 +34,30 @@ bit_of_row bytes at row lt room =
     ap (λ b. b == 1) (shr_and_one (get_or bytes (at + row / 8) 0) (row % 8) ∙ ap (λ b. bit_at b (row % 8)) (sym byte))
     ∙ sym (lane_of_bytes (take 64 behind) row (omega (arith, long)))
 
-pub length-rows_spelled : (columns : List Column) (count : ℕ) (bytes : List ℕ) → length (rows_spelled columns count bytes) ≡ count
-unfolding rows_spelled
-length-rows_spelled columns count bytes = length-map-range_with_len (λ row. map (value_spelled columns bytes row) (range_with_len 0 (length columns))) 0 count
-
 pub rows_are_few : (schema : Schema) (count : ℕ) (bytes : List ℕ) → IsGroup (slices_meaning schema count bytes) → (1 ≤ count) × (count ≤ 512)
 unfolding group_size
 rows_are_few schema count bytes group =
-    let all = length-rows_spelled schema.columns.items count bytes in
+    let all = length-rows_spelled slice_layout schema.columns.items count bytes in
     (omega (arith, group.some, all), omega (arith, group.few, all))
 
 -- the value of a row in a column
-pub value_at_row : (columns : List Column) (count row col : ℕ) (bytes : List ℕ) → row < count → col < length columns
-    → value_in (get_or (rows_spelled columns count bytes) row []) col ≡ value_spelled columns bytes row col
-unfolding rows_spelled
-value_at_row columns count row col bytes lt there =
-    ap (λ values. value_in values col) (get_or-map-range_with_len (λ row. map (value_spelled columns bytes row) (range_with_len 0 (length columns))) 0 count row row [] lt (omega arith))
-    ∙ get_or-map-range_with_len (value_spelled columns bytes row) 0 (length columns) col col None there (omega arith)
+pub value_at_row : (schema : Schema) (count row col : ℕ) (bytes : List ℕ) → IsGroup (slices_meaning schema count bytes)
+    → AreSlices (slices_meaning schema count bytes) (block_start schema.columns.items (length schema.columns.items)) bytes → row < count → col < length schema.columns.items
+    → value_in (get_or (rows_spelled slice_layout schema.columns.items count bytes) row []) col ≡ value_spelled schema.columns.items bytes row col
+value_at_row schema count row col bytes group slices lt there =
+    value_of_row (slices_meaning schema count bytes) bytes group slices row col (omega (arith, length-rows_spelled slice_layout schema.columns.items count bytes)) there
 
 -- the code of a row that isn't null is one of the column's
-pub code_in_span : (schema : Schema) (count row col : ℕ) (bytes : List ℕ) → IsGroup (slices_meaning schema count bytes) → row < count → col < length schema.columns.items
+pub code_in_span : (schema : Schema) (count row col : ℕ) (bytes : List ℕ) → IsGroup (slices_meaning schema count bytes)
+    → AreSlices (slices_meaning schema count bytes) (block_start schema.columns.items (length schema.columns.items)) bytes → row < count → col < length schema.columns.items
     → null_spelled schema.columns.items bytes col row ≡ false → code_spelled schema.columns.items bytes col row ≤ span_at schema.columns.items col
-code_in_span schema count row col bytes group lt there some =
+code_in_span schema count row col bytes group slices lt there some =
     let columns = schema.columns.items in
     let code = code_spelled columns bytes col row in
-    let rows = rows_spelled columns count bytes in
-    let admitted : admits_values columns (get_or rows row []) ≡ true = all_at (admits_values columns) rows row [] group.admitted (omega (arith, length-rows_spelled columns count bytes)) in
+    let rows = rows_spelled slice_layout columns count bytes in
+    let admitted : admits_values columns (get_or rows row []) ≡ true = all_at (admits_values columns) rows row [] group.admitted (omega (arith, length-rows_spelled slice_layout columns count bytes)) in
     let value : value_in (get_or rows row []) col ≡ Some (value_at columns col code) =
-    value_at_row columns count row col bytes lt there ∙ ap (λ null. cond null None (Some (value_at columns col code))) some in
+    value_at_row schema count row col bytes group slices lt there ∙ ap (λ null. cond null None (Some (value_at columns col code))) some in
     within_span columns (get_or rows row []) col code admitted there value
 
 -- a number of so many bytes

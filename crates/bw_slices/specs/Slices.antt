@@ -1,6 +1,6 @@
 -- Byte slices kept as bytes: for each column its block, which has its null plane, if it is nullable, in 64 bytes, and
 -- then its slices from the most significant down, 512 bytes a slice, one a row.
-use Rattle.std.specs.Prelude.{◌≡◌, ℕ, zero, suc, ◌+◌, ◌-◌, ◌*◌, ◌<◌, ◌≤◌, Bool, true, false, ◌&&◌, List, length, map, take, drop, slice_index, slice_index_or, Some, None, if◌then◌else◌}
+use Rattle.std.specs.Prelude.{◌≡◌, ℕ, zero, suc, ◌+◌, ◌-◌, ◌*◌, ◌/◌, ◌<◌, ◌≤◌, Bool, true, false, ◌&&◌, List, [], ◌++◌, length, map, take, drop, slice_index, slice_index_or, Some, None, if◌then◌else◌}
 use Rattle.std.specs.List.{range_with_len}
 use Rattle.bw_lanes.specs.Lanes.{lanes_of_bytes}
 use Rattle.bw_model.specs.declared.column.Column.{Column}
@@ -8,8 +8,10 @@ use Rattle.bw_model.specs.declared.schema.Schema.{Schema}
 use Rattle.bw_model.specs.Row.{Value}
 use Rattle.bw_model.specs.Code.{slices_at, value_at, has_bit}
 use Rattle.bw_model.specs.Stored.{byte_of}
+use Rattle.bw_model.specs.Groups.{group_size}
 use Rattle.bw_model.specs.Variable.{is_nullable}
 use Rattle.bw_segment.specs.Blocks.{block_start}
+use Rattle.bw_segment.specs.Layout.{Layout, meaning_spelled}
 use Rattle.bw_segment.specs.Meaning.{Meaning, code_lanes, null_lanes}
 
 -- the first byte of a slice: a column's block ends with slice 0
@@ -43,14 +45,26 @@ abbrev pub value_spelled : List Column → List ℕ → ℕ → ℕ → Value
 value_spelled columns bytes row column =
     if null_spelled columns bytes column row then None else Some (value_at columns column (code_spelled columns bytes column row))
 
--- so many rows, each of the values that its bytes spell
-unfoldable pub rows_spelled : List Column → ℕ → List ℕ → List (List Value)
-rows_spelled columns count bytes = map (λ row. map (value_spelled columns bytes row) (range_with_len 0 (length columns))) (range_with_len 0 count)
+-- so many low slices of codes, from the most significant down
+abbrev pub slices_text : ℕ → List ℕ → List ℕ
+slices_text zero codes = []
+slices_text (suc slices) codes = map (byte_of slices) codes ++ slices_text slices codes
+
+-- the numbers that so many slices spell in the 512 lanes, the most significant first
+unfoldable pub slices_codes : ℕ → List ℕ → List ℕ
+slices_codes count bytes = map (λ row. number_from (λ place. slice_index bytes (512 * place + row)) count) (range_with_len 0 group_size)
+
+-- codes that are kept as slices, one a byte
+abbrev pub slice_layout : Layout
+slice_layout = record {
+  size = λ width. 512 * ((width + 7) / 8);
+  text = λ width codes. slices_text ((width + 7) / 8) codes;
+  codes = λ width bytes. slices_codes ((width + 7) / 8) bytes;
+}
 
 -- what slices mean
 abbrev pub slices_meaning : Schema → ℕ → List ℕ → Meaning
-slices_meaning schema count bytes =
-    record { name = schema.name; columns = schema.columns.items; rows = rows_spelled schema.columns.items count bytes }
+slices_meaning schema count bytes = meaning_spelled slice_layout schema count bytes
 
 -- The null planes and the slices that end within so many bytes, the first ones, have in each lane what stands there: of
 -- the row, or of a row of zeros.

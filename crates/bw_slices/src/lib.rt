@@ -8,9 +8,12 @@
 #![tactic(auto)]
 
 mod build;
+mod judge;
+mod layout;
 mod read;
 mod segment;
 #[cfg(test)]
 mod tests;
 
+pub use layout::slices_keep_codes;
 pub use segment::SliceSegment;

@@ -1,8 +1,11 @@
 //! A segment kept as byte slices, and what it answers.
-ghost use Rattle.std.specs.Prelude.{◌≡◌, ◌<◌, ◌&&◌, length};
+ghost use Rattle.std.specs.Prelude.{◌≡◌, ◌<◌, ◌≤◌, ◌&&◌, length};
+ghost use Rattle.bw_model.specs.Groups.{group_size};
+ghost use Rattle.bw_segment.specs.BlockFault.{IsSound};
+ghost use Rattle.bw_segment.specs.Layout.{block_size, segment_size, segment_text, rows_spelled};
 ghost use Rattle.bw_segment.specs.Blocks.{block_start};
 ghost use Rattle.bw_segment.specs.Meaning.{IsGroup};
-ghost use Rattle.bw_slices.specs.Slices.{slices_meaning, AreSlices};
+ghost use Rattle.bw_slices.specs.Slices.{slice_layout, slices_meaning, AreSlices};
 
 use crate::read::{bit, slice_at, start_of};
 use bw_lanes::{Plane, bytes_bit, bytes_eq, bytes_lt, load};
@@ -12,8 +15,7 @@ use std::rc::Rc;
 
 /// A segment kept as byte slices. A column's block has its null plane, if it is nullable, in 64 bytes, of which bit
 /// i mod 8, the least first, of byte i / 8 is row i's, and then its slices from the most significant down, 512 bytes
-/// a slice, byte i being row i's; past the last row all is 0. The fields are public so that a
-/// reader of such bytes can judge them, and then has the segment.
+/// a slice, byte i being row i's; past the last row all is 0.
 #[derive(Drop)]
 pub struct SliceSegment {
     pub shape: Rc<Shape>,
@@ -23,6 +25,8 @@ pub struct SliceSegment {
     pub ghost slices: { AreSlices (slices_meaning shape.value.schema rows bytes.items)
         (block_start shape.value.schema.columns.items (length shape.value.schema.columns.items))
         bytes.items },
+    pub ghost text: { bytes.items ≡ segment_text slice_layout shape.value.schema.columns.items
+        (rows_spelled slice_layout shape.value.schema.columns.items rows bytes.items) },
 }
 
 impl Segment for SliceSegment {
@@ -70,6 +74,51 @@ impl Segment for SliceSegment {
 
 impl SliceSegment {
     ghost use Rattle.bw_slices.specs.Slices.{null_spelled, code_spelled};
+
+    /// The segment of so many rows whose blocks are these bytes, each without fault.
+    pub fn of_blocks(shape: Rc<Shape>, rows: u32, bytes: Vec<u8>) -> Self
+        requires some { 1 ≤ rows }
+        requires few { rows ≤ group_size }
+        requires sound { IsSound slice_layout shape.value.schema.columns.items rows bytes.items }
+        ensures means { ⟦<SliceSegment as Segment>⟧.meaning result
+            ≡ slices_meaning shape.value.schema rows bytes.items }
+    {
+        SliceSegment { shape, rows, bytes }
+    }
+
+    /// How many bytes a column's block takes.
+    pub fn block_size(shape: &Shape, col: usize) -> usize
+        requires { col < length shape.now.schema.columns.items }
+        ensures size { result ≡ block_size slice_layout shape.now.schema.columns.items col }
+        ensures bound { result ≤ 4160 }
+    {
+        shape.null_size(col) + 512 * shape.schema.slices(col)
+    }
+
+    /// How many bytes a segment takes.
+    pub fn segment_size(shape: &Shape) -> usize
+        ensures { result ≡ segment_size slice_layout shape.now.schema.columns.items }
+    {
+        shape.block_start(shape.schema.columns.len()) as usize
+    }
+
+    /// The bytes of the segment, whose memory is used again for another one.
+    pub fn into_bytes(self) -> Vec<u8>
+        ensures { result.items ≡ segment_text slice_layout
+            (⟦<SliceSegment as Segment>⟧.meaning self).columns
+            (⟦<SliceSegment as Segment>⟧.meaning self).rows }
+    {
+        self.bytes
+    }
+
+    /// The bytes of the segment: the blocks of its columns, in order.
+    pub fn bytes(&self) -> &[u8]
+        ensures { result.now ≡ segment_text slice_layout
+            (⟦<SliceSegment as Segment>⟧.meaning self.now).columns
+            (⟦<SliceSegment as Segment>⟧.meaning self.now).rows }
+    {
+        &self.bytes
+    }
 
     /// Whether a row is null in a column.
     fn is_null(&self, col: usize, row: usize) -> bool

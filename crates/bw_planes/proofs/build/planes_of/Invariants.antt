@@ -1,8 +1,12 @@
-use Rattle.bw_model.specs.Variable.{first_variable}
-use Rattle.bw_segment.specs.Meaning.{meaning_of}
-use Rattle.bw_planes.specs.Planes.{ArePlanes}
+use Rattle.std.proofs.Common.{◌≡◌, ◌++◌, ◌-◌, map, flat_map, length}
+use Rattle.std.specs.List.{range_with_len}
+use Rattle.bw_model.specs.Row.{values_of}
+use Rattle.bw_segment.specs.Layout.{block_text, segment_text}
+use Rattle.bw_planes.specs.Planes.{plane_layout}
 use Rattle.bw_planes.proofs.build.planes_of.Given as goal
 
--- the planes of the columns so far
+-- what is there and what is to come
 abbrev pub invariant-loop-col : goal.invariant-loop-col
-invariant-loop-col l = ArePlanes (meaning_of l.shape.schema l.rows) (first_variable l.shape.schema.columns.items l.col) l.bytes.items
+invariant-loop-col l =
+    l.bytes.items ++ flat_map (λ column. block_text plane_layout l.shape.schema.columns.items column (map values_of l.rows)) (range_with_len l.col (length l.shape.schema.columns.items - l.col))
+    ≡ segment_text plane_layout l.shape.schema.columns.items (map values_of l.rows)

@@ -4,7 +4,7 @@ use Rattle.bw_model.specs.Row.{values_of, value_in}
 use Rattle.bw_model.specs.Code.{code_at}
 use Rattle.bw_model.specs.Stored.{stored_at}
 use Rattle.bw_model.specs.Groups.{group_size}
-use Rattle.bw_segment.specs.Meaning.{code_lanes}
+use Rattle.bw_segment.specs.Meaning.{stored_codes}
 use Rattle.bw_segment.proofs.CodeLemmas.{admitted_at, length_admitted, few_rows, filled_more, filled_all, value_read}
 use Rattle.bw_segment.proofs.codes.codes_of.Goals as goal
 
@@ -30,5 +30,5 @@ loop-lane-preserved c =
     filled_more stored c.args.rows.now c.loop-lane.codes c.loop-lane.lane c.unwrap_or.result row (omega arith) few c.index-rows-lane.is code c.loop-lane.invariant
 
 pub returns : goal.returns
-unfolding group_size code_lanes
+unfolding group_size stored_codes
 returns c = filled_all (λ values. stored_at c.args.schema.now.columns.items c.args.col (value_in values c.args.col)) c.args.rows.now c.loop-lane.codes c.loop-lane.lane (omega arith) c.loop-lane.invariant

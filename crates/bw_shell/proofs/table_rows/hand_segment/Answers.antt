@@ -1,9 +1,8 @@
 -- Each row is admitted, and there is room for it.
-use Rattle.std.proofs.Common.{◌≡◌, ◌∙◌, ◌<◌, ◌++◌, ◌∷◌, [], List, Bool, arith, get_or, true, take, sym, ap, subst, append_assoc}
-use Rattle.std.proofs.lemmas.List.{take_more, take_all, append-nil}
+use Rattle.std.proofs.Common.{◌≡◌, [], arith, true}
 use Rattle.std.proofs.lemmas.List.Sums.{AllPass-from_list_all}
 use Rattle.bw_model.specs.Column.{admits_values}
-use Rattle.bw_model.specs.Row.{Value, values_of}
+use Rattle.bw_model.specs.Row.{values_of}
 use Rattle.bw_shell.proofs.table_rows.hand_segment.Goals as goal
 
 pub take-requires-clause-fits : goal.take-requires-clause-fits

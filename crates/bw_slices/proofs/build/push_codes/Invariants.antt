@@ -1,10 +1,11 @@
-use Rattle.std.proofs.Common.{◌-◌, ◌+◌, ◌*◌}
-use Rattle.bw_segment.specs.Blocks.{block_start}
-use Rattle.bw_segment.specs.Meaning.{meaning_of}
-use Rattle.bw_slices.specs.Slices.{AreSlices}
+use Rattle.std.proofs.Common.{◌≡◌, ◌++◌, ◌-◌, map}
+use Rattle.bw_model.specs.Row.{values_of}
+use Rattle.bw_segment.specs.Meaning.{stored_codes}
+use Rattle.bw_slices.specs.Slices.{slices_text}
 use Rattle.bw_slices.proofs.build.push_codes.Given as goal
 
--- the columns before, the null plane, and the slices so far
+-- what is there and what is to come
 abbrev pub invariant-loop-place : goal.invariant-loop-place
 invariant-loop-place l =
-    AreSlices (meaning_of l.shape.schema l.rows) (block_start l.shape.schema.columns.items (l.col + 1) - 512 * l.slices + 512 * l.place) l.bytes.items
+    l.bytes.items ++ slices_text (l.slices - l.place) (stored_codes l.shape.schema.columns.items (map values_of l.rows) l.col)
+    ≡ l.initial.bytes.items ++ slices_text l.slices (stored_codes l.shape.schema.columns.items (map values_of l.rows) l.col)

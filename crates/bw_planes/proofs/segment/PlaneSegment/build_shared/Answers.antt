@@ -1,37 +1,45 @@
-use Rattle.std.proofs.Common.{◌≡◌, ◌∙◌, sym, ap, subst, ℕ, List, length, arith}
-use Rattle.bw_model.specs.Variable.{variables_of}
+use Rattle.std.proofs.Common.{◌≡◌, ◌∙◌, sym, ap, subst, ℕ, List, map, length, arith}
+use Rattle.std.proofs.lemmas.List.{length-map}
+use Rattle.bw_model.specs.declared.row.Row.{Row}
+use Rattle.bw_model.specs.Row.{Value, values_of}
+use Rattle.bw_segment.specs.BlockFault.{IsSound}
+use Rattle.bw_segment.specs.Layout.{segment_text, rows_spelled}
 use Rattle.bw_segment.specs.declared.shape.Shape.{Shape}
 use Rattle.bw_segment.specs.Meaning.{Meaning, meaning_of, IsGroup}
 use Rattle.bw_segment.proofs.CodeLemmas.{few_rows}
-use Rattle.bw_model.specs.declared.row.Row.{Row}
-use Rattle.bw_planes.specs.Planes.{planes_meaning, ArePlanes}
-use Rattle.bw_planes.proofs.BuildLemmas.{planes_mean}
+use Rattle.bw_segment.proofs.TextLemmas.{text_is_sound, rows_of_text}
+use Rattle.bw_planes.specs.Planes.{plane_layout, planes_meaning}
+use Rattle.bw_planes.proofs.LayoutLemmas.{planes_are_a_layout}
 use Rattle.bw_planes.proofs.segment.PlaneSegment.build_shared.Goals as goal
 
 module _ (given used kept : Shape) (rows : List Row) (bytes : List ℕ) (group : IsGroup (meaning_of given.schema rows)) (is_used : used ≡ given) (is_kept : kept ≡ given)
-    (planes : ArePlanes (meaning_of used.schema rows) (variables_of used.schema.columns.items) bytes) where
+    (text : bytes ≡ segment_text plane_layout used.schema.columns.items (map values_of rows)) where
+  text_given : bytes ≡ segment_text plane_layout given.schema.columns.items (map values_of rows)
+  text_given = text ∙ ap (λ (shape : Shape). segment_text plane_layout shape.schema.columns.items (map values_of rows)) is_used
+
+  is_sound : IsSound plane_layout kept.schema.columns.items (length rows) bytes
+  is_sound =
+      let these = text_is_sound plane_layout planes_are_a_layout (meaning_of given.schema rows) group in
+      let count = length-map rows values_of in
+      subst (λ (shape : Shape). IsSound plane_layout shape.schema.columns.items (length rows) bytes) (sym is_kept)
+      (subst (λ n. IsSound plane_layout given.schema.columns.items n bytes) count (subst (λ (l : List ℕ). IsSound plane_layout given.schema.columns.items (length (map values_of rows)) l) (sym text_given) these))
+
   means : planes_meaning kept.schema (length rows) bytes ≡ meaning_of given.schema rows
   means =
-      let these = subst (λ (shape : Shape). ArePlanes (meaning_of shape.schema rows) (variables_of shape.schema.columns.items) bytes) is_used planes in
-      ap (λ (shape : Shape). planes_meaning shape.schema (length rows) bytes) is_kept ∙ planes_mean given.schema rows bytes group these
+      let count = length-map rows values_of in
+      let spelled : rows_spelled plane_layout given.schema.columns.items (length rows) bytes ≡ map values_of rows =
+      ap (λ n. rows_spelled plane_layout given.schema.columns.items n bytes) (sym count) ∙ ap (rows_spelled plane_layout given.schema.columns.items (length (map values_of rows))) text_given
+      ∙ rows_of_text plane_layout planes_are_a_layout (meaning_of given.schema rows) group in
+      ap (λ (shape : Shape). planes_meaning shape.schema (length rows) bytes) is_kept
+      ∙ ap (λ (found : List (List Value)). (let m : Meaning = record { name = given.schema.name; columns = given.schema.columns.items; rows = found } in m)) spelled
 
-  is_group : IsGroup (planes_meaning kept.schema (length rows) bytes)
-  is_group = subst IsGroup (sym means) group
+pub overflow_cast-rows : goal.overflow_cast-rows
+overflow_cast-rows c = omega (arith, few_rows c.args.shape.now.value.schema c.args.rows.now c.requires)
 
-  are_planes : ArePlanes (planes_meaning kept.schema (length rows) bytes) (variables_of kept.schema.columns.items) bytes
-  are_planes =
-      let these = subst (λ (shape : Shape). ArePlanes (meaning_of shape.schema rows) (variables_of shape.schema.columns.items) bytes) is_used planes in
-      subst (λ (meaning : Meaning). ArePlanes meaning (variables_of meaning.columns) bytes) (sym means) these
-
-pub overflow_cast-result : goal.overflow_cast-result
-overflow_cast-result c = omega (arith, few_rows c.args.shape.now.value.schema c.args.rows.now c.requires)
-
-pub invariant_of-result : goal.invariant_of-result
-invariant_of-result c = record {
-  group = is_group c.args.shape.now.value c.deref-shared.result.now c.in_ok-shape.shape.value c.args.rows.now c.in_ok-bytes.bytes.items c.requires c.deref-shared.ensures c.in_ok-shape.ensures.cases c.in_ok-bytes.ensures.planes;
-  planes = are_planes c.args.shape.now.value c.deref-shared.result.now c.in_ok-shape.shape.value c.args.rows.now c.in_ok-bytes.bytes.items c.requires c.deref-shared.ensures c.in_ok-shape.ensures.cases c.in_ok-bytes.ensures.planes;
-}
+pub of_blocks-requires-clause-sound : goal.of_blocks-requires-clause-sound
+of_blocks-requires-clause-sound c =
+    is_sound c.args.shape.now.value c.deref-shared.result.now c.in_ok-shape.shape.value c.args.rows.now c.in_ok-bytes.bytes.items c.requires c.deref-shared.ensures c.in_ok-shape.ensures.cases c.in_ok-bytes.ensures.text
 
 pub returns-clause-means : goal.returns-clause-means
 returns-clause-means c =
-    means c.args.shape.now.value c.deref-shared.result.now c.in_ok-shape.shape.value c.args.rows.now c.in_ok-bytes.bytes.items c.requires c.deref-shared.ensures c.in_ok-shape.ensures.cases c.in_ok-bytes.ensures.planes
+    c.of_blocks.ensures.means ∙ means c.args.shape.now.value c.deref-shared.result.now c.in_ok-shape.shape.value c.args.rows.now c.in_ok-bytes.bytes.items c.requires c.deref-shared.ensures c.in_ok-shape.ensures.cases c.in_ok-bytes.ensures.text

@@ -1,4 +1,4 @@
-use Rattle.std.proofs.Common.{◌≡◌, ◌+◌, ◌<◌, ◌≤◌, length, inl, inr, arith}
+use Rattle.std.proofs.Common.{◌+◌, length, inl, inr, arith}
 use Rattle.std.proofs.lemmas.Bool.{cases_lt}
 use Rattle.bw_segment.proofs.ShapeLemmas.{next_of_last}
 use Rattle.bw_segment.proofs.shape.Shape.column_of.Goals as goal

@@ -1,4 +1,4 @@
-use Rattle.std.proofs.Common.{◌≡◌, ◌-◌, ◌≤◌, ◌<◌, length}
+use Rattle.std.proofs.Common.{◌-◌, ◌≤◌, ◌<◌, length}
 use Rattle.bw_model.specs.Variable.{first_variable}
 use Rattle.bw_segment.proofs.shape.Shape.column_of.Given as goal
 

@@ -1,0 +1,73 @@
+-- Lanes and the bytes that they are kept in undo each other.
+use Rattle.std.proofs.Common.{◌≡◌, ◌∙◌, refl, sym, ap, ap₂, ℕ, zero, suc, ◌+◌, ◌*◌, ◌/◌, ◌%◌, ◌^◌, ◌<◌, Bool, cond, ◌==◌, List, [], ◌∷◌, ◌++◌, length, take, drop, arith}
+use Rattle.std.proofs.Math.Seq.{drop-append_seam, take-append_seam}
+use Rattle.std.proofs.Math.Nat.{two-pow-succ}
+use Rattle.std.proofs.lemmas.List.{take-append-drop, length-take, length-drop, nil_from_length}
+use Rattle.std.proofs.Math.Nat.{mod-lt}
+use lib.Lanes.{Each1, mask_l, digits_l}
+use Rattle.bw_lanes.specs.Lanes.{bits_from_least, lanes_of_bytes, number_of_bits, bytes_from, bytes_of_lanes}
+use Rattle.bw_lanes.proofs.BitLemmas.{length-bits_from_least, bits_from_least_more, bits_of_mask}
+
+number_of_bits-mask : (bits : List Bool) → number_of_bits bits ≡ mask_l bits
+number_of_bits-mask [] = refl
+number_of_bits-mask (bit ∷ bits) = ap (λ n. cond bit 1 0 + 2 * n) (number_of_bits-mask bits)
+
+bits_of_number_of_bits : (bits : List Bool) → length bits ≡ 8 → bits_from_least 8 (number_of_bits bits) ≡ bits
+bits_of_number_of_bits bits eight = ap (λ k. bits_from_least k (number_of_bits bits)) (sym eight) ∙ ap (bits_from_least (length bits)) (number_of_bits-mask bits) ∙ bits_of_mask bits
+
+number_of_bits_from_least : (count n : ℕ) → n < 2 ^ count → number_of_bits (bits_from_least count n) ≡ n
+unfolding bits_from_least
+number_of_bits_from_least zero n small = omega (arith, small)
+number_of_bits_from_least (suc count) n small =
+    let half = number_of_bits_from_least count (n / 2) (omega (arith, small, two-pow-succ count)) in
+    ap number_of_bits (bits_from_least_more count n) ∙ ap (λ k. cond (n % 2 == 1) 1 0 + 2 * k) half ∙ omega (arith, worth (n % 2) (omega arith))
+  where
+    worth : (b : ℕ) → b < 2 → cond (b == 1) 1 0 ≡ b
+    worth zero lt = refl
+    worth (suc zero) lt = refl
+    worth (suc (suc b)) lt = absurd (omega arith)
+
+lanes_of_bytes_from : (count : ℕ) (lanes : List Bool) → length lanes ≡ 8 * count → lanes_of_bytes (bytes_from count lanes) ≡ lanes
+unfolding lanes_of_bytes
+lanes_of_bytes_from zero lanes long = sym (nil_from_length lanes (omega (arith, long)))
+lanes_of_bytes_from (suc count) lanes long =
+    ap₂ ◌++◌ (bits_of_number_of_bits (take 8 lanes) (omega (arith, length-take 8 lanes, long))) (lanes_of_bytes_from count (drop 8 lanes) (omega (arith, length-drop 8 lanes, long)))
+    ∙ take-append-drop 8 lanes
+
+bytes_from_lanes : (bytes : List ℕ) → Each1 (λ byte. byte < 2 ^ 8) bytes → bytes_from (length bytes) (lanes_of_bytes bytes) ≡ bytes
+unfolding lanes_of_bytes
+bytes_from_lanes [] small = refl
+bytes_from_lanes (byte ∷ bytes) small =
+    let front = bits_from_least 8 byte in
+    let eight = length-bits_from_least 8 byte in
+    ap₂ ◌∷◌ (ap (λ k. number_of_bits (take k (front ++ lanes_of_bytes bytes))) (sym eight) ∙ ap number_of_bits (take-append_seam front (lanes_of_bytes bytes)) ∙ number_of_bits_from_least 8 byte small.0)
+    (ap (λ k. bytes_from (length bytes) (drop k (front ++ lanes_of_bytes bytes))) (sym eight) ∙ ap (bytes_from (length bytes)) (drop-append_seam front (lanes_of_bytes bytes)) ∙ bytes_from_lanes bytes small.1)
+
+pub lanes_of_bytes_of_lanes : (lanes : List Bool) → length lanes ≡ 512 → lanes_of_bytes (bytes_of_lanes lanes) ≡ lanes
+unfolding bytes_of_lanes
+lanes_of_bytes_of_lanes lanes long = lanes_of_bytes_from 64 lanes long
+
+length-bytes_from : (count : ℕ) (lanes : List Bool) → length (bytes_from count lanes) ≡ count
+length-bytes_from zero lanes = refl
+length-bytes_from (suc count) lanes = ap suc (length-bytes_from count (drop 8 lanes))
+
+pub length-bytes_of_lanes : (lanes : List Bool) → length (bytes_of_lanes lanes) ≡ 64
+unfolding bytes_of_lanes
+length-bytes_of_lanes lanes = length-bytes_from 64 lanes
+
+pub bytes_of_lanes_of_bytes : (bytes : List ℕ) → length bytes ≡ 64 → Each1 (λ byte. byte < 2 ^ 8) bytes → bytes_of_lanes (lanes_of_bytes bytes) ≡ bytes
+unfolding bytes_of_lanes
+bytes_of_lanes_of_bytes bytes long small = ap (λ k. bytes_from k (lanes_of_bytes bytes)) (sym long) ∙ bytes_from_lanes bytes small
+
+digits_are_small : (p count n : ℕ) → 0 < p → Each1 (λ digit. digit < p) (digits_l p count n)
+digits_are_small p zero n some = tt
+digits_are_small p (suc count) n some = (mod-lt n some, digits_are_small p count (n / p) some)
+
+length-digits_l : (p count n : ℕ) → length (digits_l p count n) ≡ count
+length-digits_l p zero n = refl
+length-digits_l p (suc count) n = ap suc (length-digits_l p count (n / p))
+
+-- the digits of a number in bytes are those of its bits
+pub digits_of_lanes : (n : ℕ) (lanes : List Bool) → lanes_of_bytes (digits_l 256 64 n) ≡ lanes → digits_l 256 64 n ≡ bytes_of_lanes lanes
+digits_of_lanes n lanes is =
+    sym (bytes_of_lanes_of_bytes (digits_l 256 64 n) (length-digits_l 256 64 n) (digits_are_small 256 64 n (omega arith))) ∙ ap bytes_of_lanes is

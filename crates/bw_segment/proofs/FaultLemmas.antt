@@ -1,0 +1,261 @@
+-- The first fault of lanes, from planes that tell of them.
+use Rattle.std.proofs.Common.{◌≡◌, ◌∙◌, refl, sym, ap, ap₂, ℕ, zero, suc, ◌+◌, ◌-◌, ◌<◌, ◌≤◌, Bool, true, false, not, cond, ltb, ◌==◌, ◌&&◌, ◌||◌, List, [], ◌∷◌, ◌++◌, map, length, get_or, replicate, length-append, Option, Some, None, ◌⊎◌, inl, inr, arith}
+use Rattle.std.specs.List.{list_all}
+use Rattle.std.proofs.lemmas.Bool.{cases_lt, ltb-false, le-ltb, eqb-true, eq-eqb}
+use Rattle.std.proofs.lemmas.List.{get_or-map, length-map, length-replicate}
+use Rattle.std.proofs.lemmas.Simd.{get_or-zip2}
+use Rattle.std.proofs.Math.Bool.{and-true, and-false}
+use Rattle.bw_model.proofs.BitsLemmas.{both}
+use lib.Lanes.{zip2}
+use Rattle.bw_model.specs.Groups.{group_size}
+use Rattle.bw_segment.specs.BlockFault.{or_else, padding_fault, row_fault, first_fault, lanes_fault, TellsCodes}
+
+pub first_none : (fault : ℕ → Option ℕ) (n : ℕ) → ((row : ℕ) → row < n → fault row ≡ None) → first_fault fault n ≡ None
+first_none fault zero none = refl
+first_none fault (suc n) none = ap (λ f. or_else f (fault n)) (first_none fault n (λ row lt. none row (omega arith))) ∙ none n (omega arith)
+
+none_of_first : (a b : Option ℕ) → or_else a b ≡ None → (a ≡ None) × (b ≡ None)
+none_of_first None b is = (refl, is)
+none_of_first (Some x) b is = cc
+
+pub first_none_at : (fault : ℕ → Option ℕ) (n row : ℕ) → first_fault fault n ≡ None → row < n → fault row ≡ None
+first_none_at fault zero row none lt = absurd (omega arith)
+first_none_at fault (suc n) row none lt =
+    let parts = none_of_first (first_fault fault n) (fault n) none in
+    elim (cases_lt row n) [
+      | inl before ↦ first_none_at fault n row parts.0 before
+      | inr not_before ↦ let here : row ≡ n = omega arith in ap fault here ∙ parts.1
+    ]
+
+-- a row's fault, where none before it has one
+pub first_stays : (fault : ℕ → Option ℕ) (n row x : ℕ) → first_fault fault row ≡ None → fault row ≡ Some x → row < n → first_fault fault n ≡ Some x
+first_stays fault zero row x none here lt = absurd (omega arith)
+first_stays fault (suc n) row x none here lt = elim (cases_lt row n) [
+  | inl before ↦ ap (λ f. or_else f (fault n)) (first_stays fault n row x none here before)
+  | inr not_before ↦
+      let last : n ≡ row = omega arith in
+      ap (λ f. or_else f (fault n)) (ap (first_fault fault) last ∙ none) ∙ ap fault last ∙ here
+]
+
+-- where each fault is the same
+first_is : (fault : ℕ → Option ℕ) (x n : ℕ) → ((row : ℕ) → (fault row ≡ None) ⊎ (fault row ≡ Some x)) → (first_fault fault n ≡ None) ⊎ (first_fault fault n ≡ Some x)
+first_is fault x zero each = inl refl
+first_is fault x (suc n) each = elim (first_is fault x n each) [
+  | inl none ↦ elim (each n) [
+    | inl here ↦ inl (ap (λ f. or_else f (fault n)) none ∙ here)
+    | inr here ↦ inr (ap (λ f. or_else f (fault n)) none ∙ here)
+  ]
+  | inr some ↦ inr (ap (λ f. or_else f (fault n)) some)
+]
+
+first_same : (fault : ℕ → Option ℕ) (x n row : ℕ) → ((row : ℕ) → (fault row ≡ None) ⊎ (fault row ≡ Some x)) → fault row ≡ Some x → row < n → first_fault fault n ≡ Some x
+first_same fault x n row each here lt = elim (first_is fault x n each) [
+  | inl none ↦ let not_here = sym here ∙ first_none_at fault n row none lt in cc
+  | inr some ↦ some
+]
+
+padding_or : (null : Bool) (code : ℕ) → (padding_fault null code ≡ None) ⊎ (padding_fault null code ≡ Some 308)
+padding_or null code = shown (null || not (code == 0))
+  where
+    shown : (b : Bool) → (◌≡◌ {A = Option ℕ} (cond b (Some 308) None) None) ⊎ (◌≡◌ {A = Option ℕ} (cond b (Some 308) None) (Some 308))
+    shown true = inr refl
+    shown false = inl refl
+
+-- what stands in a lane that is without fault
+pub padding_none : (null : Bool) (code : ℕ) → padding_fault null code ≡ None → (null ≡ false) × (code ≡ 0)
+padding_none true code none = cc
+padding_none false code none = (refl, zero_of (code == 0) refl)
+  where
+    zero_of : (b : Bool) → (code == 0) ≡ b → code ≡ 0
+    zero_of true is = eqb-true code 0 is
+    zero_of false is = let fault = sym none ∙ ap (λ b. cond (not b) (Some 308) None) is in cc
+
+pub row_none : (span : ℕ) (null : Bool) (code : ℕ) → row_fault span null code ≡ None → (null ≡ true → code ≡ 0) × (code ≤ span)
+row_none span true code none = let is_zero = zero_of (code == 0) refl in (λ e. is_zero, omega (arith, is_zero))
+  where
+    zero_of : (b : Bool) → (code == 0) ≡ b → code ≡ 0
+    zero_of true is = eqb-true code 0 is
+    zero_of false is = let fault = sym none ∙ ap (λ b. cond (not b) (Some 307) (cond (ltb span code) (Some 306) None)) is in cc
+row_none span false code none = (λ e. cc, le (ltb span code) refl)
+  where
+    le : (b : Bool) → ltb span code ≡ b → code ≤ span
+    le true above = let fault = sym none ∙ ap (λ b. cond b (Some 306) None) above in cc
+    le false within = ltb-false span code within
+
+pub row_clear : (span : ℕ) (null : Bool) (code : ℕ) → (null ≡ true → code ≡ 0) → code ≤ span → row_fault span null code ≡ None
+row_clear span true code zero_of within =
+    ap (λ b. cond (not b) (Some 307) (cond (ltb span code) (Some 306) None)) (eq-eqb code 0 (zero_of refl)) ∙ ap (λ b. cond b (Some 306) None) (le-ltb span code within)
+row_clear span false code zero_of within = ap (λ b. cond b (Some 306) None) (le-ltb span code within)
+
+module _ (span count : ℕ) (nulls : List Bool) (codes : List ℕ) where
+  -- the faults of padding rows, and of rows
+  abbrev pub paddings : ℕ → Option ℕ
+  paddings row = padding_fault (get_or nulls (count + row) false) (get_or codes (count + row) 0)
+
+  abbrev pub of_rows : ℕ → Option ℕ
+  of_rows row = row_fault span (get_or nulls row false) (get_or codes row 0)
+
+  pub lanes_none : ((row : ℕ) → count ≤ row → row < 512 → padding_fault (get_or nulls row false) (get_or codes row 0) ≡ None) → lanes_fault span count nulls codes ≡ first_fault of_rows count
+  unfolding lanes_fault group_size
+  lanes_none clear = ap (λ f. or_else f (first_fault of_rows count)) (first_none paddings (512 - count) (λ row lt. clear (count + row) (omega arith) (omega arith)))
+
+  pub lanes_padding : (row : ℕ) → count ≤ row → row < 512 → padding_fault (get_or nulls row false) (get_or codes row 0) ≡ Some 308 → lanes_fault span count nulls codes ≡ Some 308
+  unfolding lanes_fault group_size
+  lanes_padding row from to here =
+      let place : count + (row - count) ≡ row = omega arith in
+      let there : paddings (row - count) ≡ Some 308 = ap (λ k. padding_fault (get_or nulls k false) (get_or codes k 0)) place ∙ here in
+      ap (λ f. or_else f (first_fault of_rows count)) (first_same paddings 308 (512 - count) (row - count) (λ row. padding_or (get_or nulls (count + row) false) (get_or codes (count + row) 0)) there (omega arith))
+
+  -- lanes that are without fault
+  pub lanes_none_at : lanes_fault span count nulls codes ≡ None
+      → ((row : ℕ) → count ≤ row → row < 512 → padding_fault (get_or nulls row false) (get_or codes row 0) ≡ None) × ((row : ℕ) → row < count → of_rows row ≡ None)
+  unfolding lanes_fault group_size
+  lanes_none_at none =
+      let parts = none_of_first (first_fault paddings (512 - count)) (first_fault of_rows count) none in
+      (λ row from to.
+        let place : count + (row - count) ≡ row = omega arith in
+        sym (ap (λ k. padding_fault (get_or nulls k false) (get_or codes k 0)) place) ∙ first_none_at paddings (512 - count) (row - count) parts.0 (omega arith),
+        λ row lt. first_none_at of_rows count row parts.1 lt)
+
+-- a lane that is 1, where not all are 0
+one_somewhere : (lanes : List Bool) → list_all not lanes ≡ false → (row : ℕ) × (row < length lanes) × (get_or lanes row false ≡ true)
+one_somewhere [] all = cc
+one_somewhere (true ∷ lanes) all = (0, omega arith, refl)
+one_somewhere (false ∷ lanes) all = let more = one_somewhere lanes all in (suc more.0, omega (arith, more.1), more.2)
+
+zero_everywhere : (lanes : List Bool) (row : ℕ) → list_all not lanes ≡ true → get_or lanes row false ≡ false
+zero_everywhere [] row all = refl
+zero_everywhere (true ∷ lanes) row all = cc
+zero_everywhere (false ∷ lanes) zero all = refl
+zero_everywhere (false ∷ lanes) (suc row) all = zero_everywhere lanes row all
+
+length-zip2 : {A B C : Type 0} (f : A → B → C) (xs : List A) (ys : List B) → length xs ≡ length ys → length (zip2 f xs ys) ≡ length xs
+length-zip2 f [] ys same = refl
+length-zip2 f (x ∷ xs) [] same = absurd (omega (arith, same))
+length-zip2 f (x ∷ xs) (y ∷ ys) same = ap suc (length-zip2 f xs ys (omega (arith, same)))
+
+-- the lanes past the rows
+abbrev pub outside : ℕ → List Bool
+outside rows = map not (replicate rows true ++ replicate (512 - rows) false)
+
+length-outside : (rows : ℕ) → rows ≤ 512 → length (outside rows) ≡ 512
+length-outside rows le =
+    length-map (replicate rows true ++ replicate (512 - rows) false) not
+    ∙ omega (arith, length-append (replicate rows true) (replicate (512 - rows) false), length-replicate rows true, length-replicate (512 - rows) false)
+
+outside-past : (count rest row : ℕ) → count ≤ row → row < count + rest → get_or (map not (replicate count true ++ replicate rest false)) row false ≡ true
+outside-past zero zero row le lt = absurd (omega arith)
+outside-past zero (suc rest) zero le lt = refl
+outside-past zero (suc rest) (suc row) le lt = outside-past zero rest row (omega arith) (omega arith)
+outside-past (suc count) rest zero le lt = absurd (omega arith)
+outside-past (suc count) rest (suc row) le lt = outside-past count rest row (omega arith) (omega arith)
+
+outside-before : (count rest row : ℕ) → row < count → get_or (map not (replicate count true ++ replicate rest false)) row false ≡ false
+outside-before zero rest row lt = absurd (omega arith)
+outside-before (suc count) rest zero lt = refl
+outside-before (suc count) rest (suc row) lt = outside-before count rest row (omega arith)
+
+module _ (rows : ℕ) (nulls used : List Bool) (few : rows ≤ 512) (long_nulls : length nulls ≡ 512) (long_used : length used ≡ 512) where
+  abbrev pub either : List Bool
+  either = zip2 (λ x y. x || y) nulls used
+
+  abbrev pub kept : List Bool
+  kept = zip2 (λ x y. x && y) either (outside rows)
+
+  long_either : length either ≡ 512
+  long_either = length-zip2 (λ x y. x || y) nulls used (long_nulls ∙ sym long_used) ∙ long_nulls
+
+  kept_at : (row : ℕ) → row < 512 → get_or kept row false ≡ ((get_or nulls row false || get_or used row false) && get_or (outside rows) row false)
+  kept_at row lt =
+      get_or-zip2 (λ x y. x && y) either (outside rows) row false false false (omega (arith, long_either)) (omega (arith, length-outside rows few))
+      ∙ ap (λ b. b && get_or (outside rows) row false) (get_or-zip2 (λ x y. x || y) nulls used row false false false (omega (arith, long_nulls)) (omega (arith, long_used)))
+
+  pub padding_is_clear : list_all not kept ≡ true → (row : ℕ) → rows ≤ row → row < 512 → (get_or nulls row false || get_or used row false) ≡ false
+  padding_is_clear all row from to =
+      sym (kept_at row to ∙ ap (λ b. (get_or nulls row false || get_or used row false) && b) (outside-past rows (512 - rows) row from (omega arith)) ∙ and-true (get_or nulls row false || get_or used row false))
+      ∙ zero_everywhere kept row all
+
+  pub padding_is_set : list_all not kept ≡ false → (row : ℕ) × (rows ≤ row) × (row < 512) × ((get_or nulls row false || get_or used row false) ≡ true)
+  padding_is_set all =
+      let found = one_somewhere kept all in
+      let row = found.0 in
+      let long : length kept ≡ 512 = length-zip2 (λ x y. x && y) either (outside rows) (long_either ∙ sym (length-outside rows few)) ∙ long_either in
+      let below : row < 512 = omega (arith, found.1, long) in
+      let is = sym (kept_at row below) ∙ found.2 in
+      elim (cases_lt row rows) [
+        | inl before ↦
+            let none = sym is ∙ ap (λ b. (get_or nulls row false || get_or used row false) && b) (outside-before rows (512 - rows) row before) ∙ and-false (get_or nulls row false || get_or used row false) in
+            cc
+        | inr past ↦ (row, past, below, (both (get_or nulls row false || get_or used row false) (get_or (outside rows) row false) is).0)
+      ]
+
+told : (null used : Bool) (code : ℕ) → used ≡ not (code == 0) → padding_fault null code ≡ cond (null || used) (Some 308) None
+told null used code tells = ap (λ b. cond (null || b) (Some 308) None) (sym tells)
+
+row_told : (span code : ℕ) (null used : Bool) → (null ≡ true → used ≡ not (code == 0)) → row_fault span null code ≡ cond (null && used) (Some 307) (cond (ltb span code) (Some 306) None)
+row_told span code true used tells = ap (λ b. cond b (Some 307) (cond (ltb span code) (Some 306) None)) (sym (tells refl))
+row_told span code false used tells = refl
+
+module _ (span count : ℕ) (nulls used above : List Bool) (codes : List ℕ) (few : count ≤ 512) (long_nulls : length nulls ≡ 512) (long_used : length used ≡ 512) (long : length codes ≡ group_size)
+    (tells : TellsCodes count nulls codes used) (is_above : above ≡ map (ltb span) codes) where
+  -- the lanes that are null and have a code
+  abbrev pub with_code : List Bool
+  with_code = zip2 (λ x y. x && y) nulls used
+
+  row_is : (row : ℕ) → row < 512 → of_rows span count nulls codes row ≡ cond (get_or with_code row false) (Some 307) (cond (get_or above row false) (Some 306) None)
+  unfolding group_size
+  row_is row lt =
+      let both_set = get_or-zip2 (λ x y. x && y) nulls used row false false false (omega (arith, long_nulls)) (omega (arith, long_used)) in
+      let is = ap (λ l. get_or l row false) is_above ∙ get_or-map (ltb span) codes row 0 false (omega (arith, long)) in
+      row_told span (get_or codes row 0) (get_or nulls row false) (get_or used row false) (λ null. tells.null row lt null)
+      ∙ sym (ap₂ (λ b a. cond b (Some 307) (cond a (Some 306) None)) both_set is)
+
+  pub fault_in_padding : (row : ℕ) → count ≤ row → row < 512 → (get_or nulls row false || get_or used row false) ≡ true → lanes_fault span count nulls codes ≡ Some 308
+  unfolding group_size
+  fault_in_padding row from to set =
+      lanes_padding span count nulls codes row from to (told (get_or nulls row false) (get_or used row false) (get_or codes row 0) (tells.padding row from to) ∙ ap (λ b. cond b (Some 308) None) set)
+
+  pub fault_in_rows : ((row : ℕ) → count ≤ row → row < 512 → (get_or nulls row false || get_or used row false) ≡ false) → lanes_fault span count nulls codes ≡ first_fault (of_rows span count nulls codes) count
+  unfolding group_size
+  fault_in_rows clear =
+      lanes_none span count nulls codes (λ row from to. told (get_or nulls row false) (get_or used row false) (get_or codes row 0) (tells.padding row from to) ∙ ap (λ b. cond b (Some 308) None) (clear row from to))
+
+  pub row_with_code : (row : ℕ) → row < 512 → get_or with_code row false ≡ true → of_rows span count nulls codes row ≡ Some 307
+  row_with_code row lt set = row_is row lt ∙ ap (λ b. cond b (Some 307) (cond (get_or above row false) (Some 306) None)) set
+
+  pub row_above : (row : ℕ) → row < 512 → get_or with_code row false ≡ false → get_or above row false ≡ true → of_rows span count nulls codes row ≡ Some 306
+  row_above row lt clear set = row_is row lt ∙ ap₂ (λ b a. cond b (Some 307) (cond a (Some 306) None)) clear set
+
+  pub row_fine : (row : ℕ) → row < 512 → get_or with_code row false ≡ false → get_or above row false ≡ false → of_rows span count nulls codes row ≡ None
+  row_fine row lt clear within = row_is row lt ∙ ap₂ (λ b a. cond b (Some 307) (cond a (Some 306) None)) clear within
+
+  pub rows_fine : list_all not (zip2 (λ x y. x || y) with_code above) ≡ true → first_fault (of_rows span count nulls codes) count ≡ None
+  unfolding group_size
+  rows_fine all = first_none (of_rows span count nulls codes) count (λ row lt.
+    let long_with : length with_code ≡ 512 = length-zip2 (λ x y. x && y) nulls used (long_nulls ∙ sym long_used) ∙ long_nulls in
+    let long_above : length above ≡ 512 = ap length is_above ∙ length-map codes (ltb span) ∙ long in
+    let none = sym (get_or-zip2 (λ x y. x || y) with_code above row false false false (omega (arith, long_with)) (omega (arith, long_above))) ∙ zero_everywhere (zip2 (λ x y. x || y) with_code above) row all in
+    let parts = neither (get_or with_code row false) (get_or above row false) none in
+    row_fine row (omega arith) parts.0 parts.1)
+    where
+      neither : (a b : Bool) → (a || b) ≡ false → (a ≡ false) × (b ≡ false)
+      neither true b is = cc
+      neither false b is = (refl, is)
+
+-- planes that tell which codes aren't 0, where that is asked
+pub tells_all : (count : ℕ) (nulls used : List Bool) (codes : List ℕ) → length codes ≡ group_size → used ≡ map (λ code. not (code == 0)) codes → TellsCodes count nulls codes used
+unfolding group_size
+tells_all count nulls used codes long is = record {
+  padding = λ row from to. at row (omega (arith, to));
+  null = λ row lt set. at row (omega (arith, lt));
+}
+  where
+    at : (row : ℕ) → row < 512 → get_or used row false ≡ not (get_or codes row 0 == 0)
+    at row lt = ap (λ l. get_or l row false) is ∙ get_or-map (λ code. not (code == 0)) codes row 0 false (omega (arith, long))
+
+pub tells_nothing : (count : ℕ) (nulls used : List Bool) (codes : List ℕ) → count ≡ 512 → list_all not nulls ≡ true → TellsCodes count nulls codes used
+unfolding group_size
+tells_nothing count nulls used codes whole none = record {
+  padding = λ row from to. absurd (omega arith);
+  null = λ row lt set. let unset = sym set ∙ zero_everywhere nulls row none in cc;
+}

@@ -1,0 +1,133 @@
+//! The parts of a column's block, and the first fault of its lanes.
+ghost use Rattle.std.specs.Prelude.{◌≡◌, ◌^◌, ◌≤◌, ◌<◌, ◌||◌, true, false, ℕ, List, length, map, drop, nat_lt, slice_index_or};
+ghost use Rattle.bw_lanes.specs.Lanes.{lanes_of_words};
+ghost use Rattle.bw_model.specs.Code.{span_at};
+ghost use Rattle.bw_model.specs.Groups.{group_size};
+ghost use Rattle.bw_segment.specs.BlockFault.{lanes_fault, TellsCodes};
+ghost use Rattle.bw_segment.specs.Layout.{null_size, block_nulls};
+
+use crate::codes::nulls_of;
+use crate::shape::Shape;
+use bw_lanes::{Plane, and, bytes_bit, is_zero, lane, load, mask, not, or, to_bytes};
+use bw_model::{Fault, Row, code};
+
+impl Shape {
+    ghost use Rattle.std.specs.Prelude.{◌++◌, if◌then◌else◌, [], OnOk, IsOkUnless};
+    ghost use Rattle.bw_lanes.specs.Lanes.{bytes_of_lanes};
+    ghost use Rattle.bw_model.specs.Fault.{no_memory};
+    ghost use Rattle.bw_model.specs.Row.{values_of};
+    ghost use Rattle.bw_model.specs.Variable.{is_nullable};
+    ghost use Rattle.bw_segment.specs.Layout.{null_bits};
+    ghost use Rattle.bw_segment.specs.Meaning.{meaning_of, IsGroup};
+
+    /// The greatest code of a column.
+    pub fn span(&self, col: usize) -> u64
+        requires { col < length self.now.schema.columns.items }
+        ensures span { result ≡ span_at self.now.schema.columns.items col }
+        ensures bound { result < 2 ^ 63 }
+    {
+        let column = &self.schema.columns[col];
+        column.hi.abs_diff(column.lo)
+    }
+
+    /// How many bytes the null plane of a column's block takes: none where the column isn't nullable.
+    pub fn null_size(&self, col: usize) -> usize
+        requires { col < length self.now.schema.columns.items }
+        ensures size { result ≡ null_size self.now.schema.columns.items col }
+        ensures bound { result ≤ 64 }
+    {
+        if self.schema.columns[col].nullable {
+            64
+        } else {
+            0
+        }
+    }
+
+    /// Adds the null plane of a column of some rows to bytes, where it is nullable.
+    pub fn push_nulls(&self, bytes: &mut Vec<u8>, rows: &[Row], col: usize) -> Result<(), Fault>
+        requires group { IsGroup (meaning_of self.now.schema rows.now) }
+        requires column { col < length self.now.schema.columns.items }
+        ensures added { OnOk result (bytes.new.items ≡ bytes.old.items
+            ++ (if is_nullable self.now.schema.columns.items col
+                then bytes_of_lanes (null_bits (map values_of rows.now) col) else [])) }
+        ensures only_memory { IsOkUnless result no_memory }
+    {
+        if !self.schema.columns[col].nullable {
+            return Ok(());
+        }
+        let plane = bytes_bit(&nulls_of(&self.schema, rows, col), 0);
+        let added = to_bytes(&plane);
+        bytes.extend_from_slice(&added)?;
+        Ok(())
+    }
+
+    /// The null plane of a column's block; zeros where the column isn't nullable.
+    pub fn nulls_in(&self, col: usize, block: &[u8]) -> Plane
+        requires column { col < length self.now.schema.columns.items }
+        requires size { null_size self.now.schema.columns.items col ≤ length block.now }
+        ensures { lanes_of_words result
+            ≡ block_nulls self.now.schema.columns.items col block.now }
+    {
+        if self.schema.columns[col].nullable {
+            load(block)
+        } else {
+            [0; 8]
+        }
+    }
+
+    /// The bytes of a column's block behind its null plane.
+    pub fn codes_in<'a>(&self, col: usize, block: &'a [u8]) -> &'a [u8]
+        requires column { col < length self.now.schema.columns.items }
+        requires size { null_size self.now.schema.columns.items col ≤ length block.now }
+        ensures { result.now ≡ drop (null_size self.now.schema.columns.items col) block.now }
+    {
+        if self.schema.columns[col].nullable {
+            &block[64..]
+        } else {
+            block
+        }
+    }
+}
+
+/// The first fault of a block of so many rows, by its number, from its null bits, from whether the codes of null
+/// and padding rows aren't 0, and from which codes are above the column's greatest.
+pub fn fault_of_lanes(rows: u32, nulls: &Plane, used: &Plane, above: &Plane) -> Option<u16>
+    requires { rows ≤ 512 }
+    ensures { (span : ℕ) (codes : List ℕ) → length codes ≡ group_size
+        → TellsCodes rows (lanes_of_words nulls.now) codes (lanes_of_words used.now)
+        → lanes_of_words above.now ≡ map (nat_lt span) codes
+        → result ≡ lanes_fault span rows (lanes_of_words nulls.now) codes }
+{
+    if !is_padding_clear(rows, nulls, used) {
+        return Some(code::PADDING);
+    }
+    let with_code = and(nulls, used);
+    if is_zero(&or(&with_code, above)) {
+        return None;
+    }
+    for row in 0..rows as usize {
+        if lane(&with_code, row) {
+            return Some(code::NULL_WITH_CODE);
+        }
+        if lane(above, row) {
+            return Some(code::CODE_TOO_LARGE);
+        }
+    }
+    None
+}
+
+/// Whether the lanes past so many rows are 0 in two planes.
+fn is_padding_clear(rows: u32, nulls: &Plane, used: &Plane) -> bool
+    requires { rows ≤ 512 }
+    ensures clear { result ≡ true → (row : ℕ) → rows ≤ row → row < 512
+        → (slice_index_or (lanes_of_words nulls.now) row false
+            || slice_index_or (lanes_of_words used.now) row false) ≡ false }
+    ensures set { result ≡ false → (row : ℕ) × (rows ≤ row) × (row < 512)
+        × ((slice_index_or (lanes_of_words nulls.now) row false
+            || slice_index_or (lanes_of_words used.now) row false) ≡ true) }
+{
+    if rows == 512 {
+        return true;
+    }
+    is_zero(&and(&or(nulls, used), &not(&mask(rows))))
+}
