@@ -1,6 +1,7 @@
 #!/usr/bin/env bash
-# Times runs of scan programs over 10,000 segments of 512 rows in planes, the straight loops of kernels that they are
-# measured against, programs of a hundred times one instruction, and the reading of a program text of 4,096 lines.
+# Times runs of scan programs over 10,000 segments of 512 rows in planes, straight loops over the same kernels (fused by
+# the compiler, and called one by one), programs of a hundred times one instruction, and the reading of a program text
+# of 4,096 lines.
 # Run by hand on an idle machine: bench/run.sh. Each line is the least time of five runs, each the least of thirty
 # rounds: nanoseconds a segment, and for the text microseconds.
 set -euo pipefail

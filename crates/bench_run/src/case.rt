@@ -1,5 +1,6 @@
 //! What is timed: a segment with a program that its schema has all the columns and bits of.
 ghost use Rattle.std.specs.Prelude.{◌≡◌, ◌≤◌, IsTrue, OnOk};
+ghost use Rattle.bw_model.specs.Code.{slices_at};
 ghost use Rattle.bw_model.specs.Variable.{variables_of};
 ghost use Rattle.bw_program.specs.Program.{fits};
 ghost use Rattle.bw_segment.specs.Meaning.{IsGroup, meaning_of};
@@ -20,6 +21,7 @@ pub(crate) struct Case {
     pub(crate) program: Program,
     pub(crate) ghost fits: { IsTrue (fits segment.shape.value.schema.columns.items program) },
     pub(crate) ghost planes: { 8 ≤ variables_of segment.shape.value.schema.columns.items },
+    pub(crate) ghost bytes: { 1 ≤ slices_at segment.shape.value.schema.columns.items 0 },
 }
 
 impl Case {
@@ -31,7 +33,7 @@ impl Case {
     ) -> Result<Case, Failure> {
         let program = Program::parse(alloc, schema, text)?;
         check_group(schema, rows)?;
-        if schema.var_count() < PLANES {
+        if schema.var_count() < PLANES || schema.slices(0) < 1 {
             return Err(Failure::Rows);
         }
         let segment = PlaneSegment::build(alloc, schema, rows)?;

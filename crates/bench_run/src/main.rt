@@ -1,11 +1,12 @@
-//! Times runs of scan programs over 10,000 segments in planes against the same kernels called from straight loops, the
-//! cost of an instruction, and the reading of a program text of 4,096 lines. Standard output tells how many rows each
-//! way selects, and standard error the least times. `bench/run.sh` runs it.
+//! Times runs of scan programs over 10,000 segments in planes against straight loops over the same kernels, fused by
+//! the compiler and called one by one, the cost of an instruction, and the reading of a program text of 4,096 lines.
+//! Standard output tells how many rows each way selects, and standard error the least times. `bench/run.sh` runs it.
 //!
 //! Read `ways.rt` first, for what is timed.
 #![tactic(auto)]
 
 mod case;
+mod kernels;
 mod ways;
 
 use bw_lanes::{count, or};
@@ -18,7 +19,10 @@ use std::process::ExitCode;
 use std::rt::Clock;
 use std::time::{Duration, Instant};
 use thiserror::Error;
-use ways::{ByProgram, Comparison, Rows, TopBits, Way};
+use ways::{
+    ByProgram, CalledAnds, CalledBytes, CalledComparison, CalledLoads, CalledTopBits,
+    FusedComparison, FusedTopBits, Way,
+};
 
 const SCHEMA: &[u8] =
     b"TABLE t\nCOLUMN a 0 255 NOT NULL\nCOLUMN b -10 10\nCOLUMN c 0 99999 NOT NULL\nCOLUMN d 0 999 NOT NULL\n";
@@ -92,11 +96,12 @@ fn time_conditions(
     values: &str,
 ) -> Result<(), Failure> {
     let cases = cases_of(rt.alloc(), schema, TOP_BITS, spread)?;
-    time_way::<Rows>(rt, &cases, values, "rows alone")?;
-    time_way::<TopBits>(rt, &cases, values, "a >= 192, straight")?;
+    time_way::<FusedTopBits>(rt, &cases, values, "a >= 192, fused")?;
+    time_way::<CalledTopBits>(rt, &cases, values, "a >= 192, called")?;
     time_way::<ByProgram>(rt, &cases, values, "a >= 192, program")?;
     let cases = cases_of(rt.alloc(), schema, COMPARISON, spread)?;
-    time_way::<Comparison>(rt, &cases, values, "a < 8, straight")?;
+    time_way::<FusedComparison>(rt, &cases, values, "a < 8, fused")?;
+    time_way::<CalledComparison>(rt, &cases, values, "a < 8, called")?;
     time_way::<ByProgram>(rt, &cases, values, "a < 8, program")
 }
 
@@ -107,6 +112,9 @@ fn time_instructions(
 ) -> Result<(), Failure> {
     let cases = cases_of(rt.alloc(), schema, b"RESULT r0\n", 255)?;
     time_way::<ByProgram>(rt, &cases, "none", "RESULT r0")?;
+    time_way::<CalledAnds>(rt, &cases, "a hundred", "AND, called")?;
+    time_way::<CalledLoads>(rt, &cases, "a hundred", "LOAD, called")?;
+    time_way::<CalledBytes>(rt, &cases, "a hundred", "BYTELT, called")?;
     for line in [
         "AND r0 r0 r1\n",
         "AND r2 r0 r1\n",

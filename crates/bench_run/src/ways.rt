@@ -1,6 +1,8 @@
-//! The ways to select a segment's rows that are timed: a run of the case's program, and straight loops of kernels.
+//! The ways to select a segment's rows that are timed: a run of the case's program, and straight loops that call the
+//! same kernels over the same segment, skip where the program skips, and mask the rows as a run does.
 use crate::case::{Case, PLANES};
-use bw_lanes::{Plane, and, is_zero, mask, not, or};
+use crate::kernels::{Called, Fused, Kernels};
+use bw_lanes::{Plane, and, mask, or};
 use bw_run::run_segment;
 use bw_segment::Segment;
 
@@ -21,53 +23,114 @@ impl Way for ByProgram {
 }
 
 /// `a >= 192`, by the top two planes.
-pub(crate) struct TopBits;
+pub(crate) struct FusedTopBits;
 
-impl Way for TopBits {
+impl Way for FusedTopBits {
     fn select(case: &Case) -> (Plane, usize) {
-        let first = case.segment.plane(0);
-        if is_zero(&first) {
-            return (first, 1);
-        }
-        (and(&first, &case.segment.plane(1)), 2)
+        top_bits::<Fused>(case)
     }
+}
+
+pub(crate) struct CalledTopBits;
+
+impl Way for CalledTopBits {
+    fn select(case: &Case) -> (Plane, usize) {
+        top_bits::<Called>(case)
+    }
+}
+
+fn top_bits<K: Kernels>(case: &Case) -> (Plane, usize) {
+    let first = K::plane(case, 0);
+    if K::is_zero(&first) {
+        return (in_rows(case, &first), 1);
+    }
+    let both = K::and(&first, &K::plane(case, 1));
+    (in_rows(case, &both), 2)
 }
 
 /// `a < 8`, by two planes that say which rows are less so far and which are equal so far, from the top plane down to
 /// the first after which none is equal. The count of loads keeps the compiler from leaving out the last planes.
-pub(crate) struct Comparison;
+pub(crate) struct FusedComparison;
+
+impl Way for FusedComparison {
+    fn select(case: &Case) -> (Plane, usize) {
+        comparison::<Fused>(case)
+    }
+}
+
+pub(crate) struct CalledComparison;
+
+impl Way for CalledComparison {
+    fn select(case: &Case) -> (Plane, usize) {
+        comparison::<Called>(case)
+    }
+}
 
 /// The plane, from the top one, in which 8 has its one bit.
 const PLACE_OF_EIGHT: u32 = 4;
 
-impl Way for Comparison {
-    fn select(case: &Case) -> (Plane, usize) {
-        let mut less = mask(0);
-        let mut equal = mask(512);
-        for place in 0..PLANES {
-            let plane = case.segment.plane(place);
-            if place == PLACE_OF_EIGHT {
-                less = or(&less, &and(&equal, &not(&plane)));
-                equal = and(&equal, &plane);
-            } else {
-                equal = and(&equal, &not(&plane));
-            }
-            if is_zero(&equal) {
-                return (less, place as usize + 1);
-            }
+fn comparison<K: Kernels>(case: &Case) -> (Plane, usize) {
+    let mut less = mask(0);
+    let mut equal = mask(512);
+    for place in 0..PLANES {
+        let plane = K::plane(case, place);
+        if place == PLACE_OF_EIGHT {
+            less = K::or(&less, &K::and(&equal, &K::not(&plane)));
+            equal = K::and(&equal, &plane);
+        } else {
+            equal = K::and(&equal, &K::not(&plane));
         }
-        (less, PLANES as usize)
+        if K::is_zero(&equal) {
+            return (in_rows(case, &less), place as usize + 1);
+        }
+    }
+    (in_rows(case, &less), PLANES as usize)
+}
+
+/// What a plane has of the segment's rows: a full segment needs no mask.
+fn in_rows(case: &Case, plane: &Plane) -> Plane {
+    let rows = case.segment.rows_in();
+    if rows == 512 {
+        *plane
+    } else {
+        and(plane, &mask(rows))
     }
 }
 
-/// The rows of the segment: what each run of a program ends with, beside what its instructions do.
-pub(crate) struct Rows;
+/// A hundred times one kernel, as in the programs of a hundred instructions.
+pub(crate) struct CalledLoads;
 
-impl Way for Rows {
+impl Way for CalledLoads {
     fn select(case: &Case) -> (Plane, usize) {
-        (
-            and(&case.segment.plane(0), &mask(case.segment.rows_in())),
-            1,
-        )
+        let mut plane = mask(0);
+        for _ in 0..100 {
+            plane = Called::plane(case, 0);
+        }
+        (plane, 100)
+    }
+}
+
+pub(crate) struct CalledBytes;
+
+impl Way for CalledBytes {
+    fn select(case: &Case) -> (Plane, usize) {
+        let mut plane = mask(0);
+        for _ in 0..100 {
+            plane = Called::byte_lt(case, 8);
+        }
+        (plane, 100)
+    }
+}
+
+pub(crate) struct CalledAnds;
+
+impl Way for CalledAnds {
+    fn select(case: &Case) -> (Plane, usize) {
+        let first = mask(0);
+        let mut plane = mask(512);
+        for _ in 0..100 {
+            plane = Called::and(&plane, &first);
+        }
+        (or(&plane, &first), 0)
     }
 }

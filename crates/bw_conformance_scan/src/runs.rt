@@ -93,6 +93,22 @@ fn programs_select_rows(rt: HostRuntime) -> Result<(), Fail> {
             0,
         ),
         (
+            "a byte below eight in the common table",
+            [
+                [Some(0), Some(-10)],
+                [Some(255), Some(10)],
+                [Some(7), None],
+                [Some(7), None],
+                [Some(8), Some(0)],
+            ]
+            .as_slice(),
+            "BYTELT r0 a 0 8\nRESULT r0\n",
+            0b01101,
+            3,
+            1,
+            0,
+        ),
+        (
             "a byte that is 200",
             [five, two_hundred].as_slice(),
             "BYTEEQ r0 a 0 200\nRESULT r0\n",
@@ -140,5 +156,32 @@ fn whole_segments_stop_early(rt: HostRuntime) -> Result<(), Fail> {
     assert_eq!(rt; count(&plane), 256);
     assert_eq!(rt; counts.loads, 2);
     assert_eq!(rt; counts.skips, 0);
+    Ok(())
+}
+
+#[test]
+fn rows_past_the_last_are_left_out(rt: HostRuntime) -> Result<(), Fail> {
+    let low = [[Some(5), Some(0)]; 512];
+    for rows in [1, 63, 64, 65, 511, 512] {
+        let (plane, _) = run(&rt, rt.alloc(), &low[..rows], "NOT r0 r1\nRESULT r0\n")?;
+        assert_eq!(rt; count(&plane) as usize, rows);
+    }
+    Ok(())
+}
+
+#[test]
+fn each_register_can_be_the_last(rt: HostRuntime) -> Result<(), Fail> {
+    let alloc = rt.alloc();
+    let rows = [[Some(5), None], [Some(200), None]];
+    for last in 1..64 {
+        let text = format!(in alloc;
+            "NOT r{last} r{last}\nLOAD r0 a 7\nAND r0 r0 r{last}\nRESULT r0\n"
+        )?;
+        let (plane, _) = run(&rt, alloc, &rows, &text)?;
+        assert_eq!(rt; plane[0], 2, "of r{last}");
+        let text = format!(in alloc; "LOAD r0 a 7\nRESULT r{last}\n")?;
+        let (plane, _) = run(&rt, alloc, &rows, &text)?;
+        assert_eq!(rt; count(&plane), 0, "of r{last}");
+    }
     Ok(())
 }

@@ -36,6 +36,10 @@ impl Segment for PlaneSegment {
         &self.shape.schema
     }
 
+    fn shape(&self) -> &Shape {
+        &self.shape
+    }
+
     fn rows_in(&self) -> u32 {
         self.rows
     }

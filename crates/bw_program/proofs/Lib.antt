@@ -6,4 +6,5 @@ pub mod PrintedNumbers
 pub mod PrintedText
 pub mod ProgramLemmas
 pub mod ProgramSpelling
+pub mod RegisterLemmas
 pub mod TextLemmas

@@ -76,9 +76,35 @@ fn parts_of_a_program(rt: HostRuntime) -> Result<(), Fail> {
     assert_eq!(rt; program.len(), 2);
     assert_eq!(rt; program.skips(), 1);
     assert_eq!(rt; program.result(), 9);
+    assert_eq!(rt; program.registers(), 10);
     if program.len() == 2 {
         assert!(rt; matches!(program.instr(0), Instr::Skip(5, 2)));
         assert!(rt; matches!(program.instr(1), Instr::Load(0, 0, 7)));
+    }
+    Ok(())
+}
+
+/// The registers that each instruction names are counted, wherever they stand in it.
+#[test]
+fn registers_of_a_program(rt: HostRuntime) -> Result<(), Fail> {
+    let schema = table(rt.alloc())?;
+    for (text, registers) in [
+        ("RESULT r0\n", 1),
+        ("RESULT r63\n", 64),
+        ("LOAD r3 a 7\nRESULT r0\n", 4),
+        ("NULLS r4 b\nRESULT r0\n", 5),
+        ("FILL r5 0\nRESULT r0\n", 6),
+        ("AND r6 r0 r1\nRESULT r0\n", 7),
+        ("OR r0 r7 r1\nRESULT r0\n", 8),
+        ("XOR r0 r1 r8\nRESULT r0\n", 9),
+        ("NOT r0 r9\nRESULT r0\n", 10),
+        ("BYTELT r10 a 0 8\nRESULT r0\n", 11),
+        ("BYTEEQ r11 b 0 8\nRESULT r0\n", 12),
+        ("SKIP r12 1\nRESULT r0\n", 13),
+        ("FILL r2 0\nNOT r1 r20\nFILL r3 1\nRESULT r4\n", 21),
+    ] {
+        let program = Program::parse(rt.alloc(), &schema, text.as_bytes())?;
+        assert_eq!(rt; program.registers(), registers, "of {text}");
     }
     Ok(())
 }

@@ -7,6 +7,7 @@ ghost use Rattle.bw_model.specs.Row.{value_in};
 ghost use Rattle.bw_model.specs.Variable.{variables_of};
 ghost use Rattle.bw_segment.specs.Meaning.{Meaning, IsGroup, variable_lanes, byte_lanes};
 
+use crate::shape::Shape;
 use bw_lanes::Plane;
 use bw_model::{Schema, Value};
 
@@ -18,6 +19,10 @@ pub trait Segment {
     fn schema(&self) -> &Schema
         ensures name { result.now.name ≡ (meaning self.now).name }
         ensures columns { result.now.columns.items ≡ (meaning self.now).columns };
+
+    /// The same columns, with where their variables stand.
+    fn shape(&self) -> &Shape
+        ensures columns { result.now.schema.columns.items ≡ (meaning self.now).columns };
 
     /// How many rows the segment has, 1 to 512.
     fn rows_in(&self) -> u32

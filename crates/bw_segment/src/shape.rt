@@ -26,7 +26,7 @@ impl Shape {
     ghost use Rattle.std.specs.Prelude.{IfOk, IsOkUnless};
     ghost use Rattle.bw_model.specs.Fault.{no_memory};
     ghost use Rattle.bw_model.specs.Code.{width_at};
-    ghost use Rattle.bw_model.specs.Variable.{null_variable};
+    ghost use Rattle.bw_model.specs.Variable.{bit_variable, null_variable};
 
     /// The shape of a table whose schema is an equal one.
     pub fn new(alloc: Global, schema: &Schema) -> Result<Self, Fault>
@@ -63,6 +63,16 @@ impl Shape {
         ensures { result ≡ first_variable self.now.schema.columns.items col }
     {
         self.firsts[col]
+    }
+
+    /// The variable of a column's bit, which is below the column's width. Bit 0 is the least.
+    pub fn bit_variable(&self, col: usize, bit: u32) -> u32
+        requires column { col < length self.now.schema.columns.items }
+        requires bit { bit < width_at self.now.schema.columns.items col }
+        ensures variable { result ≡ bit_variable self.now.schema.columns.items col bit }
+        ensures below { result < variables_of self.now.schema.columns.items }
+    {
+        self.first_variable(col + 1) - 1 - bit
     }
 
     /// The first byte of a column's block in a segment kept as byte slices: its null plane, if it is nullable, in

@@ -37,6 +37,10 @@ impl Segment for SliceSegment {
         &self.shape.schema
     }
 
+    fn shape(&self) -> &Shape {
+        &self.shape
+    }
+
     fn rows_in(&self) -> u32 {
         self.rows
     }

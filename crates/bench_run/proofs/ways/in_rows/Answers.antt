@@ -1,6 +1,6 @@
 use Rattle.bw_model.specs.Groups.{group_size}
-use Rattle.bench_run.proofs.ways.RowsWay.select.Goals as goal
+use Rattle.bench_run.proofs.ways.in_rows.Goals as goal
 
 pub mask-requires : goal.mask-requires
 unfolding group_size
-mask-requires c = c.rows_in.ensures.bounds.1
+mask-requires c = c.rows_in-rows.ensures.bounds.1
