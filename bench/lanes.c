@@ -1,6 +1,8 @@
 /* The same as crates/bench_lanes times, in plain C: one byte of each of 512 rows compared with a byte, or one bit of it
- * taken, into a plane of 512 bits; and the planes and the byte slices of 512 rows of four columns. `bench/lanes.sh` builds and
+ * taken, into a plane of 512 bits; the planes and the byte slices of 512 rows of four columns;
+ * and the judging of four columns' blocks (SSE2 for slices). `bench/lanes.sh` builds and
  * runs it. */
+#include <emmintrin.h>
 #include <stdint.h>
 #include <stdio.h>
 #include <stdlib.h>
@@ -78,6 +80,147 @@ __attribute__((noinline)) static size_t build(uint8_t *out, int planes) {
     return at - out;
 }
 
+/* Four columns whose blocks are judged: 8 bits, 5 bits that may be null, 20 bits, and 32 bits that may be null. */
+static const uint64_t SPANS[4] = {255, 20, 1000000, 4294967295u};
+static const int WIDTHS[4] = {8, 5, 20, 32};
+static const int NULLABLE[4] = {0, 1, 0, 1};
+
+static uint64_t state = 1;
+static uint32_t drawn(void) {
+    state = state * 6364136223846793005u + 1442695040888963407u;
+    return state >> 32;
+}
+
+static plane loaded(const uint8_t *bytes) {
+    plane p;
+    memcpy(&p, bytes, 64);
+    return p;
+}
+
+static int is_zero(const plane *p) {
+    uint64_t any = 0;
+    for (int i = 0; i < 8; i++)
+        any |= p->words[i];
+    return any == 0;
+}
+
+/* Whether a block of 512 rows in planes has a fault: a null with a code, or a code above the greatest. */
+__attribute__((noinline)) static int judge_planes(const uint8_t *block, int col) {
+    int width = WIDTHS[col];
+    const uint8_t *planes = block + 64 * NULLABLE[col];
+    if (NULLABLE[col]) {
+        plane nulls = loaded(block), used = {{0}};
+        if (!is_zero(&nulls)) {
+            for (int k = 0; k < width; k++) {
+                plane p = loaded(planes + 64 * k);
+                for (int i = 0; i < 8; i++)
+                    used.words[i] |= p.words[i];
+            }
+            for (int i = 0; i < 8; i++)
+                used.words[i] &= nulls.words[i];
+            if (!is_zero(&used))
+                return 1;
+        }
+    }
+    uint64_t span = SPANS[col];
+    if (span + 1 == (uint64_t)1 << width)
+        return 0;
+    plane above = {{0}}, equal;
+    memset(&equal, 255, 64);
+    for (int k = 0; k < width && !is_zero(&equal); k++) {
+        plane p = loaded(planes + 64 * k);
+        if (span >> (width - 1 - k) & 1)
+            for (int i = 0; i < 8; i++)
+                equal.words[i] &= p.words[i];
+        else
+            for (int i = 0; i < 8; i++) {
+                above.words[i] |= equal.words[i] & p.words[i];
+                equal.words[i] &= ~p.words[i];
+            }
+    }
+    return !is_zero(&above);
+}
+
+/* The same of a block in slices, 16 rows at a time. */
+__attribute__((noinline)) static int judge_slices(const uint8_t *block, int col) {
+    int slices = (WIDTHS[col] + 7) / 8;
+    const uint8_t *bytes = block + 64 * NULLABLE[col];
+    uint64_t span = SPANS[col];
+    int full = slices < 8 && span + 1 == (uint64_t)1 << (8 * slices);
+    plane nulls = {{0}};
+    if (NULLABLE[col])
+        nulls = loaded(block);
+    int no_nulls = is_zero(&nulls);
+    for (int at = 0; at < 512; at += 16) {
+        if (!no_nulls) {
+            __m128i used = _mm_setzero_si128();
+            for (int k = 0; k < slices; k++)
+                used = _mm_or_si128(used, _mm_loadu_si128((const __m128i *)(bytes + 512 * k + at)));
+            unsigned some = ~_mm_movemask_epi8(_mm_cmpeq_epi8(used, _mm_setzero_si128()));
+            if (some & (unsigned)(nulls.words[at / 64] >> at % 64) & 65535)
+                return 1;
+        }
+        if (!full) {
+            __m128i equal = _mm_set1_epi8(-1), above = _mm_setzero_si128();
+            for (int k = 0; k < slices; k++) {
+                __m128i x = _mm_loadu_si128((const __m128i *)(bytes + 512 * k + at));
+                __m128i c = _mm_set1_epi8((char)(span >> (8 * (slices - 1 - k))));
+                __m128i at_most = _mm_cmpeq_epi8(_mm_min_epu8(x, c), x);
+                above = _mm_or_si128(above, _mm_andnot_si128(at_most, equal));
+                equal = _mm_and_si128(equal, _mm_cmpeq_epi8(x, c));
+                if (_mm_movemask_epi8(equal) == 0)
+                    break;
+            }
+            if (_mm_movemask_epi8(above))
+                return 1;
+        }
+    }
+    return 0;
+}
+
+static void time_judging(unsigned calls) {
+    static uint8_t planes[64 * 67], slices[64 * 2 + 512 * 9];
+    size_t starts[2][5] = {{0, 512, 512 + 384, 512 + 384 + 1280, 64 * 67}, {0, 512, 512 + 576, 512 + 576 + 1536, 64 * 2 + 512 * 9}};
+    for (int row = 0; row < 512; row++) {
+        uint64_t codes[4];
+        codes[0] = drawn() >> 24;
+        codes[1] = (drawn() >> 8) % 21;
+        codes[2] = (drawn() >> 4) % 1000001;
+        codes[3] = drawn();
+        int nulls[4] = {0};
+        nulls[1] = drawn() >> 29 == 0;
+        nulls[3] = drawn() >> 29 == 0;
+        for (int col = 0; col < 4; col++) {
+            if (nulls[col])
+                codes[col] = 0;
+            uint8_t *p = planes + starts[0][col], *s = slices + starts[1][col];
+            int count = (WIDTHS[col] + 7) / 8;
+            if (NULLABLE[col]) {
+                p[row / 8] |= nulls[col] << row % 8;
+                s[row / 8] |= nulls[col] << row % 8;
+                p += 64;
+                s += 64;
+            }
+            for (int k = 0; k < WIDTHS[col]; k++)
+                p[64 * k + row / 8] |= (codes[col] >> (WIDTHS[col] - 1 - k) & 1) << row % 8;
+            for (int k = 0; k < count; k++)
+                s[512 * k + row] = codes[col] >> (8 * (count - 1 - k));
+        }
+    }
+    for (int layout = 0; layout < 2; layout++) {
+        uint8_t *bytes = layout ? slices : planes;
+        uint64_t seen = 0;
+        double start = now();
+        for (unsigned call = 0; call < calls; call++) {
+            bytes[0] = call;
+            for (int col = 0; col < 4; col++)
+                seen ^= layout ? judge_slices(bytes + starts[1][col], col) : judge_planes(bytes + starts[0][col], col);
+            seen ^= call;
+        }
+        tell(layout ? "judge slices" : "judge planes", calls, start, seen);
+    }
+}
+
 int main(int count, char **words) {
     unsigned calls = count > 1 ? strtoul(words[1], NULL, 10) : 0;
     uint8_t bytes[512];
@@ -121,5 +264,6 @@ int main(int count, char **words) {
         }
         tell(planes ? "build planes" : "build slices", builds, start, seen);
     }
+    time_judging(calls / 4);
     return 0;
 }

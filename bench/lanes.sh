@@ -1,5 +1,5 @@
 #!/usr/bin/env bash
-# Times the kernels over bytes and the building of segments of 512 rows and four columns, and the same in plain C
+# Times the kernels over bytes, and the building and judging of segments of 512 rows and four columns, and the same in plain C
 # (gcc -O2). Run by hand on an idle machine: bench/lanes.sh [CALLS]. Each line has the nanoseconds of a call, and a number
 # to which each call added.
 set -euo pipefail

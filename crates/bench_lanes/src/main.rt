@@ -1,11 +1,14 @@
-//! Times the kernels over bytes, and the building of segments, in nanoseconds a call. `bench/lanes.sh` runs it with
+//! Times the kernels over bytes, and the building and judging of segments, in nanoseconds a call. `bench/lanes.sh` runs it with
 //! how many calls to make, beside the same in C. Without a number it makes none.
 #![tactic(auto)]
+
+ghost use Rattle.std.specs.Prelude.{◌≤◌};
+ghost use Rattle.bw_model.specs.Groups.{group_size};
 
 use bw_lanes::{Plane, bytes_bit, bytes_eq, bytes_lt};
 use bw_model::{Fault, Row, Schema};
 use bw_planes::PlaneSegment;
-use bw_segment::{Shape, is_group};
+use bw_segment::{Segment, Shape, is_group};
 use bw_slices::SliceSegment;
 use std::alloc::Global;
 use std::process::ExitCode;
@@ -28,7 +31,10 @@ fn main(rt: HostRuntime) -> ExitCode {
     let Ok(calls) = word.as_str().parse::<u32>() else {
         return ExitCode::from(2);
     };
-    if time_kernels(&rt, calls).is_err() || time_segments(&rt, rt.alloc(), calls).is_err() {
+    if time_kernels(&rt, calls).is_err()
+        || time_segments(&rt, rt.alloc(), calls).is_err()
+        || time_judging(&rt, rt.alloc(), calls).is_err()
+    {
         return ExitCode::from(5);
     }
     ExitCode::SUCCESS
@@ -127,4 +133,118 @@ fn time_segments<R: Print + Clock>(rt: &R, alloc: Global, calls: u32) -> io::Res
         }
     }
     tell(rt, "build slices", builds, start, seen)
+}
+
+/// Four columns whose blocks are judged: 8 bits, 5 bits that may be null, 20 bits, and 32 bits that may be null.
+const JUDGED: &[u8] =
+    b"TABLE w\nCOLUMN a 0 255 NOT NULL\nCOLUMN b -10 10\nCOLUMN c 0 1000000 NOT NULL\nCOLUMN d 0 4294967295\n";
+
+/// The next of some numbers that look alike nowhere.
+fn drawn(state: &mut u64) -> u32 {
+    *state = state
+        .wrapping_mul(6364136223846793005)
+        .wrapping_add(1442695040888963407);
+    (*state >> 32) as u32
+}
+
+/// A group of 512 drawn rows, with a null in every eighth or so.
+fn drawn_rows(alloc: Global) -> Result<Vec<Row>, Fault> {
+    let mut rows = Vec::new(alloc);
+    let mut state = 1;
+    for _ in 0..512 {
+        let a = i64::from(drawn(&mut state) >> 24);
+        let b = i64::from((drawn(&mut state) >> 8) % 21) - 10;
+        let c = i64::from((drawn(&mut state) >> 4) % 1000001);
+        let d = i64::from(drawn(&mut state));
+        let b = if drawn(&mut state) >> 29 == 0 {
+            None
+        } else {
+            Some(b)
+        };
+        let d = if drawn(&mut state) >> 29 == 0 {
+            None
+        } else {
+            Some(d)
+        };
+        rows.push(Row {
+            values: vec![in alloc; Some(a), b, Some(c), d]?,
+        })?;
+    }
+    Ok(rows)
+}
+
+/// The faults of all blocks in planes, joined; none is 0.
+fn judged_planes(shape: &Shape, rows: u32, bytes: &[u8]) -> u64
+    requires { rows ≤ group_size }
+{
+    let mut faults = 0;
+    let mut rest = bytes;
+    for col in 0..shape.schema.columns.len() {
+        let size = PlaneSegment::block_size(shape, col);
+        if rest.len() < size {
+            return 1;
+        }
+        let (block, others) = rest.split_at(size);
+        faults |= u64::from(PlaneSegment::judge(shape, col, rows, block).unwrap_or(0));
+        rest = others;
+    }
+    faults
+}
+
+/// The faults of all blocks in slices, joined; none is 0.
+fn judged_slices(shape: &Shape, rows: u32, bytes: &[u8]) -> u64
+    requires { rows ≤ group_size }
+{
+    let mut faults = 0;
+    let mut rest = bytes;
+    for col in 0..shape.schema.columns.len() {
+        let size = SliceSegment::block_size(shape, col);
+        if rest.len() < size {
+            return 1;
+        }
+        let (block, others) = rest.split_at(size);
+        faults |= u64::from(SliceSegment::judge(shape, col, rows, block).unwrap_or(0));
+        rest = others;
+    }
+    faults
+}
+
+fn time_judging<R: Print + Clock>(rt: &R, alloc: Global, calls: u32) -> io::Result<()> {
+    let (Ok(schema), Ok(rows)) = (Schema::parse(alloc, JUDGED), drawn_rows(alloc)) else {
+        return Ok(());
+    };
+    if !is_group(&schema, &rows) {
+        return Ok(());
+    }
+    let Ok(planes) = PlaneSegment::build(alloc, &schema, &rows) else {
+        return Ok(());
+    };
+    let Ok(slices) = SliceSegment::build(alloc, &schema, &rows) else {
+        return Ok(());
+    };
+    let judgings = calls / 4;
+    let (Ok(mut bytes), Ok(mut others)) = (
+        Vec::from_slice(alloc, planes.bytes()),
+        Vec::from_slice(alloc, slices.bytes()),
+    ) else {
+        return Ok(());
+    };
+    let start = Instant::now(rt)?;
+    let mut seen = 0;
+    for call in 0..judgings {
+        if let Some(first) = bytes.first_mut() {
+            *first = (call & 0xFF) as u8;
+        }
+        seen ^= judged_planes(&planes.shape, planes.rows_in(), &bytes) ^ u64::from(call);
+    }
+    tell(rt, "judge planes", judgings, start, seen)?;
+    let start = Instant::now(rt)?;
+    seen = 0;
+    for call in 0..judgings {
+        if let Some(first) = others.first_mut() {
+            *first = (call & 0xFF) as u8;
+        }
+        seen ^= judged_slices(&slices.shape, slices.rows_in(), &others) ^ u64::from(call);
+    }
+    tell(rt, "judge slices", judgings, start, seen)
 }

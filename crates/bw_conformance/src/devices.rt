@@ -108,3 +108,29 @@ impl Sink for Taker {
         self.calls.failures
     }
 }
+
+/// Gives the bytes that are left, and then zeros without end.
+#[derive(Drop)]
+pub struct Zeros<'a> {
+    pub left: &'a [u8],
+}
+
+impl Source for Zeros<'_> {
+    ghost to_come = { λ _. None };
+
+    ghost failures = { λ _. 0 };
+
+    fn read(&mut self, buffer: &mut [u8]) -> Result<usize, Failed> {
+        let n = buffer.len().min(self.left.len());
+        buffer[..n].copy_from_slice(&self.left[..n]);
+        self.left = &self.left[n..];
+        for byte in buffer[n..].iter_mut() {
+            *byte = 0;
+        }
+        Ok(buffer.len())
+    }
+
+    fn failures(&self) -> u64 {
+        0
+    }
+}

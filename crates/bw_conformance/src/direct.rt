@@ -1,5 +1,6 @@
 //! Statements answered straight from CSV texts.
-use crate::outcome::direct_outcome;
+use crate::outcome::{answer_outcome, direct_outcome, load_outcome};
+use bw_file::Layout;
 use std::process::Abort;
 use std::test::Fail;
 
@@ -13,7 +14,8 @@ const LEAST_SCHEMA: &str = "TABLE m\nCOLUMN x -9223372036854775808 -922337203685
 
 const LEAST_CSV: &str = "x\n-9223372036854775808\nNULL\n";
 
-/// Checks that a call writes this output, reports this line and gives this status.
+/// Checks that a call writes this output, reports this line and gives this status: straight from the texts, and, where
+/// they can be loaded, from the table file in either layout.
 fn check(
     rt: &(impl Abort + AllocGlobal),
     schema: &str,
@@ -40,6 +42,23 @@ fn check(
         "fault of {sql:?}"
     );
     assert_eq!(rt; outcome.status, status, "status of {sql:?}");
+    for layout in [Layout::Planes, Layout::Slices] {
+        let file = load_outcome(rt.alloc(), schema.as_bytes(), csv.as_bytes(), layout);
+        if file.status == 0 {
+            let outcome = answer_outcome(rt.alloc(), &file.output, sql.as_bytes());
+            assert_eq!(rt;
+                outcome.output.as_slice(),
+                output.as_bytes(),
+                "output of {sql:?} from {layout:?}"
+            );
+            assert_eq!(rt;
+                outcome.line.as_slice(),
+                line.as_bytes(),
+                "fault of {sql:?} from {layout:?}"
+            );
+            assert_eq!(rt; outcome.status, status, "status of {sql:?} from {layout:?}");
+        }
+    }
 }
 
 /// The same of a count of the rows that meet a condition.

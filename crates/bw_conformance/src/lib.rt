@@ -18,3 +18,5 @@ mod outcome;
 mod rows_in_memory;
 #[cfg(test)]
 mod scarcity;
+#[cfg(test)]
+mod tables;

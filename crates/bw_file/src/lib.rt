@@ -9,14 +9,34 @@
 //! Read `source.rt` first, and then `specs/Source.antt`.
 #![tactic(auto)]
 
+mod body;
+mod encoder;
 mod failed;
+mod fields;
 mod from_read;
+mod header;
+mod laws;
+mod layout;
+mod memory;
+mod phase;
+mod reader_laws;
+mod segments;
 mod sink;
 mod source;
+mod table;
+mod table_reader;
+mod take;
 mod to_write;
 
+pub use encoder::Encoder;
 pub use failed::Failed;
 pub use from_read::FromRead;
+pub use laws::what_is_read_is_a_file_text;
+pub use layout::Layout;
+pub use reader_laws::bytes_were_taken;
+pub use segments::AnySegment;
 pub use sink::Sink;
 pub use source::Source;
+pub use table::{Table, decode, encode};
+pub use table_reader::TableReader;
 pub use to_write::ToWrite;

@@ -78,7 +78,7 @@ zero_bits (suc count) n small =
     least_and_rest n (suc zero) high is lt = ne_eqb n 0 (λ e. omega arith)
     least_and_rest n (suc (suc low)) high is lt = absurd (omega arith)
 
-either_is_zero : (a b : ℕ) → (bit_or a b == 0) ≡ ((a == 0) && (b == 0))
+pub either_is_zero : (a b : ℕ) → (bit_or a b == 0) ≡ ((a == 0) && (b == 0))
 either_is_zero a b = elim (eq-zero-or-pos a) [
   | inl none ↦ ap (λ k. k == 0) (ap (λ k. bit_or k b) none ∙ or_zero_l b) ∙ sym (ap (λ t. t && (b == 0)) (eq-eqb a 0 none))
   | inr some ↦ ne_eqb (bit_or a b) 0 (λ e. omega (arith, le_or_l a b)) ∙ sym (ap (λ t. t && (b == 0)) (ne_eqb a 0 (λ e. omega arith)))

@@ -1,5 +1,5 @@
 -- Planes and their lanes: 512 bits, one a row.
-use Rattle.std.specs.Prelude.{ℕ, zero, suc, ◌+◌, ◌*◌, ◌==◌, Bool, true, false, not, List, [], ◌∷◌, map, take, drop, if◌then◌else◌}
+use Rattle.std.specs.Prelude.{ℕ, zero, suc, ◌+◌, ◌*◌, ◌==◌, ◌&&◌, Bool, true, false, not, slice_index, List, [], ◌∷◌, map, take, drop, if◌then◌else◌}
 use Rattle.std.specs.Int.{bit_at}
 use Rattle.std.specs.List.{flat_map, range_with_len}
 
@@ -33,3 +33,8 @@ bytes_from (suc count) lanes = number_of_bits (take 8 lanes) ∷ bytes_from coun
 -- the 64 bytes of 512 lanes
 unfoldable pub bytes_of_lanes : List Bool → List ℕ
 bytes_of_lanes lanes = bytes_from 64 lanes
+
+-- of so many slices, which have 512 bytes each, all bytes of a row are 0
+abbrev pub are_zero : List ℕ → ℕ → ℕ → Bool
+are_zero bytes row zero = true
+are_zero bytes row (suc slices) = are_zero bytes row slices && (slice_index bytes (512 * slices + row) == 0)

@@ -1,7 +1,8 @@
 //! One byte of each of 512 rows, compared with a byte, or one bit of it taken, by vectors of 64 bytes.
-ghost use Rattle.std.specs.Prelude.{◌≡◌, ◌==◌, ◌<◌, map, nat_lt};
+ghost use Rattle.std.specs.Prelude.{◌≡◌, ◌==◌, ◌+◌, ◌*◌, ◌<◌, ◌≤◌, length, map, nat_lt};
+ghost use Rattle.std.specs.List.{range_with_len};
 ghost use Rattle.std.specs.Int.{bit_at};
-ghost use Rattle.bw_lanes.specs.Lanes.{bits_from_least, lanes_of_words};
+ghost use Rattle.bw_lanes.specs.Lanes.{bits_from_least, lanes_of_words, are_zero};
 
 use crate::plane::Plane;
 use std::simd::prelude::*;
@@ -38,6 +39,33 @@ pub fn bytes_bit(bytes: &[u8; 512], bit: u32) -> Plane
         words[word] = bit_of(u8x64::from_slice(&bytes[64 * word..]), bit);
     }
     words
+}
+
+/// The rows whose bytes in so many slices, one after the other, are all 0. Byte i of a slice is row i's.
+pub fn bytes_none(slices: &[u8], count: usize) -> Plane
+    requires { 512 * count ≤ length slices.now }
+    ensures { lanes_of_words result
+        ≡ map (λ row. are_zero slices.now row count) (range_with_len 0 512) }
+{
+    let mut words = [0; 8];
+    for word in 0..8 {
+        words[word] = eq(joined(slices, count, 64 * word), 0);
+    }
+    words
+}
+
+/// The bytes of 64 rows, from one on, in so many slices, joined by or.
+fn joined(slices: &[u8], count: usize, first: usize) -> u8x64
+    requires slices { 512 * count ≤ length slices.now }
+    requires rows { first + 64 ≤ 512 }
+    ensures { map (λ byte. byte == 0) result
+        ≡ map (λ row. are_zero slices.now row count) (range_with_len first 64) }
+{
+    let mut bytes = u8x64::splat(0);
+    for place in 0..count {
+        bytes = bytes | u8x64::from_slice(&slices[512 * place + first..]);
+    }
+    bytes
 }
 
 /// A bit a byte: whether it is below c.

@@ -13,6 +13,6 @@ mod stored;
 #[cfg(test)]
 mod tests;
 
-pub use bytes::{bytes_bit, bytes_eq, bytes_lt};
+pub use bytes::{bytes_bit, bytes_eq, bytes_lt, bytes_none};
 pub use plane::{Plane, and, count, count_and, is_zero, lane, mask, not, or, xor};
 pub use stored::{load, to_bytes};

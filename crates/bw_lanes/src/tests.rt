@@ -1,7 +1,7 @@
 //! Worked planes and bytes, and each kernel once.
 use crate::{
-    Plane, and, bytes_bit, bytes_eq, bytes_lt, count, count_and, is_zero, lane, load, mask, not,
-    or, to_bytes, xor,
+    Plane, and, bytes_bit, bytes_eq, bytes_lt, bytes_none, count, count_and, is_zero, lane, load,
+    mask, not, or, to_bytes, xor,
 };
 
 /// Bytes of which byte i is i mod 256.
@@ -20,6 +20,7 @@ fn bytes_are_compared(rt: HostRuntime) {
     assert_eq!(rt; count(&bytes_lt(&bytes, 255)), 510);
     assert_eq!(rt; count(&bytes_eq(&bytes, 0)), 2);
     assert_eq!(rt; count(&bytes_bit(&bytes, 7)), 256);
+    assert_eq!(rt; bytes_none(&bytes, 1), bytes_eq(&bytes, 0));
 }
 
 #[test]

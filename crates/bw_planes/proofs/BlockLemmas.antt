@@ -155,4 +155,3 @@ row_of_lane meaning bytes row group planes lt variable = elim (cases_lt variable
     get_or-past [] at le = refl
     get_or-past (bit ∷ bits) zero le = absurd (omega arith)
     get_or-past (bit ∷ bits) (suc at) le = get_or-past bits at (omega arith)
-

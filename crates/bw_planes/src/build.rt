@@ -42,7 +42,8 @@ impl PlaneSegment {
         let shared: &Shape = shape;
         let bytes = planes_of(alloc, shared, rows)?;
         let shape = shape.clone()?;
-        Ok(PlaneSegment::of_blocks(shape, rows.len() as u32, bytes))
+        let count = rows.len() as u32;
+        Ok(PlaneSegment::of_blocks(shape, count, bytes))
     }
 
     /// Adds the bytes of a segment of these rows, 1 to 512, which the schema admits. Where memory is refused
@@ -87,7 +88,7 @@ fn push_codes(bytes: &mut Vec<u8>, shape: &Shape, rows: &[Row], col: usize) -> R
     requires column { col < length shape.now.schema.columns.items }
     ensures added { OnOk result (bytes.new.items ≡ bytes.old.items
         ++ planes_text (width_at shape.now.schema.columns.items col)
-            (stored_codes shape.now.schema.columns.items (map values_of rows.now) col)) }
+        (stored_codes shape.now.schema.columns.items (map values_of rows.now) col)) }
     ensures only_memory { IsOkUnless result no_memory }
 {
     let width = shape.schema.width(col);

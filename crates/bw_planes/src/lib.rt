@@ -2,7 +2,8 @@
 //! plane, if it is nullable, and then a plane for each bit of its codes, from the top bit down.
 //!
 //! The contract that the crates above use: [`PlaneSegment::build`] gives a segment that means the rows given,
-//! and it answers as [`bw_segment::Segment`] says.
+//! and [`PlaneSegment::of_blocks`] one of bytes whose blocks [`PlaneSegment::judge`] finds without fault; either
+//! answers as [`bw_segment::Segment`] says.
 //!
 //! Read `specs/Planes.antt` first, and then `segment.rt` and `build.rt`.
 #![tactic(auto)]

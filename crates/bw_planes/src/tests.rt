@@ -46,24 +46,6 @@ fn planes_stand_in_order(rt: HostRuntime) -> Result<(), Fail> {
     Ok(())
 }
 
-/// What is judged of a column's block in which one byte is another one, in a segment of so many rows.
-fn judged(segment: &PlaneSegment, col: usize, rows: u32, at: usize, byte: u8) -> Option<u16> {
-    let (first, last) = if col == 0 { (0, 8 * 64) } else { (8 * 64, 14 * 64) };
-    let mut block = [0; 8 * 64];
-    let bytes = segment.bytes();
-    if bytes.len() != 14 * 64 || col > 1 || rows > 512 || at >= last - first {
-        return None;
-    }
-    let size = last - first;
-    block[..size].copy_from_slice(&bytes[first..last]);
-    block[at] = byte;
-    let shape: &Shape = &segment.shape;
-    if col < shape.schema.columns.len() && shape.first_variable(col + 1) == (last / 64) as u32 {
-        return PlaneSegment::judge(shape, col, rows, &block[..size]);
-    }
-    None
-}
-
 /// How many rows have a 1 at a variable; none where there is no such variable.
 fn ones(segment: &impl Segment, var: u32) -> Option<u32> {
     if var < segment.schema().var_count() {
@@ -99,5 +81,94 @@ fn segment_answers(rt: HostRuntime) -> Result<(), Fail> {
     assert_eq!(rt; compared(&segment, 0, 0, 8), Some((510, 1)));
     assert_eq!(rt; compared(&segment, 0, 0, 7), Some((508, 2)));
     assert_eq!(rt; compared(&segment, 1, 0, 200), Some((512, 0)));
+    Ok(())
+}
+
+/// Where each column's block begins in the worked segment.
+const STARTS: [usize; 2] = [0, 512];
+
+/// What is judged of a column's block in which two bytes are other ones.
+fn judged(
+    alloc: Global,
+    segment: &PlaneSegment,
+    col: usize,
+    changes: [(usize, u8); 2],
+) -> Result<Option<u16>, Fault> {
+    let shape: &Shape = &segment.shape;
+    if col >= shape.schema.columns.len() || col >= 2 {
+        return Ok(None);
+    }
+    let size = PlaneSegment::block_size(shape, col);
+    let start = STARTS[col];
+    let bytes = segment.bytes();
+    let [(first, a), (second, b)] = changes;
+    if first >= size || second >= size || bytes.len() < start || bytes.len() - start < size {
+        return Ok(Some(0));
+    }
+    let mut block = Vec::from_slice(alloc, &bytes[start..start + size])?;
+    block[first] = a;
+    block[second] = b;
+    Ok(PlaneSegment::judge(shape, col, segment.rows_in(), &block))
+}
+
+#[test]
+fn blocks_are_judged(rt: HostRuntime) -> Result<(), Fail> {
+    let schema = Schema::parse(rt.alloc(), SCHEMA)?;
+    let rows = rows_of(rt.alloc())?;
+    assert!(rt; is_group(&schema, &rows));
+    let segment = PlaneSegment::build(rt.alloc(), &schema, &rows)?;
+    let shape: &Shape = &segment.shape;
+    assert_eq!(rt; PlaneSegment::segment_size(shape), segment.bytes().len());
+    assert_eq!(rt;
+        judged(rt.alloc(), &segment, 0, [(0, 0x02), (0, 0x02)])?,
+        None
+    );
+    assert_eq!(rt;
+        judged(rt.alloc(), &segment, 0, [(0, 0x22), (0, 0x22)])?,
+        Some(308)
+    );
+    assert_eq!(rt;
+        judged(rt.alloc(), &segment, 1, [(0, 0x0C), (64, 0x02)])?,
+        None
+    );
+    assert_eq!(rt;
+        judged(rt.alloc(), &segment, 1, [(64, 0x06), (64, 0x06)])?,
+        Some(307)
+    );
+    assert_eq!(rt;
+        judged(rt.alloc(), &segment, 1, [(320, 0x02), (320, 0x02)])?,
+        Some(306)
+    );
+    assert_eq!(rt;
+        judged(rt.alloc(), &segment, 1, [(64, 0x06), (128, 0x14)])?,
+        Some(307)
+    );
+    assert_eq!(rt;
+        judged(rt.alloc(), &segment, 1, [(64, 0x07), (128, 0x15)])?,
+        Some(306)
+    );
+    assert_eq!(rt;
+        judged(rt.alloc(), &segment, 1, [(0, 0x2C), (0, 0x2C)])?,
+        Some(308)
+    );
+    assert_eq!(rt;
+        judged(rt.alloc(), &segment, 1, [(320, 0x02), (383, 0x80)])?,
+        Some(308)
+    );
+    Ok(())
+}
+
+#[test]
+fn segments_are_appended(rt: HostRuntime) -> Result<(), Fail> {
+    let schema = Schema::parse(rt.alloc(), SCHEMA)?;
+    let rows = rows_of(rt.alloc())?;
+    assert!(rt; is_group(&schema, &rows));
+    let shape = Shape::new(rt.alloc(), &schema)?;
+    assert!(rt; is_group(&shape.schema, &rows));
+    let segment = PlaneSegment::build(rt.alloc(), &schema, &rows)?;
+    let mut bytes = vec![in rt.alloc(); 7]?;
+    PlaneSegment::append(rt.alloc(), &mut bytes, &shape, &rows)?;
+    assert_eq!(rt; &bytes[1..], segment.bytes());
+    assert_eq!(rt; segment.into_bytes().len(), bytes.len() - 1);
     Ok(())
 }

@@ -111,11 +111,12 @@ module _ (span count : ℕ) (nulls : List Bool) (codes : List ℕ) where
       → ((row : ℕ) → count ≤ row → row < 512 → padding_fault (get_or nulls row false) (get_or codes row 0) ≡ None) × ((row : ℕ) → row < count → of_rows row ≡ None)
   unfolding lanes_fault group_size
   lanes_none_at none =
-      let parts = none_of_first (first_fault paddings (512 - count)) (first_fault of_rows count) none in
-      (λ row from to.
-        let place : count + (row - count) ≡ row = omega arith in
-        sym (ap (λ k. padding_fault (get_or nulls k false) (get_or codes k 0)) place) ∙ first_none_at paddings (512 - count) (row - count) parts.0 (omega arith),
-        λ row lt. first_none_at of_rows count row parts.1 lt)
+      let parts = none_of_first (first_fault paddings (512 - count)) (first_fault of_rows count) none in (
+        λ row from to.
+            let place : count + (row - count) ≡ row = omega arith in
+            sym (ap (λ k. padding_fault (get_or nulls k false) (get_or codes k 0)) place) ∙ first_none_at paddings (512 - count) (row - count) parts.0 (omega arith),
+        λ row lt. first_none_at of_rows count row parts.1 lt,
+      )
 
 -- a lane that is 1, where not all are 0
 one_somewhere : (lanes : List Bool) → list_all not lanes ≡ false → (row : ℕ) × (row < length lanes) × (get_or lanes row false ≡ true)
@@ -232,11 +233,11 @@ module _ (span count : ℕ) (nulls used above : List Bool) (codes : List ℕ) (f
   pub rows_fine : list_all not (zip2 (λ x y. x || y) with_code above) ≡ true → first_fault (of_rows span count nulls codes) count ≡ None
   unfolding group_size
   rows_fine all = first_none (of_rows span count nulls codes) count (λ row lt.
-    let long_with : length with_code ≡ 512 = length-zip2 (λ x y. x && y) nulls used (long_nulls ∙ sym long_used) ∙ long_nulls in
-    let long_above : length above ≡ 512 = ap length is_above ∙ length-map codes (ltb span) ∙ long in
-    let none = sym (get_or-zip2 (λ x y. x || y) with_code above row false false false (omega (arith, long_with)) (omega (arith, long_above))) ∙ zero_everywhere (zip2 (λ x y. x || y) with_code above) row all in
-    let parts = neither (get_or with_code row false) (get_or above row false) none in
-    row_fine row (omega arith) parts.0 parts.1)
+      let long_with : length with_code ≡ 512 = length-zip2 (λ x y. x && y) nulls used (long_nulls ∙ sym long_used) ∙ long_nulls in
+      let long_above : length above ≡ 512 = ap length is_above ∙ length-map codes (ltb span) ∙ long in
+      let none = sym (get_or-zip2 (λ x y. x || y) with_code above row false false false (omega (arith, long_with)) (omega (arith, long_above))) ∙ zero_everywhere (zip2 (λ x y. x || y) with_code above) row all in
+      let parts = neither (get_or with_code row false) (get_or above row false) none in
+      row_fine row (omega arith) parts.0 parts.1)
     where
       neither : (a b : Bool) → (a || b) ≡ false → (a ≡ false) × (b ≡ false)
       neither true b is = cc

@@ -117,13 +117,13 @@ module _ (layout : Layout) (law : IsLayout layout) (meaning : Meaning) (group : 
 
   small_codes : (col : ℕ) → col < length columns → All (λ code. code < 2 ^ width_at columns col) (stored_codes columns rows col)
   small_codes col there = λ row d lt.
-    let here = get_or-default (stored_codes columns rows col) row d 0 lt in
-    elim (cases_lt row (length rows)) [
-      | inl before ↦
-          let below = stored_below columns (get_or rows row []) col (row_admitted row before) there in
-          omega (arith, here, code_of_row col row before, below)
-      | inr past ↦ omega (arith, here, code_of_padding col row past, pow_pos (width_at columns col))
-    ]
+      let here = get_or-default (stored_codes columns rows col) row d 0 lt in
+      elim (cases_lt row (length rows)) [
+        | inl before ↦
+            let below = stored_below columns (get_or rows row []) col (row_admitted row before) there in
+            omega (arith, here, code_of_row col row before, below)
+        | inr past ↦ omega (arith, here, code_of_padding col row past, pow_pos (width_at columns col))
+      ]
 
   -- the block of a column
   abbrev pub block : ℕ → List ℕ

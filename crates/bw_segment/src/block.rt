@@ -49,7 +49,7 @@ impl Shape {
         requires column { col < length self.now.schema.columns.items }
         ensures added { OnOk result (bytes.new.items ≡ bytes.old.items
             ++ (if is_nullable self.now.schema.columns.items col
-                then bytes_of_lanes (null_bits (map values_of rows.now) col) else [])) }
+            then bytes_of_lanes (null_bits (map values_of rows.now) col) else [])) }
         ensures only_memory { IsOkUnless result no_memory }
     {
         if !self.schema.columns[col].nullable {
@@ -121,10 +121,10 @@ fn is_padding_clear(rows: u32, nulls: &Plane, used: &Plane) -> bool
     requires { rows ≤ 512 }
     ensures clear { result ≡ true → (row : ℕ) → rows ≤ row → row < 512
         → (slice_index_or (lanes_of_words nulls.now) row false
-            || slice_index_or (lanes_of_words used.now) row false) ≡ false }
+        || slice_index_or (lanes_of_words used.now) row false) ≡ false }
     ensures set { result ≡ false → (row : ℕ) × (rows ≤ row) × (row < 512)
         × ((slice_index_or (lanes_of_words nulls.now) row false
-            || slice_index_or (lanes_of_words used.now) row false) ≡ true) }
+        || slice_index_or (lanes_of_words used.now) row false) ≡ true) }
 {
     if rows == 512 {
         return true;

@@ -13,8 +13,11 @@ pub fn sound_bytes_spell_a_group()
     ensures group { (layout : Layout) (name : List ℕ) (columns : List Column) (count : ℕ)
         (bytes : List ℕ) → IsLayout layout → 1 ≤ count → count ≤ group_size
         → IsSound layout columns count bytes
-        → IsGroup (record { name = name; columns = columns;
-            rows = rows_spelled layout columns count bytes }) }
+        → IsGroup (record {
+          name = name;
+          columns = columns;
+          rows = rows_spelled layout columns count bytes;
+        }) }
     ensures text { (layout : Layout) (columns : List Column) (count : ℕ) (bytes : List ℕ)
         → IsLayout layout → 1 ≤ count → count ≤ group_size
         → IsSound layout columns count bytes → All (λ byte. byte < 2 ^ 8) bytes
@@ -25,7 +28,7 @@ pub fn sound_bytes_spell_a_group()
 pub fn text_of_a_group_is_sound()
     ensures sound { (layout : Layout) (meaning : Meaning) → IsLayout layout → IsGroup meaning
         → IsSound layout meaning.columns (length meaning.rows)
-            (segment_text layout meaning.columns meaning.rows) }
+        (segment_text layout meaning.columns meaning.rows) }
     ensures size { (layout : Layout) (meaning : Meaning) → IsLayout layout → IsGroup meaning
         → length (segment_text layout meaning.columns meaning.rows)
         ≡ segment_size layout meaning.columns }
@@ -35,7 +38,7 @@ pub fn text_of_a_group_is_sound()
         ≡ block_text layout meaning.columns col meaning.rows }
     ensures rows { (layout : Layout) (meaning : Meaning) → IsLayout layout → IsGroup meaning
         → rows_spelled layout meaning.columns (length meaning.rows)
-            (segment_text layout meaning.columns meaning.rows) ≡ meaning.rows }
+        (segment_text layout meaning.columns meaning.rows) ≡ meaning.rows }
 {}
 
 /// A law: a block without fault behind blocks without fault.

@@ -4,7 +4,8 @@
 //! they admit, and each of its methods answers from that meaning alone, whatever the layout. Bit i of
 //! `plane(v)` is row i's bit of the variable v, and 0 past the last row.
 //!
-//! What variables, codes and lanes are stands in the `specs/` of `bw_model`; the layouts are those of
+//! Segments as bytes, and the first fault of such bytes, are said once for both layouts in `specs/Layout.antt` and
+//! `specs/BlockFault.antt`. What variables, codes and lanes are stands in the `specs/` of `bw_model`; the layouts are those of
 //! BitWeaving's vertical one (Li and Patel) and of ByteSlice (Feng, Lo, Kao and Xu). Read `segment.rt` first.
 #![tactic(auto)]
 

@@ -10,14 +10,19 @@
 mod direct_call;
 mod input;
 mod inputs;
+mod load_call;
 mod output;
 mod reports;
 mod served;
+mod table_calls;
 mod table_rows;
+mod table_text;
 
 pub use direct_call::direct;
 pub use input::{Input, read_limited};
 pub use inputs::MAX_CSV_LEN;
+pub use load_call::load;
 pub use output::write_whole;
 pub use reports::{report, stats_line};
 pub use served::{By, Served};
+pub use table_calls::{answer, dump};

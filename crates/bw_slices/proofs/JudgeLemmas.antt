@@ -9,7 +9,7 @@ use Rattle.std.proofs.lemmas.List.FromFn.{length-map-range_with_len}
 use Rattle.std.proofs.lemmas.Nat.{pow-add}
 use Rattle.std.proofs.lemmas.Simd.{map-map, zip2_of_maps, splat_is_map}
 use lib.Lanes.{zip2}
-use Rattle.bw_lanes.specs.Lanes.{lanes_of_words}
+use Rattle.bw_lanes.specs.Lanes.{lanes_of_words, are_zero}
 use Rattle.bw_lanes.proofs.WordLemmas.{zeros_are_zero, ones_are_one}
 use Rattle.bw_model.specs.declared.column.Column.{Column}
 use Rattle.bw_model.specs.Code.{span_of, span_at, width_at, slices_at}
@@ -64,6 +64,28 @@ left_none c (a ∷ above) (e ∷ equal) (b ∷ bytes) la le none =
         same true e is = eqb-true b c e
         same false e is = cc
 
+-- the last byte
+pub above_last : (c : ℕ) (equal : List Bool) (bytes : List ℕ) → zip2 (λ x y. x && y) equal (map not (map (λ b. ltb b (c + 1)) bytes)) ≡ zip2 (λ e b. e && ltb c b) equal bytes
+above_last c equal bytes =
+    ap (zip2 (λ x y. x && y) equal) (map-map not (λ b. ltb b (c + 1)) bytes ∙ (λ i. map (λ b. one b i) bytes)) ∙ tested (λ b. ltb c b) equal bytes
+  where
+    one : (b : ℕ) → not (ltb b (c + 1)) ≡ ltb c b
+    one b = grind (arith, nat_tests)
+
+or_none : (above lanes : List Bool) → length above ≡ length lanes → list_all not lanes ≡ true → above ≡ zip2 (λ a x. a || x) above lanes
+or_none [] lanes same none = refl
+or_none (a ∷ above) [] same none = absurd (omega (arith, same))
+or_none (a ∷ above) (true ∷ lanes) same none = cc
+or_none (a ∷ above) (false ∷ lanes) same none = ap₂ ◌∷◌ (kept a) (or_none above lanes (omega (arith, same)) none)
+  where
+    kept : (a : Bool) → a ≡ (a || false)
+    kept true = refl
+    kept false = refl
+
+pub last_none : (t : ℕ → Bool) (above equal : List Bool) (bytes : List ℕ) → length above ≡ length equal → length equal ≡ length bytes → list_all not equal ≡ true
+    → above ≡ zip2 (λ a x. a || x) above (zip2 (λ e b. e && t b) equal bytes)
+last_none t above equal bytes la le none = or_none above equal la none ∙ ap (zip2 (λ a x. a || x) above) (tested_none t equal bytes le none)
+
 module _ (slices : List ℕ) (small : (at : ℕ) → get_or slices at 0 < 256) where
   abbrev pub number : ℕ → ℕ → ℕ
   number row place = number_from (bytes_in slices row) place
@@ -71,23 +93,17 @@ module _ (slices : List ℕ) (small : (at : ℕ) → get_or slices at 0 < 256) w
   abbrev pub rows : List ℕ
   rows = range_with_len 0 512
 
-  pub none_used : lanes_of_words (replicate 8 0) ≡ map (λ row. not (number row 0 == 0)) rows
-  none_used = zeros_are_zero ∙ splat_is_map rows 512 false (length-map-range_with_len (λ row. row) 0 512)
-
-  pub used_more : (count place : ℕ) (used : List Bool) → 512 * count ≡ length slices → place < count → used ≡ map (λ row. not (number row place == 0)) rows
-      → zip2 (λ x y. x || y) used (map not (map (λ byte. byte == 0) (take 512 (drop (512 * place) slices)))) ≡ map (λ row. not (number row (place + 1) == 0)) rows
-  used_more count place used long lt so_far =
-      zip2_of_maps (λ x y. x || y) (λ row. not (number row place == 0)) (λ row. not (bytes_in slices row place == 0)) rows so_far
-      (map-map not (λ byte. byte == 0) (take 512 (drop (512 * place) slices)) ∙ ap (map (λ byte. not (byte == 0))) (slice_is slices place (omega (arith, long))) ∙ map-map (λ byte. not (byte == 0)) (λ row. bytes_in slices row place) rows)
-      ∙ (λ i. map (λ row. (one (number row place) (bytes_in slices row place) ∙ ap (λ k. not (number row k == 0)) (sym (add-one place))) i) rows)
+  zero_is : (row count : ℕ) → are_zero slices row count ≡ (number row count == 0)
+  zero_is row zero = refl
+  zero_is row (suc count) = ap (λ b. b && (bytes_in slices row count == 0)) (zero_is row count) ∙ one (number row count) (bytes_in slices row count)
     where
-      one : (s b : ℕ) → (not (eqb s 0) || not (eqb b 0)) ≡ not (eqb (256 * s + b) 0)
+      one : (s b : ℕ) → (eqb s 0 && eqb b 0) ≡ eqb (256 * s + b) 0
       one s b = grind (arith, nat_tests)
 
-  pub used_all : (count place : ℕ) (used : List Bool) → place ≡ count → used ≡ map (λ row. not (number row place == 0)) rows → used ≡ map (λ code. not (code == 0)) (slices_codes count slices)
+  pub used_is : (count : ℕ) → map not (map (λ row. are_zero slices row count) rows) ≡ map (λ code. not (code == 0)) (slices_codes count slices)
   unfolding slices_codes group_size
-  used_all count place used all so_far =
-      so_far ∙ ap (λ k. map (λ row. not (number row k == 0)) rows) all ∙ sym (map-map (λ code. not (code == 0)) (λ row. number row count) rows)
+  used_is count =
+      map-map not (λ row. are_zero slices row count) rows ∙ (λ i. map (λ row. not (zero_is row count i)) rows) ∙ sym (map-map (λ code. not (code == 0)) (λ row. number row count) rows)
 
   -- what is left of a number behind its low bytes
   abbrev pub high : ℕ → ℕ → ℕ → ℕ

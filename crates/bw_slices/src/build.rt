@@ -40,7 +40,8 @@ impl SliceSegment {
         let shared: &Shape = shape;
         let bytes = slices_of(alloc, shared, rows)?;
         let shape = shape.clone()?;
-        Ok(SliceSegment::of_blocks(shape, rows.len() as u32, bytes))
+        let count = rows.len() as u32;
+        Ok(SliceSegment::of_blocks(shape, count, bytes))
     }
 
     /// Adds the bytes of a segment of these rows, 1 to 512, which the schema admits. Where memory is refused
@@ -85,7 +86,7 @@ fn push_codes(bytes: &mut Vec<u8>, shape: &Shape, rows: &[Row], col: usize) -> R
     requires column { col < length shape.now.schema.columns.items }
     ensures added { OnOk result (bytes.new.items ≡ bytes.old.items
         ++ slices_text (slices_at shape.now.schema.columns.items col)
-            (stored_codes shape.now.schema.columns.items (map values_of rows.now) col)) }
+        (stored_codes shape.now.schema.columns.items (map values_of rows.now) col)) }
     ensures only_memory { IsOkUnless result no_memory }
 {
     let codes = codes_of(&shape.schema, rows, col);

@@ -10,7 +10,7 @@ ghost use Rattle.bw_slices.specs.Slices.{slice_layout, slices_codes};
 
 use crate::read::slice_at;
 use crate::segment::SliceSegment;
-use bw_lanes::{Plane, and, bytes_eq, bytes_lt, is_zero, not, or};
+use bw_lanes::{Plane, and, bytes_eq, bytes_lt, bytes_none, is_zero, not, or};
 use bw_segment::{Shape, fault_of_lanes};
 
 impl SliceSegment {
@@ -43,11 +43,7 @@ fn used(rows: u32, nulls: &Plane, slices: &[u8], count: usize) -> Plane
     if rows == 512 && is_zero(nulls) {
         return [0; 8];
     }
-    let mut used = [0; 8];
-    for place in 0..count {
-        used = or(&used, &not(&bytes_eq(slice_at(slices, 512 * place), 0)));
-    }
-    used
+    not(&bytes_none(slices, count))
 }
 
 /// The lanes whose code is above a number.
@@ -62,14 +58,15 @@ fn above(slices: &[u8], count: usize, most: u64) -> Plane
     }
     let mut above = [0; 8];
     let mut equal = [u64::MAX; 8];
-    for place in 0..count {
+    for place in 0..count - 1 {
         let slice = slice_at(slices, 512 * place);
         let byte = byte_at(most, count - 1 - place);
         let next = narrowed(&equal, slice, byte);
         above = widened(&above, &equal, &next, slice, byte);
         equal = next;
     }
-    above
+    let slice = slice_at(slices, 512 * (count - 1));
+    widened_last(&above, &equal, slice, byte_at(most, 0))
 }
 
 /// A byte of a number, of which byte 0 is the least.
@@ -92,13 +89,7 @@ fn narrowed(equal: &Plane, slice: &[u8; 512], byte: u8) -> Plane
 }
 
 /// The lanes that were above, and those that were equal, are no longer and aren't below this byte.
-fn widened(
-    above: &Plane,
-    equal: &Plane,
-    next: &Plane,
-    slice: &[u8; 512],
-    byte: u8,
-) -> Plane
+fn widened(above: &Plane, equal: &Plane, next: &Plane, slice: &[u8; 512], byte: u8) -> Plane
     requires { lanes_of_words next.now
         ≡ zip2 (λ e b. e && (b == byte)) (lanes_of_words equal.now) slice.now }
     ensures { lanes_of_words result ≡ zip2 (λ a x. a || x) (lanes_of_words above.now)
@@ -109,4 +100,19 @@ fn widened(
         return *above;
     }
     or(above, &and(&left, &not(&bytes_lt(slice, byte))))
+}
+
+/// The same at the last slice, behind which no lane's equality is asked for.
+fn widened_last(above: &Plane, equal: &Plane, slice: &[u8; 512], byte: u8) -> Plane
+    ensures { lanes_of_words result ≡ zip2 (λ a x. a || x) (lanes_of_words above.now)
+        (zip2 (λ e b. e && nat_lt byte b) (lanes_of_words equal.now) slice.now) }
+{
+    if is_zero(equal) {
+        return *above;
+    }
+    if byte == 255 {
+        let next = narrowed(equal, slice, byte);
+        return widened(above, equal, &next, slice, byte);
+    }
+    or(above, &and(equal, &not(&bytes_lt(slice, byte + 1))))
 }

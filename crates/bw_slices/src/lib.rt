@@ -2,7 +2,8 @@
 //! nullable, and then the bytes of its codes by significance, from the most significant down, one a row.
 //!
 //! The contract that the crates above use: [`SliceSegment::build`] gives a segment that means the rows given,
-//! and it answers as [`bw_segment::Segment`] says.
+//! and [`SliceSegment::of_blocks`] one of bytes whose blocks [`SliceSegment::judge`] finds without fault; either
+//! answers as [`bw_segment::Segment`] says.
 //!
 //! Read `specs/Slices.antt` first, and then `segment.rt` and `build.rt`.
 #![tactic(auto)]

@@ -29,5 +29,5 @@ returns-clause-text c =
     let query = c.args.query.now in
     gives_rows (λ rows. csv_text (meaning (names_of columns) query rows)) c.in_ok-answer.answer c.read_rows.new.taker (rows_of columns c.args.csv.now) c.into_text.result
     c.in_ok-read_rows.ensures.handed
-    (λ rows led. IfOk-weaker c.into_text.result _ _ (λ text whole. whole (names_of columns) query rows (led (names_of columns) query [] c.in_ok-answer.ensures.over)) c.into_text.ensures.text)
+    (λ rows led. IfOk-weaker c.into_text.result _ _ (λ text whole. whole (names_of columns) query rows (led.over (names_of columns) query [] c.in_ok-answer.ensures.over)) c.into_text.ensures.text)
     c.into_text.ensures.only_memory

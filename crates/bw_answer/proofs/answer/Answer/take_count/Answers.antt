@@ -23,26 +23,29 @@ invariant_of-self-clause-room c =
     subst (λ (tallies : List Tally). list_all (is_of self.width (self.rows + c.args.count)) tallies ≡ true) (sym (with_items_is self.totals after size)) more
 
 pub returns-clause-over : goal.returns-clause-over
-returns-clause-over c = λ start before rows long led names query first over.
-    let self = c.args.self.now in
-    let after = c.add_count.new.totals in
-    let size : length after ≡ self.totals.len = c.add_count.auto.totals ∙ c.deref_mut.ensures.len in
-    let so_far = led names query first over in
-    let items = query.items.items in
-    let all : list_all is_count_all items ≡ true = rw so_far.0 at c.requires.counts.alone in
-    let some : 1 ≤ length items = rw so_far.0 at self.some in
-    let none = counts_list_nothing items some all in
-    let old = first ++ before in
-    let new = first ++ (before ++ rows) in
-    let every = rw so_far.0 at c.requires.counts.every in
-    let long_new : length (kept query.cond new) ≡ length (kept query.cond old) + c.args.count =
-    rw (every_kept query.cond new every, every_kept query.cond old every) (omega (arith, length-append first (before ++ rows), length-append first before, length-append before rows, long)) in
-    let totals : after ≡ map (λ item. tally_of item (kept query.cond new)) (filter is_aggregate items) =
-    c.add_count.ensures ∙ ap (map (λ (tally : Tally). counted tally c.args.count)) (c.deref_mut.ensures.value ∙ so_far.1.totalled none)
-    ∙ all_counted items (kept query.cond old) (kept query.cond new) c.args.count long_new all in (
-      so_far.0,
-      record {
-        written = subst (λ (text : List ℕ). Holds self.text text []) (text_over_same names query old new none) so_far.1.written;
-        totalled = λ _. with_items_is self.totals after size ∙ totals;
-      },
-    )
+returns-clause-over c = λ start before rows long led. record {
+  same = led.same;
+  over = λ names query first over.
+      let self = c.args.self.now in
+      let after = c.add_count.new.totals in
+      let size : length after ≡ self.totals.len = c.add_count.auto.totals ∙ c.deref_mut.ensures.len in
+      let so_far = led.over names query first over in
+      let items = query.items.items in
+      let all : list_all is_count_all items ≡ true = rw so_far.0 at c.requires.counts.alone in
+      let some : 1 ≤ length items = rw so_far.0 at self.some in
+      let none = counts_list_nothing items some all in
+      let old = first ++ before in
+      let new = first ++ (before ++ rows) in
+      let every = rw so_far.0 at c.requires.counts.every in
+      let long_new : length (kept query.cond new) ≡ length (kept query.cond old) + c.args.count =
+      rw (every_kept query.cond new every, every_kept query.cond old every) (omega (arith, length-append first (before ++ rows), length-append first before, length-append before rows, long)) in
+      let totals : after ≡ map (λ item. tally_of item (kept query.cond new)) (filter is_aggregate items) =
+      c.add_count.ensures ∙ ap (map (λ (tally : Tally). counted tally c.args.count)) (c.deref_mut.ensures.value ∙ so_far.1.totalled none)
+      ∙ all_counted items (kept query.cond old) (kept query.cond new) c.args.count long_new all in (
+        so_far.0,
+        record {
+          written = subst (λ (text : List ℕ). Holds self.text text []) (text_over_same names query old new none) so_far.1.written;
+          totalled = λ _. with_items_is self.totals after size ∙ totals;
+        },
+      );
+}

@@ -15,14 +15,17 @@ put_row-requires-clause-room c =
     rw (c.deref_mut.ensures.value, wide) (has_room-from self.width self.rows self.totals.items c.requires.room self.room)
 
 pub returns-clause-led : goal.returns-clause-led
-returns-clause-led c = λ start before led names query first over.
-    let self = c.args.self.now in
-    let row = values_of c.args.row.now in
-    let after = c.put_row.new.totals in
-    let size : length after ≡ self.totals.len = c.put_row.auto.totals ∙ c.deref_mut.ensures.len in
-    let so_far = led names query first over in
-    let old : AreOver names self.query.now (first ++ before) self.text c.deref_mut.result.now = rw (so_far.0, c.deref_mut.ensures.value) so_far.1 in
-    let put = c.in_ok-put_row.ensures.over names (first ++ before) old in
-    let there : AreOver names query (first ++ (before ++ row ∷ [])) c.put_row.new.text after =
-    rw (sym so_far.0, sym (append_assoc first before (row ∷ []))) put in
-    (so_far.0, subst (λ (tallies : List Tally). AreOver names query (first ++ (before ++ row ∷ [])) c.put_row.new.text tallies) (sym (with_items_is self.totals after size)) there)
+returns-clause-led c = λ start before led. record {
+  same = led.same;
+  over = λ names query first over.
+      let self = c.args.self.now in
+      let row = values_of c.args.row.now in
+      let after = c.put_row.new.totals in
+      let size : length after ≡ self.totals.len = c.put_row.auto.totals ∙ c.deref_mut.ensures.len in
+      let so_far = led.over names query first over in
+      let old : AreOver names self.query.now (first ++ before) self.text c.deref_mut.result.now = rw (so_far.0, c.deref_mut.ensures.value) so_far.1 in
+      let put = c.in_ok-put_row.ensures.over names (first ++ before) old in
+      let there : AreOver names query (first ++ (before ++ row ∷ [])) c.put_row.new.text after =
+      rw (sym so_far.0, sym (append_assoc first before (row ∷ []))) put in
+      (so_far.0, subst (λ (tallies : List Tally). AreOver names query (first ++ (before ++ row ∷ [])) c.put_row.new.text tallies) (sym (with_items_is self.totals after size)) there);
+}

@@ -33,8 +33,8 @@ module _ (given used kept : Shape) (rows : List Row) (bytes : List ℕ) (group :
       ap (λ (shape : Shape). planes_meaning shape.schema (length rows) bytes) is_kept
       ∙ ap (λ (found : List (List Value)). (let m : Meaning = record { name = given.schema.name; columns = given.schema.columns.items; rows = found } in m)) spelled
 
-pub overflow_cast-rows : goal.overflow_cast-rows
-overflow_cast-rows c = omega (arith, few_rows c.args.shape.now.value.schema c.args.rows.now c.requires)
+pub overflow_cast-count : goal.overflow_cast-count
+overflow_cast-count c = omega (arith, few_rows c.args.shape.now.value.schema c.args.rows.now c.requires)
 
 pub of_blocks-requires-clause-sound : goal.of_blocks-requires-clause-sound
 of_blocks-requires-clause-sound c =

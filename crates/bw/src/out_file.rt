@@ -1,0 +1,51 @@
+//! A file that is created at the first write.
+ghost use Rattle.std.specs.Prelude.{None};
+
+use bw_file::{Failed, Sink};
+use std::fs::File;
+use std::io::Write;
+
+/// A file to write to. It's created, or emptied, at the first write, so that a call that writes nothing leaves it as it
+/// was. That it can't be is a failed write.
+#[derive(Drop)]
+pub struct OutFile<'a> {
+    rt: &'a HostRuntime,
+    path: &'a str,
+    file: Option<File>,
+    failures: u64,
+}
+
+impl<'a> OutFile<'a> {
+    pub fn new(rt: &'a HostRuntime, path: &'a str) -> Self {
+        OutFile {
+            rt,
+            path,
+            file: None,
+            failures: 0,
+        }
+    }
+}
+
+impl Sink for OutFile<'_> {
+    ghost taken = { λ _. None };
+
+    ghost failures = { λ out. out.failures };
+
+    fn write(&mut self, bytes: &[u8]) -> Result<usize, Failed> {
+        if self.file.is_none() {
+            self.file = File::create(self.rt, self.path).ok();
+        }
+        if let Some(file) = &mut self.file {
+            match file.write(bytes) {
+                Ok(n) if n > 0 || bytes.is_empty() => return Ok(n),
+                _ => {}
+            }
+        }
+        self.failures += 1;
+        Err(Failed)
+    }
+
+    fn failures(&self) -> u64 {
+        self.failures
+    }
+}

@@ -1,0 +1,118 @@
+//! Table files that were damaged.
+use crate::files::{again, planes_file, put};
+use bw_file::{Source, TableReader, decode};
+use bw_model::{Fault, Place};
+use std::alloc::Global;
+use std::test::Fail;
+
+/// The first fault of a file, if it has one.
+fn fault_of(alloc: Global, file: &[u8]) -> Option<Fault> {
+    decode(alloc, file).err()
+}
+
+#[test]
+fn worked_damage_is_refused(rt: HostRuntime) -> Result<(), Fail> {
+    let alloc = rt.alloc();
+    let changes = [
+        (0, 0x43, 301, 0),
+        (8, 0x00, 302, 8),
+        (9, 0x02, 303, 9),
+        (10, 0x00, 304, 10),
+        (10, 0x41, 304, 10),
+        (15, 0x01, 310, 12),
+        (17, 0x20, 304, 16),
+        (38, 0x41, 304, 37),
+        (27, 0x7F, 304, 20),
+        (55, 0x02, 304, 55),
+        (56, 0x22, 308, 56),
+        (632, 0x06, 307, 568),
+        (888, 0x02, 306, 568),
+    ];
+    for (at, byte, code, place) in changes {
+        let mut file = planes_file(alloc)?;
+        put(&mut file, at, byte);
+        assert_eq!(rt;
+            fault_of(alloc, &file),
+            Some(Fault::at_byte(code, place)),
+            "byte {at}"
+        );
+    }
+    let mut file = planes_file(alloc)?;
+    file.push(0)?;
+    assert_eq!(rt; fault_of(alloc, &file), Some(Fault::at_byte(309, 952)));
+    Ok(())
+}
+
+#[test]
+fn each_front_of_a_file_is_truncated(rt: HostRuntime) -> Result<(), Fail> {
+    let alloc = rt.alloc();
+    let file = planes_file(alloc)?;
+    for len in 0..file.len() {
+        let place = len as u64;
+        assert_eq!(rt;
+            fault_of(alloc, &file[..len]),
+            Some(Fault::at_byte(305, place)),
+            "length {len}"
+        );
+    }
+    Ok(())
+}
+
+/// Changes a bit of a byte, where there is one.
+fn flip(bytes: &mut Vec<u8>, at: usize, bit: u32) {
+    if at < bytes.len() && bit < 8 {
+        bytes[at] ^= 1 << bit;
+    }
+}
+
+/// Each change of one bit is refused, or makes the file of another table.
+#[test]
+fn each_bit_is_told(rt: HostRuntime) -> Result<(), Fail> {
+    let alloc = rt.alloc();
+    let mut file = planes_file(alloc)?;
+    let mut accepted = 0u32;
+    for at in 0..file.len() {
+        for bit in 0..8u32 {
+            flip(&mut file, at, bit);
+            match decode(alloc, &file) {
+                Ok(table) => {
+                    let version = file.get(8).copied();
+                    let mut same = again(&rt, alloc, &table)?;
+                    put(&mut same, 8, version.unwrap_or(0));
+                    assert_eq!(rt; same.as_slice(), file.as_slice(), "bit {bit} of byte {at}");
+                    accepted = accepted.saturating_add(1);
+                }
+                Err(fault) => {
+                    assert!(rt;
+                        301 <= fault.code && fault.code <= 310,
+                        "bit {bit} of byte {at}"
+                    );
+                    assert_ne!(rt; fault.place, Place::Nowhere);
+                }
+            }
+            flip(&mut file, at, bit);
+        }
+    }
+    assert!(rt; accepted > 0);
+    Ok(())
+}
+
+#[test]
+fn a_fault_is_repeated(rt: HostRuntime) -> Result<(), Fail> {
+    let alloc = rt.alloc();
+    let mut file = planes_file(alloc)?;
+    put(&mut file, 56, 0x22);
+    let mut source = bw_file::FromRead::new(file.as_slice());
+    let mut reader = TableReader::begin(alloc, &mut source)?;
+    assert_eq!(rt; reader.offset(), 56);
+    for _ in 0..3 {
+        assert_eq!(rt; source.failures(), 0);
+        assert_eq!(rt;
+            reader.next_segment(&mut source).err(),
+            Some(Fault::at_byte(308, 56))
+        );
+        assert_eq!(rt; reader.offset(), 568);
+        assert_eq!(rt; reader.given(), 0);
+    }
+    Ok(())
+}

@@ -1,0 +1,139 @@
+-- The text of a table, row by row.
+use Rattle.std.proofs.Common.{◌≡◌, ℕ, zero, suc, ◌+◌, ◌*◌, ◌<◌, ◌≤◌, ◌&&◌, true, not, List, [], ◌∷◌, ◌++◌, length, map, take, drop, nat_le, append_assoc, length-append, length-drop, refl, sym, ap, ◌∙◌, arith}
+use Rattle.std.proofs.lemmas.Bool.{leb-true}
+use Rattle.std.proofs.lemmas.List.{append-nil, length-map, length-take-le, nil_from_length, take_all, drop_all, take-append-le, drop-append-le, flat_map_more}
+use Rattle.std.proofs.Math.Nat.{mul-suc}
+use Rattle.std.specs.Int.{w32, to_le_bytes}
+use Rattle.std.specs.List.{flat_map}
+use Rattle.bw_model.specs.declared.column.Column.{Column}
+use Rattle.bw_model.specs.Groups.{group_size, groups_of}
+use Rattle.bw_model.specs.declared.row.Row.{Row}
+use Rattle.bw_model.specs.Row.{Value, values_of}
+use Rattle.bw_segment.specs.Meaning.{IsGroup, meaning_of}
+use Rattle.bw_model.proofs.GroupLemmas.{groups_of-nothing, groups_of-first}
+use Rattle.bw_file.specs.declared.encoder.Encoder.{Encoder}
+use Rattle.bw_file.specs.Encoder.{Holds}
+use Rattle.bw_file.specs.declared.layout.Layout.{Layout}
+use Rattle.bw_file.specs.Blocks.{segment_text}
+use Rattle.bw_file.specs.FileText.{magic, front_text, header_text, segments_text, text_of_version, file_text, version_for}
+use Rattle.bw_model.specs.Name.{is_name}
+use Rattle.bw_model.specs.Keyword.{is_reserved}
+use Rattle.bw_model.specs.Text.{is_word}
+use Rattle.bw_model.proofs.SchemaLemmas.{both}
+
+-- a name has at most 63 bytes
+pub short_name : (text : List ℕ) → is_name text ≡ true → length text ≤ 63
+unfolding is_name
+short_name text e = leb-true (length text) 63 (both (is_word text) (nat_le (length text) 63) (both (is_word text && nat_le (length text) 63) (not (is_reserved text)) e).0).1
+
+-- parts that were added one after another
+pub front_added : (b0 b1 b2 b3 b4 b5 magic columns rows : List ℕ) (version layout : ℕ) → b1 ≡ b0 ++ magic → b2 ≡ b1 ++ version ∷ [] → b3 ≡ b2 ++ layout ∷ []
+    → b4 ≡ b3 ++ columns → b5 ≡ b4 ++ rows → b5 ≡ b0 ++ (magic ++ (version ∷ layout ∷ []) ++ columns ++ rows)
+front_added b0 b1 b2 b3 b4 b5 magic columns rows version layout e1 e2 e3 e4 e5 = rw (e5, e4, e3, e2, e1) (simp append_assoc)
+
+pub column_added : (b0 b1 b2 b3 b4 name lo hi : List ℕ) (flag : ℕ) → b1 ≡ b0 ++ name → b2 ≡ b1 ++ lo → b3 ≡ b2 ++ hi → b4 ≡ b3 ++ flag ∷ []
+    → b4 ≡ b0 ++ (name ++ (lo ++ hi) ++ flag ∷ [])
+column_added b0 b1 b2 b3 b4 name lo hi flag e1 e2 e3 e4 = rw (e4, e3, e2, e1) (simp append_assoc)
+
+pub three_added : (b0 b1 b2 b3 front name columns : List ℕ) → b1 ≡ b0 ++ front → b2 ≡ b1 ++ name → b3 ≡ b2 ++ columns → b3 ≡ b0 ++ (front ++ name ++ columns)
+three_added b0 b1 b2 b3 front name columns e1 e2 e3 = rw (e3, e2, e1) (simp append_assoc)
+
+some_before : (before : List (List Value)) → group_size ≤ length before → 0 < length before
+unfolding group_size
+some_before before full = omega arith
+
+-- whole groups, and then some rows that are at most one
+pub groups_more : (count : ℕ) (before group : List (List Value)) → length before ≡ group_size * count → 1 ≤ length group → length group ≤ group_size
+    → groups_of (before ++ group) ≡ groups_of before ++ group ∷ []
+groups_more zero before group whole some few =
+    let none : before ≡ [] = nil_from_length before (omega (arith, whole)) in
+    let first = groups_of-first group some in
+    let all : take group_size group ≡ group = take_all group_size group few in
+    let rest : drop group_size group ≡ [] = drop_all group_size group few in
+    rw (none, groups_of-nothing {A = List Value}) (first ∙ rw (all, rest, groups_of-nothing {A = List Value}) refl)
+groups_more (suc count) before group whole some few =
+    let long : group_size * suc count ≡ group_size * count + group_size = mul-suc group_size count in
+    let full : group_size ≤ length before = omega (arith, whole, long) in
+    let first = groups_of-first (before ++ group) (simp length-append (omega (arith, some))) in
+    let front : take group_size (before ++ group) ≡ take group_size before = take-append-le group_size before group full in
+    let back : drop group_size (before ++ group) ≡ drop group_size before ++ group = drop-append-le group_size before group full in
+    let left : length (drop group_size before) ≡ group_size * count = simp length-drop (omega (arith, whole, long)) in
+    let more = groups_more count (drop group_size before) group left some few in
+    let own = groups_of-first before (some_before before full) in
+    first ∙ rw (front, back, more, own) refl
+
+-- the text of such rows
+pub segments_more : (layout : Layout) (columns : List Column) (count : ℕ) (head : List ℕ) (before group : List (List Value)) → length before ≡ group_size * count
+    → 1 ≤ length group → length group ≤ group_size
+    → (head ++ segments_text layout columns before) ++ segment_text layout columns group ≡ head ++ segments_text layout columns (before ++ group)
+unfolding segments_text
+segments_more layout columns count head before group whole some few =
+    flat_map_more (segment_text layout columns) head (groups_of before) group
+    ∙ ap (λ (groups : List (List (List Value))). head ++ flat_map (segment_text layout columns) groups) (sym (groups_more count before group whole some few))
+
+-- so the number of rows is put into a header
+pub rows_put : (version : ℕ) (layout : Layout) (name : List ℕ) (columns : List Column) (rows : ℕ) (rest : List ℕ)
+    → take 12 (header_text version layout name columns 0 ++ rest) ++ to_le_bytes w32 rows ++ drop 16 (header_text version layout name columns 0 ++ rest)
+    ≡ header_text version layout name columns rows ++ rest
+unfolding header_text front_text magic
+rows_put version layout name columns rows rest = refl
+
+-- the rows that an encoder keeps are those of one group
+pub group_kept : (encoder : Encoder) (kept : List Row) → 0 < encoder.filled → kept ≡ encoder.group.items → IsGroup (meaning_of encoder.shape.schema (take encoder.filled kept))
+unfolding group_size
+group_kept encoder kept some same =
+    let size : length (map values_of (take encoder.filled kept)) ≡ encoder.filled =
+    rw same (length-map (take encoder.filled encoder.group.items) values_of ∙ length-take-le encoder.filled encoder.group.items encoder.within) in
+    record { some = omega (arith, size); few = omega (arith, size, encoder.few); admitted = rw same encoder.admitted }
+
+-- the text with the group that an encoder kept
+pub text_flushed : (encoder : Encoder) (rows : List (List Value)) (kept : List Row) (bytes : List ℕ) → 0 < encoder.filled → kept ≡ encoder.group.items
+    → bytes ≡ encoder.bytes.items ++ segment_text encoder.layout encoder.shape.schema.columns.items (map values_of (take encoder.filled kept)) → Holds encoder rows
+    → bytes ≡ header_text (version_for encoder.shape.schema.columns.items) encoder.layout encoder.shape.schema.name encoder.shape.schema.columns.items 0
+    ++ segments_text encoder.layout encoder.shape.schema.columns.items rows
+text_flushed encoder rows kept bytes some same added holds =
+    let columns = encoder.shape.schema.columns.items in
+    let head = header_text (version_for columns) encoder.layout encoder.shape.schema.name columns 0 in
+    let group = map values_of (take encoder.filled encoder.group.items) in
+    let is_group = group_kept encoder encoder.group.items some refl in
+    let text : bytes ≡ encoder.bytes.items ++ segment_text encoder.layout columns group = rw same at added in
+    text ∙ ap (λ (front : List ℕ). front ++ segment_text encoder.layout columns group) holds.text
+    ∙ segments_more encoder.layout columns holds.groups head holds.before group holds.whole is_group.some is_group.few
+    ∙ ap (λ (all : List (List Value)). head ++ segments_text encoder.layout columns all) (sym holds.parts)
+
+-- how many rows an encoder was given, where its group is whole
+pub whole_flushed : (encoder : Encoder) (rows : List (List Value)) → encoder.filled ≡ 512 → (holds : Holds encoder rows) → length rows ≡ group_size * suc holds.groups
+unfolding group_size
+whole_flushed encoder rows full holds =
+    let size : length (map values_of (take encoder.filled encoder.group.items)) ≡ encoder.filled =
+    length-map (take encoder.filled encoder.group.items) values_of ∙ length-take-le encoder.filled encoder.group.items encoder.within in
+    ap length holds.parts ∙ simp length-append (omega (arith, size, holds.whole))
+
+-- a header takes sixteen bytes at least
+pub header_long : (version : ℕ) (layout : Layout) (name : List ℕ) (columns : List Column) (rows : ℕ) → 16 ≤ length (header_text version layout name columns rows)
+unfolding header_text front_text magic
+header_long version layout name columns rows = omega arith
+
+-- no rows have no text
+pub segments_none : (layout : Layout) (columns : List Column) (head : List ℕ) → head ≡ head ++ segments_text layout columns []
+unfolding segments_text
+segments_none layout columns head = rw (groups_of-nothing {A = List Value}) (sym (append-nil head))
+
+-- the text of a table whose rows are all in it, once their number is
+pub text_finished : (encoder : Encoder) (rows : List (List Value)) (bytes text : List ℕ) (count : ℕ)
+    → bytes ≡ header_text (version_for encoder.shape.schema.columns.items) encoder.layout encoder.shape.schema.name encoder.shape.schema.columns.items 0
+    ++ segments_text encoder.layout encoder.shape.schema.columns.items rows
+    → count ≡ length rows → text ≡ take 12 bytes ++ to_le_bytes w32 count ++ drop 16 bytes → text ≡ file_text encoder.layout encoder.shape.schema rows
+unfolding text_of_version
+text_finished encoder rows bytes text count has same put =
+    let columns = encoder.shape.schema.columns.items in
+    put ∙ ap (λ (front : List ℕ). take 12 front ++ to_le_bytes w32 count ++ drop 16 front) has
+    ∙ rows_put (version_for columns) encoder.layout encoder.shape.schema.name columns count (segments_text encoder.layout columns rows)
+    ∙ ap (λ (n : ℕ). header_text (version_for columns) encoder.layout encoder.shape.schema.name columns n ++ segments_text encoder.layout columns rows) same
+
+-- an encoder that keeps no rows has them all in its text
+pub text_held : (encoder : Encoder) (rows : List (List Value)) → encoder.filled ≡ 0 → (holds : Holds encoder rows)
+    → encoder.bytes.items ≡ header_text (version_for encoder.shape.schema.columns.items) encoder.layout encoder.shape.schema.name encoder.shape.schema.columns.items 0
+    ++ segments_text encoder.layout encoder.shape.schema.columns.items rows
+text_held encoder rows none holds =
+    let all : rows ≡ holds.before = holds.parts ∙ rw none (append-nil holds.before) in rw all holds.text

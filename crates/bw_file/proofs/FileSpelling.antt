@@ -1,0 +1,107 @@
+-- What is read of a table file is a table's text.
+use Rattle.std.proofs.Common.{◌≡◌, ℕ, Bool, true, ◌&&◌, List, [], ◌∷◌, ◌++◌, length, map, Result, Ok, Err, refl, sym, ap, subst, ◌∙◌, arith, inl, inr, ◌⊎◌}
+use Rattle.std.specs.List.{flat_map, list_all}
+use Rattle.std.proofs.lemmas.List.{length-map}
+use Rattle.bw_model.specs.declared.column.Column.{Column}
+use Rattle.bw_model.specs.declared.fault.Fault.{Fault}
+use Rattle.bw_model.specs.declared.schema.Schema.{Schema}
+use Rattle.bw_model.specs.Column.{admits_values}
+use Rattle.bw_model.specs.Groups.{together, groups_of}
+use Rattle.bw_model.specs.Row.{Value}
+use Rattle.bw_model.specs.SchemaText.{column_shape, SchemaShape, schema_shape}
+use Rattle.bw_file.specs.declared.layout.Layout.{Layout}
+use Rattle.bw_file.specs.Blocks.{segment_text}
+use Rattle.bw_file.specs.FileText.{IsFileText, file_text, file_text2, text_of_version, front_text, name_text, header_text, segments_text, version_for, are_bounds, column_text}
+use Rattle.bw_file.specs.Reading.{Tail, tail}
+use Rattle.bw_file.specs.TableReading.{group_sizes, body, HeaderShape, header, Found, found_in, IsReadAs, IsReadBehind}
+use Rattle.bw_file.proofs.ColumnLemmas.{columns_same}
+use Rattle.bw_file.proofs.SpellingLemmas.{IsBytes, TakesBoth, shape_text, fits_version, head_text, IsHeader, header_takes}
+use Rattle.bw_file.proofs.BodySpelling.{body_take}
+
+shapes_spelled : (columns : List Column) → flat_map shape_text (map column_shape columns) ≡ flat_map (λ (c : Column). column_text c.name c.lo c.hi c.nullable) columns
+shapes_spelled [] = refl
+shapes_spelled (c ∷ columns) = ap (λ (l : List ℕ). column_text c.name c.lo c.hi c.nullable ++ l) (shapes_spelled columns)
+
+shapes_fit : (version : ℕ) (columns : List Column) → list_all (fits_version version) (map column_shape columns) ≡ list_all (λ (c : Column). are_bounds version c.lo c.hi) columns
+shapes_fit version [] = refl
+shapes_fit version (c ∷ columns) = ap (λ (b : Bool). are_bounds version c.lo c.hi && b) (shapes_fit version columns)
+
+-- the text of a header, by its shape
+head_is : (version rows : ℕ) (layout : Layout) (schema : Schema)
+    → head_text (record { version = version; layout = layout; rows = rows; schema = schema_shape schema }) ≡ header_text version layout schema.name schema.columns.items rows
+unfolding header_text
+head_is version rows layout schema =
+    let columns = schema.columns.items in
+    ap (λ (n : ℕ). front_text version layout n rows ++ name_text schema.name ++ flat_map shape_text (map column_shape columns)) (length-map columns column_shape)
+    ∙ ap (λ (l : List ℕ). front_text version layout (length columns) rows ++ name_text schema.name ++ l) (shapes_spelled columns)
+
+of_version : (version : ℕ) (layout : Layout) (schema : Schema) (rows : List (List Value)) (bytes : List ℕ) → (version ≡ 1) ⊎ (version ≡ 2)
+    → list_all (λ (c : Column). are_bounds version c.lo c.hi) schema.columns.items ≡ true → bytes ≡ text_of_version version layout schema.name schema.columns.items rows
+    → (bytes ≡ file_text layout schema rows) ⊎ (bytes ≡ file_text2 layout schema rows)
+of_version version layout schema rows bytes (inl one) narrow text =
+    let room : list_all (λ (c : Column). are_bounds 1 c.lo c.hi) schema.columns.items ≡ true = rw one at narrow in
+    let same : version_for schema.columns.items ≡ 1 = rw room refl in
+    inl (rw same (rw one at text))
+of_version version layout schema rows bytes (inr two) narrow text = inr (rw two at text)
+
+-- what was read, by the header and by what stands behind it
+abbrev found_as : Layout → SchemaShape → List (List (List Value)) → Found
+found_as layout shape groups = record { layout = layout; schema = shape; rows = together groups }
+
+body_found : (layout : Layout) (shape : SchemaShape) (r : Result (List (List (List Value)) × Tail) Fault) (found : Found) → found_in layout shape r ≡ Ok found
+    → (y : List (List (List Value)) × Tail) × (r ≡ Ok y) × (found_as layout shape y.0 ≡ found)
+body_found layout shape (Ok y) found e = (y, refl, cc)
+body_found layout shape (Err fault) found e = absurd cc
+
+-- a table that is behind a header
+record Spelled (bytes : List ℕ) (found : Found) : Type 0 where
+  schema : Schema
+  shape : schema_shape schema ≡ found.schema
+  text : IsFileText bytes found.layout schema found.rows
+
+spelled_with : (bytes : List ℕ) (h : HeaderShape) (t : Tail) (schema : Schema) (y : List (List (List Value)) × Tail) → TakesBoth (tail 0 bytes) (head_text h) t → IsHeader h
+    → schema_shape schema ≡ h.schema → body h.layout schema.columns.items (group_sizes h.rows) [] t ≡ Ok y → Spelled bytes (found_as h.layout h.schema y.0)
+unfolding text_of_version segments_text
+spelled_with bytes h t schema y head known same e =
+    let columns = schema.columns.items in
+    let b = body_take h.layout columns (group_sizes h.rows) h.rows [] t y head.rest refl e in
+    let rows = together y.0 in
+    let cut : groups_of rows ≡ y.0 = rw b.behind b.cut in
+    let count : length rows ≡ h.rows = rw b.behind b.count in
+    let body_text : t.bytes ≡ segments_text h.layout columns rows = b.text ∙ ap (flat_map (segment_text h.layout columns)) (sym b.behind ∙ sym cut) in
+    let shaped : head_text h ≡ header_text h.version h.layout schema.name columns (length rows) =
+    ap (λ (s : SchemaShape). head_text (record { version = h.version; layout = h.layout; rows = h.rows; schema = s })) (sym same)
+    ∙ head_is h.version h.rows h.layout schema ∙ ap (header_text h.version h.layout schema.name columns) (sym count) in
+    let whole : bytes ≡ text_of_version h.version h.layout schema.name columns rows = head.parts ∙ ap (λ (l : List ℕ). head_text h ++ l) body_text ∙ ap (λ (l : List ℕ). l ++ segments_text h.layout columns rows) shaped in
+    let narrow : list_all (λ (c : Column). are_bounds h.version c.lo c.hi) columns ≡ true =
+    sym (shapes_fit h.version columns) ∙ ap (λ (s : SchemaShape). list_all (fits_version h.version) s.columns) same ∙ known.bounds in
+    let admitted : list_all (admits_values columns) rows ≡ true = rw b.behind b.admitted in
+    record {
+      schema = schema;
+      shape = same;
+      text = (record { few = omega (arith, count, known.few); admitted = admitted }, of_version h.version h.layout schema rows bytes known.version narrow whole);
+    }
+
+read_behind : (bytes : List ℕ) (r : Result (HeaderShape × Tail) Fault) (found : Found) → IsBytes bytes → header (tail 0 bytes) ≡ r → IsReadBehind r (Ok found) → Spelled bytes found
+read_behind bytes (Ok x) found fits e read =
+    let head = header_takes (tail 0 bytes) x fits e in
+    let b = body_found x.0.layout x.0.schema (body x.0.layout read.0.columns.items (group_sizes x.0.rows) [] x.1) found (sym read.2) in
+    subst (Spelled bytes) b.2 (spelled_with bytes x.0 x.1 read.0 b.0 head.0 head.1 read.1 b.1)
+read_behind bytes (Err fault) found fits e read = absurd (cc read)
+
+-- so what is read of bytes is spelled by them
+pub read_is_spelled : (bytes : List ℕ) (found : Found) → IsBytes bytes → IsReadAs bytes (Ok found)
+    → (schema : Schema) × (schema_shape schema ≡ found.schema) × IsFileText bytes found.layout schema found.rows
+read_is_spelled bytes found fits read =
+    let s = read_behind bytes (header (tail 0 bytes)) found fits refl read in (s.schema, s.shape, s.text)
+
+-- and by any schema of that shape
+pub read_is_spelled_by : (bytes : List ℕ) (found : Found) (schema : Schema) → IsBytes bytes → schema_shape schema ≡ found.schema → IsReadAs bytes (Ok found)
+    → IsFileText bytes found.layout schema found.rows
+unfolding text_of_version
+read_is_spelled_by bytes found schema fits same read =
+    let s = read_is_spelled bytes found fits read in
+    let shapes : schema_shape s.0 ≡ schema_shape schema = s.1 ∙ sym same in
+    let columns = columns_same s.0.columns.items schema.columns.items (ap (λ (h : SchemaShape). h.columns) shapes) in
+    let names : s.0.name ≡ schema.name = ap (λ (h : SchemaShape). h.name) shapes in
+    rw (columns, names) at s.2

@@ -1,0 +1,11 @@
+pub mod BodyLemmas
+pub mod BodySpelling
+pub mod ColumnLemmas
+pub mod EncoderLemmas
+pub mod FileSpelling
+pub mod HeaderLemmas
+pub mod ReaderLemmas
+pub mod ReadingLemmas
+pub mod SegmentLemmas
+pub mod SpellingLemmas
+pub mod TableLemmas

@@ -1,0 +1,186 @@
+-- Reading bytes step by step, as calls take them of a source.
+use Rattle.std.proofs.Common.{◌≡◌, ℕ, ◌+◌, ◌-◌, ◌≤◌, ◌<◌, Bool, true, false, List, [], ◌++◌, length, take, Option, Some, None, Result, Ok, Err, refl, sym, ap, ◌∙◌, append_assoc, length-append, arith, nat_lt, ◌&&◌, ◌==◌}
+use Rattle.std.specs.Prelude.{IfSome}
+use Rattle.std.proofs.lemmas.Bool.{true≢false}
+use Rattle.std.proofs.lemmas.List.{take_at, drop_at, length-take-le, take-append-le}
+use Rattle.std.proofs.Math.Seq.{take-append-add}
+use borrow.Rule.Slice.PartMut.{put_mid, post_of}
+use Rattle.std.proofs.lemmas.Bool.{lt-ltb, le-ltb}
+use Rattle.std.specs.Io.KnownBytes.{IsAtEnd}
+use Rattle.std.proofs.KnownBytes.{Consumes-trans}
+use Rattle.bw_model.specs.declared.fault.Fault.{Fault}
+use Rattle.bw_model.specs.Fault.{at_byte, no_memory}
+use Rattle.bw_file.specs.Source.{is_read_fault}
+use Rattle.bw_file.specs.Reading.{Tail, tail, Reading, passed, placed, ◌>>=◌, give, field, said_at, judged, State, state, Took, GoesOn, HasFault, Fails, Reads}
+
+-- nothing was taken
+pub took_nothing : (known : Option (List ℕ)) (offset failures : ℕ) → Took (state known offset failures) (state known offset failures) []
+took_nothing None offset failures = record { consumed = tt; counted = sym (omega arith) }
+took_nothing (Some bytes) offset failures = record { consumed = refl; counted = omega arith }
+
+-- bytes were taken, and then more
+pub took_more : (a b c : State) (xs ys : List ℕ) → Took a b xs → Took b c ys → Took a c (xs ++ ys)
+took_more a b c xs ys p q = record {
+  consumed = Consumes-trans a.known b.known c.known xs ys p.consumed q.consumed;
+  counted = omega (arith, p.counted, q.counted, length-append xs ys);
+}
+
+-- reading begins where it begins
+pub begins : {A : Type 0} (reading : Reading A) (old : State) → GoesOn reading old reading old
+begins reading old = record { bytes = []; took = took_nothing old.known old.offset old.failures; failures = refl; on = λ rest. refl }
+
+-- reading goes on behind one thing
+pub passes : {A B : Type 0} (reading : Reading B) (first : Reading A) (next : A → Reading B) (x : A) (old mid new : State)
+    → GoesOn reading old (first >>= next) mid → GoesOn first mid (give x) new → GoesOn reading old (next x) new
+passes {A = A} reading first next x old mid new p q = record {
+  bytes = p.bytes ++ q.bytes;
+  took = took_more old mid new p.bytes q.bytes p.took q.took;
+  failures = q.failures ∙ p.failures;
+  on = λ rest.
+      ap (λ (bytes : List ℕ). reading (tail old.offset bytes)) (append_assoc p.bytes q.bytes rest)
+      ∙ p.on (q.bytes ++ rest)
+      ∙ ap (λ (r : Result (A × Tail) Fault). passed r next) (q.on rest);
+}
+
+-- bytes to come, where they are known
+abbrev coming_of : Option (List ℕ) → List ℕ
+coming_of None = []
+coming_of (Some bytes) = bytes
+
+is_coming : (known : Option (List ℕ)) → IfSome known (λ bytes. bytes ≡ coming_of known)
+is_coming None = tt
+is_coming (Some bytes) = refl
+
+-- a fault that stands at a byte is neither a failed read nor want of memory
+refused_place : (b : Bool) → (b && false) ≡ false
+refused_place true = refl
+refused_place false = refl
+
+-- so a call that passes on what another refused refuses by it
+pub stops : {A B : Type 0} (reading : Reading B) (first : Reading A) (next : A → Reading B) (old mid new : State) (fault : Fault)
+    → GoesOn reading old (first >>= next) mid → Fails first mid new fault → Fails reading old new fault
+stops {A = A} reading first next old mid new fault p q = record {
+  bytes = p.bytes ++ q.bytes;
+  took = took_more old mid new p.bytes q.bytes p.took q.took;
+  failures = omega (arith, p.failures, q.failures);
+  refused = λ own.
+      let has = q.refused own in
+      let found : HasFault reading old new (p.bytes ++ q.bytes) fault = record {
+        rest = has.rest;
+        coming = has.coming;
+        gives =
+            ap (λ (bytes : List ℕ). reading (tail old.offset bytes)) (append_assoc p.bytes q.bytes has.rest)
+            ∙ p.on (q.bytes ++ has.rest)
+            ∙ ap (λ (r : Result (A × Tail) Fault). passed r next) has.gives;
+      } in
+      found;
+}
+
+-- want of memory refuses whatever is read
+pub stops_memory : {A : Type 0} (reading next : Reading A) (old mid : State) → GoesOn reading old next mid → Fails reading old mid no_memory
+stops_memory reading next old mid p = record {
+  bytes = p.bytes;
+  took = p.took;
+  failures = omega (arith, p.failures);
+  refused = λ own. absurd (true≢false own);
+}
+
+-- a fault of bytes, whatever stands behind them
+pub refuses_behind : {A : Type 0} (reading : Reading A) (old new : State) (bytes : List ℕ) (code place : ℕ) → Took old new bytes → new.failures ≡ old.failures
+    → ((rest : List ℕ) → reading (tail old.offset (bytes ++ rest)) ≡ Err (at_byte code place)) → Fails reading old new (at_byte code place)
+refuses_behind reading old new bytes code place took same e =
+    let own : is_read_fault (at_byte code place) ≡ false = refused_place (code == 701) in
+    record {
+      bytes = bytes;
+      took = took;
+      failures = rw own (omega arith);
+      refused = λ _.
+          let found : HasFault reading old new bytes (at_byte code place) = record {
+            rest = coming_of new.known;
+            coming = is_coming new.known;
+            gives = e (coming_of new.known);
+          } in
+          found;
+    }
+
+-- a fault where reading stands
+pub refuses : {A : Type 0} (reading next : Reading A) (old new : State) (code place : ℕ) → GoesOn reading old next new
+    → ((rest : List ℕ) → next (tail new.offset rest) ≡ Err (at_byte code place))
+    → Fails reading old new (at_byte code place)
+refuses reading next old new code place p e =
+    refuses_behind reading old new p.bytes code place p.took p.failures (λ rest. p.on rest ∙ e rest)
+
+-- as many bytes as a field has
+pub field_taken : (size : ℕ) (old new : State) (bytes : List ℕ) → Took old new bytes → new.failures ≡ old.failures → length bytes ≡ size
+    → GoesOn (field size) old (give bytes) new
+unfolding field
+field_taken size old new bytes took same whole = record {
+  bytes = bytes;
+  took = took;
+  failures = same;
+  on = λ rest.
+      let long : nat_lt (length (bytes ++ rest)) size ≡ false = le-ltb _ _ (omega (arith, length-append bytes rest)) in
+      let e : new.offset ≡ old.offset + size = omega (arith, took.counted) in
+      rw (long, take_at bytes rest size whole, drop_at bytes rest size whole, e) refl;
+}
+
+nothing_comes : (known : Option (List ℕ)) → IsAtEnd known → IfSome known (λ bytes. bytes ≡ [])
+nothing_comes None ended = tt
+nothing_comes (Some bytes) ended = ended
+
+-- the source ended before a field was whole
+pub field_ended : (size : ℕ) (old : State) (known : Option (List ℕ)) (offset failures : ℕ) (bytes : List ℕ) → Took old (state known offset failures) bytes
+    → failures ≡ old.failures → length bytes < size → IsAtEnd known
+    → Fails (field size) old (state known offset failures) (at_byte 305 offset)
+unfolding field
+field_ended size old known offset failures bytes took same short ended = record {
+  bytes = bytes;
+  took = took;
+  failures = omega arith;
+  refused = λ _.
+      let few : nat_lt (length (bytes ++ [])) size ≡ true = lt-ltb _ _ (omega (arith, length-append {A = ℕ} bytes [])) in
+      let e : old.offset + length (bytes ++ []) ≡ offset = omega (arith, took.counted, length-append {A = ℕ} bytes []) in
+      let found : HasFault (field size) old (state known offset failures) bytes (at_byte 305 offset) = record {
+        rest = [];
+        coming = nothing_comes known ended;
+        gives = rw (few, e) refl;
+      } in
+      found;
+}
+
+-- the front of a buffer, after a read into the rest of it
+pub front_filled : (filled n : ℕ) (xs ys : List ℕ) → filled ≤ length xs → n ≤ length ys
+    → take (filled + n) (put_mid filled (length xs - filled) xs ys) ≡ take filled xs ++ take n ys
+front_filled filled n xs ys within few =
+    let front : length (take filled xs) ≡ filled = length-take-le filled xs within in
+    let split = take-append-add (take filled xs) (ys ++ post_of filled (length xs - filled) xs) n in
+    ap (λ (k : ℕ). take (k + n) (put_mid filled (length xs - filled) xs ys)) (sym front) ∙ split
+    ∙ ap (λ (l : List ℕ). take filled xs ++ l) (take-append-le n ys (post_of filled (length xs - filled) xs) few)
+
+-- bytes that came behind others in a buffer
+pub took_into : (a b c : State) (filled n : ℕ) (xs ys : List ℕ) → filled ≤ length xs → n ≤ length ys → Took a b (take filled xs) → Took b c (take n ys)
+    → Took a c (take (filled + n) (put_mid filled (length xs - filled) xs ys))
+took_into a b c filled n xs ys within few p q =
+    rw (front_filled filled n xs ys within few) (took_more a b c (take filled xs) (take n ys) p q)
+
+-- a field that is judged begins with its bytes, and goes on with what they say
+judged_begins : {A : Type 0} (size : ℕ) (says : List ℕ → Result A ℕ) (old : State)
+    → GoesOn (judged size says) old (field size >>= λ bytes. said_at old.offset (says bytes)) old
+unfolding judged
+judged_begins size says old = record { bytes = []; took = took_nothing old.known old.offset old.failures; failures = refl; on = λ rest. refl }
+
+pub judged_stops : {A : Type 0} (size : ℕ) (says : List ℕ → Result A ℕ) (old new : State) (fault : Fault) → Fails (field size) old new fault
+    → Fails (judged size says) old new fault
+judged_stops size says old new fault p =
+    stops (judged size says) (field size) (λ bytes. said_at old.offset (says bytes)) old old new fault (judged_begins size says old) p
+
+said_of : {A : Type 0} (reading : Reading A) (old new : State) (at : ℕ) (said : Result A ℕ) → GoesOn reading old (said_at at said) new
+    → Reads (λ (x : A). x) reading old new (placed at said)
+said_of reading old new at (Ok x) p = p
+said_of reading old new at (Err code) p = refuses reading (said_at at (Err code)) old new code at p (λ rest. refl)
+
+pub judged_done : {A : Type 0} (size : ℕ) (says : List ℕ → Result A ℕ) (bytes : List ℕ) (old new : State) → GoesOn (field size) old (give bytes) new
+    → Reads (λ (x : A). x) (judged size says) old new (placed old.offset (says bytes))
+judged_done size says bytes old new p =
+    said_of (judged size says) old new old.offset (says bytes)
+    (passes (judged size says) (field size) (λ (b : List ℕ). said_at old.offset (says b)) bytes old old new (judged_begins size says old) p)

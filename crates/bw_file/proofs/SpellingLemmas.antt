@@ -1,0 +1,324 @@
+-- What is read of a table file is spelled so.
+use Rattle.std.proofs.Common.{◌≡◌, ℕ, zero, suc, ◌+◌, ◌^◌, ◌<◌, ◌≤◌, Bool, true, false, ◌||◌, cond, eqb, nat_lt, List, [], ◌∷◌, ◌++◌, length, get_or, take, drop, Result, Ok, Err, refl, sym, ap, subst, ◌∙◌, append_assoc, length-take, length-drop, arith, slice_index, inl, inr, ◌⊎◌}
+use Rattle.std.specs.Int.{w16, w32, w64, to_le_bytes, from_le_bytes}
+use Rattle.std.specs.List.{flat_map, list_all}
+use Rattle.std.specs.Str.{bytes_eq}
+use Rattle.std.proofs.lemmas.Bool.{cases_lt, ltb-false, eqb-true}
+use Rattle.std.proofs.lemmas.Int.{of_z-to_z}
+use Rattle.std.proofs.lemmas.List.{take-append-drop, length-take-le, take_all, get_or-take, get_or-drop, get_or_past, append-nil}
+use Rattle.std.proofs.lemmas.Nat.{le_bytes_2, le_bytes_4, le_bytes_8}
+use Rattle.std.proofs.lemmas.Slice.Eq.{bytes_eq-Decides}
+use Rattle.bw_model.specs.declared.fault.Fault.{Fault}
+use Rattle.bw_model.specs.Fault.{refused_if}
+use Rattle.bw_model.specs.Limits.{most_rows, most_columns}
+use Rattle.bw_model.specs.SchemaText.{ColumnShape, shape, shape_names}
+use Rattle.bw_file.specs.declared.fields.Bounds.{Bounds}
+use Rattle.bw_file.specs.declared.layout.Layout.{Layout}
+use Rattle.bw_file.specs.declared.layout.Layout.TheVariants.{Planes, Slices}
+use Rattle.bw_file.specs.FileText.{magic, layout_byte, flag_byte, front_text, name_text, bound_text, column_text, are_bounds}
+use Rattle.bw_file.specs.Reading.{Tail, tail, Reading, passed, ◌>>=◌, give, field, said_at, judged}
+use Rattle.bw_file.specs.TableReading.{magic_says, version_says, layout_says, count_says, rows_say, bound_in, bounds_say, nullable_says, name_says, name, column, columns, FrontShape, front_of, front, HeaderShape, header_of, header}
+
+abbrev pub IsBytes : List ℕ → Type 0
+IsBytes bytes = (i : ℕ) → get_or bytes i 0 < 256
+
+IsBytes-drop : (n : ℕ) (bytes : List ℕ) → IsBytes bytes → IsBytes (drop n bytes)
+IsBytes-drop n bytes h i = rw get_or-drop (h (n + i))
+
+IsBytes-take : (n : ℕ) (bytes : List ℕ) → IsBytes bytes → IsBytes (take n bytes)
+IsBytes-take n bytes h i =
+    elim (cases_lt i n) [
+      | inl lt ↦ rw (get_or-take n bytes i 0 lt) (h i)
+      | inr le ↦ rw (get_or_past (take n bytes) i 0 (omega (arith, length-take n bytes))) (omega arith)
+    ]
+
+-- what reading took
+pub record Takes (from : Tail) (text : List ℕ) (to : Tail) : Type 0 where
+  pub parts : from.bytes ≡ text ++ to.bytes
+  pub fits : IsBytes text
+  pub rest : IsBytes to.bytes
+
+-- one text and then another
+pub record TakesBoth (from : Tail) (text : List ℕ) (to : Tail) : Type 0 where
+  pub parts : from.bytes ≡ text ++ to.bytes
+  pub rest : IsBytes to.bytes
+
+pub bind_ok : {A B : Type 0} (r : Result (A × Tail) Fault) (next : A → Reading B) (y : B × Tail) → passed r next ≡ Ok y
+    → (x : A × Tail) × (r ≡ Ok x) × (next x.0 x.1 ≡ Ok y)
+bind_ok (Ok x) next y e = (x, refl, e)
+bind_ok (Err fault) next y e = absurd cc
+
+pub not_refused : {A : Type 0} (b : Bool) (fault : Fault) (r : Result A Fault) (x : A) → refused_if b fault r ≡ Ok x → (b ≡ false) × (r ≡ Ok x)
+not_refused true fault r x e = absurd cc
+not_refused false fault r x e = (refl, e)
+
+abbrev done : {A : Type 0} → A → Result A Fault
+done x = Ok x
+
+ok_is : {A : Type 0} (x y : A) → done x ≡ done y → x ≡ y
+ok_is x y e = cc
+
+pub field_takes : (size : ℕ) (t : Tail) (x : List ℕ × Tail) → IsBytes t.bytes → field size t ≡ Ok x → Takes t x.0 x.1 × (length x.0 ≡ size)
+unfolding field
+field_takes size t x fits e =
+    let g = not_refused (nat_lt (length t.bytes) size) _ _ x e in
+    let long : size ≤ length t.bytes = ltb-false _ _ g.0 in
+    let taken : List ℕ × Tail = (take size t.bytes, tail (t.at + size) (drop size t.bytes)) in
+    subst (λ (y : List ℕ × Tail). Takes t y.0 y.1 × (length y.0 ≡ size)) (ok_is taken x g.1)
+    (record { parts = sym (take-append-drop size t.bytes); fits = IsBytes-take size t.bytes fits; rest = IsBytes-drop size t.bytes fits }, length-take-le size t.bytes long)
+
+said_ok : {A : Type 0} (at : ℕ) (said : Result A ℕ) (t : Tail) (x : A × Tail) → said_at at said t ≡ Ok x → (said ≡ Ok x.0) × (t ≡ x.1)
+said_ok {A = A} at (Ok y) t x e = let same = ok_is (y, t) x e in (ap (λ (z : A × Tail). Ok z.0) same, ap (λ (z : A × Tail). z.1) same)
+said_ok at (Err code) t x e = absurd cc
+
+-- a field that was judged, and what it says
+record Judged {A : Type 0} (size : ℕ) (says : List ℕ → Result A ℕ) (from : Tail) (x : A) (to : Tail) : Type 0 where
+  text : List ℕ
+  takes : Takes from text to
+  long : length text ≡ size
+  said : says text ≡ Ok x
+
+judged_takes : {A : Type 0} (size : ℕ) (says : List ℕ → Result A ℕ) (t : Tail) (x : A × Tail) → IsBytes t.bytes → judged size says t ≡ Ok x → Judged size says t x.0 x.1
+unfolding judged
+judged_takes size says t x fits e =
+    let b = bind_ok (field size t) (λ bytes. said_at t.at (says bytes)) x e in
+    let f = field_takes size t b.0 fits b.1 in
+    let s = said_ok t.at (says b.0.0) b.0.1 x b.2 in
+    record { text = b.0.0; takes = subst (λ (u : Tail). Takes t b.0.0 u) s.1 f.0; long = f.1; said = s.0 }
+
+-- a single byte
+single : (text : List ℕ) → length text ≡ 1 → text ≡ get_or text 0 0 ∷ []
+single [] e = absurd (omega (arith, e))
+single (byte ∷ []) e = refl
+single (byte ∷ other ∷ more) e = absurd (omega (arith, e))
+
+abbrev said : {A : Type 0} → A → Result A ℕ
+said x = Ok x
+
+said_is : {A : Type 0} (x y : A) → said x ≡ said y → x ≡ y
+said_is x y e = cc
+
+-- a choice that was made
+chosen : {A : Type 0} (b : Bool) (x y : A) (code : ℕ) → cond b (Ok x) (Err code) ≡ said y → (b ≡ true) × (x ≡ y)
+chosen true x y code e = (refl, said_is x y e)
+chosen false x y code e = absurd cc
+
+left : {A : Type 0} (b : Bool) (x y : A) (code : ℕ) → cond b (Err code) (Ok x) ≡ said y → (b ≡ false) × (x ≡ y)
+left true x y code e = absurd cc
+left false x y code e = (refl, said_is x y e)
+
+abbrev nothing_said : Result (Unit {0}) ℕ
+nothing_said = Ok tt
+
+chosen_unit : (b : Bool) → cond b nothing_said (Err 301) ≡ nothing_said → b ≡ true
+chosen_unit true e = refl
+chosen_unit false e = absurd cc
+
+magic_is : (text : List ℕ) → magic_says text ≡ nothing_said → text ≡ magic
+unfolding magic_says
+magic_is text e = (bytes_eq-Decides text magic).0 (chosen_unit (bytes_eq text magic) e)
+
+either : (a b : Bool) → (a || b) ≡ true → (a ≡ true) ⊎ (b ≡ true)
+either true b e = inl refl
+either false b e = inr e
+
+version_is : (text : List ℕ) (version : ℕ) → length text ≡ 1 → version_says text ≡ Ok version → (text ≡ version ∷ []) × ((version ≡ 1) ⊎ (version ≡ 2))
+unfolding version_says
+version_is text version long e =
+    let g = chosen (eqb (get_or text 0 0) 1 || eqb (get_or text 0 0) 2) (get_or text 0 0) version 302 e in
+    (single text long ∙ ap (λ (b : ℕ). b ∷ []) g.1, elim (either _ _ g.0) [ inl a ↦ inl (sym g.1 ∙ eqb-true _ _ a) | inr b ↦ inr (sym g.1 ∙ eqb-true _ _ b) ])
+
+two_layouts : (zero_is one_is : Bool) (layout : Layout) → cond zero_is (Ok Planes) (cond one_is (Ok Slices) (Err 303)) ≡ said layout
+    → ((zero_is ≡ true) × (layout ≡ Planes)) ⊎ ((one_is ≡ true) × (layout ≡ Slices))
+two_layouts true one_is layout e = inl (refl, sym (said_is Planes layout e))
+two_layouts false true layout e = inr (refl, sym (said_is Slices layout e))
+two_layouts false false layout e = absurd cc
+
+layout_is : (text : List ℕ) (layout : Layout) → length text ≡ 1 → layout_says text ≡ Ok layout → text ≡ layout_byte layout ∷ []
+unfolding layout_says
+layout_is text layout long e =
+    elim (two_layouts (eqb (get_or text 0 0) 0) (eqb (get_or text 0 0) 1) layout e) [
+      | inl a ↦ single text long ∙ rw (eqb-true _ _ a.0, a.1) refl
+      | inr b ↦ single text long ∙ rw (eqb-true _ _ b.0, b.1) refl
+    ]
+
+two_flags : (zero_is one_is nullable : Bool) → cond zero_is (Ok false) (cond one_is (Ok true) (Err 304)) ≡ said nullable
+    → ((zero_is ≡ true) × (nullable ≡ false)) ⊎ ((one_is ≡ true) × (nullable ≡ true))
+two_flags true one_is nullable e = inl (refl, sym (said_is false nullable e))
+two_flags false true nullable e = inr (refl, sym (said_is true nullable e))
+two_flags false false nullable e = absurd cc
+
+nullable_is : (text : List ℕ) (nullable : Bool) → length text ≡ 1 → nullable_says text ≡ Ok nullable → text ≡ flag_byte nullable ∷ []
+unfolding nullable_says
+nullable_is text nullable long e =
+    elim (two_flags (eqb (get_or text 0 0) 0) (eqb (get_or text 0 0) 1) nullable e) [
+      | inl a ↦ single text long ∙ rw (eqb-true _ _ a.0, a.1) refl
+      | inr b ↦ single text long ∙ rw (eqb-true _ _ b.0, b.1) refl
+    ]
+
+count_is : (text : List ℕ) (count : ℕ) → length text ≡ 2 → IsBytes text → count_says text ≡ Ok count → text ≡ to_le_bytes w16 count
+unfolding count_says
+count_is text count long fits e =
+    let g = left (eqb (from_le_bytes w16 text) 0 || nat_lt most_columns (from_le_bytes w16 text)) (from_le_bytes w16 text) count 304 e in
+    sym (le_bytes_2 text count long fits (sym g.1))
+
+rows_are : (text : List ℕ) (rows : ℕ) → length text ≡ 4 → IsBytes text → rows_say text ≡ Ok rows → (text ≡ to_le_bytes w32 rows) × (rows ≤ most_rows)
+unfolding rows_say
+rows_are text rows long fits e =
+    let g = left (nat_lt most_rows (from_le_bytes w32 text)) (from_le_bytes w32 text) rows 310 e in
+    (sym (le_bytes_4 text rows long fits (sym g.1)), rw (← g.1) (ltb-false _ _ g.0))
+
+bound_is : (text : List ℕ) → length text ≡ 8 → IsBytes text → bound_text (bound_in text) ≡ text
+bound_is text long fits =
+    let small : from_le_bytes w64 text < 2 ^ 64 = omega (arith, fits 0, fits 1, fits 2, fits 3, fits 4, fits 5, fits 6, fits 7) in
+    ap (to_le_bytes w64) (of_z-to_z w64 (from_le_bytes w64 text) small) ∙ le_bytes_8 text (from_le_bytes w64 text) long fits refl
+
+bounds_are : (version : ℕ) (text : List ℕ) (bounds : Bounds) → length text ≡ 16 → IsBytes text → bounds_say version text ≡ Ok bounds
+    → (text ≡ bound_text bounds.lo ++ bound_text bounds.hi) × (are_bounds version bounds.lo bounds.hi ≡ true)
+unfolding bounds_say
+bounds_are version text bounds long fits e =
+    let lo = bound_in (take 8 text) in
+    let hi = bound_in (take 8 (drop 8 text)) in
+    let made : Bounds = record { lo = lo; hi = hi } in
+    let g = chosen (are_bounds version lo hi) made bounds 304 e in
+    let back : length (drop 8 text) ≡ 8 = omega (arith, length-drop 8 text) in
+    let first : bound_text lo ≡ take 8 text = bound_is (take 8 text) (length-take-le 8 text (omega (arith, long))) (IsBytes-take 8 text fits) in
+    let all : take 8 (drop 8 text) ≡ drop 8 text = take_all 8 (drop 8 text) (omega (arith, back)) in
+    let second : bound_text hi ≡ drop 8 text = bound_is (take 8 (drop 8 text)) (length-take-le 8 (drop 8 text) (omega (arith, back))) (IsBytes-take 8 (drop 8 text) (IsBytes-drop 8 text fits)) ∙ all in
+    let whole : bound_text lo ++ bound_text hi ≡ text =
+    ap (λ (l : List ℕ). l ++ bound_text hi) first ∙ ap (λ (l : List ℕ). take 8 text ++ l) second ∙ take-append-drop 8 text in
+    subst (λ (b : Bounds). (text ≡ bound_text b.lo ++ bound_text b.hi) × (are_bounds version b.lo b.hi ≡ true)) g.1 (sym whole, g.0)
+
+-- texts that were taken one after another
+pub takes_then : (a b c : Tail) (x y : List ℕ) → TakesBoth a x b → TakesBoth b y c → TakesBoth a (x ++ y) c
+takes_then a b c x y p q = record { parts = p.parts ∙ ap (λ (l : List ℕ). x ++ l) q.parts ∙ sym (append_assoc x y c.bytes); rest = q.rest }
+
+pub both_of : (a b : Tail) (x : List ℕ) → Takes a x b → TakesBoth a x b
+both_of a b x p = record { parts = p.parts; rest = p.rest }
+
+takes_as : (a b : Tail) (x y : List ℕ) → Takes a x b → x ≡ y → TakesBoth a y b
+takes_as a b x y p e = rw (← e) (both_of a b x p)
+
+named : (before : List (List ℕ)) (text found : List ℕ) → name_says before text ≡ Ok found → text ≡ found
+unfolding name_says
+named before text found e = (left _ text found 304 e).1
+
+name_takes : (before : List (List ℕ)) (t : Tail) (x : List ℕ × Tail) → IsBytes t.bytes → name before t ≡ Ok x → TakesBoth t (name_text x.0) x.1
+unfolding name
+name_takes before t x fits e =
+    let a = bind_ok (field 1 t) (λ size. field (slice_index size 0) >>= λ text. said_at t.at (name_says before text)) x e in
+    let b = bind_ok (field (slice_index a.0.0 0) a.0.1) (λ text. said_at t.at (name_says before text)) x a.2 in
+    let fa = field_takes 1 t a.0 fits a.1 in
+    let fb = field_takes (slice_index a.0.0 0) a.0.1 b.0 fa.0.rest b.1 in
+    let s = said_ok t.at (name_says before b.0.0) b.0.1 x b.2 in
+    let same : b.0.0 ≡ x.0 = named before b.0.0 x.0 s.0 in
+    let size : a.0.0 ≡ length x.0 ∷ [] = single a.0.0 fa.1 ∙ ap (λ (n : ℕ). n ∷ []) (sym fb.1 ∙ ap length same) in
+    let whole : TakesBoth t ((length x.0 ∷ []) ++ x.0) b.0.1 =
+    takes_then t a.0.1 b.0.1 (length x.0 ∷ []) x.0 (takes_as t a.0.1 a.0.0 (length x.0 ∷ []) fa.0 size) (takes_as a.0.1 b.0.1 b.0.0 x.0 fb.0 same) in
+    subst (λ (u : Tail). TakesBoth t (name_text x.0) u) s.1 whole
+
+abbrev pub shape_text : ColumnShape → List ℕ
+shape_text column = column_text column.name column.lo column.hi column.nullable
+
+-- bounds that a version has room for
+abbrev pub fits_version : ℕ → ColumnShape → Bool
+fits_version version column = are_bounds version column.lo column.hi
+
+column_takes : (version : ℕ) (before : List (List ℕ)) (t : Tail) (x : ColumnShape × Tail) → IsBytes t.bytes → column version before t ≡ Ok x
+    → TakesBoth t (shape_text x.0) x.1 × (fits_version version x.0 ≡ true)
+unfolding column column_text
+column_takes version before t x fits e =
+    let a = bind_ok (name before t) (λ text. judged 16 (bounds_say version) >>= λ bounds. judged 1 nullable_says >>= λ nullable. give (shape text bounds.lo bounds.hi nullable)) x e in
+    let b = bind_ok (judged 16 (bounds_say version) a.0.1) (λ bounds. judged 1 nullable_says >>= λ nullable. give (shape a.0.0 bounds.lo bounds.hi nullable)) x a.2 in
+    let c = bind_ok (judged 1 nullable_says b.0.1) (λ nullable. give (shape a.0.0 b.0.0.lo b.0.0.hi nullable)) x b.2 in
+    let ta = name_takes before t a.0 fits a.1 in
+    let jb = judged_takes 16 (bounds_say version) a.0.1 b.0 ta.rest b.1 in
+    let jc = judged_takes 1 nullable_says b.0.1 c.0 jb.takes.rest c.1 in
+    let bs = bounds_are version jb.text b.0.0 jb.long jb.takes.fits jb.said in
+    let tb = takes_as a.0.1 b.0.1 jb.text _ jb.takes bs.0 in
+    let tc = takes_as b.0.1 c.0.1 jc.text _ jc.takes (nullable_is jc.text c.0.0 jc.long jc.said) in
+    let whole = takes_then t b.0.1 c.0.1 (name_text a.0.0 ++ (bound_text b.0.0.lo ++ bound_text b.0.0.hi)) (flag_byte c.0.0 ∷ [])
+    (takes_then t a.0.1 b.0.1 (name_text a.0.0) (bound_text b.0.0.lo ++ bound_text b.0.0.hi) ta tb) tc in
+    let made : ColumnShape × Tail = (shape a.0.0 b.0.0.lo b.0.0.hi c.0.0, c.0.1) in
+    subst (λ (y : ColumnShape × Tail). TakesBoth t (shape_text y.0) y.1 × (fits_version version y.0 ≡ true)) (ok_is made x c.2) (whole, bs.1)
+
+columns_take : (version count : ℕ) (before : List ColumnShape) (t : Tail) (x : List ColumnShape × Tail) → IsBytes t.bytes → columns version before count t ≡ Ok x
+    → (more : List ColumnShape) × (x.0 ≡ before ++ more) × (length more ≡ count) × TakesBoth t (flat_map shape_text more) x.1 × (list_all (fits_version version) more ≡ true)
+unfolding columns
+columns_take version zero before t x fits e =
+    let made : List ColumnShape × Tail = (before, t) in
+    subst (λ (y : List ColumnShape × Tail). (more : List ColumnShape) × (y.0 ≡ before ++ more) × (length more ≡ 0) × TakesBoth t (flat_map shape_text more) y.1 × (list_all (fits_version version) more ≡ true))
+    (ok_is made x e) ([], sym (append-nil before), refl, record { parts = refl; rest = fits }, refl)
+columns_take version (suc count) before t x fits e =
+    let a = bind_ok (column version (shape_names before) t) (λ next. columns version (before ++ next ∷ []) count) x e in
+    let ta = column_takes version (shape_names before) t a.0 fits a.1 in
+    let r = columns_take version count (before ++ a.0.0 ∷ []) a.0.1 x ta.0.rest a.2 in (
+      a.0.0 ∷ r.0,
+      r.1 ∙ append_assoc before (a.0.0 ∷ []) r.0,
+      ap suc r.2,
+      takes_then t a.0.1 x.1 (shape_text a.0.0) (flat_map shape_text r.0) ta.0 r.3,
+      rw (ta.1, r.4) refl,
+    )
+
+-- what is known of a front and of a header
+record IsFront (f : FrontShape) : Type 0 where
+  version : (f.version ≡ 1) ⊎ (f.version ≡ 2)
+  few : f.rows ≤ most_rows
+
+front_takes : (t : Tail) (x : FrontShape × Tail) → IsBytes t.bytes → front t ≡ Ok x
+    → TakesBoth t (front_text x.0.version x.0.layout x.0.columns x.0.rows) x.1 × IsFront x.0
+unfolding front front_text
+front_takes t x fits e =
+    let a = bind_ok (judged 8 magic_says t) (λ _. judged 1 version_says >>= λ version. judged 1 layout_says >>= λ layout. judged 2 count_says >>= λ count. judged 4 rows_say >>= λ rows. give (front_of version layout count rows)) x e in
+    let b = bind_ok (judged 1 version_says a.0.1) (λ version. judged 1 layout_says >>= λ layout. judged 2 count_says >>= λ count. judged 4 rows_say >>= λ rows. give (front_of version layout count rows)) x a.2 in
+    let c = bind_ok (judged 1 layout_says b.0.1) (λ layout. judged 2 count_says >>= λ count. judged 4 rows_say >>= λ rows. give (front_of b.0.0 layout count rows)) x b.2 in
+    let d = bind_ok (judged 2 count_says c.0.1) (λ count. judged 4 rows_say >>= λ rows. give (front_of b.0.0 c.0.0 count rows)) x c.2 in
+    let g = bind_ok (judged 4 rows_say d.0.1) (λ rows. give (front_of b.0.0 c.0.0 d.0.0 rows)) x d.2 in
+    let ja = judged_takes 8 magic_says t a.0 fits a.1 in
+    let jb = judged_takes 1 version_says a.0.1 b.0 ja.takes.rest b.1 in
+    let jc = judged_takes 1 layout_says b.0.1 c.0 jb.takes.rest c.1 in
+    let jd = judged_takes 2 count_says c.0.1 d.0 jc.takes.rest d.1 in
+    let jg = judged_takes 4 rows_say d.0.1 g.0 jd.takes.rest g.1 in
+    let vs = version_is jb.text b.0.0 jb.long jb.said in
+    let rs = rows_are jg.text g.0.0 jg.long jg.takes.fits jg.said in
+    let ta = takes_as t a.0.1 ja.text magic ja.takes (magic_is ja.text ja.said) in
+    let tb = takes_as a.0.1 b.0.1 jb.text (b.0.0 ∷ []) jb.takes vs.0 in
+    let tc = takes_as b.0.1 c.0.1 jc.text (layout_byte c.0.0 ∷ []) jc.takes (layout_is jc.text c.0.0 jc.long jc.said) in
+    let td = takes_as c.0.1 d.0.1 jd.text (to_le_bytes w16 d.0.0) jd.takes (count_is jd.text d.0.0 jd.long jd.takes.fits jd.said) in
+    let tg = takes_as d.0.1 g.0.1 jg.text (to_le_bytes w32 g.0.0) jg.takes rs.0 in
+    let tbc : TakesBoth a.0.1 (b.0.0 ∷ layout_byte c.0.0 ∷ []) c.0.1 = takes_then a.0.1 b.0.1 c.0.1 (b.0.0 ∷ []) (layout_byte c.0.0 ∷ []) tb tc in
+    let tabc = takes_then t a.0.1 c.0.1 magic (b.0.0 ∷ layout_byte c.0.0 ∷ []) ta tbc in
+    let tabcd = takes_then t c.0.1 d.0.1 (magic ++ (b.0.0 ∷ layout_byte c.0.0 ∷ [])) (to_le_bytes w16 d.0.0) tabc td in
+    let whole = takes_then t d.0.1 g.0.1 (magic ++ (b.0.0 ∷ layout_byte c.0.0 ∷ []) ++ to_le_bytes w16 d.0.0) (to_le_bytes w32 g.0.0) tabcd tg in
+    let made : FrontShape × Tail = (front_of b.0.0 c.0.0 d.0.0 g.0.0, g.0.1) in
+    subst (λ (y : FrontShape × Tail). TakesBoth t (front_text y.0.version y.0.layout y.0.columns y.0.rows) y.1 × IsFront y.0) (ok_is made x g.2)
+    (whole, record { version = vs.1; few = rs.1 })
+
+-- the text of a header's shape
+abbrev pub head_text : HeaderShape → List ℕ
+head_text h = front_text h.version h.layout (length h.schema.columns) h.rows ++ name_text h.schema.name ++ flat_map shape_text h.schema.columns
+
+pub record IsHeader (h : HeaderShape) : Type 0 where
+  pub version : (h.version ≡ 1) ⊎ (h.version ≡ 2)
+  pub few : h.rows ≤ most_rows
+  pub bounds : list_all (fits_version h.version) h.schema.columns ≡ true
+
+pub header_takes : (t : Tail) (x : HeaderShape × Tail) → IsBytes t.bytes → header t ≡ Ok x → TakesBoth t (head_text x.0) x.1 × IsHeader x.0
+unfolding header
+header_takes t x fits e =
+    let a = bind_ok (front t) (λ first. name [] >>= λ text. columns first.version [] first.columns >>= λ found. give (header_of first text found)) x e in
+    let b = bind_ok (name [] a.0.1) (λ text. columns a.0.0.version [] a.0.0.columns >>= λ found. give (header_of a.0.0 text found)) x a.2 in
+    let c = bind_ok (columns a.0.0.version [] a.0.0.columns b.0.1) (λ found. give (header_of a.0.0 b.0.0 found)) x b.2 in
+    let ta = front_takes t a.0 fits a.1 in
+    let tb = name_takes [] a.0.1 b.0 ta.0.rest b.1 in
+    let tc = columns_take a.0.0.version a.0.0.columns [] b.0.1 c.0 tb.rest c.1 in
+    let found : c.0.0 ≡ tc.0 = tc.1 in
+    let text : TakesBoth b.0.1 (flat_map shape_text c.0.0) c.0.1 = rw found tc.3 in
+    let count : length c.0.0 ≡ a.0.0.columns = ap length found ∙ tc.2 in
+    let front_part : TakesBoth t (front_text a.0.0.version a.0.0.layout (length c.0.0) a.0.0.rows) a.0.1 = rw count ta.0 in
+    let whole = takes_then t b.0.1 c.0.1 (front_text a.0.0.version a.0.0.layout (length c.0.0) a.0.0.rows ++ name_text b.0.0) (flat_map shape_text c.0.0)
+    (takes_then t a.0.1 b.0.1 (front_text a.0.0.version a.0.0.layout (length c.0.0) a.0.0.rows) (name_text b.0.0) front_part tb) text in
+    let bounds : list_all (fits_version a.0.0.version) c.0.0 ≡ true = rw found tc.4 in
+    let made : HeaderShape × Tail = (header_of a.0.0 b.0.0 c.0.0, c.0.1) in
+    subst (λ (y : HeaderShape × Tail). TakesBoth t (head_text y.0) y.1 × IsHeader y.0) (ok_is made x c.2)
+    (whole, record { version = ta.1.version; few = ta.1.few; bounds = bounds })

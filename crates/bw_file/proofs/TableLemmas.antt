@@ -1,0 +1,86 @@
+-- Whole tables, row by row.
+use Rattle.std.proofs.Common.{◌≡◌, ℕ, zero, suc, ◌+◌, ◌<◌, ◌≤◌, true, List, [], ◌∷◌, ◌++◌, length, get_or, map, take, Some, Ok, Err, Bool, false, if◌then◌else◌, refl, sym, ap, ◌∙◌, append_assoc, arith}
+use Rattle.std.specs.List.{list_all}
+use Rattle.std.proofs.lemmas.List.{append-nil, take_all}
+use Rattle.bw_model.specs.declared.column.Column.{Column}
+use Rattle.bw_model.specs.declared.row.Row.{Row}
+use Rattle.bw_model.specs.Column.{admits_values}
+use Rattle.bw_model.specs.Groups.{together}
+use Rattle.bw_model.specs.Row.{Value, values_of}
+use Rattle.bw_model.proofs.BitsLemmas.{both}
+use Rattle.bw_segment.proofs.CodeLemmas.{length_admitted}
+use Rattle.bw_file.specs.declared.segments.AnySegment.{AnySegment}
+use Rattle.bw_model.specs.declared.schema.Schema.{Schema}
+use Rattle.bw_file.specs.declared.encoder.Encoder.{Encoder}
+use Rattle.bw_file.specs.declared.layout.Layout.{Layout}
+use Rattle.bw_file.specs.Encoder.{Holds, encoder_layout, encoder_schema}
+use Rattle.bw_model.specs.declared.fault.Fault.{Fault}
+use Rattle.bw_model.specs.Fault.{is_memory}
+use Rattle.bw_model.specs.SchemaText.{schema_shape}
+use Rattle.bw_file.specs.declared.table_reader.TableReader.{TableReader}
+use Rattle.bw_file.specs.Source.{is_read_fault}
+use Rattle.bw_file.specs.Reading.{State, state}
+use Rattle.bw_file.specs.TableReader.{AnswersFault, ReadWhole, found_so_far}
+use Rattle.bw_file.specs.TableReading.{Found, IsReadAs}
+use Rattle.bw_file.specs.FileText.{file_text}
+use Rattle.bw_file.specs.AnySegment.{any_meaning, any_is_group}
+
+admitted_in : (columns : List Column) (rows : List (List Value)) (i : ℕ) → list_all (admits_values columns) rows ≡ true → i < length rows
+    → admits_values columns (get_or rows i []) ≡ true
+admitted_in columns [] i all lt = absurd (omega (arith, lt))
+admitted_in columns (row ∷ rows) zero all lt = (both (admits_values columns row) (list_all (admits_values columns) rows) all).0
+admitted_in columns (row ∷ rows) (suc i) all lt =
+    admitted_in columns rows i (both (admits_values columns row) (list_all (admits_values columns) rows) all).1 (omega (arith, lt))
+
+-- a row of a segment has a value a column
+pub row_wide : (segment : AnySegment) (i : ℕ) → i < length (any_meaning segment).rows → length (get_or (any_meaning segment).rows i []) ≡ length (any_meaning segment).columns
+row_wide segment i lt =
+    length_admitted (any_meaning segment).columns (get_or (any_meaning segment).rows i [])
+    (admitted_in (any_meaning segment).columns (any_meaning segment).rows i (any_is_group segment).admitted lt)
+
+-- groups that are put together, and one more
+pub together-push : (groups : List (List (List Value))) (group : List (List Value)) → together (groups ++ group ∷ []) ≡ together groups ++ group
+together-push [] group = append-nil group
+together-push (g ∷ groups) group = ap (λ (rows : List (List Value)). g ++ rows) (together-push groups group) ∙ sym (append_assoc g (together groups) group)
+
+-- rows that were admitted in all were admitted one by one
+pub row_admitted : (columns : List Column) (rows : List Row) (i : ℕ) (row : Row) → list_all (admits_values columns) (map values_of rows) ≡ true → i < length rows
+    → row ≡ get_or rows i row → admits_values columns (values_of row) ≡ true
+row_admitted columns [] i row all lt is = absurd (omega (arith, lt))
+row_admitted columns (r ∷ rows) zero row all lt is =
+    ap (λ (x : Row). admits_values columns (values_of x)) is ∙ (both (admits_values columns (values_of r)) (list_all (admits_values columns) (map values_of rows)) all).0
+row_admitted columns (r ∷ rows) (suc i) row all lt is =
+    row_admitted columns rows i row (both (admits_values columns (values_of r)) (list_all (admits_values columns) (map values_of rows)) all).1 (omega (arith, lt)) is
+
+-- the text of what an encoder was given, where it was given all rows
+pub text_of_all : (encoder : Encoder) (layout : Layout) (schema : Schema) (rows : List Row) (count : ℕ) (bytes : List ℕ) → length rows ≤ count
+    → encoder_layout encoder ≡ layout → (encoder_schema encoder).name ≡ schema.name → (encoder_schema encoder).columns.items ≡ schema.columns.items
+    → ((given : List (List Value)) → Holds encoder given → bytes ≡ file_text (encoder_layout encoder) (encoder_schema encoder) given)
+    → Holds encoder (map values_of (take count rows)) → bytes ≡ file_text layout schema (map values_of rows)
+text_of_all encoder layout schema rows count bytes all same_layout same_name same_columns text holds =
+    let whole : take count rows ≡ rows = take_all count rows all in
+    let given = text (map values_of (take count rows)) holds in
+    given ∙ rw (whole, same_layout, same_name, same_columns) refl
+
+-- a source that never fails answers no failed read, so what is refused is the first fault of its bytes
+no_read_failed : (failed : Bool) → 0 ≡ 0 + (if failed then 1 else 0) → failed ≡ false
+no_read_failed true e = absurd (omega (arith, e))
+no_read_failed false e = refl
+
+pub fault_seen : (bytes last : List ℕ) (before : State) (offset : ℕ) (fault : Fault) → before.failures ≡ 0
+    → AnswersFault (state (Some bytes) 0 0) before (state (Some last) offset 0) fault → is_memory fault ≡ false → IsReadAs bytes (Err fault)
+fault_seen bytes last before offset fault none p kept =
+    let own : is_read_fault fault ≡ false = no_read_failed (is_read_fault fault) (rw none at p.failures) in
+    let has = p.first (rw (kept, own) refl) in
+    let all : bytes ≡ p.bytes ++ has.rest = p.took.consumed ∙ ap (λ (more : List ℕ). p.bytes ++ more) has.coming in
+    rw all has.read
+
+pub whole_seen : (bytes last : List ℕ) (offset : ℕ) (found : Found) → ReadWhole (state (Some bytes) 0 0) (state (Some last) offset 0) found → IsReadAs bytes (Ok found)
+whole_seen bytes last offset found p =
+    let all : bytes ≡ p.bytes = p.took.consumed ∙ ap (λ (more : List ℕ). p.bytes ++ more) p.ended ∙ append-nil p.bytes in
+    rw all p.read
+
+pub found_same : (bytes : List ℕ) (reader : TableReader) (groups : List (List (List Value))) (layout : Layout) (schema : Schema) (rows : List (List Value)) → layout ≡ reader.layout
+    → schema.name ≡ reader.shape.value.schema.name → schema.columns.items ≡ reader.shape.value.schema.columns.items → rows ≡ together groups
+    → IsReadAs bytes (Ok (found_so_far reader groups)) → IsReadAs bytes (Ok (record { layout = layout; schema = schema_shape schema; rows = rows }))
+found_same bytes reader groups layout schema rows same_layout same_name same_columns same_rows read = rw (same_layout, same_name, same_columns, same_rows) read

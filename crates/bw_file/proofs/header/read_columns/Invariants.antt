@@ -1,0 +1,19 @@
+use Rattle.std.proofs.Common.{◌≡◌, ◌+◌, ◌-◌, ◌*◌, ◌≤◌, [], map, length, true}
+use Rattle.bw_model.specs.Column.{names_of}
+use Rattle.bw_model.specs.Name.{are_apart}
+use Rattle.bw_model.specs.SchemaText.{column_shape}
+use Rattle.bw_file.specs.Reading.{state, GoesOn}
+use Rattle.bw_file.specs.TableReading.{columns}
+use Rattle.bw_file.proofs.header.read_columns.Given as goal
+
+-- the columns so far were read, and reading goes on with the others
+abbrev pub invariant-loop : goal.invariant-loop
+invariant-loop g l = record {
+  on : GoesOn (columns l.version [] l.count) (state (g.S.Source.to_come l.initial.source) l.initial.offset (g.S.Source.failures l.initial.source))
+      (columns l.version (map column_shape l.found.items) (l.count - l.counter))
+      (state (g.S.Source.to_come l.source) l.offset (g.S.Source.failures l.source));
+  failures : g.S.Source.failures l.source ≡ g.S.Source.failures l.initial.source;
+  room : l.offset ≤ l.initial.offset + 273 * l.counter;
+  many : length l.found.items ≡ l.counter;
+  apart : are_apart (names_of l.found.items) ≡ true;
+}

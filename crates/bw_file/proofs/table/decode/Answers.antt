@@ -1,0 +1,69 @@
+use Rattle.std.proofs.Common.{◌++◌, ◌∷◌, [], List, map, ap, sym, ◌∙◌, refl, arith}
+use Rattle.std.proofs.lemmas.Result.{err_from_is_err_and}
+use Rattle.bw_model.specs.declared.schema.Schema.{Schema}
+use Rattle.bw_model.specs.Row.{Value, values_of}
+use Rattle.bw_file.specs.AnySegment.{any_meaning, any_is_group}
+use Rattle.bw_file.proofs.FileSpelling.{read_is_spelled_by}
+use Rattle.bw_file.proofs.TableLemmas.{fault_seen, whole_seen, found_same, together-push}
+use Rattle.bw_file.proofs.table.decode.Goals as goal
+
+pub returns-in_err-segment-clause-fault : goal.returns-in_err-segment-clause-fault
+returns-in_err-segment-clause-fault c =
+    let p = err_from_is_err_and c.from_residual-in_err-segment.result c.from_residual-in_err-segment.ensures.1 in
+    let came = c.loop-rows.invariant.came in
+    rw (p.1, p.2) (fault_seen c.args.bytes.now _ _ _ _ refl (c.in_err-segment.ensures.refused c.loop-rows.invariant.goes_on _ came.0 came.1))
+
+pub loop-rows-smaller-in_ok-push_rows : goal.loop-rows-smaller-in_ok-push_rows
+loop-rows-smaller-in_ok-push_rows c =
+    let told = rw c.in-Some.is at c.in_ok-segment.ensures.segment in
+    let some = (any_is_group c.in-Some.segment).some in
+    omega (arith, told.1, some, c.in_ok-segment.ensures.same.rows, c.next_segment.new.self.within)
+
+pub loop-rows-preserved-in_ok-push_rows : goal.loop-rows-preserved-in_ok-push_rows
+loop-rows-preserved-in_ok-push_rows c =
+    let given = rw c.in-Some.is at c.in_ok-segment.ensures.given in
+    let told = rw c.in-Some.is at c.in_ok-segment.ensures.segment in
+    let came = c.loop-rows.invariant.came in
+    let rows = (any_meaning c.in-Some.segment).rows in
+    record {
+      goes_on = told.2;
+      came = (
+        came.0 ++ rows ∷ [],
+        given _ came.0 came.1,
+        c.in_ok-push_rows.ensures.rows ∙ ap (λ (front : List (List Value)). front ++ rows) came.2 ∙ sym (together-push came.0 rows),
+      );
+    }
+
+pub loop-rows-smaller : goal.loop-rows-smaller
+loop-rows-smaller c =
+    let told = rw c.in-Some.is at c.in_ok-segment.ensures.segment in
+    let some = (any_is_group c.in-Some.segment).some in
+    omega (arith, told.1, some, c.in_ok-segment.ensures.same.rows, c.next_segment.new.self.within)
+
+pub loop-rows-preserved : goal.loop-rows-preserved
+loop-rows-preserved c =
+    let given = rw c.in-Some.is at c.in_ok-segment.ensures.given in
+    let told = rw c.in-Some.is at c.in_ok-segment.ensures.segment in
+    let came = c.loop-rows.invariant.came in
+    let rows = (any_meaning c.in-Some.segment).rows in
+    record {
+      goes_on = told.2;
+      came = (
+        came.0 ++ rows ∷ [],
+        given _ came.0 came.1,
+        c.in_ok-push_rows.ensures.rows ∙ ap (λ (front : List (List Value)). front ++ rows) came.2 ∙ sym (together-push came.0 rows),
+      );
+    }
+
+pub returns-clause-read : goal.returns-clause-read
+returns-clause-read c =
+    let came = c.loop-rows.invariant.came in
+    let whole = whole_seen c.args.bytes.now _ _ _ (c.in_ok-segment.ensures.ended c.in_default.is c.loop-rows.invariant.goes_on _ came.0 came.1) in
+    let same = c.in_ok-segment.ensures.same in
+    found_same c.args.bytes.now c.loop-rows.reader came.0 c.layout.result c.in_ok-copy.field-0 (map values_of c.loop-rows.rows.items) (c.layout.ensures ∙ same.layout)
+    (c.in_ok-copy.ensures.name ∙ ap (λ (schema : Schema). schema.name) (c.schema.ensures ∙ same.schema))
+    (c.in_ok-copy.ensures.columns ∙ ap (λ (schema : Schema). schema.columns.items) (c.schema.ensures ∙ same.schema)) came.2 whole
+
+pub returns-clause-table : goal.returns-clause-table
+returns-clause-table c =
+    read_is_spelled_by c.args.bytes.now _ c.in_ok-copy.field-0 (λ i. omega (arith, c.type_inv.bytes i)) refl (returns-clause-read c)

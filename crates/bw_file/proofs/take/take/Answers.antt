@@ -1,0 +1,35 @@
+use Rattle.std.proofs.Common.{◌≡◌, ◌+◌, ◌++◌, ◌∙◌, take, arith, length-take, length-append}
+use Rattle.std.proofs.lemmas.List.{take_all}
+use Rattle.bw_file.specs.Reading.{state, Took}
+use Rattle.bw_file.proofs.ReadingLemmas.{took_more, took_into, field_taken, field_ended}
+use Rattle.bw_file.proofs.take.take.Goals as goal
+
+-- a read of nothing is the end
+pub returns-in-Ok-eq0-clause-reads : goal.returns-in-Ok-eq0-clause-reads
+returns-in-Ok-eq0-clause-reads g c =
+    let more : Took
+    (state (g.S.Source.to_come c.loop-filled.source) c.loop-filled.offset (g.S.Source.failures c.loop-filled.source))
+    (state (g.S.Source.to_come c.read.new.self) c.loop-filled.offset (g.S.Source.failures c.read.new.self))
+    (take c.in-Ok-eq0.field-0 c.read.new.buffer) = record { consumed = c.in-Ok-eq0.ensures.bytes.0; counted = omega (arith, c.in-Ok-eq0.ensures.bound) } in
+    rw c.at_byte.ensures (field_ended _ _ _ _ _ (take c.loop-filled.filled c.loop-filled.buffer ++ take c.in-Ok-eq0.field-0 c.read.new.buffer)
+    (took_more _ _ _ _ _ c.loop-filled.invariant.came more)
+    (c.in-Ok-eq0.ensures.count ∙ c.loop-filled.invariant.count)
+    (simp (length-append, length-take) (omega arith))
+    (c.in-Ok-eq0.ensures.bytes.1 c.in-Ok-eq0.field-0-test (omega (arith, c.read.auto.buffer))))
+
+pub loop-filled-preserved : goal.loop-filled-preserved
+loop-filled-preserved g c =
+    let came : Took
+    (state (g.S.Source.to_come c.loop-filled.source) c.loop-filled.offset (g.S.Source.failures c.loop-filled.source))
+    (state (g.S.Source.to_come c.read.new.self) (c.loop-filled.offset + c.in-Ok.n) (g.S.Source.failures c.read.new.self))
+    (take c.in-Ok.n c.read.new.buffer) = record { consumed = c.in-Ok.ensures.bytes.0; counted = omega (arith, c.in-Ok.ensures.bound) } in
+    record {
+      within = omega (arith, c.in-Ok.ensures.bound, c.read.auto.buffer);
+      came = took_into _ _ _ c.loop-filled.filled c.in-Ok.n c.loop-filled.buffer c.read.new.buffer (omega arith) (omega (arith, c.in-Ok.ensures.bound)) c.loop-filled.invariant.came came;
+      count = c.in-Ok.ensures.count ∙ c.loop-filled.invariant.count;
+    }
+
+pub returns-clause-reads : goal.returns-clause-reads
+returns-clause-reads g c =
+    let whole : take c.loop-filled.filled c.loop-filled.buffer ≡ c.loop-filled.buffer = take_all _ _ (omega arith) in
+    field_taken _ _ _ c.loop-filled.buffer (rw whole at c.loop-filled.invariant.came) c.loop-filled.invariant.count (omega arith)

@@ -1,0 +1,16 @@
+-- What a segment in either layout means.
+use Rattle.bw_planes.specs.Planes.{planes_meaning}
+use Rattle.bw_slices.specs.Slices.{slices_meaning}
+use Rattle.bw_segment.specs.Meaning.{Meaning, IsGroup}
+use Rattle.bw_file.specs.declared.segments.AnySegment.{AnySegment}
+use Rattle.bw_file.specs.declared.segments.AnySegment.TheVariants.{Planes, Slices}
+
+unfoldable pub any_meaning : AnySegment → Meaning
+any_meaning (Planes segment) = planes_meaning segment.shape.value.schema segment.rows segment.bytes.items
+any_meaning (Slices segment) = slices_meaning segment.shape.value.schema segment.rows segment.bytes.items
+
+-- which is one group's rows
+pub any_is_group : (segment : AnySegment) → IsGroup (any_meaning segment)
+unfolding any_meaning
+any_is_group (Planes segment) = segment.group
+any_is_group (Slices segment) = segment.group

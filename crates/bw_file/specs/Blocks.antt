@@ -1,0 +1,44 @@
+-- The two layouts of segments, by the names that a table file gives them.
+use Rattle.std.specs.Prelude.{ℕ, List, Option}
+use Rattle.bw_model.specs.declared.column.Column.{Column}
+use Rattle.bw_model.specs.Row.{Value}
+use Rattle.bw_planes.specs.Planes.{plane_layout}
+use Rattle.bw_slices.specs.Slices.{slice_layout}
+use Rattle.bw_segment.specs.BlockFault as faults
+use Rattle.bw_segment.specs.Layout as kept
+use Rattle.bw_file.specs.declared.layout.Layout.{Layout}
+use Rattle.bw_file.specs.declared.layout.Layout.TheVariants.{Planes, Slices}
+
+-- how a layout keeps the codes of 512 lanes
+unfoldable pub form_of : Layout → kept.Layout
+form_of Planes = plane_layout
+form_of Slices = slice_layout
+
+-- how many bytes the block of a column has
+abbrev pub block_size : Layout → List Column → ℕ → ℕ
+block_size layout columns column = kept.block_size (form_of layout) columns column
+
+abbrev pub bytes_before : Layout → List Column → ℕ → ℕ
+bytes_before layout columns column = kept.bytes_before (form_of layout) columns column
+
+abbrev pub segment_size : Layout → List Column → ℕ
+segment_size layout columns = kept.segment_size (form_of layout) columns
+
+-- the first fault of a block of that size, in a segment of so many rows
+abbrev pub block_fault : Layout → List Column → ℕ → ℕ → List ℕ → Option ℕ
+block_fault layout columns column count block = faults.block_fault (form_of layout) columns column count block
+
+-- the bytes are the first so many blocks of a segment of so many rows, each without fault; and all of them
+abbrev pub AreSound : Layout → List Column → ℕ → ℕ → List ℕ → Type 0
+AreSound layout columns count blocks bytes = faults.AreSound (form_of layout) columns count blocks bytes
+
+abbrev pub IsSound : Layout → List Column → ℕ → List ℕ → Type 0
+IsSound layout columns count bytes = faults.IsSound (form_of layout) columns count bytes
+
+-- the bytes of a group's rows, the blocks of all columns in order
+abbrev pub segment_text : Layout → List Column → List (List Value) → List ℕ
+segment_text layout columns rows = kept.segment_text (form_of layout) columns rows
+
+-- the rows, so many, that the bytes of a segment spell
+abbrev pub rows_spelled : Layout → List Column → ℕ → List ℕ → List (List Value)
+rows_spelled layout columns count bytes = kept.rows_spelled (form_of layout) columns count bytes

@@ -1,0 +1,34 @@
+-- What an encoder holds of the rows that were added to it.
+use Rattle.std.specs.Prelude.{◌≡◌, ℕ, ◌*◌, List, ◌++◌, length, map, take}
+use Rattle.bw_model.specs.declared.schema.Schema.{Schema}
+use Rattle.bw_model.specs.Groups.{group_size}
+use Rattle.bw_model.specs.Row.{Value, values_of}
+use Rattle.bw_file.specs.declared.encoder.Encoder.{Encoder}
+use Rattle.bw_file.specs.declared.layout.Layout.{Layout}
+use Rattle.bw_file.specs.FileText.{AreRows, header_text, segments_text, version_for}
+
+-- the table's schema, the layout, and how many rows were added
+abbrev pub encoder_schema : Encoder → Schema
+encoder_schema encoder = encoder.shape.schema
+
+abbrev pub encoder_layout : Encoder → Layout
+encoder_layout encoder = encoder.layout
+
+abbrev pub rows_in : Encoder → ℕ
+rows_in encoder = encoder.rows
+
+-- bytes are the text of these rows, but that the header tells of no rows yet
+abbrev pub IsTextOf : Layout → Schema → List ℕ → List (List Value) → Type 0
+IsTextOf layout schema bytes rows =
+    bytes ≡ header_text (version_for schema.columns.items) layout schema.name schema.columns.items 0 ++ segments_text layout schema.columns.items rows
+
+-- The encoder was given these rows, which the columns admit: the text of the groups that are whole, behind a header that
+-- tells of no rows yet, and less than a group that isn't yet in the text.
+pub record Holds (encoder : Encoder) (rows : List (List Value)) : Type 0 where
+  pub before : List (List Value)
+  pub groups : ℕ
+  pub parts : rows ≡ before ++ map values_of (take encoder.filled encoder.group.items)
+  pub whole : length before ≡ group_size * groups
+  pub text : IsTextOf encoder.layout encoder.shape.schema encoder.bytes.items before
+  pub count : length rows ≡ encoder.rows
+  pub admitted : AreRows encoder.shape.schema.columns.items rows

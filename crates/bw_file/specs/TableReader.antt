@@ -1,0 +1,117 @@
+-- What a reader of a table file knows, and what the bytes that came so far say.
+use Rattle.std.specs.Prelude.{◌≡◌, ℕ, ◌-◌, false, List, [], ◌++◌, ◌+◌, length, min, Option, Some, None, IfSome, Result, Ok, Err}
+use Rattle.std.specs.Io.KnownBytes.{IsAtEnd}
+use Rattle.bw_model.specs.declared.fault.Fault.{Fault}
+use Rattle.bw_model.specs.declared.schema.Schema.{Schema}
+use Rattle.bw_model.specs.Groups.{group_size, together}
+use Rattle.bw_model.specs.Row.{Value}
+use Rattle.bw_model.specs.SchemaText.{schema_shape}
+use Rattle.bw_file.specs.AnySegment.{any_meaning}
+use Rattle.bw_file.specs.Source.{is_input_fault}
+use Rattle.bw_file.specs.declared.segments.AnySegment.{AnySegment}
+use Rattle.bw_file.specs.declared.layout.Layout.{Layout}
+use Rattle.bw_file.specs.declared.phase.Phase.{Phase}
+use Rattle.bw_file.specs.declared.phase.Phase.TheVariants.{Reading, Ended, Failed}
+use Rattle.bw_file.specs.declared.table_reader.TableReader.{TableReader}
+use Rattle.bw_file.specs.Reading.{State, Took, GoesOn, failed_reads, give}
+use Rattle.bw_file.specs.TableReading.{HeaderShape, header, body, group_sizes, Found, IsReadAs}
+
+abbrev pub schema_in : TableReader → Schema
+schema_in reader = reader.shape.value.schema
+
+abbrev pub layout_in : TableReader → Layout
+layout_in reader = reader.layout
+
+-- how many rows the header tells of, how many were given, and how many bytes were taken
+abbrev pub rows_told : TableReader → ℕ
+rows_told reader = reader.rows
+
+abbrev pub rows_given : TableReader → ℕ
+rows_given reader = reader.given
+
+abbrev pub bytes_taken : TableReader → ℕ
+bytes_taken reader = reader.offset
+
+-- what the reader answers from now on without reading: nothing yet, that there is no more, or a fault
+abbrev pub settled_by : Phase → Option (Result (Unit {0}) Fault)
+settled_by Reading = None
+settled_by Ended = Some (Ok tt)
+settled_by (Failed fault) = Some (Err fault)
+
+abbrev pub settled : TableReader → Option (Result (Unit {0}) Fault)
+settled reader = settled_by reader.phase
+
+-- the header that the reader read
+abbrev pub header_told : ℕ → TableReader → HeaderShape
+header_told version reader =
+    record { version = version; layout = reader.layout; rows = reader.rows; schema = schema_shape reader.shape.value.schema }
+
+-- A source, since the start of its file, gave the header that the reader tells of, and then these groups of rows; reading
+-- goes on with those that are left, whatever stands there.
+pub record SoFar (start now : State) (reader : TableReader) (groups : List (List (List Value))) : Type 0 where
+  pub version : ℕ
+  pub behind : State
+  pub first : start.offset ≡ 0
+  pub head : GoesOn header start (give (header_told version reader)) behind
+  pub on : GoesOn (body reader.layout reader.shape.value.schema.columns.items (group_sizes reader.rows) []) behind
+      (body reader.layout reader.shape.value.schema.columns.items (group_sizes (reader.rows - reader.given)) groups) now
+
+-- the reader tells of the same table
+pub record SameTable (old new : TableReader) : Type 0 where
+  pub layout : new.layout ≡ old.layout
+  pub schema : new.shape.value.schema ≡ old.shape.value.schema
+  pub rows : new.rows ≡ old.rows
+
+-- the table of these groups
+abbrev pub found_so_far : TableReader → List (List (List Value)) → Found
+found_so_far reader groups = record { layout = reader.layout; schema = schema_shape reader.shape.value.schema; rows = together groups }
+
+-- all bytes were taken, with no failed read, and they are read as this
+pub record ReadWhole (start now : State) (found : Found) : Type 0 where
+  pub bytes : List ℕ
+  pub took : Took start now bytes
+  pub failures : now.failures ≡ start.failures
+  pub ended : IsAtEnd now.known
+  pub read : IsReadAs bytes (Ok found)
+
+-- bytes and some behind them, which are those to come where they are known, are read as this fault
+pub record HasFirstFault (now : State) (bytes : List ℕ) (fault : Fault) : Type 0 where
+  pub rest : List ℕ
+  pub coming : IfSome now.known (λ known. known ≡ rest)
+  pub read : IsReadAs (bytes ++ rest) (Err fault)
+
+-- Since the start of the file bytes were taken, and a fault was answered: that of a failed read, want of memory, or the
+-- file's first fault.
+pub record AnswersFault (start old now : State) (fault : Fault) : Type 0 where
+  pub bytes : List ℕ
+  pub took : Took start now bytes
+  pub failures : now.failures ≡ old.failures + failed_reads fault
+  pub first : is_input_fault fault ≡ false → HasFirstFault now bytes fault
+
+-- how many reads failed in a call that answered this
+abbrev pub failed_by : {A : Type 0} → Result A Fault → ℕ
+failed_by (Ok x) = 0
+failed_by (Err fault) = failed_reads fault
+
+-- a call that answered this took bytes of a source, whose failures rose where it answered a failed read
+pub record DidRead {A : Type 0} (old new : State) (result : Result A Fault) : Type 0 where
+  pub bytes : List ℕ
+  pub took : Took old new bytes
+  pub failures : new.failures ≡ old.failures + failed_by result
+
+-- a segment of the reader's table, of the 512 rows that come next, or of the rows that are left
+pub record IsSegmentOf (reader : TableReader) (segment : AnySegment) : Type 0 where
+  pub name : (any_meaning segment).name ≡ reader.shape.value.schema.name
+  pub columns : (any_meaning segment).columns ≡ reader.shape.value.schema.columns.items
+  pub count : length (any_meaning segment).rows ≡ min group_size (reader.rows - reader.given)
+
+-- what is settled by an answer: nothing by a segment, that there is no more, or a fault
+abbrev pub Settles : Result (Option AnySegment) Fault → Option (Result (Unit {0}) Fault) → Type 0
+Settles (Ok (Some segment)) next = next ≡ None
+Settles (Ok None) next = next ≡ Some (Ok tt)
+Settles (Err fault) next = next ≡ Some (Err fault)
+
+-- a call answered what was settled
+abbrev pub Repeats : Result (Option AnySegment) Fault → Result (Unit {0}) Fault → Type 0
+Repeats result (Ok x) = result ≡ Ok None
+Repeats result (Err fault) = result ≡ Err fault

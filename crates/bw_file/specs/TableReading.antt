@@ -1,0 +1,201 @@
+-- What the bytes of a table file say, or the first fault in them: field by field, and then block by block.
+use Rattle.std.specs.Prelude.{◌≡◌, ℕ, ℤ, zero, suc, ◌+◌, ◌-◌, min, replicate, Bool, true, false, ◌||◌, not, List, [], ◌∷◌, ◌++◌, length, take, drop, slice_index, Option, Some, None, Result, Ok, Err, if◌then◌else◌, ◌==◌, nat_lt}
+use Rattle.std.specs.Int.{w16, w32, w64, from_le_bytes, cast_signed}
+use Rattle.std.specs.List.{list_any}
+use Rattle.std.specs.Str.{bytes_eq}
+use Rattle.bw_model.specs.declared.column.Column.{Column}
+use Rattle.bw_model.specs.declared.fault.Fault.{Fault}
+use Rattle.bw_model.specs.declared.schema.Schema.{Schema}
+use Rattle.bw_model.specs.Fault.{at_byte, refused_if}
+use Rattle.bw_model.specs.Groups.{group_size, together}
+use Rattle.bw_model.specs.Limits.{most_columns, most_rows}
+use Rattle.bw_model.specs.Name.{is_name}
+use Rattle.bw_model.specs.Row.{Value}
+use Rattle.bw_model.specs.SchemaText.{ColumnShape, SchemaShape, shape, shape_names, schema_shape}
+use Rattle.bw_model.specs.Text.{same_text}
+use Rattle.bw_file.specs.declared.fields.Bounds.{Bounds}
+use Rattle.bw_file.specs.declared.layout.Layout.{Layout}
+use Rattle.bw_file.specs.declared.layout.Layout.TheVariants.{Planes, Slices}
+use Rattle.bw_file.specs.Blocks.{block_size, block_fault, rows_spelled}
+use Rattle.bw_file.specs.FileText.{magic, are_bounds}
+use Rattle.bw_file.specs.Reading.{Tail, tail, Reading, ◌>>=◌, give, field, said_at, judged}
+
+-- the magic: another is 301
+unfoldable pub magic_says : List ℕ → Result (Unit {0}) ℕ
+magic_says bytes = if bytes_eq bytes magic then Ok tt else Err 301
+
+-- the version, which is 1 or 2: another is 302
+unfoldable pub version_says : List ℕ → Result ℕ ℕ
+version_says bytes =
+    let version = slice_index bytes 0 in if (version == 1) || (version == 2) then Ok version else Err 302
+
+-- the layout: an unknown one is 303
+unfoldable pub layout_says : List ℕ → Result Layout ℕ
+layout_says bytes = if slice_index bytes 0 == 0 then Ok Planes else (if slice_index bytes 0 == 1 then Ok Slices else Err 303)
+
+-- the number of columns: none, or more than 64, is 304
+unfoldable pub count_says : List ℕ → Result ℕ ℕ
+count_says bytes =
+    let count = from_le_bytes w16 bytes in if (count == 0) || nat_lt most_columns count then Err 304 else Ok count
+
+-- the number of rows: more than 2^24 is 310
+unfoldable pub rows_say : List ℕ → Result ℕ ℕ
+rows_say bytes = let rows = from_le_bytes w32 bytes in if nat_lt most_rows rows then Err 310 else Ok rows
+
+-- the bounds of a column in a file of a version: others than those are 304
+abbrev pub bound_in : List ℕ → ℤ
+bound_in bytes = cast_signed w64 (from_le_bytes w64 bytes)
+
+unfoldable pub bounds_say : ℕ → List ℕ → Result Bounds ℕ
+bounds_say version bytes =
+    let lo = bound_in (take 8 bytes) in
+    let hi = bound_in (take 8 (drop 8 bytes)) in
+    if are_bounds version lo hi then Ok (record { lo = lo; hi = hi }) else Err 304
+
+-- whether a column takes null: another byte than 0 and 1 is 304
+unfoldable pub nullable_says : List ℕ → Result Bool ℕ
+nullable_says bytes = if slice_index bytes 0 == 0 then Ok false else (if slice_index bytes 0 == 1 then Ok true else Err 304)
+
+-- a name behind others: what isn't one, or one of the others, ignoring case, is 304
+unfoldable pub name_says : List (List ℕ) → List ℕ → Result (List ℕ) ℕ
+name_says before text =
+    if not (is_name text) || list_any (λ name. same_text name text) before then Err 304 else Ok text
+
+-- a name, behind a byte for its length, at which its fault stands once all its bytes are there
+unfoldable pub name : List (List ℕ) → Reading (List ℕ)
+name before t = (field 1 >>= λ size. field (slice_index size 0) >>= λ text. said_at t.at (name_says before text)) t
+
+-- a column behind others of these names: its name, its bounds, and whether it takes null
+unfoldable pub column : ℕ → List (List ℕ) → Reading ColumnShape
+column version before =
+    name before >>= λ text. judged 16 (bounds_say version) >>= λ bounds. judged 1 nullable_says >>= λ nullable. give (shape text bounds.lo bounds.hi nullable)
+
+-- so many columns more
+unfoldable pub columns : ℕ → List ColumnShape → ℕ → Reading (List ColumnShape)
+columns version before zero = give before
+columns version before (suc count) =
+    column version (shape_names before) >>= λ next. columns version (before ++ next ∷ []) count
+
+-- the first sixteen bytes
+pub record FrontShape : Type 0 where
+  pub version : ℕ
+  pub layout : Layout
+  pub columns : ℕ
+  pub rows : ℕ
+
+abbrev pub front_of : ℕ → Layout → ℕ → ℕ → FrontShape
+front_of version layout columns rows = record { version = version; layout = layout; columns = columns; rows = rows }
+
+unfoldable pub front : Reading FrontShape
+front =
+    judged 8 magic_says >>= λ _.
+    judged 1 version_says >>= λ version.
+    judged 1 layout_says >>= λ layout.
+    judged 2 count_says >>= λ count.
+    judged 4 rows_say >>= λ rows.
+    give (front_of version layout count rows)
+
+-- what a header says
+pub record HeaderShape : Type 0 where
+  pub version : ℕ
+  pub layout : Layout
+  pub rows : ℕ
+  pub schema : SchemaShape
+
+abbrev pub header_of : FrontShape → List ℕ → List ColumnShape → HeaderShape
+header_of first text found =
+    record { version = first.version; layout = first.layout; rows = first.rows; schema = record { name = text; columns = found } }
+
+unfoldable pub header : Reading HeaderShape
+header =
+    front >>= λ first.
+    name [] >>= λ text.
+    columns first.version [] first.columns >>= λ found.
+    give (header_of first text found)
+
+-- the front of a block, with zeros in the place of the bytes behind it
+abbrev pub front_of_block : List ℕ → ℕ → List ℕ
+front_of_block block size = take size block ++ replicate (length block - size) 0
+
+abbrev pub is_padding : Option ℕ → Bool
+is_padding None = false
+is_padding (Some code) = code == 308
+
+-- the first of so many bytes of a block, from this one on, with a bit of a padding row: the front of the block that ends
+-- with it is the first with that fault
+unfoldable pub padding_from : Layout → List Column → ℕ → ℕ → List ℕ → ℕ → ℕ → ℕ
+padding_from layout schema rows number block at zero = at
+padding_from layout schema rows number block at (suc more) =
+    if is_padding (block_fault layout schema number rows (front_of_block block (at + 1))) then at
+    else padding_from layout schema rows number block (at + 1) more
+
+-- where the fault of a block stands in it: 308 at the first byte with a bit of a padding row, another at the first byte
+unfoldable pub fault_place : Layout → List Column → ℕ → ℕ → List ℕ → ℕ → ℕ
+fault_place layout schema rows number block code =
+    if code == 308 then padding_from layout schema rows number block 0 (length block) else 0
+
+-- a block, unless it has a fault
+abbrev pub sound_at : ℕ → Layout → List Column → ℕ → ℕ → List ℕ → Option ℕ → Reading (List ℕ)
+sound_at at layout schema rows number block None t = Ok (block, t)
+sound_at at layout schema rows number block (Some code) t = Err (at_byte code (at + fault_place layout schema rows number block code))
+
+-- the block of a column of this number, in a segment of so many rows
+unfoldable pub one_block : Layout → List Column → ℕ → ℕ → Reading (List ℕ)
+one_block layout schema rows number t =
+    (field (block_size layout schema number) >>= λ bytes. sound_at t.at layout schema rows number bytes (block_fault layout schema number rows bytes)) t
+
+-- the blocks of so many columns from this number on, in a segment of so many rows, behind bytes that were read before
+unfoldable pub blocks : Layout → List Column → ℕ → ℕ → ℕ → List ℕ → Reading (List ℕ)
+blocks layout schema rows number zero before = give before
+blocks layout schema rows number (suc more) before =
+    one_block layout schema rows number >>= λ bytes.
+    blocks layout schema rows (suc number) more (before ++ bytes)
+
+-- the rows of a segment of so many
+unfoldable pub segment : Layout → List Column → ℕ → Reading (List (List Value))
+segment layout schema rows =
+    blocks layout schema rows 0 (length schema) [] >>= λ bytes. give (rows_spelled layout schema rows bytes)
+
+-- the sizes of the groups of so many rows, at most so many groups
+abbrev pub sizes_within : ℕ → ℕ → List ℕ
+sizes_within zero rows = []
+sizes_within (suc most) zero = []
+sizes_within (suc most) (suc rows) = min group_size (suc rows) ∷ sizes_within most (suc rows - group_size)
+
+unfoldable pub group_sizes : ℕ → List ℕ
+group_sizes rows = sizes_within rows rows
+
+-- the end of the file: a byte more is 309
+abbrev pub has_bytes : List ℕ → Bool
+has_bytes [] = false
+has_bytes (byte ∷ bytes) = true
+
+unfoldable pub end : Reading (Unit {0})
+end t = refused_if (has_bytes t.bytes) (at_byte 309 t.at) (Ok (tt, t))
+
+-- what stands behind the header, or is left of it behind groups that were read before: groups of these sizes, and the end
+unfoldable pub body : Layout → List Column → List ℕ → List (List (List Value)) → Reading (List (List (List Value)))
+body layout schema [] before = end >>= λ _. give before
+body layout schema (size ∷ sizes) before =
+    segment layout schema size >>= λ group. body layout schema sizes (before ++ group ∷ [])
+
+-- a table that was read
+pub record Found : Type 0 where
+  pub layout : Layout
+  pub schema : SchemaShape
+  pub rows : List (List Value)
+
+abbrev pub found_in : Layout → SchemaShape → Result (List (List (List Value)) × Tail) Fault → Result Found Fault
+found_in layout schema (Ok x) = Ok (record { layout = layout; schema = schema; rows = together x.0 })
+found_in layout schema (Err fault) = Err fault
+
+-- What bytes are read as: a table, or the first fault in them. The header comes first; what stands behind it is read
+-- under columns that are those of the header.
+abbrev pub IsReadBehind : Result (HeaderShape × Tail) Fault → Result Found Fault → Type 0
+IsReadBehind (Ok x) read =
+    (schema : Schema) × (schema_shape schema ≡ x.0.schema)
+    × (read ≡ found_in x.0.layout x.0.schema (body x.0.layout schema.columns.items (group_sizes x.0.rows) [] x.1))
+IsReadBehind (Err fault) read = read ≡ Err fault
+
+abbrev pub IsReadAs : List ℕ → Result Found Fault → Type 0
+IsReadAs bytes read = IsReadBehind (header (tail 0 bytes)) read

@@ -1,0 +1,203 @@
+//! What stands behind a table file's header, read from a source: segments, block by block, and the end.
+ghost use Rattle.std.specs.Prelude.{◌≡◌, ◌+◌, ◌-◌, ◌^◌, ◌<◌, ◌≤◌, [], length, None, OnOk, IfOk, IfErr};
+ghost use Rattle.std.specs.Io.KnownBytes.{IsAtEnd};
+ghost use Rattle.bw_model.specs.Groups.{group_size};
+ghost use Rattle.bw_file.specs.AnySegment.{any_meaning};
+ghost use Rattle.bw_file.specs.Blocks.{block_size, block_fault, bytes_before, segment_size, IsSound};
+ghost use Rattle.bw_file.specs.Reading.{Reads, Fails, Took, state};
+ghost use Rattle.bw_file.specs.TableReading.{is_padding, padding_from, fault_place, one_block, blocks, segment, end};
+
+use crate::failed::Failed;
+use crate::layout::Layout;
+use crate::segments::{AnySegment, block_size, judge, segment_size};
+use crate::source::Source;
+use crate::take::take;
+use bw_model::{Fault, code};
+use bw_segment::Shape;
+use std::rc::Rc;
+
+/// Reads a segment of so many rows into memory that was used before: a block at a time, each of which is judged before
+/// the next is taken. Faults at the first byte of a block: 308, 307, 306; and 305 at the end of the file.
+pub(crate) fn read_segment<S: Source>(
+    source: &mut S,
+    offset: &mut u64,
+    layout: Layout,
+    shape: &Rc<Shape>,
+    rows: u32,
+    mut bytes: Vec<u8>,
+) -> Result<AnySegment, Fault>
+    requires countable { S.failures source.old < 2 ^ 64 - 1 }
+    requires room { offset.old < 2 ^ 62 }
+    requires some { 1 ≤ rows }
+    requires few { rows ≤ group_size }
+    ensures reads { Reads (λ found. (any_meaning found).rows) (segment layout shape.now.value.schema.columns.items rows)
+        (state (S.to_come source.old) offset.old (S.failures source.old))
+        (state (S.to_come source.new) offset.new (S.failures source.new)) result }
+    ensures counted { OnOk result (offset.new ≤ offset.old + 2 ^ 19) }
+    ensures name { IfOk result (λ found. (any_meaning found).name ≡ shape.now.value.schema.name) }
+    ensures columns { IfOk result (λ found. (any_meaning found).columns ≡ shape.now.value.schema.columns.items) }
+    ensures count { IfOk result (λ found. length (any_meaning found).rows ≡ rows) }
+{
+    let shared = shape.clone()?;
+    bytes.resize(segment_size(layout, shape), 0)?;
+    read_blocks(source, offset, layout, shape, rows, &mut bytes)?;
+    Ok(AnySegment::of_blocks(layout, shared, rows, bytes))
+}
+
+/// Fills a segment's bytes, block by block.
+fn read_blocks<S: Source>(
+    source: &mut S,
+    offset: &mut u64,
+    layout: Layout,
+    shape: &Shape,
+    rows: u32,
+    bytes: &mut [u8],
+) -> Result<(), Fault>
+    requires countable { S.failures source.old < 2 ^ 64 - 1 }
+    requires room { offset.old < 2 ^ 62 }
+    requires rows { rows ≤ group_size }
+    requires size { length bytes.old ≡ segment_size layout shape.now.schema.columns.items }
+    ensures reads { Reads (λ _. bytes.new) (blocks layout shape.now.schema.columns.items rows 0 (length shape.now.schema.columns.items) [])
+        (state (S.to_come source.old) offset.old (S.failures source.old))
+        (state (S.to_come source.new) offset.new (S.failures source.new)) result }
+    ensures counted { OnOk result (offset.new ≤ offset.old + 2 ^ 19) }
+    ensures sound { OnOk result (IsSound layout shape.now.schema.columns.items rows bytes.new) }
+{
+    let mut start = 0;
+    for col in 0..shape.schema.columns.len() {
+        let size = block_size(layout, shape, col);
+        block_is_within(layout, shape, col);
+        read_block(
+            source,
+            offset,
+            layout,
+            shape,
+            col,
+            rows,
+            &mut bytes[start..start + size],
+        )?;
+        start += size;
+    }
+    Ok(())
+}
+
+/// A law: a column's block ends within the segment.
+fn block_is_within(layout: Layout, shape: &Shape, col: usize)
+    requires { col < length shape.now.schema.columns.items }
+    ensures { bytes_before layout shape.now.schema.columns.items col + block_size layout shape.now.schema.columns.items col
+        ≤ segment_size layout shape.now.schema.columns.items }
+{}
+
+/// Fills a column's block, and judges it.
+fn read_block<S: Source>(
+    source: &mut S,
+    offset: &mut u64,
+    layout: Layout,
+    shape: &Shape,
+    col: usize,
+    rows: u32,
+    block: &mut [u8],
+) -> Result<(), Fault>
+    requires countable { S.failures source.old < 2 ^ 64 - 1 }
+    requires room { offset.old < 2 ^ 63 }
+    requires column { col < length shape.now.schema.columns.items }
+    requires rows { rows ≤ group_size }
+    requires size { length block.old ≡ block_size layout shape.now.schema.columns.items col }
+    requires small { length block.old ≤ 4160 }
+    ensures reads { Reads (λ _. block.new) (one_block layout shape.now.schema.columns.items rows col)
+        (state (S.to_come source.old) offset.old (S.failures source.old))
+        (state (S.to_come source.new) offset.new (S.failures source.new)) result }
+    ensures counted { OnOk result (offset.new ≡ offset.old + length block.old) }
+    ensures good { OnOk result (block_fault layout shape.now.schema.columns.items col rows block.new ≡ None) }
+{
+    let at = *offset;
+    take(source, offset, block)?;
+    match judge(layout, shape, col, rows, block) {
+        None => Ok(()),
+        Some(code) => {
+            let place = fault_place(layout, shape, col, rows, block, code);
+            Err(Fault::at_byte(code, at + place as u64))
+        }
+    }
+}
+
+/// Where the fault of a block stands in it: 308 at the first byte with a bit of a padding row, and another at the block's
+/// first byte.
+#[tactic(auto, unfolding(crate::specs::TableReading::fault_place))]
+fn fault_place(
+    layout: Layout,
+    shape: &Shape,
+    col: usize,
+    rows: u32,
+    block: &[u8],
+    code: u16,
+) -> usize
+    requires column { col < length shape.now.schema.columns.items }
+    requires rows { rows ≤ group_size }
+    requires size { length block.now ≡ block_size layout shape.now.schema.columns.items col }
+    requires small { length block.now ≤ 4160 }
+    ensures place { result ≡ fault_place layout shape.now.schema.columns.items rows col block.now code }
+    ensures within { result ≤ 4160 }
+{
+    if code == code::PADDING {
+        padding_place(layout, shape, col, rows, block)
+    } else {
+        0
+    }
+}
+
+/// The first byte of a block with a bit of a padding row: the front of the block that ends with it is the first with that
+/// fault, zeros standing behind it.
+fn padding_place(layout: Layout, shape: &Shape, col: usize, rows: u32, block: &[u8]) -> usize
+    requires column { col < length shape.now.schema.columns.items }
+    requires rows { rows ≤ group_size }
+    requires size { length block.now ≡ block_size layout shape.now.schema.columns.items col }
+    requires small { length block.now ≤ 4160 }
+    ensures place { result ≡ padding_from layout shape.now.schema.columns.items rows col block.now 0 (length block.now) }
+    ensures within { result ≤ 4160 }
+{
+    let mut room = [0; 4160];
+    let front = &mut room[..block.len()];
+    for at in 0..block.len() {
+        front[at] = block[at];
+        if is_padding(judge(layout, shape, col, rows, front)) {
+            return at;
+        }
+    }
+    block.len()
+}
+
+/// Whether a block's fault is a bit of a padding row.
+fn is_padding(fault: Option<u16>) -> bool
+    ensures { result ≡ is_padding fault }
+{
+    match fault {
+        None => false,
+        Some(code) => code == code::PADDING,
+    }
+}
+
+/// Asks for one byte more, behind the last block: a byte that comes is 309.
+pub(crate) fn read_end<S: Source>(source: &mut S, offset: &mut u64) -> Result<(), Fault>
+    requires countable { S.failures source.old < 2 ^ 64 - 1 }
+    requires room { offset.old < 2 ^ 63 }
+    ensures ended { OnOk result (IsAtEnd (S.to_come source.new)) }
+    ensures took { OnOk result (Took
+        (state (S.to_come source.old) offset.old (S.failures source.old))
+        (state (S.to_come source.new) offset.new (S.failures source.new)) []) }
+    ensures failures { OnOk result (S.failures source.new ≡ S.failures source.old) }
+    ensures refused { IfErr result (λ fault. Fails end
+        (state (S.to_come source.old) offset.old (S.failures source.old))
+        (state (S.to_come source.new) offset.new (S.failures source.new)) fault) }
+{
+    let at = *offset;
+    let mut byte = [0; 1];
+    match source.read(&mut byte) {
+        Ok(0) => Ok(()),
+        Ok(n) => {
+            *offset += n as u64;
+            Err(Fault::at_byte(code::BYTES_AFTER_END, at))
+        }
+        Err(Failed) => Err(Fault::new(code::READ_FAILED)),
+    }
+}

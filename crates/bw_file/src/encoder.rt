@@ -1,0 +1,267 @@
+//! A table file written row by row.
+ghost use Rattle.std.specs.Prelude.{◌≡◌, ◌+◌, ◌-◌, ◌<◌, ◌≤◌, ◌++◌, ◌∷◌, [], List, true, map, take, drop, length, OnOk, IfOk, IsOkUnless};
+ghost use Rattle.std.specs.List.{list_all, flat_map};
+ghost use Rattle.std.specs.Int.{w32, to_le_bytes};
+ghost use Rattle.bw_model.specs.Column.{admits_values};
+ghost use Rattle.bw_model.specs.Fault.{no_memory};
+ghost use Rattle.bw_model.specs.Limits.{most_rows};
+ghost use Rattle.bw_model.specs.Row.{Value, values_of};
+ghost use Rattle.bw_segment.specs.Meaning.{IsGroup, meaning_of};
+ghost use Rattle.bw_file.specs.Blocks.{segment_text};
+ghost use Rattle.bw_file.specs.FileText.{are_bounds, AreRows, file_text, front_text, header_text, name_text, column_text, bound_text, layout_byte, flag_byte, version_for};
+
+use crate::fields::{MAGIC, are_bounds};
+use crate::layout::Layout;
+use crate::segments::append;
+use bw_model::{Column, Fault, Name, Row, Schema};
+use bw_segment::Shape;
+use byteorder::{ByteOrder, LittleEndian};
+use std::alloc::Global;
+
+/// How many rows a segment has at most.
+const GROUP: usize = 512;
+
+/// Where the number of rows stands in a file.
+const ROW_COUNT_AT: usize = 12;
+
+/// A table file that is written row by row. Of the rows it keeps no more than one segment, whose memory is used again,
+/// and behind it the text of the segments before.
+#[derive(Drop)]
+pub struct Encoder {
+    alloc: Global,
+    layout: Layout,
+    shape: Shape,
+    bytes: Vec<u8>,
+    /// The rows that aren't in the text yet are the first `filled` ones.
+    group: Vec<Row>,
+    filled: usize,
+    rows: u32,
+    ghost headed: { 16 ≤ length bytes.items },
+    ghost within: { filled ≤ length group.items },
+    ghost few: { filled ≤ 512 },
+    ghost countable: { rows ≤ most_rows },
+    ghost admitted: { list_all (admits_values shape.schema.columns.items) (map values_of (take filled group.items)) ≡ true },
+}
+
+impl Encoder {
+    ghost use Rattle.bw_file.specs.Encoder.{Holds, IsTextOf, encoder_schema, encoder_layout, rows_in};
+
+    /// An encoder of a table of this schema, to which no row was added. It keeps a copy of the schema.
+    pub fn new(alloc: Global, layout: Layout, schema: &Schema) -> Result<Self, Fault>
+        ensures layout { IfOk result (λ encoder. encoder_layout encoder ≡ layout) }
+        ensures name { IfOk result (λ encoder. (encoder_schema encoder).name ≡ schema.now.name) }
+        ensures columns { IfOk result (λ encoder. (encoder_schema encoder).columns.items ≡ schema.now.columns.items) }
+        ensures rows { IfOk result (λ encoder. rows_in encoder ≡ 0) }
+        ensures holds { IfOk result (λ encoder. Holds encoder []) }
+        ensures only_memory { IsOkUnless result no_memory }
+    {
+        let shape = Shape::new(alloc, schema)?;
+        let mut bytes = Vec::new(alloc);
+        push_header(&mut bytes, layout, &shape.schema)?;
+        Ok(Encoder {
+            alloc,
+            layout,
+            shape,
+            bytes,
+            group: Vec::new(alloc),
+            filled: 0,
+            rows: 0,
+        })
+    }
+
+    /// Adds a row, which the schema admits, where there are less than 2^24.
+    pub fn add(&mut self, row: &Row) -> Result<(), Fault>
+        requires admitted { admits_values (encoder_schema self.old).columns.items (values_of row.now) ≡ true }
+        requires room { rows_in self.old < most_rows }
+        ensures holds { OnOk result ((rows : List (List Value)) → Holds self.old rows → Holds self.new (rows ++ values_of row.now ∷ [])) }
+        ensures rows { OnOk result (rows_in self.new ≡ rows_in self.old + 1) }
+        ensures same { OnOk result ((encoder_layout self.new ≡ encoder_layout self.old) × (encoder_schema self.new ≡ encoder_schema self.old)) }
+        ensures only_memory { IsOkUnless result no_memory }
+    {
+        if self.filled == GROUP {
+            self.flush()?;
+        }
+        self.keep(row)
+    }
+
+    /// Keeps a row behind those that aren't in the text yet.
+    fn keep(&mut self, row: &Row) -> Result<(), Fault>
+        requires admitted { admits_values (encoder_schema self.old).columns.items (values_of row.now) ≡ true }
+        requires room { rows_in self.old < most_rows }
+        requires few { self.old.filled < 512 }
+        ensures holds { OnOk result ((rows : List (List Value)) → Holds self.old rows → Holds self.new (rows ++ values_of row.now ∷ [])) }
+        ensures rows { OnOk result (rows_in self.new ≡ rows_in self.old + 1) }
+        ensures same { OnOk result ((encoder_layout self.new ≡ encoder_layout self.old) × (encoder_schema self.new ≡ encoder_schema self.old)) }
+        ensures only_memory { IsOkUnless result no_memory }
+    {
+        if self.filled < self.group.len() {
+            let kept = &mut self.group[self.filled];
+            kept.values.clear();
+            kept.values.extend_from_slice(&row.values)?;
+        } else {
+            let copy = row.copy(self.alloc)?;
+            self.group.push(copy)?;
+        }
+        self.filled += 1;
+        self.rows += 1;
+        Ok(())
+    }
+
+    /// Puts the rows that aren't in the text yet there.
+    fn flush(&mut self) -> Result<(), Fault>
+        requires { 0 < self.old.filled }
+        ensures text { OnOk result ((rows : List (List Value)) → Holds self.old rows
+            → IsTextOf (encoder_layout self.old) (encoder_schema self.old) self.new.bytes.items rows) }
+        ensures holds { OnOk result ((rows : List (List Value)) → Holds self.old rows → self.old.filled ≡ 512 → Holds self.new rows) }
+        ensures rows { OnOk result (rows_in self.new ≡ rows_in self.old) }
+        ensures empty { OnOk result (self.new.filled ≡ 0) }
+        ensures same { OnOk result ((encoder_layout self.new ≡ encoder_layout self.old) × (encoder_schema self.new ≡ encoder_schema self.old)) }
+        ensures only_memory { IsOkUnless result no_memory }
+    {
+        append(
+            self.alloc,
+            self.layout,
+            &mut self.bytes,
+            &self.shape,
+            &self.group[..self.filled],
+        )?;
+        self.filled = 0;
+        Ok(())
+    }
+
+    /// The table file of the rows that were added: its text, of version 1 where that has room for every column.
+    pub fn finish(mut self) -> Result<Vec<u8>, Fault>
+        ensures text { IfOk result (λ bytes. (rows : List (List Value)) → Holds self rows → bytes.items ≡ file_text (encoder_layout self) (encoder_schema self) rows) }
+        ensures only_memory { IsOkUnless result no_memory }
+    {
+        if self.filled > 0 {
+            self.flush()?;
+        }
+        let rows = self.rows;
+        set_row_count(&mut self.bytes, rows);
+        Ok(self.bytes)
+    }
+}
+
+/// Puts the number of rows where it stands in a header.
+fn set_row_count(bytes: &mut Vec<u8>, rows: u32)
+    requires { 16 ≤ length bytes.old.items }
+    ensures { bytes.new.items
+        ≡ take 12 bytes.old.items ++ to_le_bytes w32 rows ++ drop 16 bytes.old.items }
+{
+    LittleEndian::write_u32(&mut bytes[ROW_COUNT_AT..], rows);
+}
+
+/// Adds the header of a table of no rows.
+fn push_header(bytes: &mut Vec<u8>, layout: Layout, schema: &Schema) -> Result<(), Fault>
+    ensures header { OnOk result (bytes.new.items ≡ bytes.old.items
+        ++ header_text (version_for schema.now.columns.items) layout schema.now.name schema.now.columns.items 0) }
+    ensures only_memory { IsOkUnless result no_memory }
+{
+    push_front(
+        bytes,
+        version_of(&schema.columns),
+        layout,
+        schema.columns.len() as u16,
+    )?;
+    push_name(bytes, &schema.name)?;
+    push_columns(bytes, &schema.columns)
+}
+
+/// The version of a table's file: 1 where it has room for every column, and else 2.
+fn version_of(columns: &[Column]) -> u8
+    ensures { result ≡ version_for columns.now }
+{
+    if are_narrow(columns) { 1 } else { 2 }
+}
+
+/// Whether version 1 has room for every column.
+fn are_narrow(columns: &[Column]) -> bool
+    ensures { result ≡ list_all (λ column. are_bounds 1 column.lo column.hi) columns.now }
+{
+    columns
+        .iter()
+        .all(|column| are_bounds(1, column.lo, column.hi))
+}
+
+/// Adds the first sixteen bytes of a table of no rows.
+#[tactic(auto, unfolding(crate::specs::FileText::front_text, crate::specs::FileText::magic))]
+fn push_front(bytes: &mut Vec<u8>, version: u8, layout: Layout, columns: u16) -> Result<(), Fault>
+    ensures front { OnOk result (bytes.new.items ≡ bytes.old.items ++ front_text version layout columns 0) }
+    ensures only_memory { IsOkUnless result no_memory }
+{
+    bytes.extend_from_slice(MAGIC)?;
+    bytes.push(version)?;
+    bytes.push(byte_of(layout))?;
+    let mut number = [0; 2];
+    LittleEndian::write_u16(&mut number, columns);
+    bytes.extend_from_slice(&number)?;
+    bytes.extend_from_slice(&[0; 4])?;
+    Ok(())
+}
+
+/// The byte that tells a layout.
+fn byte_of(layout: Layout) -> u8
+    ensures { result ≡ layout_byte layout }
+{
+    match layout {
+        Layout::Planes => 0,
+        Layout::Slices => 1,
+    }
+}
+
+/// Adds a name, behind a byte for its length.
+#[tactic(auto, using(crate::proofs::EncoderLemmas::short_name))]
+fn push_name(bytes: &mut Vec<u8>, name: &Name) -> Result<(), Fault>
+    ensures name { OnOk result (bytes.new.items ≡ bytes.old.items ++ name_text name.now) }
+    ensures only_memory { IsOkUnless result no_memory }
+{
+    let text = name.as_bytes();
+    bytes.push(text.len() as u8)?;
+    bytes.extend_from_slice(text)?;
+    Ok(())
+}
+
+/// Adds the columns.
+fn push_columns(bytes: &mut Vec<u8>, columns: &[Column]) -> Result<(), Fault>
+    ensures columns { OnOk result (bytes.new.items ≡ bytes.old.items
+        ++ flat_map (λ column. column_text column.name column.lo column.hi column.nullable) columns.now) }
+    ensures only_memory { IsOkUnless result no_memory }
+{
+    for column in columns {
+        push_column(bytes, column)?;
+    }
+    Ok(())
+}
+
+/// Adds a column.
+#[tactic(auto, unfolding(crate::specs::FileText::column_text))]
+fn push_column(bytes: &mut Vec<u8>, column: &Column) -> Result<(), Fault>
+    ensures column { OnOk result (bytes.new.items ≡ bytes.old.items
+        ++ column_text column.now.name column.now.lo column.now.hi column.now.nullable) }
+    ensures only_memory { IsOkUnless result no_memory }
+{
+    push_name(bytes, &column.name)?;
+    push_bound(bytes, column.lo)?;
+    push_bound(bytes, column.hi)?;
+    bytes.push(flag_of(column.nullable))?;
+    Ok(())
+}
+
+/// 1 where a column takes null, and else 0.
+fn flag_of(nullable: bool) -> u8
+    ensures { result ≡ flag_byte nullable }
+{
+    if nullable { 1 } else { 0 }
+}
+
+/// Adds a bound, as two's complement.
+fn push_bound(bytes: &mut Vec<u8>, bound: i64) -> Result<(), Fault>
+    ensures bound { OnOk result (bytes.new.items ≡ bytes.old.items ++ bound_text bound) }
+    ensures only_memory { IsOkUnless result no_memory }
+{
+    let mut number = [0; 8];
+    LittleEndian::write_i64(&mut number, bound);
+    bytes.extend_from_slice(&number)?;
+    Ok(())
+}

@@ -1,0 +1,153 @@
+//! The fields of a table file's header: what their bytes say, and their faults.
+ghost use Rattle.std.specs.Prelude.{◌≡◌, ◌≤◌, ◌^◌, ◌≤ℤ◌, ◌<ℤ◌, ◌-ℤ◌, pos, length, IfOk, IsTrue};
+ghost use Rattle.bw_model.specs.Limits.{most_rows};
+ghost use Rattle.bw_file.specs.FileText.{are_bounds};
+ghost use Rattle.bw_file.specs.Reading.{placed};
+ghost use Rattle.bw_file.specs.TableReading.{bound_in, magic_says, version_says, layout_says, count_says, rows_say, bounds_say, nullable_says, name_says};
+
+use crate::layout::Layout;
+use bw_model::{Column, Fault, code, is_name};
+
+/// The bytes that a table file begins with.
+pub(crate) const MAGIC: &[u8; 8] = b"BWCOLUMN";
+
+/// A table has at most this many rows.
+pub(crate) const MAX_ROWS: u32 = 1 << 24;
+
+/// What bytes say, or their fault, which stands at a place.
+pub(crate) fn placed<T>(at: u64, said: Result<T, u16>) -> Result<T, Fault>
+    ensures { result ≡ placed at said }
+{
+    match said {
+        Ok(value) => Ok(value),
+        Err(code) => Err(Fault::at_byte(code, at)),
+    }
+}
+
+/// The magic: another is 301.
+#[tactic(auto, unfolding(crate::specs::TableReading::magic_says, crate::specs::FileText::magic))]
+pub(crate) fn magic_says(bytes: &[u8; 8]) -> Result<(), u16>
+    ensures { result ≡ magic_says bytes.now }
+{
+    if bytes == MAGIC {
+        Ok(())
+    } else {
+        Err(code::MAGIC)
+    }
+}
+
+/// The version, 1 or 2: another is 302.
+#[tactic(auto, unfolding(crate::specs::TableReading::version_says))]
+pub(crate) fn version_says(bytes: &[u8; 1]) -> Result<u8, u16>
+    ensures { result ≡ version_says bytes.now }
+{
+    let version = bytes[0];
+    if version == 1 || version == 2 {
+        Ok(version)
+    } else {
+        Err(code::VERSION)
+    }
+}
+
+/// The layout: an unknown one is 303.
+#[tactic(auto, unfolding(crate::specs::TableReading::layout_says))]
+pub(crate) fn layout_says(bytes: &[u8; 1]) -> Result<Layout, u16>
+    ensures { result ≡ layout_says bytes.now }
+{
+    match bytes[0] {
+        0 => Ok(Layout::Planes),
+        1 => Ok(Layout::Slices),
+        _ => Err(code::LAYOUT),
+    }
+}
+
+/// The number of columns, 1 to 64: another is 304.
+#[tactic(auto, unfolding(crate::specs::TableReading::count_says))]
+pub(crate) fn count_says(bytes: [u8; 2]) -> Result<u16, u16>
+    ensures count { result ≡ count_says bytes }
+    ensures bounds { IfOk result (λ count. (1 ≤ count) × (count ≤ 64)) }
+{
+    let count = u16::from_le_bytes(bytes);
+    if count == 0 || count > 64 {
+        Err(code::HEADER)
+    } else {
+        Ok(count)
+    }
+}
+
+/// The number of rows, at most 2^24: more are 310.
+#[tactic(auto, unfolding(crate::specs::TableReading::rows_say))]
+pub(crate) fn rows_say(bytes: [u8; 4]) -> Result<u32, u16>
+    ensures rows { result ≡ rows_say bytes }
+    ensures few { IfOk result (λ rows. rows ≤ most_rows) }
+{
+    let rows = u32::from_le_bytes(bytes);
+    if rows > MAX_ROWS {
+        Err(code::ROW_COUNT)
+    } else {
+        Ok(rows)
+    }
+}
+
+/// The least and the greatest number that a column takes.
+#[derive(Clone, Copy, Debug, PartialEq, Eq)]
+pub(crate) struct Bounds {
+    pub(crate) lo: i64,
+    pub(crate) hi: i64,
+}
+
+/// The bounds of a column in a file of a version: bounds out of order, or too far apart, are 304.
+#[tactic(auto, unfolding(crate::specs::TableReading::bounds_say))]
+pub(crate) fn bounds_say(version: u8, bytes: &[u8; 16]) -> Result<Bounds, u16>
+    ensures bounds { result ≡ bounds_say version bytes.now }
+    ensures ordered { IfOk result (λ bounds. bounds.lo ≤ℤ bounds.hi) }
+    ensures narrow { IfOk result (λ bounds. (bounds.hi -ℤ bounds.lo) <ℤ pos (2 ^ 63)) }
+{
+    let lo = bound_in(&bytes[..8]);
+    let hi = bound_in(&bytes[8..]);
+    if are_bounds(version, lo, hi) {
+        Ok(Bounds { lo, hi })
+    } else {
+        Err(code::HEADER)
+    }
+}
+
+/// A number of eight bytes, in two's complement, the least byte first.
+fn bound_in(bytes: &[u8]) -> i64
+    requires { length bytes.now ≡ 8 }
+    ensures { result ≡ bound_in bytes.now }
+{
+    i64::from_le_bytes([
+        bytes[0], bytes[1], bytes[2], bytes[3], bytes[4], bytes[5], bytes[6], bytes[7],
+    ])
+}
+
+/// Whether bounds are in order, and less than 2^32 apart in version 1, less than 2^63 in another.
+#[tactic(auto, unfolding(crate::specs::FileText::are_bounds))]
+pub(crate) fn are_bounds(version: u8, lo: i64, hi: i64) -> bool
+    ensures test { result ≡ are_bounds version lo hi }
+    ensures ordered { IsTrue result → lo ≤ℤ hi }
+    ensures narrow { IsTrue result → (hi -ℤ lo) <ℤ pos (2 ^ 63) }
+{
+    if lo > hi {
+        return false;
+    }
+    let distance = hi.abs_diff(lo);
+    if version == 1 {
+        distance < 1 << 32
+    } else {
+        distance < 1 << 63
+    }
+}
+
+/// Whether a column takes null, 0 or 1: another byte is 304.
+#[tactic(auto, unfolding(crate::specs::TableReading::nullable_says))]
+pub(crate) fn nullable_says(bytes: &[u8; 1]) -> Result<bool, u16>
+    ensures { result ≡ nullable_says bytes.now }
+{
+    match bytes[0] {
+        0 => Ok(false),
+        1 => Ok(true),
+        _ => Err(code::HEADER),
+    }
+}

@@ -1,0 +1,295 @@
+//! A table file's header, read field by field from a source.
+ghost use Rattle.std.specs.Prelude.{◌≡◌, ◌+◌, ◌-◌, ◌*◌, ◌^◌, ◌<◌, ◌≤◌, ◌≤ℤ◌, ◌<ℤ◌, ◌-ℤ◌, pos, [], map, length, false, true, Ok, Err, if◌then◌else◌, OnOk, IfOk, IsTrue};
+ghost use Rattle.std.specs.List.{list_any};
+ghost use Rattle.bw_model.specs.Column.{names_of};
+ghost use Rattle.bw_model.specs.Limits.{most_rows};
+ghost use Rattle.bw_model.specs.Name.{is_name, are_apart};
+ghost use Rattle.bw_model.specs.SchemaText.{column_shape};
+ghost use Rattle.bw_model.specs.Text.{same_text};
+ghost use Rattle.bw_file.specs.Header.{header_shape};
+ghost use Rattle.bw_file.specs.Reading.{Reads, state, judged};
+ghost use Rattle.bw_file.specs.TableReading.{magic_says, version_says, layout_says, count_says, rows_say, bounds_say, nullable_says, name_says, name, column, columns, front_of, front, header_of, header};
+
+use crate::fields::{
+    Bounds, bounds_say, count_says, layout_says, magic_says, nullable_says, placed, rows_say,
+    version_says,
+};
+use crate::layout::Layout;
+use crate::source::Source;
+use crate::take::take;
+use bw_model::{Column, Fault, Name, Schema, code, is_name};
+use std::alloc::Global;
+
+/// The magic.
+fn read_magic<S: Source>(source: &mut S, offset: &mut u64) -> Result<(), Fault>
+    requires countable { S.failures source.old < 2 ^ 64 - 1 }
+    requires room { offset.old < 2 ^ 63 }
+    ensures reads { Reads (λ x. x) (judged 8 magic_says)
+        (state (S.to_come source.old) offset.old (S.failures source.old))
+        (state (S.to_come source.new) offset.new (S.failures source.new)) result }
+    ensures counted { OnOk result (offset.new ≡ offset.old + 8) }
+{
+    let at = *offset;
+    let mut bytes = [0; 8];
+    take(source, offset, &mut bytes)?;
+    placed(at, magic_says(&bytes))
+}
+
+/// The version.
+fn read_version<S: Source>(source: &mut S, offset: &mut u64) -> Result<u8, Fault>
+    requires countable { S.failures source.old < 2 ^ 64 - 1 }
+    requires room { offset.old < 2 ^ 63 }
+    ensures reads { Reads (λ x. x) (judged 1 version_says)
+        (state (S.to_come source.old) offset.old (S.failures source.old))
+        (state (S.to_come source.new) offset.new (S.failures source.new)) result }
+    ensures counted { OnOk result (offset.new ≡ offset.old + 1) }
+{
+    let at = *offset;
+    let mut bytes = [0; 1];
+    take(source, offset, &mut bytes)?;
+    placed(at, version_says(&bytes))
+}
+
+/// The layout.
+fn read_layout<S: Source>(source: &mut S, offset: &mut u64) -> Result<Layout, Fault>
+    requires countable { S.failures source.old < 2 ^ 64 - 1 }
+    requires room { offset.old < 2 ^ 63 }
+    ensures reads { Reads (λ x. x) (judged 1 layout_says)
+        (state (S.to_come source.old) offset.old (S.failures source.old))
+        (state (S.to_come source.new) offset.new (S.failures source.new)) result }
+    ensures counted { OnOk result (offset.new ≡ offset.old + 1) }
+{
+    let at = *offset;
+    let mut bytes = [0; 1];
+    take(source, offset, &mut bytes)?;
+    placed(at, layout_says(&bytes))
+}
+
+/// The number of columns.
+fn read_count<S: Source>(source: &mut S, offset: &mut u64) -> Result<u16, Fault>
+    requires countable { S.failures source.old < 2 ^ 64 - 1 }
+    requires room { offset.old < 2 ^ 63 }
+    ensures reads { Reads (λ x. x) (judged 2 count_says)
+        (state (S.to_come source.old) offset.old (S.failures source.old))
+        (state (S.to_come source.new) offset.new (S.failures source.new)) result }
+    ensures counted { OnOk result (offset.new ≡ offset.old + 2) }
+    ensures bounds { IfOk result (λ count. (1 ≤ count) × (count ≤ 64)) }
+{
+    let at = *offset;
+    let mut bytes = [0; 2];
+    take(source, offset, &mut bytes)?;
+    placed(at, count_says(bytes))
+}
+
+/// The number of rows.
+fn read_rows<S: Source>(source: &mut S, offset: &mut u64) -> Result<u32, Fault>
+    requires countable { S.failures source.old < 2 ^ 64 - 1 }
+    requires room { offset.old < 2 ^ 63 }
+    ensures reads { Reads (λ x. x) (judged 4 rows_say)
+        (state (S.to_come source.old) offset.old (S.failures source.old))
+        (state (S.to_come source.new) offset.new (S.failures source.new)) result }
+    ensures counted { OnOk result (offset.new ≡ offset.old + 4) }
+    ensures few { IfOk result (λ rows. rows ≤ most_rows) }
+{
+    let at = *offset;
+    let mut bytes = [0; 4];
+    take(source, offset, &mut bytes)?;
+    placed(at, rows_say(bytes))
+}
+
+/// The bounds of a column.
+fn read_bounds<S: Source>(version: u8, source: &mut S, offset: &mut u64) -> Result<Bounds, Fault>
+    requires countable { S.failures source.old < 2 ^ 64 - 1 }
+    requires room { offset.old < 2 ^ 63 }
+    ensures reads { Reads (λ x. x) (judged 16 (bounds_say version))
+        (state (S.to_come source.old) offset.old (S.failures source.old))
+        (state (S.to_come source.new) offset.new (S.failures source.new)) result }
+    ensures counted { OnOk result (offset.new ≡ offset.old + 16) }
+    ensures ordered { IfOk result (λ bounds. bounds.lo ≤ℤ bounds.hi) }
+    ensures narrow { IfOk result (λ bounds. (bounds.hi -ℤ bounds.lo) <ℤ pos (2 ^ 63)) }
+{
+    let at = *offset;
+    let mut bytes = [0; 16];
+    take(source, offset, &mut bytes)?;
+    placed(at, bounds_say(version, &bytes))
+}
+
+/// Whether a column takes null.
+fn read_nullable<S: Source>(source: &mut S, offset: &mut u64) -> Result<bool, Fault>
+    requires countable { S.failures source.old < 2 ^ 64 - 1 }
+    requires room { offset.old < 2 ^ 63 }
+    ensures reads { Reads (λ x. x) (judged 1 nullable_says)
+        (state (S.to_come source.old) offset.old (S.failures source.old))
+        (state (S.to_come source.new) offset.new (S.failures source.new)) result }
+    ensures counted { OnOk result (offset.new ≡ offset.old + 1) }
+{
+    let at = *offset;
+    let mut bytes = [0; 1];
+    take(source, offset, &mut bytes)?;
+    placed(at, nullable_says(&bytes))
+}
+
+/// A name, behind a byte for its length. What isn't a name, or is one of these columns' names, ignoring case, is 304 at
+/// that byte.
+#[tactic(auto, unfolding(crate::specs::TableReading::name_says))]
+fn read_name<S: Source>(
+    alloc: Global,
+    before: &[Column],
+    source: &mut S,
+    offset: &mut u64,
+) -> Result<Name, Fault>
+    requires countable { S.failures source.old < 2 ^ 64 - 1 }
+    requires room { offset.old < 2 ^ 63 }
+    ensures reads { Reads (λ x. x) (name (names_of before.now))
+        (state (S.to_come source.old) offset.old (S.failures source.old))
+        (state (S.to_come source.new) offset.new (S.failures source.new)) result }
+    ensures counted { OnOk result (offset.new ≤ offset.old + 256) }
+    ensures apart { IfOk result (λ text. list_any (λ other. same_text other text) (names_of before.now) ≡ false) }
+{
+    let at = *offset;
+    let mut size = [0; 1];
+    take(source, offset, &mut size)?;
+    let mut room = [0; 255];
+    let text = &mut room[..usize::from(size[0])];
+    take(source, offset, text)?;
+    if !is_new_name(before, text) {
+        return Err(Fault::at_byte(code::HEADER, at));
+    }
+    Ok(Name::new(alloc, text)?)
+}
+
+/// Whether a text is a name, and none of these columns has it, ignoring case.
+#[tactic(auto, using(crate::proofs::HeaderLemmas::list_any_names), unfolding(crate::specs::TableReading::name_says))]
+fn is_new_name(before: &[Column], text: &[u8]) -> bool
+    ensures name { IsTrue result → is_name text.now ≡ true }
+    ensures apart { IsTrue result → list_any (λ other. same_text other text.now) (names_of before.now) ≡ false }
+    ensures says { name_says (names_of before.now) text.now ≡ (if result then Ok text.now else Err 304) }
+{
+    is_name(text) && !has_name(before, text)
+}
+
+/// Whether a column has this name, ignoring case.
+fn has_name(columns: &[Column], name: &[u8]) -> bool
+    ensures { result ≡ list_any (λ column. same_text column.name name.now) columns.now }
+{
+    columns.iter().any(|column| column.name.is(name))
+}
+
+/// A column behind these.
+#[tactic(auto, unfolding(crate::specs::TableReading::column))]
+fn read_column<S: Source>(
+    alloc: Global,
+    version: u8,
+    before: &[Column],
+    source: &mut S,
+    offset: &mut u64,
+) -> Result<Column, Fault>
+    requires countable { S.failures source.old < 2 ^ 64 - 1 }
+    requires room { offset.old < 2 ^ 62 }
+    ensures reads { Reads column_shape (column version (names_of before.now))
+        (state (S.to_come source.old) offset.old (S.failures source.old))
+        (state (S.to_come source.new) offset.new (S.failures source.new)) result }
+    ensures counted { OnOk result (offset.new ≤ offset.old + 273) }
+    ensures apart { IfOk result (λ found. list_any (λ other. same_text other found.name) (names_of before.now) ≡ false) }
+{
+    let name = read_name(alloc, before, source, offset)?;
+    let bounds = read_bounds(version, source, offset)?;
+    let nullable = read_nullable(source, offset)?;
+    Ok(Column {
+        name,
+        lo: bounds.lo,
+        hi: bounds.hi,
+        nullable,
+    })
+}
+/// So many columns.
+fn read_columns<S: Source>(
+    alloc: Global,
+    version: u8,
+    count: u16,
+    source: &mut S,
+    offset: &mut u64,
+) -> Result<Vec<Column>, Fault>
+    requires countable { S.failures source.old < 2 ^ 64 - 1 }
+    requires room { offset.old < 2 ^ 32 }
+    ensures reads { Reads (λ found. map column_shape found.items) (columns version [] count)
+        (state (S.to_come source.old) offset.old (S.failures source.old))
+        (state (S.to_come source.new) offset.new (S.failures source.new)) result }
+    ensures counted { OnOk result (offset.new ≤ offset.old + 273 * count) }
+    ensures many { IfOk result (λ found. length found.items ≡ count) }
+    ensures apart { IfOk result (λ found. are_apart (names_of found.items) ≡ true) }
+{
+    let mut found = Vec::new(alloc);
+    for _ in 0..count {
+        let column = read_column(alloc, version, &found, source, offset)?;
+        found.push(column)?;
+    }
+    Ok(found)
+}
+
+/// The first sixteen bytes of a table file.
+#[derive(Clone, Copy, Debug, PartialEq, Eq)]
+struct Front {
+    version: u8,
+    layout: Layout,
+    columns: u16,
+    rows: u32,
+}
+
+fn read_front<S: Source>(source: &mut S, offset: &mut u64) -> Result<Front, Fault>
+    requires countable { S.failures source.old < 2 ^ 64 - 1 }
+    requires room { offset.old < 2 ^ 32 }
+    ensures reads { Reads (λ found. front_of found.version found.layout found.columns found.rows) front
+        (state (S.to_come source.old) offset.old (S.failures source.old))
+        (state (S.to_come source.new) offset.new (S.failures source.new)) result }
+    ensures counted { OnOk result (offset.new ≡ offset.old + 16) }
+    ensures bounds { IfOk result (λ found. (1 ≤ found.columns) × (found.columns ≤ 64)) }
+    ensures few { IfOk result (λ found. found.rows ≤ most_rows) }
+{
+    read_magic(source, offset)?;
+    let version = read_version(source, offset)?;
+    let layout = read_layout(source, offset)?;
+    let columns = read_count(source, offset)?;
+    let rows = read_rows(source, offset)?;
+    Ok(Front {
+        version,
+        layout,
+        columns,
+        rows,
+    })
+}
+
+/// What a header says.
+#[derive(Drop)]
+pub(crate) struct Header {
+    pub(crate) version: u8,
+    pub(crate) layout: Layout,
+    pub(crate) rows: u32,
+    pub(crate) schema: Schema,
+}
+
+/// The header of a table file, from its first byte on. Faults, each at the first byte of its field: 301 to 304, 310, and
+/// 305 at the end of the file.
+pub(crate) fn read_header<S: Source>(
+    alloc: Global,
+    source: &mut S,
+    offset: &mut u64,
+) -> Result<Header, Fault>
+    requires countable { S.failures source.old < 2 ^ 64 - 1 }
+    requires room { offset.old < 2 ^ 31 }
+    ensures reads { Reads header_shape header
+        (state (S.to_come source.old) offset.old (S.failures source.old))
+        (state (S.to_come source.new) offset.new (S.failures source.new)) result }
+    ensures counted { OnOk result (offset.new ≤ offset.old + 20000) }
+    ensures few { IfOk result (λ found. found.rows ≤ most_rows) }
+{
+    let front = read_front(source, offset)?;
+    let name = read_name(alloc, &[], source, offset)?;
+    let columns = read_columns(alloc, front.version, front.columns, source, offset)?;
+    Ok(Header {
+        version: front.version,
+        layout: front.layout,
+        rows: front.rows,
+        schema: Schema { name, columns },
+    })
+}

@@ -1,0 +1,29 @@
+//! Bytes in memory as a source that never fails.
+ghost use Rattle.std.specs.Prelude.{Some};
+
+use crate::failed::Failed;
+use crate::source::Source;
+
+/// Bytes that are still to come.
+#[derive(Drop)]
+pub(crate) struct Memory<'a> {
+    pub(crate) rest: &'a [u8],
+}
+
+impl Source for Memory<'_> {
+    ghost to_come = { λ memory. Some memory.rest.now };
+
+    ghost failures = { λ _. 0 };
+
+    fn read(&mut self, buffer: &mut [u8]) -> Result<usize, Failed> {
+        let count = self.rest.len().min(buffer.len());
+        let (front, rest) = self.rest.split_at(count);
+        buffer[..count].copy_from_slice(front);
+        self.rest = rest;
+        Ok(count)
+    }
+
+    fn failures(&self) -> u64 {
+        0
+    }
+}

@@ -1,0 +1,182 @@
+//! Segments in either layout, behind the same calls.
+ghost use Rattle.std.specs.Prelude.{◌≡◌, ◌++◌, ◌<◌, ◌≤◌, map, length, OnOk, OnErr, IsOkUnless};
+ghost use Rattle.bw_model.specs.Fault.{no_memory};
+ghost use Rattle.bw_model.specs.Groups.{group_size};
+ghost use Rattle.bw_model.specs.Row.{values_of};
+ghost use Rattle.bw_segment.specs.Meaning.{IsGroup, meaning_of};
+ghost use Rattle.bw_file.specs.Blocks.{form_of, block_size, block_fault, segment_size, segment_text, IsSound, rows_spelled};
+
+use crate::layout::Layout;
+use bw_lanes::Plane;
+use bw_model::{Fault, Row, Schema, Value};
+use bw_planes::PlaneSegment;
+use bw_segment::{Segment, Shape};
+use bw_slices::SliceSegment;
+use std::alloc::Global;
+use std::rc::Rc;
+
+/// A segment of a table file, in the file's layout.
+#[derive(Drop)]
+pub enum AnySegment {
+    Planes(PlaneSegment),
+    Slices(SliceSegment),
+}
+
+impl Segment for AnySegment {
+    ghost use Rattle.bw_file.specs.AnySegment.{any_meaning, any_is_group};
+
+    ghost meaning = { any_meaning };
+
+    #[tactic(auto, unfolding(crate::specs::AnySegment::any_meaning))]
+    fn schema(&self) -> &Schema {
+        match self {
+            AnySegment::Planes(segment) => segment.schema(),
+            AnySegment::Slices(segment) => segment.schema(),
+        }
+    }
+
+    #[tactic(auto, unfolding(crate::specs::AnySegment::any_meaning))]
+    fn shape(&self) -> &Shape {
+        match self {
+            AnySegment::Planes(segment) => segment.shape(),
+            AnySegment::Slices(segment) => segment.shape(),
+        }
+    }
+
+    #[tactic(auto, unfolding(crate::specs::AnySegment::any_meaning))]
+    fn rows_in(&self) -> u32 {
+        match self {
+            AnySegment::Planes(segment) => segment.rows_in(),
+            AnySegment::Slices(segment) => segment.rows_in(),
+        }
+    }
+
+    #[tactic(auto, unfolding(crate::specs::AnySegment::any_meaning))]
+    fn plane(&self, var: u32) -> Plane {
+        match self {
+            AnySegment::Planes(segment) => segment.plane(var),
+            AnySegment::Slices(segment) => segment.plane(var),
+        }
+    }
+
+    #[tactic(auto, unfolding(crate::specs::AnySegment::any_meaning))]
+    fn byte_lt(&self, col: usize, slice: usize, c: u8) -> Plane {
+        match self {
+            AnySegment::Planes(segment) => segment.byte_lt(col, slice, c),
+            AnySegment::Slices(segment) => segment.byte_lt(col, slice, c),
+        }
+    }
+
+    #[tactic(auto, unfolding(crate::specs::AnySegment::any_meaning))]
+    fn byte_eq(&self, col: usize, slice: usize, c: u8) -> Plane {
+        match self {
+            AnySegment::Planes(segment) => segment.byte_eq(col, slice, c),
+            AnySegment::Slices(segment) => segment.byte_eq(col, slice, c),
+        }
+    }
+
+    #[tactic(auto, unfolding(crate::specs::AnySegment::any_meaning))]
+    fn value(&self, col: usize, row: usize) -> Value {
+        match self {
+            AnySegment::Planes(segment) => segment.value(col, row),
+            AnySegment::Slices(segment) => segment.value(col, row),
+        }
+    }
+
+    ghost is_group = { any_is_group };
+}
+
+impl AnySegment {
+    ghost use Rattle.std.specs.Prelude.{IfOk};
+    ghost use Rattle.bw_file.specs.AnySegment.{any_meaning};
+
+    /// The memory of the segment's bytes, for another one.
+    pub(crate) fn into_bytes(self) -> Vec<u8> {
+        match self {
+            AnySegment::Planes(segment) => segment.into_bytes(),
+            AnySegment::Slices(segment) => segment.into_bytes(),
+        }
+    }
+
+    /// The segment of bytes that have no fault.
+    #[tactic(auto, unfolding(crate::specs::AnySegment::any_meaning, crate::specs::Blocks::form_of))]
+    pub(crate) fn of_blocks(layout: Layout, shape: Rc<Shape>, rows: u32, bytes: Vec<u8>) -> Self
+        requires some { 1 ≤ rows }
+        requires few { rows ≤ group_size }
+        requires sound { IsSound layout shape.value.schema.columns.items rows bytes.items }
+        ensures name { (any_meaning result).name ≡ shape.value.schema.name }
+        ensures columns { (any_meaning result).columns ≡ shape.value.schema.columns.items }
+        ensures rows { (any_meaning result).rows
+            ≡ rows_spelled layout shape.value.schema.columns.items rows bytes.items }
+    {
+        match layout {
+            Layout::Planes => AnySegment::Planes(PlaneSegment::of_blocks(shape, rows, bytes)),
+            Layout::Slices => AnySegment::Slices(SliceSegment::of_blocks(shape, rows, bytes)),
+        }
+    }
+}
+
+/// Adds the bytes of a segment of these rows.
+#[tactic(auto, unfolding(crate::specs::Blocks::form_of))]
+pub(crate) fn append(
+    alloc: Global,
+    layout: Layout,
+    bytes: &mut Vec<u8>,
+    shape: &Shape,
+    rows: &[Row],
+) -> Result<(), Fault>
+    requires { IsGroup (meaning_of shape.now.schema rows.now) }
+    ensures added { OnOk result (bytes.new.items ≡ bytes.old.items
+        ++ segment_text layout shape.now.schema.columns.items (map values_of rows.now)) }
+    ensures refused { OnErr result (bytes.new.items ≡ bytes.old.items) }
+    ensures only_memory { IsOkUnless result no_memory }
+{
+    match layout {
+        Layout::Planes => PlaneSegment::append(alloc, bytes, shape, rows),
+        Layout::Slices => SliceSegment::append(alloc, bytes, shape, rows),
+    }
+}
+
+/// How many bytes a column's block takes.
+#[tactic(auto, unfolding(crate::specs::Blocks::form_of))]
+pub(crate) fn block_size(layout: Layout, shape: &Shape, col: usize) -> usize
+    requires { col < length shape.now.schema.columns.items }
+    ensures size { result ≡ block_size layout shape.now.schema.columns.items col }
+    ensures bound { result ≤ 4160 }
+{
+    match layout {
+        Layout::Planes => PlaneSegment::block_size(shape, col),
+        Layout::Slices => SliceSegment::block_size(shape, col),
+    }
+}
+
+/// How many bytes a segment takes.
+#[tactic(auto, unfolding(crate::specs::Blocks::form_of))]
+pub(crate) fn segment_size(layout: Layout, shape: &Shape) -> usize
+    ensures { result ≡ segment_size layout shape.now.schema.columns.items }
+{
+    match layout {
+        Layout::Planes => PlaneSegment::segment_size(shape),
+        Layout::Slices => SliceSegment::segment_size(shape),
+    }
+}
+
+/// The first fault of a column's block of a segment of so many rows, by its number.
+#[tactic(auto, unfolding(crate::specs::Blocks::form_of))]
+pub(crate) fn judge(
+    layout: Layout,
+    shape: &Shape,
+    col: usize,
+    rows: u32,
+    block: &[u8],
+) -> Option<u16>
+    requires column { col < length shape.now.schema.columns.items }
+    requires rows { rows ≤ group_size }
+    requires size { length block.now ≡ block_size layout shape.now.schema.columns.items col }
+    ensures { result ≡ block_fault layout shape.now.schema.columns.items col rows block.now }
+{
+    match layout {
+        Layout::Planes => PlaneSegment::judge(shape, col, rows, block),
+        Layout::Slices => SliceSegment::judge(shape, col, rows, block),
+    }
+}

@@ -1,0 +1,89 @@
+//! Whole tables in memory, as the bytes of a table file and back.
+ghost use Rattle.std.specs.Prelude.{◌≡◌, ◌-◌, ◌^◌, ◌<◌, ◌++◌, ◌∷◌, [], List, map, false, length, slice_index_or, Ok, Err, OnOk, IfOk, IfErr, IsOkUnless};
+ghost use Rattle.bw_model.specs.Fault.{no_memory, is_memory};
+ghost use Rattle.bw_model.specs.Row.{Value, values_of};
+ghost use Rattle.bw_file.specs.AnySegment.{any_meaning};
+ghost use Rattle.bw_file.specs.FileText.{AreRows, IsFileText, file_text};
+ghost use Rattle.bw_file.specs.Table.{found_of};
+ghost use Rattle.bw_file.specs.TableReading.{IsReadAs};
+
+use crate::encoder::Encoder;
+use crate::layout::Layout;
+use crate::memory::Memory;
+use crate::segments::AnySegment;
+use crate::table_reader::TableReader;
+use bw_model::{Fault, Row, Schema, Value};
+use bw_segment::Segment;
+use std::alloc::Global;
+
+/// A table, and the layout of its file.
+#[derive(Drop)]
+pub struct Table {
+    pub layout: Layout,
+    pub schema: Schema,
+    pub rows: Vec<Row>,
+}
+
+/// The table file of rows that the schema admits, at most 2^24: of version 1 where that has room for every column, and
+/// else of version 2.
+pub fn encode(
+    alloc: Global,
+    layout: Layout,
+    schema: &Schema,
+    rows: &[Row],
+) -> Result<Vec<u8>, Fault>
+    requires { AreRows schema.now.columns.items (map values_of rows.now) }
+    ensures text { IfOk result (λ bytes. bytes.items ≡ file_text layout schema.now (map values_of rows.now)) }
+    ensures only_memory { IsOkUnless result no_memory }
+{
+    let mut encoder = Encoder::new(alloc, layout, schema)?;
+    for row in rows {
+        encoder.add(row)?;
+    }
+    encoder.finish()
+}
+
+/// The table of a table file, of either version. Refuses other bytes by the first fault in the order of the format: 301 to
+/// 304, 310, 305 to 309.
+pub fn decode(alloc: Global, bytes: &[u8]) -> Result<Table, Fault>
+    ensures table { IfOk result (λ table. IsFileText bytes.now table.layout table.schema (map values_of table.rows.items)) }
+    ensures read { IfOk result (λ table. IsReadAs bytes.now (Ok (found_of table))) }
+    ensures fault { IfErr result (λ fault. is_memory fault ≡ false → IsReadAs bytes.now (Err fault)) }
+{
+    let mut source = Memory { rest: bytes };
+    let mut reader = TableReader::begin(alloc, &mut source)?;
+    let mut rows = Vec::new(alloc);
+    while let Some(segment) = reader.next_segment(&mut source)? {
+        push_rows(alloc, &segment, &mut rows)?;
+    }
+    Ok(Table {
+        layout: reader.layout(),
+        schema: reader.schema().copy(alloc)?,
+        rows,
+    })
+}
+
+/// Adds the rows of a segment.
+fn push_rows(alloc: Global, segment: &AnySegment, rows: &mut Vec<Row>) -> Result<(), Fault>
+    ensures rows { OnOk result (map values_of rows.new.items ≡ map values_of rows.old.items ++ (any_meaning segment.now).rows) }
+    ensures only_memory { IsOkUnless result no_memory }
+{
+    for i in 0..segment.rows_in() as usize {
+        rows.push(row_of(alloc, segment, i)?)?;
+    }
+    Ok(())
+}
+
+/// A row of a segment.
+fn row_of(alloc: Global, segment: &AnySegment, i: usize) -> Result<Row, Fault>
+    requires { i < length (any_meaning segment.now).rows }
+    ensures row { IfOk result (λ row. values_of row ≡ slice_index_or (any_meaning segment.now).rows i []) }
+    ensures only_memory { IsOkUnless result no_memory }
+{
+    let count = segment.schema().columns.len();
+    let mut values: Vec<Value> = Vec::with_capacity(alloc, count)?;
+    for col in 0..count {
+        values.push(segment.value(col, i))?;
+    }
+    Ok(Row { values })
+}

@@ -1,0 +1,315 @@
+//! A table file read one segment at a time.
+ghost use Rattle.std.specs.Prelude.{◌≡◌, ◌+◌, ◌-◌, ◌*◌, ◌^◌, ◌<◌, ◌≤◌, ◌++◌, ◌∷◌, ℕ, List, [], Result, Some, None, Ok, Err, length, OnOk, IfOk, IfErr};
+ghost use Rattle.bw_model.specs.Limits.{most_rows};
+ghost use Rattle.bw_file.specs.declared.phase.Phase.TheVariants.{Reading};
+
+use crate::body::{read_end, read_segment};
+use crate::header::{Header, read_header};
+use crate::layout::Layout;
+use crate::phase::Phase;
+use crate::segments::AnySegment;
+use crate::source::Source;
+use bw_model::{Fault, Schema};
+use bw_segment::{Segment, Shape};
+use std::alloc::Global;
+use std::rc::Rc;
+
+/// Reads a table file from a source, one segment at a time. It keeps the header, how many bytes it took and how many rows
+/// it gave, and what it repeats: that there is no more, or a fault. It doesn't keep the source.
+#[derive(Drop)]
+pub struct TableReader {
+    alloc: Global,
+    shape: Rc<Shape>,
+    layout: Layout,
+    rows: u32,
+    given: u32,
+    offset: u64,
+    phase: Phase,
+    ghost within: { given ≤ rows },
+    ghost few: { rows ≤ most_rows },
+    ghost room: { phase ≡ Reading → offset + 2 ^ 19 * (rows - given) < 2 ^ 50 },
+}
+
+impl TableReader {
+    ghost use Rattle.std.specs.Prelude.{IfSome};
+    ghost use Rattle.bw_model.specs.declared.fault.Fault.{Fault};
+    ghost use Rattle.bw_model.specs.Row.{Value};
+    ghost use Rattle.bw_file.specs.AnySegment.{any_meaning};
+    ghost use Rattle.bw_file.specs.Reading.{State, Fails, state};
+    ghost use Rattle.bw_file.specs.TableReading.{header};
+    ghost use Rattle.bw_file.specs.TableReader.{schema_in, layout_in, rows_told, rows_given, bytes_taken, settled, SameTable, SoFar, ReadWhole, AnswersFault, DidRead, IsSegmentOf, Settles, Repeats, found_so_far};
+
+    /// Reads the header of a table file, and no byte past it: 301 to 304 and 310, each at the first byte of its field, 305
+    /// at the end of a file that ends before, or 701. That the source's count of failures can rise is the caller's
+    /// condition.
+    pub fn begin<S: Source>(alloc: Global, source: &mut S) -> Result<Self, Fault>
+        requires { S.failures source.old < 2 ^ 64 - 1 }
+        ensures began { IfOk result (λ reader. SoFar
+            (state (S.to_come source.old) 0 (S.failures source.old))
+            (state (S.to_come source.new) (bytes_taken reader) (S.failures source.new)) reader []) }
+        ensures fresh { IfOk result (λ reader. (rows_given reader ≡ 0) × (settled reader ≡ None)) }
+        ensures head { IfErr result (λ fault. (offset : ℕ) × Fails header
+            (state (S.to_come source.old) 0 (S.failures source.old))
+            (state (S.to_come source.new) offset (S.failures source.new)) fault) }
+        ensures refused { IfErr result (λ fault. (offset : ℕ) × AnswersFault
+            (state (S.to_come source.old) 0 (S.failures source.old))
+            (state (S.to_come source.old) 0 (S.failures source.old))
+            (state (S.to_come source.new) offset (S.failures source.new)) fault) }
+    {
+        let mut offset = 0;
+        let Header {
+            version: _,
+            layout,
+            rows,
+            schema,
+        } = read_header(alloc, source, &mut offset)?;
+        let shape = Rc::new(alloc, Shape::new(alloc, &schema)?)?;
+        Ok(TableReader {
+            alloc,
+            shape,
+            layout,
+            rows,
+            given: 0,
+            offset,
+            phase: Phase::Reading,
+        })
+    }
+
+    /// The next segment, of 512 rows or, the last one, of fewer; or None behind the last one, where the source has ended.
+    /// Takes a block at a time, and judges it before the next: 308, 307, 306 at the block's first byte, 305 at the end
+    /// of a file that ends before, 309 at a byte behind the last block, or 701. From None on it answers None, and from a
+    /// fault on, want of memory too, that fault, and takes nothing.
+    pub fn next_segment<S: Source>(&mut self, source: &mut S) -> Result<Option<AnySegment>, Fault>
+        requires { S.failures source.old < 2 ^ 64 - 1 }
+        ensures given { IfOk result (λ found. IfSome found (λ segment.
+            (start : State) (groups : List (List (List Value)))
+            → SoFar start (state (S.to_come source.old) (bytes_taken self.old) (S.failures source.old)) self.old groups
+            → SoFar start (state (S.to_come source.new) (bytes_taken self.new) (S.failures source.new)) self.new
+            (groups ++ (any_meaning segment).rows ∷ []))) }
+        ensures segment { IfOk result (λ found. IfSome found (λ segment. IsSegmentOf self.old segment
+            × (rows_given self.new ≡ rows_given self.old + length (any_meaning segment).rows) × (settled self.new ≡ None))) }
+        ensures ended { IfOk result (λ found. found ≡ None → settled self.old ≡ None
+            → (start : State) (groups : List (List (List Value)))
+            → SoFar start (state (S.to_come source.old) (bytes_taken self.old) (S.failures source.old)) self.old groups
+            → ReadWhole start (state (S.to_come source.new) (bytes_taken self.new) (S.failures source.new))
+            (found_so_far self.old groups)) }
+        ensures refused { IfErr result (λ fault. settled self.old ≡ None
+            → (start : State) (groups : List (List (List Value)))
+            → SoFar start (state (S.to_come source.old) (bytes_taken self.old) (S.failures source.old)) self.old groups
+            → AnswersFault start (state (S.to_come source.old) (bytes_taken self.old) (S.failures source.old))
+            (state (S.to_come source.new) (bytes_taken self.new) (S.failures source.new)) fault) }
+        ensures read { settled self.old ≡ None
+            → DidRead (state (S.to_come source.old) (bytes_taken self.old) (S.failures source.old))
+            (state (S.to_come source.new) (bytes_taken self.new) (S.failures source.new)) result }
+        ensures settles { Settles result (settled self.new) }
+        ensures repeats { (answer : Result (Unit {0}) Fault) → settled self.old ≡ Some answer
+            → Repeats result answer × (self.new ≡ self.old) × (source.new ≡ source.old) }
+        ensures same { SameTable self.old self.new }
+    {
+        let bytes = Vec::new(self.alloc);
+        self.next_in(source, bytes)
+    }
+
+    /// The same in the memory of a segment that isn't needed any more, where there is one.
+    pub fn refill<S: Source>(
+        &mut self,
+        source: &mut S,
+        spare: Option<AnySegment>,
+    ) -> Result<Option<AnySegment>, Fault>
+        requires { S.failures source.old < 2 ^ 64 - 1 }
+        ensures given { IfOk result (λ found. IfSome found (λ segment.
+            (start : State) (groups : List (List (List Value)))
+            → SoFar start (state (S.to_come source.old) (bytes_taken self.old) (S.failures source.old)) self.old groups
+            → SoFar start (state (S.to_come source.new) (bytes_taken self.new) (S.failures source.new)) self.new
+            (groups ++ (any_meaning segment).rows ∷ []))) }
+        ensures segment { IfOk result (λ found. IfSome found (λ segment. IsSegmentOf self.old segment
+            × (rows_given self.new ≡ rows_given self.old + length (any_meaning segment).rows) × (settled self.new ≡ None))) }
+        ensures ended { IfOk result (λ found. found ≡ None → settled self.old ≡ None
+            → (start : State) (groups : List (List (List Value)))
+            → SoFar start (state (S.to_come source.old) (bytes_taken self.old) (S.failures source.old)) self.old groups
+            → ReadWhole start (state (S.to_come source.new) (bytes_taken self.new) (S.failures source.new))
+            (found_so_far self.old groups)) }
+        ensures refused { IfErr result (λ fault. settled self.old ≡ None
+            → (start : State) (groups : List (List (List Value)))
+            → SoFar start (state (S.to_come source.old) (bytes_taken self.old) (S.failures source.old)) self.old groups
+            → AnswersFault start (state (S.to_come source.old) (bytes_taken self.old) (S.failures source.old))
+            (state (S.to_come source.new) (bytes_taken self.new) (S.failures source.new)) fault) }
+        ensures read { settled self.old ≡ None
+            → DidRead (state (S.to_come source.old) (bytes_taken self.old) (S.failures source.old))
+            (state (S.to_come source.new) (bytes_taken self.new) (S.failures source.new)) result }
+        ensures settles { Settles result (settled self.new) }
+        ensures repeats { (answer : Result (Unit {0}) Fault) → settled self.old ≡ Some answer
+            → Repeats result answer × (self.new ≡ self.old) × (source.new ≡ source.old) }
+        ensures same { SameTable self.old self.new }
+    {
+        match spare {
+            None => self.next_segment(source),
+            Some(segment) => self.next_in(source, segment.into_bytes()),
+        }
+    }
+
+    /// The next segment in this memory.
+    fn next_in<S: Source>(
+        &mut self,
+        source: &mut S,
+        bytes: Vec<u8>,
+    ) -> Result<Option<AnySegment>, Fault>
+        requires { S.failures source.old < 2 ^ 64 - 1 }
+        ensures given { IfOk result (λ found. IfSome found (λ segment.
+            (start : State) (groups : List (List (List Value)))
+            → SoFar start (state (S.to_come source.old) (bytes_taken self.old) (S.failures source.old)) self.old groups
+            → SoFar start (state (S.to_come source.new) (bytes_taken self.new) (S.failures source.new)) self.new
+            (groups ++ (any_meaning segment).rows ∷ []))) }
+        ensures segment { IfOk result (λ found. IfSome found (λ segment. IsSegmentOf self.old segment
+            × (rows_given self.new ≡ rows_given self.old + length (any_meaning segment).rows) × (settled self.new ≡ None))) }
+        ensures ended { IfOk result (λ found. found ≡ None → settled self.old ≡ None
+            → (start : State) (groups : List (List (List Value)))
+            → SoFar start (state (S.to_come source.old) (bytes_taken self.old) (S.failures source.old)) self.old groups
+            → ReadWhole start (state (S.to_come source.new) (bytes_taken self.new) (S.failures source.new))
+            (found_so_far self.old groups)) }
+        ensures refused { IfErr result (λ fault. settled self.old ≡ None
+            → (start : State) (groups : List (List (List Value)))
+            → SoFar start (state (S.to_come source.old) (bytes_taken self.old) (S.failures source.old)) self.old groups
+            → AnswersFault start (state (S.to_come source.old) (bytes_taken self.old) (S.failures source.old))
+            (state (S.to_come source.new) (bytes_taken self.new) (S.failures source.new)) fault) }
+        ensures read { settled self.old ≡ None
+            → DidRead (state (S.to_come source.old) (bytes_taken self.old) (S.failures source.old))
+            (state (S.to_come source.new) (bytes_taken self.new) (S.failures source.new)) result }
+        ensures settles { Settles result (settled self.new) }
+        ensures repeats { (answer : Result (Unit {0}) Fault) → settled self.old ≡ Some answer
+            → Repeats result answer × (self.new ≡ self.old) × (source.new ≡ source.old) }
+        ensures same { SameTable self.old self.new }
+    {
+        match self.phase {
+            Phase::Ended => Ok(None),
+            Phase::Failed(fault) => Err(fault),
+            Phase::Reading if self.given == self.rows => self.see_end(source),
+            Phase::Reading => self.give_segment(source, bytes),
+        }
+    }
+
+    /// Sees that the source has ended.
+    fn see_end<S: Source>(&mut self, source: &mut S) -> Result<Option<AnySegment>, Fault>
+        requires countable { S.failures source.old < 2 ^ 64 - 1 }
+        requires open { self.old.phase ≡ Reading }
+        requires all { self.old.given ≡ self.old.rows }
+        ensures given { IfOk result (λ found. IfSome found (λ segment.
+            (start : State) (groups : List (List (List Value)))
+            → SoFar start (state (S.to_come source.old) (bytes_taken self.old) (S.failures source.old)) self.old groups
+            → SoFar start (state (S.to_come source.new) (bytes_taken self.new) (S.failures source.new)) self.new
+            (groups ++ (any_meaning segment).rows ∷ []))) }
+        ensures segment { IfOk result (λ found. IfSome found (λ segment. IsSegmentOf self.old segment
+            × (rows_given self.new ≡ rows_given self.old + length (any_meaning segment).rows) × (settled self.new ≡ None))) }
+        ensures ended { IfOk result (λ found. found ≡ None → settled self.old ≡ None
+            → (start : State) (groups : List (List (List Value)))
+            → SoFar start (state (S.to_come source.old) (bytes_taken self.old) (S.failures source.old)) self.old groups
+            → ReadWhole start (state (S.to_come source.new) (bytes_taken self.new) (S.failures source.new))
+            (found_so_far self.old groups)) }
+        ensures refused { IfErr result (λ fault. settled self.old ≡ None
+            → (start : State) (groups : List (List (List Value)))
+            → SoFar start (state (S.to_come source.old) (bytes_taken self.old) (S.failures source.old)) self.old groups
+            → AnswersFault start (state (S.to_come source.old) (bytes_taken self.old) (S.failures source.old))
+            (state (S.to_come source.new) (bytes_taken self.new) (S.failures source.new)) fault) }
+        ensures read { settled self.old ≡ None
+            → DidRead (state (S.to_come source.old) (bytes_taken self.old) (S.failures source.old))
+            (state (S.to_come source.new) (bytes_taken self.new) (S.failures source.new)) result }
+        ensures settles { Settles result (settled self.new) }
+        ensures same { SameTable self.old self.new }
+    {
+        let mut offset = self.offset;
+        let answer = read_end(source, &mut offset);
+        self.offset = offset;
+        match answer {
+            Ok(()) => {
+                self.phase = Phase::Ended;
+                Ok(None)
+            }
+            Err(fault) => {
+                self.phase = Phase::Failed(fault);
+                Err(fault)
+            }
+        }
+    }
+
+    /// Reads a segment of the rows that are left.
+    fn give_segment<S: Source>(
+        &mut self,
+        source: &mut S,
+        bytes: Vec<u8>,
+    ) -> Result<Option<AnySegment>, Fault>
+        requires countable { S.failures source.old < 2 ^ 64 - 1 }
+        requires open { self.old.phase ≡ Reading }
+        requires left { self.old.given < self.old.rows }
+        ensures given { IfOk result (λ found. IfSome found (λ segment.
+            (start : State) (groups : List (List (List Value)))
+            → SoFar start (state (S.to_come source.old) (bytes_taken self.old) (S.failures source.old)) self.old groups
+            → SoFar start (state (S.to_come source.new) (bytes_taken self.new) (S.failures source.new)) self.new
+            (groups ++ (any_meaning segment).rows ∷ []))) }
+        ensures segment { IfOk result (λ found. IfSome found (λ segment. IsSegmentOf self.old segment
+            × (rows_given self.new ≡ rows_given self.old + length (any_meaning segment).rows) × (settled self.new ≡ None))) }
+        ensures ended { IfOk result (λ found. found ≡ None → settled self.old ≡ None
+            → (start : State) (groups : List (List (List Value)))
+            → SoFar start (state (S.to_come source.old) (bytes_taken self.old) (S.failures source.old)) self.old groups
+            → ReadWhole start (state (S.to_come source.new) (bytes_taken self.new) (S.failures source.new))
+            (found_so_far self.old groups)) }
+        ensures refused { IfErr result (λ fault. settled self.old ≡ None
+            → (start : State) (groups : List (List (List Value)))
+            → SoFar start (state (S.to_come source.old) (bytes_taken self.old) (S.failures source.old)) self.old groups
+            → AnswersFault start (state (S.to_come source.old) (bytes_taken self.old) (S.failures source.old))
+            (state (S.to_come source.new) (bytes_taken self.new) (S.failures source.new)) fault) }
+        ensures read { settled self.old ≡ None
+            → DidRead (state (S.to_come source.old) (bytes_taken self.old) (S.failures source.old))
+            (state (S.to_come source.new) (bytes_taken self.new) (S.failures source.new)) result }
+        ensures settles { Settles result (settled self.new) }
+        ensures same { SameTable self.old self.new }
+    {
+        let rows = (self.rows - self.given).min(512);
+        let mut offset = self.offset;
+        let answer = read_segment(source, &mut offset, self.layout, &self.shape, rows, bytes);
+        self.offset = offset;
+        match answer {
+            Ok(segment) => {
+                self.given += rows;
+                Ok(Some(segment))
+            }
+            Err(fault) => {
+                self.phase = Phase::Failed(fault);
+                Err(fault)
+            }
+        }
+    }
+
+    /// The table's schema.
+    pub fn schema(&self) -> &Schema
+        ensures { result.now ≡ schema_in self.now }
+    {
+        &self.shape.schema
+    }
+
+    /// How many rows the header tells of.
+    pub fn rows(&self) -> u32
+        ensures { result ≡ rows_told self.now }
+    {
+        self.rows
+    }
+
+    pub fn layout(&self) -> Layout
+        ensures { result ≡ layout_in self.now }
+    {
+        self.layout
+    }
+
+    /// How many bytes it took.
+    pub fn offset(&self) -> u64
+        ensures { result ≡ bytes_taken self.now }
+    {
+        self.offset
+    }
+
+    /// How many rows it gave.
+    pub fn given(&self) -> u32
+        ensures { result ≡ rows_given self.now }
+    {
+        self.given
+    }
+}

@@ -1,0 +1,35 @@
+//! Bytes taken whole from a source.
+ghost use Rattle.std.specs.Prelude.{◌≡◌, ◌-◌, ◌+◌, ◌^◌, ◌<◌, length, OnOk};
+ghost use Rattle.bw_file.specs.Reading.{Reads, state, field};
+
+use crate::failed::Failed;
+use crate::source::Source;
+use bw_model::{Fault, code};
+
+/// Takes as many bytes as the buffer has room for, and counts them. A source that ends before is 305 at the number of
+/// its bytes, and a failed read 701. No byte more is taken.
+pub(crate) fn take<S: Source>(
+    source: &mut S,
+    offset: &mut u64,
+    buffer: &mut [u8],
+) -> Result<(), Fault>
+    requires countable { S.failures source.old < 2 ^ 64 - 1 }
+    requires room { offset.old + length buffer.old < 2 ^ 64 }
+    ensures reads { Reads (λ _. buffer.new) (field (length buffer.old))
+        (state (S.to_come source.old) offset.old (S.failures source.old))
+        (state (S.to_come source.new) offset.new (S.failures source.new)) result }
+    ensures counted { OnOk result (offset.new ≡ offset.old + length buffer.old) }
+{
+    let mut filled = 0;
+    while filled < buffer.len() {
+        match source.read(&mut buffer[filled..]) {
+            Ok(0) => return Err(Fault::at_byte(code::TRUNCATED, *offset)),
+            Ok(n) => {
+                filled += n;
+                *offset += n as u64;
+            }
+            Err(Failed) => return Err(Fault::new(code::READ_FAILED)),
+        }
+    }
+    Ok(())
+}

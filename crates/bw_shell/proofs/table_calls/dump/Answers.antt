@@ -1,0 +1,51 @@
+-- Each exit, by what its calls told.
+use Rattle.std.proofs.Common.{◌≡◌, ◌∙◌, [], refl, sym, ap, true, false, ℕ}
+use Rattle.std.proofs.lemmas.Result.{err_from_is_err_and}
+use Rattle.bw_file.specs.Reading.{State, failed_reads, state}
+use Rattle.bw_file.specs.Source.{is_input_fault}
+use Rattle.bw_file.specs.TableReader.{bytes_taken, schema_in}
+use Rattle.bw_sql.specs.Refusal.{is_statement_fault}
+use Rattle.bw_sql.specs.Statement.{IsReadAs}
+use Rattle.bw_model.specs.declared.schema.Schema.{Schema}
+use Rattle.bw_shell.specs.TableAnswer.{by_dump}
+use Rattle.bw_shell.proofs.TableExits.{asked_exit, header_exit, no_failed_read, own_fault, segment_exit, text_exit, wrote_either, wrote_nothing}
+use Rattle.bw_shell.proofs.table_calls.dump.Goals as goal
+
+pub returns-in_err-reader-clause-answer : goal.returns-in_err-reader-clause-answer
+returns-in_err-reader-clause-answer g c =
+    let p = err_from_is_err_and c.from_residual.result c.from_residual.ensures.1 in
+    rw (p.1, p.2) (header_exit by_dump _ _ _ c.in_err-reader.field-0.0 c.in_err-reader.ensures.head (wrote_nothing (Unit {0}) _ _ _))
+
+pub returns-in_err-query-clause-answer : goal.returns-in_err-query-clause-answer
+returns-in_err-query-clause-answer g c =
+    let p = err_from_is_err_and c.from_residual-in_err-query.result c.from_residual-in_err-query.ensures.1 in
+    let fault = c.in_err-query.field-0.0 in
+    let memory = c.in_err-query.ensures.only_memory in
+    let reader = c.in_ok-reader.reader in
+    let read = c.in_ok-reader.ensures.began in
+    let taken = c.bytes_were_taken.ensures _ _ reader [] read in
+    let now : ℕ → State = λ offset. state (g.S.Source.to_come c.begin.new.source) offset (g.S.Source.failures c.begin.new.source) in
+    rw (p.1, p.2) (asked_exit by_dump _ now (bytes_taken reader) _ reader fault read taken.1 (ap failed_reads memory)
+    (λ own. let e : true ≡ false = sym (ap is_input_fault memory) ∙ own in absurd (cc e)) (wrote_nothing (Unit {0}) _ _ _))
+
+pub returns-in_err-found-clause-answer : goal.returns-in_err-found-clause-answer
+returns-in_err-found-clause-answer g c =
+    let p = err_from_is_err_and c.from_residual-in_err-found.result c.from_residual-in_err-found.ensures.1 in
+    let fault = c.in_err-found.field-0.0 in
+    let reader = c.in_ok-reader.reader in
+    let read = c.in_ok-reader.ensures.began in
+    let taken = c.bytes_were_taken.ensures _ _ reader [] read in
+    let now : ℕ → State = λ offset. state (g.S.Source.to_come c.table_text.new.source) offset (g.S.Source.failures c.table_text.new.source) in
+    let parsed = rw c.schema.ensures at c.in_ok-query.ensures.every in
+    rw (p.1, p.2) (segment_exit by_dump _ now _ (bytes_taken c.table_text.new.reader) _ reader c.in_ok-query.query fault read taken.1
+    parsed (c.in_err-found.ensures.refused _ read) (wrote_nothing (Unit {0}) _ _ _))
+
+pub returns-clause-answer : goal.returns-clause-answer
+returns-clause-answer g c =
+    let found = c.in_ok-found.found in
+    let now : ℕ → State = λ offset. state (g.S.Source.to_come c.table_text.new.source) offset (g.S.Source.failures c.table_text.new.source) in
+    let parsed = rw c.schema.ensures at c.in_ok-query.ensures.every in
+    let over = c.in_ok-found.ensures.text _ c.in_ok-reader.ensures.began in
+    let goes = rw c.deref.ensures.value at c.write_whole.ensures in
+    text_exit by_dump _ now (bytes_taken c.table_text.new.reader) _ (schema_in c.in_ok-reader.reader) c.in_ok-query.query found.text.items found.segments
+    parsed over (wrote_either (Unit {0}) _ _ _ _ _ _ goes)

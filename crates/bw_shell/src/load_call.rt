@@ -1,0 +1,101 @@
+//! A table file written from a CSV text.
+ghost use Rattle.std.specs.Prelude.{◌≡◌, ◌+◌, ◌-◌, ◌^◌, ◌<◌, ℕ, List, Option, Result, false, IfErr, IsTrue, OnOk};
+ghost use Rattle.bw_model.specs.declared.fault.Fault.{Fault};
+ghost use Rattle.bw_model.specs.Column.{admits_values};
+ghost use Rattle.bw_model.specs.Fault.{nowhere};
+ghost use Rattle.bw_model.specs.Limits.{longest_schema, longest_csv};
+ghost use Rattle.bw_file.specs.Encoder.{encoder_schema, rows_in};
+ghost use Rattle.bw_file.specs.Sink.{is_write_fault, Went};
+ghost use Rattle.bw_file.specs.Source.{Came, TookAtMost, EndsWith};
+ghost use Rattle.bw_csv.specs.Rows.{is_aside, GivesButAside, IsRowsFault};
+ghost use Rattle.bw_shell.specs.Direct.{is_before_csv};
+ghost use Rattle.bw_shell.specs.Load.{IsFile, file_of};
+
+use crate::inputs::{read_csv, read_schema};
+use crate::output::write_whole;
+use bw_csv::{RowTaker, read_rows};
+use bw_file::{Encoder, Layout, Sink, Source};
+use bw_model::{Fault, Row, Schema};
+use std::alloc::Global;
+
+/// Writes the table file of the rows of a CSV text, under the schema of a schema text.
+///
+/// Refuses in this order: the schema's source (701) and text (106, 101 to 105), the CSV's source (701) and text
+/// (208, 201 to 209), and the sink (702); want of memory (801) wherever it comes. Nothing is written before all else
+/// has succeeded. Beside the CSV text and the file's bytes, one segment is in memory. That each device's count of
+/// failures can rise is the caller's condition.
+pub fn load<S: Source, C: Source, K: Sink>(
+    alloc: Global,
+    schema_source: &mut S,
+    csv_source: &mut C,
+    layout: Layout,
+    sink: &mut K,
+) -> Result<(), Fault>
+    requires schema { S.failures schema_source.old < 2 ^ 64 - 1 }
+    requires csv { C.failures csv_source.old < 2 ^ 64 - 1 }
+    requires sink { K.failures sink.old < 2 ^ 64 - 1 }
+
+    // What went out is the text of the table file by what came of the sources, or nothing, where that is a fault. A
+    // source that wasn't reached, or whose text found no memory, stands as one that found no memory.
+    ensures file { (schema csv : Result (Option (List ℕ)) Fault) × (given : Result (List ℕ) Fault)
+        × Came longest_schema (S.to_come schema_source.old) (S.to_come schema_source.new)
+        (S.failures schema_source.old) (S.failures schema_source.new) schema
+        × Came longest_csv (C.to_come csv_source.old) (C.to_come csv_source.new)
+        (C.failures csv_source.old) (C.failures csv_source.new) csv
+        × IsFile layout schema csv given
+        × Went is_aside (K.taken sink.old) (K.taken sink.new) (K.failures sink.old) (K.failures sink.new) given result }
+
+    // Where a device failed, the call ends with that; and no more is taken of a source than one byte past its limit.
+    ensures schema_failed { EndsWith (nowhere 701) (S.failures schema_source.old) (S.failures schema_source.new) result }
+    ensures csv_failed { EndsWith (nowhere 701) (C.failures csv_source.old) (C.failures csv_source.new) result }
+    ensures sink_failed { EndsWith (nowhere 702) (K.failures sink.old) (K.failures sink.new) result }
+    ensures took { TookAtMost (longest_schema + 1) (S.to_come schema_source.old) (S.to_come schema_source.new)
+        × TookAtMost (longest_csv + 1) (C.to_come csv_source.old) (C.to_come csv_source.new) }
+
+    // Where the schema's source failed, or the schema is refused, the CSV's source is as it was.
+    ensures unread { S.failures schema_source.old < S.failures schema_source.new → csv_source.new ≡ csv_source.old }
+    ensures unneeded { IfErr result (λ fault. IsTrue (is_before_csv fault) → csv_source.new ≡ csv_source.old) }
+
+    // Where it refuses, but for a write that failed, it has written nothing.
+    ensures unwritten { IfErr result (λ fault. is_write_fault fault ≡ false
+        → (K.taken sink.new ≡ K.taken sink.old) × (K.failures sink.new ≡ K.failures sink.old)) }
+    ensures done { OnOk result (K.failures sink.new ≡ K.failures sink.old) }
+{
+    let schema = read_schema(alloc, schema_source)?;
+    let csv = read_csv(alloc, csv_source)?;
+    let file = file_text(alloc, layout, &schema, &csv)?;
+    write_whole(sink, &file)
+}
+
+/// The table file of the rows of a CSV text. Refuses as [`read_rows`] does.
+fn file_text(alloc: Global, layout: Layout, schema: &Schema, csv: &[u8]) -> Result<Vec<u8>, Fault>
+    ensures text { GivesButAside (λ file. file.items) result (file_of layout schema.now csv.now) }
+    ensures fault { IfErr result IsRowsFault }
+{
+    let mut loading = Loading {
+        encoder: Encoder::new(alloc, layout, schema)?,
+    };
+    read_rows(alloc, schema, csv, &mut loading)?;
+    let Loading { encoder } = loading;
+    encoder.finish()
+}
+
+/// Takes the rows of a table file.
+#[derive(Drop)]
+pub struct Loading {
+    encoder: Encoder,
+}
+
+impl RowTaker for Loading {
+    ghost takes = { λ loading row. admits_values (encoder_schema loading.encoder).columns.items row };
+
+    ghost rows = { λ loading. rows_in loading.encoder };
+
+    ghost use Rattle.bw_shell.specs.Loaded.{LoadsRows};
+
+    ghost led = { LoadsRows };
+
+    fn take(&mut self, row: &Row) -> Result<(), Fault> {
+        self.encoder.add(row)
+    }
+}

@@ -1,0 +1,111 @@
+//! Queries answered from a table file.
+ghost use Rattle.std.specs.Prelude.{◌≡◌, ◌-◌, ◌^◌, ◌<◌, ◌≤◌, ℕ, List, Result, false, length, vec_len, IsTrue, IfOk, IfErr, OnOk};
+ghost use Rattle.std.specs.List.{list_all};
+ghost use Rattle.bw_model.specs.declared.fault.Fault.{Fault};
+ghost use Rattle.bw_model.specs.declared.query.Query.{Query};
+ghost use Rattle.bw_model.specs.declared.schema.Schema.{Schema};
+ghost use Rattle.bw_model.specs.Cond.{names_within};
+ghost use Rattle.bw_model.specs.Total.{item_within};
+ghost use Rattle.bw_sql.specs.Items.{AreOfOneKind};
+ghost use Rattle.bw_model.specs.Fault.{nowhere, no_memory};
+ghost use Rattle.bw_file.specs.Reading.{state};
+ghost use Rattle.bw_file.specs.Sink.{is_write_fault};
+ghost use Rattle.bw_file.specs.Source.{EndsWith};
+ghost use Rattle.bw_shell.specs.declared.served.By.TheVariants.{Rows};
+ghost use Rattle.bw_shell.specs.TableText.{TextOver};
+ghost use Rattle.bw_shell.specs.TableAnswer.{IsEveryRow, TableGave, Wrote, by_dump, by_statement};
+
+use crate::output::write_whole;
+use crate::served::{By, Served};
+use crate::table_text::table_text;
+use bw_file::{Sink, Source, TableReader, bytes_were_taken};
+use bw_model::{Cond, Fault, Item, Query, Schema};
+use bw_sql::parse;
+use std::alloc::Global;
+
+/// Answers a statement over the rows of a table file, and writes the answer as CSV text: a heading record and then the
+/// records, fields joined by commas and each record ended by a line feed. Tells how the query was served.
+///
+/// Refuses in this order: the file's header (301 to 305, 310), the statement (401 to 408), the file's segments (305 to
+/// 309) and the sink (702); 701 where a read fails, and want of memory (801) wherever it comes. Nothing is written before
+/// the last segment was found good and the file has ended. One segment is in memory, and the answer's text. That each
+/// device's count of failures can rise is the caller's condition.
+pub fn answer<S: Source, K: Sink>(
+    alloc: Global,
+    table: &mut S,
+    sql: &[u8],
+    sink: &mut K,
+) -> Result<Served, Fault>
+    requires table { S.failures table.old < 2 ^ 64 - 1 }
+    requires sink { K.failures sink.old < 2 ^ 64 - 1 }
+    ensures answer { (offset : ℕ) × (given : Result (List ℕ) Fault)
+        × TableGave (by_statement sql.now) (state (S.to_come table.old) 0 (S.failures table.old))
+        (state (S.to_come table.new) offset (S.failures table.new)) given
+        × Wrote (K.taken sink.old) (K.taken sink.new) (K.failures sink.old) (K.failures sink.new) given result }
+    ensures served { IfOk result (λ served. (served.by ≡ Rows) × (served.loads ≡ 0) × (served.skips ≡ 0)) }
+    ensures segments { IfOk result (λ served. (offset : ℕ) × (schema : Schema) × (query : Query) × (text : List ℕ)
+        × TextOver (state (S.to_come table.old) 0 (S.failures table.old))
+        (state (S.to_come table.new) offset (S.failures table.new)) schema query text served.segments) }
+    ensures table_failed { EndsWith (nowhere 701) (S.failures table.old) (S.failures table.new) result }
+    ensures sink_failed { EndsWith (nowhere 702) (K.failures sink.old) (K.failures sink.new) result }
+    ensures unwritten { IfErr result (λ fault. is_write_fault fault ≡ false
+        → (K.taken sink.new ≡ K.taken sink.old) × (K.failures sink.new ≡ K.failures sink.old)) }
+    ensures done { OnOk result (K.failures sink.new ≡ K.failures sink.old) }
+{
+    bytes_were_taken();
+    let mut reader = TableReader::begin(alloc, table)?;
+    let query = parse(alloc, reader.schema(), sql)?;
+    let found = table_text(alloc, &mut reader, table, &query)?;
+    write_whole(sink, &found.text)?;
+    Ok(Served {
+        by: By::Rows,
+        segments: found.segments,
+        loads: 0,
+        skips: 0,
+    })
+}
+
+/// Writes every row of a table file in every column, as CSV text.
+///
+/// Refuses in this order: the file's header (301 to 305, 310), its segments (305 to 309) and the sink (702); 701 where a
+/// read fails, and want of memory (801) wherever it comes. Nothing is written before the last segment was found good
+/// and the file has ended.
+pub fn dump<S: Source, K: Sink>(alloc: Global, table: &mut S, sink: &mut K) -> Result<(), Fault>
+    requires table { S.failures table.old < 2 ^ 64 - 1 }
+    requires sink { K.failures sink.old < 2 ^ 64 - 1 }
+    ensures answer { (offset : ℕ) × (given : Result (List ℕ) Fault)
+        × TableGave by_dump (state (S.to_come table.old) 0 (S.failures table.old))
+        (state (S.to_come table.new) offset (S.failures table.new)) given
+        × Wrote (K.taken sink.old) (K.taken sink.new) (K.failures sink.old) (K.failures sink.new) given result }
+    ensures table_failed { EndsWith (nowhere 701) (S.failures table.old) (S.failures table.new) result }
+    ensures sink_failed { EndsWith (nowhere 702) (K.failures sink.old) (K.failures sink.new) result }
+    ensures unwritten { IfErr result (λ fault. is_write_fault fault ≡ false
+        → (K.taken sink.new ≡ K.taken sink.old) × (K.failures sink.new ≡ K.failures sink.old)) }
+    ensures done { OnOk result (K.failures sink.new ≡ K.failures sink.old) }
+{
+    bytes_were_taken();
+    let mut reader = TableReader::begin(alloc, table)?;
+    let query = every_row(alloc, reader.schema())?;
+    let found = table_text(alloc, &mut reader, table, &query)?;
+    write_whole(sink, &found.text)
+}
+
+/// The query for every row in every column.
+#[tactic(auto, using(bw_model::proofs::CondLemmas::truths, bw_model::proofs::CondLemmas::names))]
+fn every_row(alloc: Global, schema: &Schema) -> Result<Query, Fault>
+    ensures every { IfOk result (IsEveryRow schema.now) }
+    ensures names { IfOk result (λ query. IsTrue (names_within (vec_len schema.now.columns) query.cond)) }
+    ensures items { IfOk result (λ query. IsTrue (list_all (item_within (vec_len schema.now.columns)) query.items.items)) }
+    ensures some { IfOk result (λ query. 1 ≤ length query.items.items) }
+    ensures kinds { IfOk result (λ query. AreOfOneKind query.items.items) }
+    ensures only_memory { IfErr result (λ fault. fault ≡ no_memory) }
+{
+    let mut items = Vec::with_capacity(alloc, schema.columns.len())?;
+    for column in 0..schema.columns.len() {
+        items.push(Item::Plain(column))?;
+    }
+    Ok(Query {
+        items,
+        cond: Cond::Always,
+    })
+}
