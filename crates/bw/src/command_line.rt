@@ -41,7 +41,7 @@ pub fn matches_of<'a>(alloc: Global, words: &'a [String]) -> Result<ArgMatches<'
     command.try_get_matches_from(words)
 }
 
-fn direct(alloc: Global) -> Result<Command<'static>, Error> {
+fn direct<'a>(alloc: Global) -> Result<Command<'a>, Error> {
     let command = Command::new(alloc, "direct")
         .about("Answers a statement over the rows of a CSV file")
         .arg(file(alloc, "SCHEMA", "The file of the schema"))?
@@ -50,7 +50,7 @@ fn direct(alloc: Global) -> Result<Command<'static>, Error> {
     Ok(command)
 }
 
-fn load(alloc: Global) -> Result<Command<'static>, Error> {
+fn load<'a>(alloc: Global) -> Result<Command<'a>, Error> {
     let layout = Arg::new(alloc, "layout")
         .long("layout")
         .action(ArgAction::Set)
@@ -65,7 +65,7 @@ fn load(alloc: Global) -> Result<Command<'static>, Error> {
     Ok(command)
 }
 
-fn query(alloc: Global) -> Result<Command<'static>, Error> {
+fn query<'a>(alloc: Global) -> Result<Command<'a>, Error> {
     let stats = Arg::new(alloc, "stats")
         .long("stats")
         .action(ArgAction::SetTrue)
@@ -78,7 +78,7 @@ fn query(alloc: Global) -> Result<Command<'static>, Error> {
     Ok(command)
 }
 
-fn dump(alloc: Global) -> Result<Command<'static>, Error> {
+fn dump<'a>(alloc: Global) -> Result<Command<'a>, Error> {
     let command = Command::new(alloc, "dump")
         .about("Writes all rows of a table file as CSV")
         .arg(file(alloc, "TABLE", "The table file"))?;
@@ -123,12 +123,12 @@ fn layout_of(matches: &ArgMatches<'_>) -> Layout {
     }
 }
 
-fn file(alloc: Global, name: &'static str, help: &'static str) -> Arg<'static> {
+fn file<'a>(alloc: Global, name: &'static str, help: &'static str) -> Arg<'a> {
     Arg::new(alloc, name).required(true).help(help)
 }
 
 /// The statement. It may begin with `-`, as a comment does.
-fn statement(alloc: Global) -> Arg<'static> {
+fn statement<'a>(alloc: Global) -> Arg<'a> {
     Arg::new(alloc, "SQL")
         .required(true)
         .allow_hyphen_values(true)

@@ -1,5 +1,5 @@
 //! A file that is created at the first write.
-ghost use Rattle.std.specs.Prelude.{None};
+ghost use Rattle.std.specs.Prelude.{◌≡◌, None};
 
 use bw_file::{Failed, Sink};
 use std::fs::File;
@@ -16,7 +16,9 @@ pub struct OutFile<'a> {
 }
 
 impl<'a> OutFile<'a> {
-    pub fn new(rt: &'a HostRuntime, path: &'a str) -> Self {
+    pub fn new(rt: &'a HostRuntime, path: &'a str) -> Self
+        ensures { result.failures ≡ 0 }
+    {
         OutFile {
             rt,
             path,

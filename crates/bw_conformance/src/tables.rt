@@ -151,7 +151,7 @@ fn damage_in_the_last_segment_writes_nothing(rt: HostRuntime) -> Result<(), Fail
     assert_eq!(rt; answer.output.as_slice(), b"COUNT(*)\n512\n".as_slice());
     file[1847] = 0x02;
     let outcome = dump_outcome(rt.alloc(), &file);
-    check_refused(&rt, &outcome, "bw: 308 padding at byte 1464\n", 3);
+    check_refused(&rt, &outcome, "bw: 308 padding at byte 1847\n", 3);
     Ok(())
 }
 
