@@ -54,13 +54,25 @@ fn file_of(alloc: Global, layout: Layout) -> Result<Vec<u8>, Fail> {
     let mut file = Vec::with_capacity(alloc, size)?;
     file.extend_from_slice(HEADER)?;
     file.resize(size, 0)?;
-    file[9] = matches!(layout, Layout::Slices) as u8;
+    put(&mut file, 9, matches!(layout, Layout::Slices) as u8);
     for (at, bytes) in parts {
         for (i, byte) in bytes.iter().enumerate() {
-            file[at + i] = *byte;
+            put(&mut file, at.saturating_add(i), *byte);
         }
     }
     Ok(file)
+}
+
+/// Puts a byte in the place of another, where there is one.
+fn put(file: &mut [u8], at: usize, byte: u8) {
+    if at < file.len() {
+        file[at] = byte;
+    }
+}
+
+/// The first bytes, so many or all.
+fn front(bytes: &[u8], count: usize) -> &[u8] {
+    &bytes[..count.min(bytes.len())]
 }
 
 /// Checks the line and the status of a call that wrote nothing.
@@ -110,12 +122,12 @@ fn damaged_files_are_refused(rt: HostRuntime) -> Result<(), Fail> {
     ];
     for (at, byte, line) in table {
         let mut file = file_of(rt.alloc(), Layout::Planes)?;
-        file[at] = byte;
+        put(&mut file, at, byte);
         check_refused(&rt, &answer_outcome(rt.alloc(), &file, COUNT), line, 3);
         check_refused(&rt, &dump_outcome(rt.alloc(), &file), line, 3);
     }
     let mut file = file_of(rt.alloc(), Layout::Planes)?;
-    let short = answer_outcome(rt.alloc(), &file[..951], COUNT);
+    let short = answer_outcome(rt.alloc(), front(&file, 951), COUNT);
     check_refused(&rt, &short, "bw: 305 truncated at byte 951\n", 3);
     let empty = answer_outcome(rt.alloc(), b"", COUNT);
     check_refused(&rt, &empty, "bw: 305 truncated at byte 0\n", 3);
@@ -128,10 +140,10 @@ fn damaged_files_are_refused(rt: HostRuntime) -> Result<(), Fail> {
 #[test]
 fn a_statement_is_refused_before_a_segment(rt: HostRuntime) -> Result<(), Fail> {
     let mut file = file_of(rt.alloc(), Layout::Planes)?;
-    file[56] = 0x22;
+    put(&mut file, 56, 0x22);
     let outcome = answer_outcome(rt.alloc(), &file, b"SELECT zz FROM t");
     check_refused(&rt, &outcome, "bw: 404 unknown column at byte 7\n", 3);
-    file[0] = 0;
+    put(&mut file, 0, 0);
     let outcome = answer_outcome(rt.alloc(), &file, b"SELECT zz FROM t");
     check_refused(&rt, &outcome, "bw: 301 magic at byte 0\n", 3);
     Ok(())
@@ -149,7 +161,7 @@ fn damage_in_the_last_segment_writes_nothing(rt: HostRuntime) -> Result<(), Fail
     assert_eq!(rt; file.len(), 1848);
     let answer = answer_outcome(rt.alloc(), &file, b"SELECT COUNT(*) FROM t WHERE NOT a = 0");
     assert_eq!(rt; answer.output.as_slice(), b"COUNT(*)\n512\n".as_slice());
-    file[1847] = 0x02;
+    put(&mut file, 1847, 0x02);
     let outcome = dump_outcome(rt.alloc(), &file);
     check_refused(&rt, &outcome, "bw: 308 padding at byte 1847\n", 3);
     Ok(())
@@ -266,7 +278,10 @@ fn a_failed_write_ends_load_and_dump(rt: HostRuntime) -> Result<(), Fail> {
             if fail_at <= 32 { failed } else { Ok(()) },
             "at {fail_at}"
         );
-        assert!(rt; sink.taken.as_slice() == &file[..taken], "at {fail_at}");
+        assert!(rt;
+            sink.taken.as_slice() == front(&file, taken),
+            "at {fail_at}"
+        );
         let mut sink = Taker {
             taken: Vec::new(rt.alloc()),
             calls: Calls::new(1, fail_at),
@@ -275,7 +290,7 @@ fn a_failed_write_ends_load_and_dump(rt: HostRuntime) -> Result<(), Fail> {
         let taken = (fail_at as usize - 1).min(DUMP.len());
         let whole = taken == DUMP.len();
         assert_eq!(rt; result, if whole { Ok(()) } else { failed }, "at {fail_at}");
-        assert_eq!(rt; sink.taken.as_slice(), &DUMP[..taken], "at {fail_at}");
+        assert_eq!(rt; sink.taken.as_slice(), front(DUMP, taken), "at {fail_at}");
     }
     Ok(())
 }

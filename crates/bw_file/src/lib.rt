@@ -1,12 +1,13 @@
-//! What a call reads from and writes to: sources and sinks of bytes, which may fail at any call.
+//! Table files, and what a call reads from and writes to: sources and sinks of bytes, which may fail at any call.
 //!
-//! The contract that the crates above use: an `Ok` of [`Source::read`] hands over the next bytes, an `Ok`
-//! of [`Sink::write`] takes bytes from the front, and each `Err` raises the device's count of failures by
-//! one. So a fault that names a device can be traced to a failure that was counted. What came of a source
-//! that was read to its end, and what of a text went out to a sink, are said by the words of
-//! `specs/Source.antt` and `specs/Sink.antt`.
+//! The contracts that the crates above use: [`Encoder`] and [`encode`] give the text of a table; [`TableReader`] and
+//! [`decode`] read bytes to the table that they spell or to their first fault, field by field and block by block. An
+//! `Ok` of [`Source::read`] hands over the next bytes, an `Ok` of [`Sink::write`] takes bytes from the front, and each
+//! `Err` raises the device's count of failures by one, so that a fault that names a device can be traced to a failure
+//! that was counted.
 //!
-//! Read `source.rt` first, and then `specs/Source.antt`.
+//! Read `specs/FileText.antt`, `specs/TableReading.antt` and `table_reader.rt` for table files, `source.rt` and
+//! `specs/Source.antt` for devices.
 #![tactic(auto)]
 
 mod body;
