@@ -178,7 +178,7 @@ abbrev pub AllChains : List Column → List Node → List Chain → Type 0
 AllChains columns nodes chains = (k : ℕ) (chain : Chain) → slice_get chains k ≡ Some chain → IsChain columns nodes chain
 
 -- the node found of a chain over one column is worth its comparison
-node_of_one-claim : (columns : List Column) (nodes : List Node) (assignment : Assignment) (chain : Chain) (kind : ChainKind) (col start len bound e : ℕ) → IsChain columns nodes chain →
+pub node_of_one-claim : (columns : List Column) (nodes : List Node) (assignment : Assignment) (chain : Chain) (kind : ChainKind) (col start len bound e : ℕ) → IsChain columns nodes chain →
     node_of_one kind col start len bound chain ≡ Some e → node_value nodes assignment e ≡ compares kind (number_spelled columns col start len assignment) bound
 node_of_one-claim columns nodes assignment (Two k l r n node prev) kind col start len bound e claimed is = cc
 node_of_one-claim columns nodes assignment (One k c s l b node prev) kind col start len bound e claimed is =
@@ -196,7 +196,7 @@ node_of_one-claim columns nodes assignment (One k c s l b node prev) kind col st
     ∙ ap (λ b. compares kind (number_spelled columns col start len assignment) b) (eqb-true b bound b_is.1)
 
 -- the same of two columns
-node_of_two-claim : (columns : List Column) (nodes : List Node) (assignment : Assignment) (chain : Chain) (kind : ChainKind) (left right len e : ℕ) → IsChain columns nodes chain →
+pub node_of_two-claim : (columns : List Column) (nodes : List Node) (assignment : Assignment) (chain : Chain) (kind : ChainKind) (left right len e : ℕ) → IsChain columns nodes chain →
     node_of_two kind left right len chain ≡ Some e → node_value nodes assignment e ≡ compares kind (padded_number columns left len assignment) (padded_number columns right len assignment)
 node_of_two-claim columns nodes assignment (One k c s l b node prev) kind left right len e claimed is = cc
 node_of_two-claim columns nodes assignment (Two k l r n node prev) kind left right len e claimed is =

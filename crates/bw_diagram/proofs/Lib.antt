@@ -1,4 +1,5 @@
 pub mod ChainLemmas
+pub mod CitedLemmas
 pub mod FactsLemmas
 pub mod NodeLemmas
 pub mod ProductLemmas

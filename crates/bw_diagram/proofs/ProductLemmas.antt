@@ -94,7 +94,7 @@ shortcut_joins f zero one Diff a b c =
     (meets b 1 c 0 (λ x y. claim Diff f a b c (f a) true false refl (ap f x ∙ one) (ap f y ∙ zero) (and_false (f a))))
 
 -- a test of connectives tells that they are the same
-same_connective-true : (op other : Connective) → same_connective op other ≡ true → op ≡ other
+pub same_connective-true : (op other : Connective) → same_connective op other ≡ true → op ≡ other
 same_connective-true And And is = refl
 same_connective-true Or Or is = refl
 same_connective-true Xor Xor is = refl

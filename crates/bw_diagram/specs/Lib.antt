@@ -1,4 +1,5 @@
 pub mod Chain
+pub mod Cited
 pub mod Diagram
 pub mod Facts
 pub mod Node

@@ -123,7 +123,14 @@ impl Chain {
     }
 
     /// Its node, if it is a chain over one column of this kind, column, start, length and bound.
-    fn node_of_one(self, kind: ChainKind, col: u32, start: u32, len: u32, bound: u64) -> Option<u32>
+    pub(crate) fn node_of_one(
+        self,
+        kind: ChainKind,
+        col: u32,
+        start: u32,
+        len: u32,
+        bound: u64,
+    ) -> Option<u32>
         ensures { result ≡ node_of_one kind col start len bound self }
     {
         match self {
@@ -141,7 +148,7 @@ impl Chain {
     }
 
     /// Its node, if it is a chain over two columns of this kind, these columns and this length.
-    fn node_of_two(self, kind: ChainKind, left: u32, right: u32, len: u32) -> Option<u32>
+    pub(crate) fn node_of_two(self, kind: ChainKind, left: u32, right: u32, len: u32) -> Option<u32>
         ensures { result ≡ node_of_two kind left right len self }
     {
         match self {

@@ -13,6 +13,7 @@
 #![tactic(auto)]
 
 mod chain;
+mod cited;
 mod diagram;
 mod node;
 mod product;
@@ -20,6 +21,7 @@ mod product;
 mod tests;
 
 pub use chain::{Chain, ChainKind, ChainLine};
+pub use cited::cited_nodes_are_worth;
 pub use diagram::{
     Diagram, accepted_lines_are_true, later_nodes_change_no_value, whole_columns_are_spelled,
 };

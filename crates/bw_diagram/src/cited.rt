@@ -1,0 +1,78 @@
+//! What is cited of a diagram: nodes, by the rows and chains that say what they are worth.
+ghost use Rattle.std.specs.Prelude.{◌≡◌};
+ghost use Rattle.bw_diagram.specs.Cited.{cited, chain_cited, two_cited, variable_cited, AreWorth};
+ghost use Rattle.bw_diagram.specs.Facts.{Facts, AreTrue};
+
+use crate::chain::ChainKind;
+use crate::diagram::Diagram;
+use crate::product::Connective;
+
+impl Diagram<'_> {
+    /// The node that product row `number` says to be the connective of `a` and `b`, or None where it isn't a row of
+    /// these.
+    #[tactic(auto, unfolding(crate::specs::Cited::cited))]
+    pub fn cited(&self, op: Connective, a: u64, b: u64, number: u64) -> Option<u64>
+        ensures { result ≡ cited self.now op a b number }
+    {
+        let row = self.row(number)?;
+        if row.op == op && u64::from(row.a) == a && u64::from(row.b) == b {
+            Some(u64::from(row.c))
+        } else {
+            None
+        }
+    }
+
+    /// The node by which chain `number` compares `len` bits of column `col`, from bit `start` upwards, with `bound`, or None
+    /// where it isn't a chain of these.
+    #[tactic(auto, unfolding(crate::specs::Cited::chain_cited))]
+    pub fn chain_cited(
+        &self,
+        kind: ChainKind,
+        col: u32,
+        start: u32,
+        len: u32,
+        bound: u64,
+        number: u64,
+    ) -> Option<u64>
+        ensures { result ≡ chain_cited self.now kind col start len bound number }
+    {
+        self.chain(number)?
+            .node_of_one(kind, col, start, len, bound)
+            .map(u64::from)
+    }
+
+    /// The node by which chain `number` compares the low `len` bits of two columns, or None where it isn't a chain of these.
+    #[tactic(auto, unfolding(crate::specs::Cited::two_cited))]
+    pub fn two_cited(
+        &self,
+        kind: ChainKind,
+        left: u32,
+        right: u32,
+        len: u32,
+        number: u64,
+    ) -> Option<u64>
+        ensures { result ≡ two_cited self.now kind left right len number }
+    {
+        self.chain(number)?
+            .node_of_two(kind, left, right, len)
+            .map(u64::from)
+    }
+
+    /// Node `number`, or None where it isn't worth what variable `v` is: it tests it, with children 0 and 1.
+    #[tactic(auto, unfolding(crate::specs::Cited::is_variable))]
+    pub fn variable_cited(&self, v: u32, number: u64) -> Option<u64>
+        ensures { result ≡ variable_cited self.now v number }
+    {
+        let node = self.node(number)?;
+        if node.v == v && node.low == 0 && node.high == 1 {
+            Some(number)
+        } else {
+            None
+        }
+    }
+}
+
+/// A law: where all that is held is true, so is all that can be cited.
+pub fn cited_nodes_are_worth()
+    ensures { (facts : Facts) → AreTrue facts → AreWorth facts }
+{}

@@ -1,0 +1,246 @@
+//! The lines of instructions, each judged by its rule.
+ghost use Rattle.std.specs.Prelude.{◌≡◌, ◌<◌, ◌≤◌, ◌&&◌, IfOk, IfErr, Ok, Err, length, nat_lt};
+ghost use Rattle.bw_model.specs.Code.{width_at, slices_at};
+ghost use Rattle.bw_model.specs.Fault.{at_line};
+ghost use Rattle.bw_model.specs.Variable.{first_variable, bit_variable, is_nullable};
+ghost use Rattle.bw_program.specs.Program.{named_by, register_count};
+ghost use Rattle.bw_known.specs.Instruction.{behind, plane_on, read_on, joined_on, opposite_on, operation_on, byte_on, byte_node, past_node};
+
+use crate::known::Known;
+use bw_cert_text::InstructionEntry;
+use bw_diagram::{ChainKind, Connective, Diagram};
+use bw_model::{Fault, Schema, code};
+use bw_program::Instr;
+
+/// What lines are judged by: a schema, and the nodes, chains and product rows that a certificate states under it.
+#[derive(Clone, Copy)]
+pub(crate) struct Judge<'a> {
+    pub(crate) schema: &'a Schema,
+    pub(crate) diagram: &'a Diagram<'a>,
+}
+
+/// A line that isn't what its instruction wants.
+const fn unfit(line: u64) -> Fault
+    ensures { result ≡ at_line 607 line }
+{
+    Fault::at_line(code::INSTRUCTION_LINE, line)
+}
+
+impl Judge<'_> {
+    /// What is known behind an instruction, by its line. Where the line is refused, it may be known already or not.
+    #[tactic(auto, unfolding(crate::specs::Instruction::behind))]
+    pub(crate) fn behind(
+        self,
+        known: &mut Known,
+        line: u64,
+        instr: Instr,
+        given: InstructionEntry,
+    ) -> Result<(), Fault>
+        requires columns { self.diagram.now.columns ≡ self.schema.now.columns.items }
+        requires registers { named_by instr ≤ register_count }
+        ensures known { IfOk result (λ _. behind self.entry.diagram.now known.old line instr given ≡ Ok known.new) }
+        ensures fault { IfErr result (λ fault. behind self.entry.diagram.now known.old line instr given ≡ Err fault) }
+    {
+        match instr {
+            Instr::Load(r, col, bit) => {
+                known[r as usize] = Some(self.plane(line, col, bit, given)?);
+            }
+            Instr::Nulls(r, col) => known[r as usize] = Some(self.nulls(line, col, given)?),
+            Instr::Fill(r, bit) => {
+                if given != InstructionEntry::Fill {
+                    return Err(unfit(line));
+                }
+                known[r as usize] = Some(u64::from(bit));
+            }
+            Instr::And(r, x, y) => {
+                known[r as usize] = Some(self.joined(known, line, Connective::And, x, y, given)?);
+            }
+            Instr::Or(r, x, y) => {
+                known[r as usize] = Some(self.joined(known, line, Connective::Or, x, y, given)?);
+            }
+            Instr::Xor(r, x, y) => {
+                known[r as usize] = Some(self.joined(known, line, Connective::Xor, x, y, given)?);
+            }
+            Instr::Not(r, x) => known[r as usize] = Some(self.opposite(known, line, x, given)?),
+            Instr::ByteLt(r, col, slice, k) => {
+                known[r as usize] = Some(self.byte(line, ChainKind::Less, col, slice, k, given)?);
+            }
+            Instr::ByteEq(r, col, slice, k) => {
+                known[r as usize] = Some(self.byte(line, ChainKind::Equal, col, slice, k, given)?);
+            }
+            Instr::Skip(x, _) => {
+                if given != InstructionEntry::Skip {
+                    return Err(unfit(line));
+                }
+                read(known, line, x)?;
+            }
+        }
+        Ok(())
+    }
+
+    /// The node of the plane of a column's bit.
+    fn plane(self, line: u64, col: u8, bit: u8, given: InstructionEntry) -> Result<u64, Fault>
+        requires columns { self.diagram.now.columns ≡ self.schema.now.columns.items }
+        ensures { result ≡ plane_on self.entry.diagram.now line (nat_lt col (length self.entry.diagram.now.columns) && nat_lt bit (width_at self.entry.diagram.now.columns col))
+            (bit_variable self.entry.diagram.now.columns col bit) given }
+    {
+        let InstructionEntry::Load(node) = given else {
+            return Err(unfit(line));
+        };
+        let (col, bit) = (col as usize, u32::from(bit));
+        if col >= self.schema.columns.len() || bit >= self.schema.width(col) {
+            return Err(unfit(line));
+        }
+        match self
+            .diagram
+            .variable_cited(self.schema.var_bit(col, bit), node)
+        {
+            Some(node) => Ok(node),
+            None => Err(unfit(line)),
+        }
+    }
+
+    /// The node of a column's null plane.
+    fn nulls(self, line: u64, col: u8, given: InstructionEntry) -> Result<u64, Fault>
+        requires columns { self.diagram.now.columns ≡ self.schema.now.columns.items }
+        ensures { result ≡ plane_on self.entry.diagram.now line (nat_lt col (length self.entry.diagram.now.columns) && is_nullable self.entry.diagram.now.columns col)
+            (first_variable self.entry.diagram.now.columns col) given }
+    {
+        let InstructionEntry::Load(node) = given else {
+            return Err(unfit(line));
+        };
+        let col = col as usize;
+        if col >= self.schema.columns.len() {
+            return Err(unfit(line));
+        }
+        let Some(variable) = self.schema.var_null(col) else {
+            return Err(unfit(line));
+        };
+        match self.diagram.variable_cited(variable, node) {
+            Some(node) => Ok(node),
+            None => Err(unfit(line)),
+        }
+    }
+
+    /// The node of an operation on two registers.
+    fn joined(
+        self,
+        known: &Known,
+        line: u64,
+        op: Connective,
+        x: u8,
+        y: u8,
+        given: InstructionEntry,
+    ) -> Result<u64, Fault>
+        requires registers { (x < 64) × (y < 64) }
+        ensures { result ≡ joined_on self.entry.diagram.now known.now line op x y given }
+    {
+        let InstructionEntry::Op(row) = given else {
+            return Err(unfit(line));
+        };
+        let a = read(known, line, x)?;
+        let b = read(known, line, y)?;
+        self.operation(line, op, a, b, row)
+    }
+
+    /// The node of a register's opposite.
+    fn opposite(
+        self,
+        known: &Known,
+        line: u64,
+        x: u8,
+        given: InstructionEntry,
+    ) -> Result<u64, Fault>
+        requires register { x < 64 }
+        ensures { result ≡ opposite_on self.entry.diagram.now known.now line x given }
+    {
+        let InstructionEntry::Op(row) = given else {
+            return Err(unfit(line));
+        };
+        let a = read(known, line, x)?;
+        self.operation(line, Connective::Diff, 1, a, row)
+    }
+
+    /// The node that a row says an operation gives.
+    fn operation(self, line: u64, op: Connective, a: u64, b: u64, row: u64) -> Result<u64, Fault>
+        ensures { result ≡ operation_on self.entry.diagram.now line op a b row }
+    {
+        match self.diagram.cited(op, a, b, row) {
+            Some(node) => Ok(node),
+            None => Err(unfit(line)),
+        }
+    }
+
+    /// The node of a comparison of a slice's bytes.
+    fn byte(
+        self,
+        line: u64,
+        kind: ChainKind,
+        col: u8,
+        slice: u8,
+        k: u8,
+        given: InstructionEntry,
+    ) -> Result<u64, Fault>
+        requires columns { self.diagram.now.columns ≡ self.schema.now.columns.items }
+        ensures { result ≡ byte_on self.entry.diagram.now line kind (nat_lt col (length self.entry.diagram.now.columns) && nat_lt slice (slices_at self.entry.diagram.now.columns col)) col slice k given }
+    {
+        let InstructionEntry::Byte(chain) = given else {
+            return Err(unfit(line));
+        };
+        let (column, place) = (col as usize, slice as usize);
+        if column >= self.schema.columns.len() || place >= self.schema.slices(column) {
+            return Err(unfit(line));
+        }
+        match self.byte_node(kind, column, u32::from(slice), k, chain) {
+            Some(node) => Ok(node),
+            None => Err(unfit(line)),
+        }
+    }
+
+    /// The node of a comparison of the bytes of a slice that there is, if the chain is named where there is one.
+    fn byte_node(
+        self,
+        kind: ChainKind,
+        col: usize,
+        slice: u32,
+        k: u8,
+        chain: Option<u64>,
+    ) -> Option<u64>
+        requires columns { self.diagram.now.columns ≡ self.schema.now.columns.items }
+        requires column { col < length self.diagram.now.columns }
+        requires slice { slice < slices_at self.diagram.now.columns col }
+        ensures { result ≡ byte_node self.entry.diagram.now kind col slice k chain }
+    {
+        let bits = (self.schema.width(col) - 8 * slice).min(8);
+        let past = u32::from(k) >= 1 << bits;
+        match chain {
+            None if past => Some(past_node(kind)),
+            Some(chain) if !past => {
+                self.diagram
+                    .chain_cited(kind, col as u32, 8 * slice, bits, u64::from(k), chain)
+            }
+            _ => None,
+        }
+    }
+}
+
+/// The node of a comparison of bytes with a number past them.
+const fn past_node(kind: ChainKind) -> u64
+    ensures { result ≡ past_node kind }
+{
+    match kind {
+        ChainKind::Less => 1,
+        ChainKind::Equal => 0,
+    }
+}
+
+/// The node of a register that is read.
+fn read(known: &Known, line: u64, register: u8) -> Result<u64, Fault>
+    requires { register < 64 }
+    ensures { result ≡ read_on known.now line register }
+{
+    match known[register as usize] {
+        Some(node) => Ok(node),
+        None => Err(Fault::at_line(code::REGISTER_UNKNOWN, line)),
+    }
+}
