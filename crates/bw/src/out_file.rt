@@ -1,7 +1,7 @@
 //! A file that is created at the first write.
 ghost use Rattle.std.specs.Prelude.{◌≡◌, None};
 
-use bw_file::{Failed, Sink};
+use bw_device::{Failed, Sink};
 use std::fs::File;
 use std::io::Write;
 

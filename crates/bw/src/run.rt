@@ -1,7 +1,8 @@
 //! Runs the command that the command line asks for, and gives the exit status.
 use crate::command_line::{Words, matches_of, words_of};
 use crate::out_file::OutFile;
-use bw_file::{FromRead, Layout, ToWrite};
+use bw_device::{FromRead, ToWrite};
+use bw_file::Layout;
 use bw_model::{Fault, code};
 use bw_shell::{answer, direct, dump, load, report, stats_line};
 use clap::error::ErrorKind;

@@ -1,1 +1,11 @@
-
+pub mod EdgeLemmas
+pub mod LineRead
+pub mod LineSpelled
+pub mod PrintLemmas
+pub mod PrintedLines
+pub mod PrintedNumbers
+pub mod PrintedText
+pub mod SpelledNumbers
+pub mod TextLemmas
+pub mod TextSpelling
+pub mod WordSpelling

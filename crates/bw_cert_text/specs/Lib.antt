@@ -1,1 +1,12 @@
+pub mod CertificateFields
 pub mod CertificateShape
+pub mod CertificateText
+pub mod LineText
+pub mod Operand
+pub mod Parts
+pub mod PrintText
+pub mod Printed
+pub mod Reprint
+pub mod SaidFields
+pub mod Token
+pub mod Word

@@ -1,5 +1,5 @@
 //! Certificates.
-ghost use Rattle.std.specs.Prelude.{◌≡◌};
+ghost use Rattle.std.specs.Prelude.{◌≡◌, length};
 
 use crate::lines::{BodyLine, ChainLine, EndLine, NodeLine, RowLine};
 use std::marker::Model;
@@ -20,15 +20,61 @@ impl Model for Certificate {
     ghost Value = { CertificateShape };
 
     ghost view = { λ certificate. record {
-        nodes = certificate.nodes.items;
-        chains = certificate.chains.items;
-        rows = certificate.rows.items;
-        body = certificate.body.items;
-        end = certificate.end;
+      nodes = certificate.nodes.items;
+      chains = certificate.chains.items;
+      rows = certificate.rows.items;
+      body = certificate.body.items;
+      end = certificate.end;
     } };
 }
 
 impl Certificate {
+    /// The certificate of these lines.
+    pub fn new(
+        nodes: Vec<NodeLine>,
+        chains: Vec<ChainLine>,
+        rows: Vec<RowLine>,
+        body: Vec<BodyLine>,
+        end: EndLine,
+    ) -> Self
+        ensures { result ≡ record {
+          nodes = nodes.items;
+          chains = chains.items;
+          rows = rows.items;
+          body = body.items;
+          end = end;
+        } }
+    {
+        Certificate {
+            nodes,
+            chains,
+            rows,
+            body,
+            end,
+        }
+    }
+
+    /// How many nodes it states.
+    pub fn nodes(&self) -> usize
+        ensures { result ≡ length self.now.nodes }
+    {
+        self.nodes.len()
+    }
+
+    /// How many chains it states.
+    pub fn chains(&self) -> usize
+        ensures { result ≡ length self.now.chains }
+    {
+        self.chains.len()
+    }
+
+    /// How many product rows it states.
+    pub fn rows(&self) -> usize
+        ensures { result ≡ length self.now.rows }
+    {
+        self.rows.len()
+    }
+
     /// The lines of its nodes, in order.
     pub fn node_lines(&self) -> &[NodeLine]
         ensures { result.now ≡ self.now.nodes }

@@ -2,15 +2,26 @@
 //! them a condition, a program's instructions and its joins rest on.
 //!
 //! The contract that the crates above use: a text is read exactly where its lines spell a certificate, and to that
-//! certificate. Nothing here judges what a line states.
+//! certificate; else the first line that is wrong is told, by 605 alone. A certificate is printed as its canonical
+//! text, which spells it. Nothing here judges what a line states.
 //!
-//! Read `lines.rt` first: a line of each kind.
+//! Read `lines.rt` first: a line of each kind. `specs/Token.antt` is the table of how they are written, and
+//! `specs/CertificateText.antt` says in which order they stand.
 #![tactic(auto)]
 
 mod certificate;
+mod kind;
+mod line;
 mod lines;
+mod operand;
+mod parse;
+mod print;
+#[cfg(test)]
+mod tests;
 
 pub use certificate::Certificate;
 pub use lines::{
-    BodyLine, ChainColumns, ChainLine, ConditionEntry, EdgeRows, EndLine, Entry, InstructionEntry, Keep, NodeLine, RowLine,
+    BodyLine, ChainColumns, ChainLine, ConditionEntry, EdgeRows, EndLine, Entry, InstructionEntry,
+    Keep, NodeLine, RowLine,
 };
+pub use print::{canonical_texts_spell_certificates, spelled_numbers_fit};

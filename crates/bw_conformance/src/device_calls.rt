@@ -1,6 +1,6 @@
 //! Calls over sources and sinks that give or take little at a time, fail at a given call, or never end.
 use crate::devices::{Calls, Endless, Pieces, Taker};
-use bw_file::{FromRead, ToWrite};
+use bw_device::{FromRead, ToWrite};
 use bw_model::{Fault, code};
 use bw_shell::{Input, direct, read_limited, report, write_whole};
 use std::test::Fail;

@@ -1,5 +1,5 @@
 //! The line and the status of every fault.
-use bw_file::ToWrite;
+use bw_device::ToWrite;
 use bw_model::{Fault, Place};
 use bw_shell::report;
 use std::test::Fail;

@@ -1,5 +1,6 @@
 //! What a call wrote, reported and gave as its status.
-use bw_file::{FromRead, Layout, ToWrite};
+use bw_device::{FromRead, ToWrite};
+use bw_file::Layout;
 use bw_model::Fault;
 use bw_shell::{answer, direct, dump, load, report};
 use std::alloc::Global;

@@ -1,6 +1,7 @@
 //! Memory that is refused: a call is made again and again with a little more memory, until it has all that it needs.
 use crate::outcome::load_outcome;
-use bw_file::{FromRead, Layout, ToWrite};
+use bw_device::{FromRead, ToWrite};
+use bw_file::Layout;
 use bw_model::{Fault, code};
 use bw_shell::{answer, direct, dump, load};
 use std::alloc::Global;

@@ -1,7 +1,8 @@
 //! Tables loaded, queried and dumped, and table files that are damaged or fail.
 use crate::devices::{Calls, Pieces, Taker, Zeros};
 use crate::outcome::{Outcome, answer_outcome, dump_outcome, load_outcome};
-use bw_file::{FromRead, Layout, ToWrite};
+use bw_device::{FromRead, ToWrite};
+use bw_file::Layout;
 use bw_model::{Fault, code};
 use bw_shell::{By, Served, answer, dump, load};
 use std::alloc::Global;

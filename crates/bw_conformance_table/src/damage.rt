@@ -1,6 +1,7 @@
 //! Table files that were damaged.
 use crate::files::{again, planes_file, put};
-use bw_file::{Source, TableReader, decode};
+use bw_device::Source;
+use bw_file::{TableReader, decode};
 use bw_model::{Fault, Place};
 use std::alloc::Global;
 use std::test::Fail;
@@ -102,7 +103,7 @@ fn a_fault_is_repeated(rt: HostRuntime) -> Result<(), Fail> {
     let alloc = rt.alloc();
     let mut file = planes_file(alloc)?;
     put(&mut file, 56, 0x22);
-    let mut source = bw_file::FromRead::new(file.as_slice());
+    let mut source = bw_device::FromRead::new(file.as_slice());
     let mut reader = TableReader::begin(alloc, &mut source)?;
     assert_eq!(rt; reader.offset(), 56);
     for _ in 0..3 {

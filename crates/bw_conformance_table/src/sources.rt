@@ -2,7 +2,8 @@
 ghost use Rattle.std.specs.Prelude.{None};
 
 use crate::files::planes_file;
-use bw_file::{Failed, Source, TableReader};
+use bw_device::{Failed, Source};
+use bw_file::TableReader;
 use bw_model::{Fault, code};
 use std::alloc::Global;
 use std::test::Fail;

@@ -94,7 +94,6 @@ blocks_take layout schema rows (suc more) number before t x fits own sound e =
 
 record SegmentTaken (layout : Layout) (schema : List Column) (size : ℕ) (t : Tail) (x : List (List Value) × Tail) : Type 0 where
   takes : TakesBoth t (segment_text layout schema x.0) x.1
-  count : length x.0 ≡ size
   admitted : list_all (admits_values schema) x.0 ≡ true
 
 nothing_sound : (layout : Layout) (schema : List Column) (rows : ℕ) → AreSound layout schema rows 0 []
@@ -114,7 +113,15 @@ segment_takes layout schema size t x fits some few e =
     let made : List (List Value) × Tail = (rows_spelled layout schema size a.0.0, a.0.1) in
     let takes : TakesBoth t (segment_text layout schema (rows_spelled layout schema size a.0.0)) a.0.1 = rw (again, b.behind) b.takes in
     subst (λ (y : List (List Value) × Tail). SegmentTaken layout schema size t y) (ok_is made x a.2)
-    (record { takes = takes; count = length-rows_spelled (form_of layout) schema size a.0.0; admitted = group.admitted })
+    (record { takes = takes; admitted = group.admitted })
+
+-- a segment has as many rows as it is asked for
+segment_count : (layout : Layout) (schema : List Column) (size : ℕ) (t : Tail) (x : List (List Value) × Tail) → segment layout schema size t ≡ Ok x → length x.0 ≡ size
+unfolding segment
+segment_count layout schema size t x e =
+    let a = bind_ok (blocks layout schema size 0 (length schema) [] t) (λ bytes. give (rows_spelled layout schema size bytes)) x e in
+    let made : List (List Value) × Tail = (rows_spelled layout schema size a.0.0, a.0.1) in
+    subst (λ (y : List (List Value) × Tail). length y.0 ≡ size) (ok_is made x a.2) (length-rows_spelled (form_of layout) schema size a.0.0)
 
 -- the end is where nothing stands
 no_bytes : (bytes : List ℕ) → has_bytes bytes ≡ false → bytes ≡ []
@@ -124,15 +131,6 @@ no_bytes (byte ∷ bytes) e = absurd cc
 end_takes : (t : Tail) (x : Unit {0} × Tail) → end t ≡ Ok x → t.bytes ≡ []
 unfolding end
 end_takes t x e = no_bytes t.bytes (not_refused (has_bytes t.bytes) (at_byte 309 t.at) _ x e).0
-
--- groups of the sizes of so many rows
-pub record GroupsTaken (layout : Layout) (schema : List Column) (rows : ℕ) (before : List (List (List Value))) (t : Tail) (found : List (List (List Value))) : Type 0 where
-  pub groups : List (List (List Value))
-  pub behind : found ≡ before ++ groups
-  pub text : t.bytes ≡ flat_map (segment_text layout schema) groups
-  pub count : length (together groups) ≡ rows
-  pub cut : groups_of (together groups) ≡ groups
-  pub admitted : list_all (admits_values schema) (together groups) ≡ true
 
 abbrev found_pair : List (List (List Value)) → Tail → List (List (List Value)) × Tail
 found_pair groups t = (groups, t)
@@ -183,21 +181,48 @@ first_group group rest rows some here there =
     let any : 0 < length (group ++ rest) = simp length-append (some_group group_size rows (length group) (length rest) positive_size some here) in
     groups_of-first (group ++ rest) any ∙ cut_group group rest rows here there
 
-pub body_take : (layout : Layout) (schema : List Column) (sizes : List ℕ) (rows : ℕ) (before : List (List (List Value))) (t : Tail) (x : List (List (List Value)) × Tail)
-    → IsBytes t.bytes → sizes ≡ group_sizes rows → body layout schema sizes before t ≡ Ok x → GroupsTaken layout schema rows before t x.0
+-- groups that were read of so many rows are the groups of these rows
+pub record GroupsFound (rows : ℕ) (before found : List (List (List Value))) : Type 0 where
+  pub groups : List (List (List Value))
+  pub behind : found ≡ before ++ groups
+  pub count : length (together groups) ≡ rows
+  pub cut : groups_of (together groups) ≡ groups
+
+pub groups_found : (layout : Layout) (schema : List Column) (sizes : List ℕ) (rows : ℕ) (before : List (List (List Value))) (t : Tail) (x : List (List (List Value)) × Tail)
+    → sizes ≡ group_sizes rows → body layout schema sizes before t ≡ Ok x → GroupsFound rows before x.0
 unfolding body
-body_take layout schema [] rows before t x fits sized e =
+groups_found layout schema [] rows before t x sized e =
     let none : rows ≡ 0 = no_sizes rows (sym sized) in
     let a = bind_ok (end t) (λ _. give before) x e in
     let same : before ≡ x.0 = ap (λ (z : List (List (List Value)) × Tail). z.0) (ok_is (found_pair before a.0.1) x a.2) in
+    record { groups = []; behind = sym same ∙ sym (append-nil before); count = sym none; cut = groups_of-nothing {A = List Value} }
+groups_found layout schema (size ∷ sizes) rows before t x sized e =
+    let some = some_sizes rows size sizes (sym sized) in
+    let first = first_size rows size sizes some sized in
+    let a = bind_ok (segment layout schema size t) (λ group. body layout schema sizes (before ++ group ∷ [])) x e in
+    let count = segment_count layout schema size t a.0 a.1 in
+    let r = groups_found layout schema sizes (rows - group_size) (before ++ a.0.0 ∷ []) a.0.1 x first.2 a.2 in
     record {
-      groups = [];
-      behind = sym same ∙ sym (append-nil before);
-      text = end_takes t a.0 a.1;
-      count = sym none;
-      cut = groups_of-nothing {A = List Value};
-      admitted = refl;
+      groups = a.0.0 ∷ r.groups;
+      behind = r.behind ∙ append_assoc before (a.0.0 ∷ []) r.groups;
+      count = length-append a.0.0 (together r.groups) ∙ omega (arith, count, r.count, first.0);
+      cut = first_group a.0.0 (together r.groups) rows some (count ∙ first.0) r.count ∙ ap (λ (l : List (List (List Value))). a.0.0 ∷ l) r.cut;
     }
+
+-- their text is what was read
+pub record GroupsTaken (layout : Layout) (schema : List Column) (before : List (List (List Value))) (t : Tail) (found : List (List (List Value))) : Type 0 where
+  pub groups : List (List (List Value))
+  pub behind : found ≡ before ++ groups
+  pub text : t.bytes ≡ flat_map (segment_text layout schema) groups
+  pub admitted : list_all (admits_values schema) (together groups) ≡ true
+
+pub body_take : (layout : Layout) (schema : List Column) (sizes : List ℕ) (rows : ℕ) (before : List (List (List Value))) (t : Tail) (x : List (List (List Value)) × Tail)
+    → IsBytes t.bytes → sizes ≡ group_sizes rows → body layout schema sizes before t ≡ Ok x → GroupsTaken layout schema before t x.0
+unfolding body
+body_take layout schema [] rows before t x fits sized e =
+    let a = bind_ok (end t) (λ _. give before) x e in
+    let same : before ≡ x.0 = ap (λ (z : List (List (List Value)) × Tail). z.0) (ok_is (found_pair before a.0.1) x a.2) in
+    record { groups = []; behind = sym same ∙ sym (append-nil before); text = end_takes t a.0 a.1; admitted = refl }
 body_take layout schema (size ∷ sizes) rows before t x fits sized e =
     let some = some_sizes rows size sizes (sym sized) in
     let first = first_size rows size sizes some sized in
@@ -208,7 +233,5 @@ body_take layout schema (size ∷ sizes) rows before t x fits sized e =
       groups = a.0.0 ∷ r.groups;
       behind = r.behind ∙ append_assoc before (a.0.0 ∷ []) r.groups;
       text = g.takes.parts ∙ ap (λ (l : List ℕ). segment_text layout schema a.0.0 ++ l) r.text;
-      count = length-append a.0.0 (together r.groups) ∙ omega (arith, g.count, r.count, first.0);
-      cut = first_group a.0.0 (together r.groups) rows some (g.count ∙ first.0) r.count ∙ ap (λ (l : List (List (List Value))). a.0.0 ∷ l) r.cut;
       admitted = list_all-append (admits_values schema) a.0.0 (together r.groups) ∙ rw (g.admitted, r.admitted) refl;
     }

@@ -11,23 +11,23 @@ use Rattle.bw_model.specs.Row.{Value}
 use Rattle.bw_model.specs.SchemaText.{column_shape, SchemaShape, schema_shape}
 use Rattle.bw_file.specs.declared.layout.Layout.{Layout}
 use Rattle.bw_file.specs.Blocks.{segment_text}
-use Rattle.bw_file.specs.FileText.{IsFileText, file_text, file_text2, text_of_version, front_text, name_text, header_text, segments_text, version_for, are_bounds, column_text}
+use Rattle.bw_file.specs.FileText.{IsSchema, IsFileText, file_text, file_text2, text_of_version, front_text, name_text, header_text, segments_text, version_for, are_bounds, column_text}
 use Rattle.bw_file.specs.Reading.{Tail, tail}
 use Rattle.bw_file.specs.TableReading.{group_sizes, body, HeaderShape, header, Found, found_in, IsReadAs, IsReadBehind}
 use Rattle.bw_file.proofs.ColumnLemmas.{columns_same}
 use Rattle.bw_file.proofs.SpellingLemmas.{IsBytes, TakesBoth, shape_text, fits_version, head_text, IsHeader, header_takes}
-use Rattle.bw_file.proofs.BodySpelling.{body_take}
+use Rattle.bw_file.proofs.BodySpelling.{groups_found, body_take}
 
 shapes_spelled : (columns : List Column) → flat_map shape_text (map column_shape columns) ≡ flat_map (λ (c : Column). column_text c.name c.lo c.hi c.nullable) columns
 shapes_spelled [] = refl
 shapes_spelled (c ∷ columns) = ap (λ (l : List ℕ). column_text c.name c.lo c.hi c.nullable ++ l) (shapes_spelled columns)
 
-shapes_fit : (version : ℕ) (columns : List Column) → list_all (fits_version version) (map column_shape columns) ≡ list_all (λ (c : Column). are_bounds version c.lo c.hi) columns
+pub shapes_fit : (version : ℕ) (columns : List Column) → list_all (fits_version version) (map column_shape columns) ≡ list_all (λ (c : Column). are_bounds version c.lo c.hi) columns
 shapes_fit version [] = refl
 shapes_fit version (c ∷ columns) = ap (λ (b : Bool). are_bounds version c.lo c.hi && b) (shapes_fit version columns)
 
 -- the text of a header, by its shape
-head_is : (version rows : ℕ) (layout : Layout) (schema : Schema)
+pub head_is : (version rows : ℕ) (layout : Layout) (schema : Schema)
     → head_text (record { version = version; layout = layout; rows = rows; schema = schema_shape schema }) ≡ header_text version layout schema.name schema.columns.items rows
 unfolding header_text
 head_is version rows layout schema =
@@ -45,11 +45,11 @@ of_version version layout schema rows bytes (inl one) narrow text =
 of_version version layout schema rows bytes (inr two) narrow text = inr (rw two at text)
 
 -- what was read, by the header and by what stands behind it
-abbrev found_as : Layout → SchemaShape → List (List (List Value)) → Found
-found_as layout shape groups = record { layout = layout; schema = shape; rows = together groups }
+abbrev pub of_groups : Layout → SchemaShape → List (List (List Value)) → Found
+of_groups layout shape groups = record { layout = layout; schema = shape; rows = together groups }
 
-body_found : (layout : Layout) (shape : SchemaShape) (r : Result (List (List (List Value)) × Tail) Fault) (found : Found) → found_in layout shape r ≡ Ok found
-    → (y : List (List (List Value)) × Tail) × (r ≡ Ok y) × (found_as layout shape y.0 ≡ found)
+pub body_found : (layout : Layout) (shape : SchemaShape) (r : Result (List (List (List Value)) × Tail) Fault) (found : Found) → found_in layout shape r ≡ Ok found
+    → (y : List (List (List Value)) × Tail) × (r ≡ Ok y) × (of_groups layout shape y.0 ≡ found)
 body_found layout shape (Ok y) found e = (y, refl, cc)
 body_found layout shape (Err fault) found e = absurd cc
 
@@ -60,14 +60,15 @@ record Spelled (bytes : List ℕ) (found : Found) : Type 0 where
   text : IsFileText bytes found.layout schema found.rows
 
 spelled_with : (bytes : List ℕ) (h : HeaderShape) (t : Tail) (schema : Schema) (y : List (List (List Value)) × Tail) → TakesBoth (tail 0 bytes) (head_text h) t → IsHeader h
-    → schema_shape schema ≡ h.schema → body h.layout schema.columns.items (group_sizes h.rows) [] t ≡ Ok y → Spelled bytes (found_as h.layout h.schema y.0)
+    → schema_shape schema ≡ h.schema → body h.layout schema.columns.items (group_sizes h.rows) [] t ≡ Ok y → Spelled bytes (of_groups h.layout h.schema y.0)
 unfolding text_of_version segments_text
 spelled_with bytes h t schema y head known same e =
     let columns = schema.columns.items in
     let b = body_take h.layout columns (group_sizes h.rows) h.rows [] t y head.rest refl e in
     let rows = together y.0 in
-    let cut : groups_of rows ≡ y.0 = rw b.behind b.cut in
-    let count : length rows ≡ h.rows = rw b.behind b.count in
+    let f = groups_found h.layout columns (group_sizes h.rows) h.rows [] t y refl e in
+    let cut : groups_of rows ≡ y.0 = rw f.behind f.cut in
+    let count : length rows ≡ h.rows = rw f.behind f.count in
     let body_text : t.bytes ≡ segments_text h.layout columns rows = b.text ∙ ap (flat_map (segment_text h.layout columns)) (sym b.behind ∙ sym cut) in
     let shaped : head_text h ≡ header_text h.version h.layout schema.name columns (length rows) =
     ap (λ (s : SchemaShape). head_text (record { version = h.version; layout = h.layout; rows = h.rows; schema = s })) (sym same)
@@ -79,7 +80,11 @@ spelled_with bytes h t schema y head known same e =
     record {
       schema = schema;
       shape = same;
-      text = (record { few = omega (arith, count, known.few); admitted = admitted }, of_version h.version h.layout schema rows bytes known.version narrow whole);
+      text = record {
+        under = subst IsSchema (sym same) known.schema;
+        admitted = record { few = omega (arith, count, known.few); admitted = admitted };
+        text = of_version h.version h.layout schema rows bytes known.version narrow whole;
+      };
     }
 
 read_behind : (bytes : List ℕ) (r : Result (HeaderShape × Tail) Fault) (found : Found) → IsBytes bytes → header (tail 0 bytes) ≡ r → IsReadBehind r (Ok found) → Spelled bytes found
@@ -104,4 +109,8 @@ read_is_spelled_by bytes found schema fits same read =
     let shapes : schema_shape s.0 ≡ schema_shape schema = s.1 ∙ sym same in
     let columns = columns_same s.0.columns.items schema.columns.items (ap (λ (h : SchemaShape). h.columns) shapes) in
     let names : s.0.name ≡ schema.name = ap (λ (h : SchemaShape). h.name) shapes in
-    rw (columns, names) at s.2
+    record {
+      under = subst IsSchema shapes s.2.under;
+      admitted = rw columns at s.2.admitted;
+      text = rw (columns, names) at s.2.text;
+    }

@@ -4,8 +4,13 @@ pub mod ColumnLemmas
 pub mod EncoderLemmas
 pub mod FileSpelling
 pub mod HeaderLemmas
+pub mod NextLemmas
 pub mod ReaderLemmas
+pub mod ReaderSpelling
 pub mod ReadingLemmas
 pub mod SegmentLemmas
+pub mod SpelledBody
+pub mod SpelledFile
+pub mod SpelledHeader
 pub mod SpellingLemmas
 pub mod TableLemmas

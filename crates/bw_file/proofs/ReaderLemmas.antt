@@ -110,12 +110,12 @@ segment_refused start old new reader groups size fault left sized so_far p =
     (stops (body layout columns (group_sizes reader.rows) []) (segment layout columns size) (λ group. body layout columns (group_sizes (rest - group_size)) (groups ++ group ∷ [])) so_far.behind old new fault on p)
 
 -- the header of a file, from its first byte on
-head_at : (start behind : State) (h : HeaderShape) (rest : List ℕ) → start.offset ≡ 0 → (p : GoesOn header start (give h) behind)
+pub head_at : (start behind : State) (h : HeaderShape) (rest : List ℕ) → start.offset ≡ 0 → (p : GoesOn header start (give h) behind)
     → header (tail 0 (p.bytes ++ rest)) ≡ Ok (h, tail behind.offset rest)
 head_at start behind h rest first p = rw first at (p.on rest)
 
 -- where all groups were read, the end is wanted
-at_end : (start old : State) (reader : TableReader) (groups : List (List (List Value))) → reader.given ≡ reader.rows → (so_far : SoFar start old reader groups)
+pub at_end : (start old : State) (reader : TableReader) (groups : List (List (List Value))) → reader.given ≡ reader.rows → (so_far : SoFar start old reader groups)
     → GoesOn (body reader.layout reader.shape.value.schema.columns.items (group_sizes reader.rows) []) so_far.behind (end >>= λ _. give groups) old
 unfolding body
 at_end start old reader groups all so_far =
@@ -147,7 +147,3 @@ end_seen start old new reader groups all so_far took same ended =
       ended = ended;
       read = rw e (reader.shape.value.schema, refl, whole);
     }
-
-pub at_most_group : (size left : ℕ) → size ≡ min left 512 → size ≤ group_size
-unfolding group_size
-at_most_group size left e = omega (arith, e)

@@ -1,21 +1,24 @@
 -- What is read of a table file is spelled so.
-use Rattle.std.proofs.Common.{◌≡◌, ℕ, zero, suc, ◌+◌, ◌^◌, ◌<◌, ◌≤◌, Bool, true, false, ◌||◌, cond, eqb, nat_lt, List, [], ◌∷◌, ◌++◌, length, get_or, take, drop, Result, Ok, Err, refl, sym, ap, subst, ◌∙◌, append_assoc, length-take, length-drop, arith, slice_index, inl, inr, ◌⊎◌}
-use Rattle.std.specs.Int.{w16, w32, w64, to_le_bytes, from_le_bytes}
+use Rattle.std.proofs.Common.{◌≡◌, ℕ, zero, suc, ◌+◌, ◌^◌, ◌<◌, ◌≤◌, Bool, true, false, ◌||◌, not, All, FitsSigned, cond, eqb, nat_lt, List, [], ◌∷◌, ◌++◌, length, get_or, take, drop, Result, Ok, Err, refl, sym, ap, subst, ◌∙◌, append_assoc, length-take, length-drop, arith, slice_index, inl, inr, ◌⊎◌}
+use Rattle.std.specs.Int.{w16, w32, w64, to_le_bytes, from_le_bytes, cast_signed}
 use Rattle.std.specs.List.{flat_map, list_all}
 use Rattle.std.specs.Str.{bytes_eq}
 use Rattle.std.proofs.lemmas.Bool.{cases_lt, ltb-false, eqb-true}
+use borrow.Author.Differences.{fits_in, read_fits}
 use Rattle.std.proofs.lemmas.Int.{of_z-to_z}
+use Rattle.std.proofs.lemmas.List.Elements.{All-nil, All-cons}
 use Rattle.std.proofs.lemmas.List.{take-append-drop, length-take-le, take_all, get_or-take, get_or-drop, get_or_past, append-nil}
 use Rattle.std.proofs.lemmas.Nat.{le_bytes_2, le_bytes_4, le_bytes_8}
 use Rattle.std.proofs.lemmas.Slice.Eq.{bytes_eq-Decides}
 use Rattle.bw_model.specs.declared.fault.Fault.{Fault}
 use Rattle.bw_model.specs.Fault.{refused_if}
 use Rattle.bw_model.specs.Limits.{most_rows, most_columns}
+use Rattle.bw_model.specs.Name.{is_name}
 use Rattle.bw_model.specs.SchemaText.{ColumnShape, shape, shape_names}
 use Rattle.bw_file.specs.declared.fields.Bounds.{Bounds}
 use Rattle.bw_file.specs.declared.layout.Layout.{Layout}
 use Rattle.bw_file.specs.declared.layout.Layout.TheVariants.{Planes, Slices}
-use Rattle.bw_file.specs.FileText.{magic, layout_byte, flag_byte, front_text, name_text, bound_text, column_text, are_bounds}
+use Rattle.bw_file.specs.FileText.{magic, layout_byte, flag_byte, front_text, name_text, bound_text, column_text, are_bounds, IsColumn, IsSchema}
 use Rattle.bw_file.specs.Reading.{Tail, tail, Reading, passed, ◌>>=◌, give, field, said_at, judged}
 use Rattle.bw_file.specs.TableReading.{magic_says, version_says, layout_says, count_says, rows_say, bound_in, bounds_say, nullable_says, name_says, name, column, columns, FrontShape, front_of, front, HeaderShape, header_of, header}
 
@@ -173,8 +176,18 @@ bound_is text long fits =
     let small : from_le_bytes w64 text < 2 ^ 64 = omega (arith, fits 0, fits 1, fits 2, fits 3, fits 4, fits 5, fits 6, fits 7) in
     ap (to_le_bytes w64) (of_z-to_z w64 (from_le_bytes w64 text) small) ∙ le_bytes_8 text (from_le_bytes w64 text) long fits refl
 
+cast_fits : (n : ℕ) → FitsSigned w64 (cast_signed w64 n)
+cast_fits n = omega (arith, fits_in, read_fits w64 n)
+
+-- bounds of eight bytes each
+record AreBounds (version : ℕ) (text : List ℕ) (bounds : Bounds) : Type 0 where
+  spelled : text ≡ bound_text bounds.lo ++ bound_text bounds.hi
+  ordered : are_bounds version bounds.lo bounds.hi ≡ true
+  lo : FitsSigned w64 bounds.lo
+  hi : FitsSigned w64 bounds.hi
+
 bounds_are : (version : ℕ) (text : List ℕ) (bounds : Bounds) → length text ≡ 16 → IsBytes text → bounds_say version text ≡ Ok bounds
-    → (text ≡ bound_text bounds.lo ++ bound_text bounds.hi) × (are_bounds version bounds.lo bounds.hi ≡ true)
+    → AreBounds version text bounds
 unfolding bounds_say
 bounds_are version text bounds long fits e =
     let lo = bound_in (take 8 text) in
@@ -187,7 +200,12 @@ bounds_are version text bounds long fits e =
     let second : bound_text hi ≡ drop 8 text = bound_is (take 8 (drop 8 text)) (length-take-le 8 (drop 8 text) (omega (arith, back))) (IsBytes-take 8 (drop 8 text) (IsBytes-drop 8 text fits)) ∙ all in
     let whole : bound_text lo ++ bound_text hi ≡ text =
     ap (λ (l : List ℕ). l ++ bound_text hi) first ∙ ap (λ (l : List ℕ). take 8 text ++ l) second ∙ take-append-drop 8 text in
-    subst (λ (b : Bounds). (text ≡ bound_text b.lo ++ bound_text b.hi) × (are_bounds version b.lo b.hi ≡ true)) g.1 (sym whole, g.0)
+    subst (AreBounds version text) g.1 (record {
+      spelled = sym whole;
+      ordered = g.0;
+      lo = cast_fits (from_le_bytes w64 (take 8 text));
+      hi = cast_fits (from_le_bytes w64 (take 8 (drop 8 text)));
+    })
 
 -- texts that were taken one after another
 pub takes_then : (a b c : Tail) (x y : List ℕ) → TakesBoth a x b → TakesBoth b y c → TakesBoth a (x ++ y) c
@@ -199,11 +217,16 @@ both_of a b x p = record { parts = p.parts; rest = p.rest }
 takes_as : (a b : Tail) (x y : List ℕ) → Takes a x b → x ≡ y → TakesBoth a y b
 takes_as a b x y p e = rw (← e) (both_of a b x p)
 
-named : (before : List (List ℕ)) (text found : List ℕ) → name_says before text ≡ Ok found → text ≡ found
-unfolding name_says
-named before text found e = (left _ text found 304 e).1
+neither : (a b : Bool) → (not a || b) ≡ false → a ≡ true
+neither true b e = refl
+neither false b e = absurd cc
 
-name_takes : (before : List (List ℕ)) (t : Tail) (x : List ℕ × Tail) → IsBytes t.bytes → name before t ≡ Ok x → TakesBoth t (name_text x.0) x.1
+named : (before : List (List ℕ)) (text found : List ℕ) → name_says before text ≡ Ok found → (text ≡ found) × (is_name found ≡ true)
+unfolding name_says
+named before text found e =
+    let g = left _ text found 304 e in (g.1, ap is_name (sym g.1) ∙ neither _ _ g.0)
+
+name_takes : (before : List (List ℕ)) (t : Tail) (x : List ℕ × Tail) → IsBytes t.bytes → name before t ≡ Ok x → TakesBoth t (name_text x.0) x.1 × (is_name x.0 ≡ true)
 unfolding name
 name_takes before t x fits e =
     let a = bind_ok (field 1 t) (λ size. field (slice_index size 0) >>= λ text. said_at t.at (name_says before text)) x e in
@@ -211,11 +234,12 @@ name_takes before t x fits e =
     let fa = field_takes 1 t a.0 fits a.1 in
     let fb = field_takes (slice_index a.0.0 0) a.0.1 b.0 fa.0.rest b.1 in
     let s = said_ok t.at (name_says before b.0.0) b.0.1 x b.2 in
-    let same : b.0.0 ≡ x.0 = named before b.0.0 x.0 s.0 in
+    let is = named before b.0.0 x.0 s.0 in
+    let same : b.0.0 ≡ x.0 = is.0 in
     let size : a.0.0 ≡ length x.0 ∷ [] = single a.0.0 fa.1 ∙ ap (λ (n : ℕ). n ∷ []) (sym fb.1 ∙ ap length same) in
     let whole : TakesBoth t ((length x.0 ∷ []) ++ x.0) b.0.1 =
     takes_then t a.0.1 b.0.1 (length x.0 ∷ []) x.0 (takes_as t a.0.1 a.0.0 (length x.0 ∷ []) fa.0 size) (takes_as a.0.1 b.0.1 b.0.0 x.0 fb.0 same) in
-    subst (λ (u : Tail). TakesBoth t (name_text x.0) u) s.1 whole
+    (subst (λ (u : Tail). TakesBoth t (name_text x.0) u) s.1 whole, is.1)
 
 abbrev pub shape_text : ColumnShape → List ℕ
 shape_text column = column_text column.name column.lo column.hi column.nullable
@@ -225,30 +249,31 @@ abbrev pub fits_version : ℕ → ColumnShape → Bool
 fits_version version column = are_bounds version column.lo column.hi
 
 column_takes : (version : ℕ) (before : List (List ℕ)) (t : Tail) (x : ColumnShape × Tail) → IsBytes t.bytes → column version before t ≡ Ok x
-    → TakesBoth t (shape_text x.0) x.1 × (fits_version version x.0 ≡ true)
+    → TakesBoth t (shape_text x.0) x.1 × (fits_version version x.0 ≡ true) × IsColumn x.0
 unfolding column column_text
 column_takes version before t x fits e =
     let a = bind_ok (name before t) (λ text. judged 16 (bounds_say version) >>= λ bounds. judged 1 nullable_says >>= λ nullable. give (shape text bounds.lo bounds.hi nullable)) x e in
     let b = bind_ok (judged 16 (bounds_say version) a.0.1) (λ bounds. judged 1 nullable_says >>= λ nullable. give (shape a.0.0 bounds.lo bounds.hi nullable)) x a.2 in
     let c = bind_ok (judged 1 nullable_says b.0.1) (λ nullable. give (shape a.0.0 b.0.0.lo b.0.0.hi nullable)) x b.2 in
     let ta = name_takes before t a.0 fits a.1 in
-    let jb = judged_takes 16 (bounds_say version) a.0.1 b.0 ta.rest b.1 in
+    let jb = judged_takes 16 (bounds_say version) a.0.1 b.0 ta.0.rest b.1 in
     let jc = judged_takes 1 nullable_says b.0.1 c.0 jb.takes.rest c.1 in
     let bs = bounds_are version jb.text b.0.0 jb.long jb.takes.fits jb.said in
-    let tb = takes_as a.0.1 b.0.1 jb.text _ jb.takes bs.0 in
+    let tb = takes_as a.0.1 b.0.1 jb.text _ jb.takes bs.spelled in
     let tc = takes_as b.0.1 c.0.1 jc.text _ jc.takes (nullable_is jc.text c.0.0 jc.long jc.said) in
     let whole = takes_then t b.0.1 c.0.1 (name_text a.0.0 ++ (bound_text b.0.0.lo ++ bound_text b.0.0.hi)) (flag_byte c.0.0 ∷ [])
-    (takes_then t a.0.1 b.0.1 (name_text a.0.0) (bound_text b.0.0.lo ++ bound_text b.0.0.hi) ta tb) tc in
+    (takes_then t a.0.1 b.0.1 (name_text a.0.0) (bound_text b.0.0.lo ++ bound_text b.0.0.hi) ta.0 tb) tc in
     let made : ColumnShape × Tail = (shape a.0.0 b.0.0.lo b.0.0.hi c.0.0, c.0.1) in
-    subst (λ (y : ColumnShape × Tail). TakesBoth t (shape_text y.0) y.1 × (fits_version version y.0 ≡ true)) (ok_is made x c.2) (whole, bs.1)
+    let is : IsColumn made.0 = record { name = ta.1; lo = bs.lo; hi = bs.hi } in
+    subst (λ (y : ColumnShape × Tail). TakesBoth t (shape_text y.0) y.1 × (fits_version version y.0 ≡ true) × IsColumn y.0) (ok_is made x c.2) (whole, bs.ordered, is)
 
 columns_take : (version count : ℕ) (before : List ColumnShape) (t : Tail) (x : List ColumnShape × Tail) → IsBytes t.bytes → columns version before count t ≡ Ok x
-    → (more : List ColumnShape) × (x.0 ≡ before ++ more) × (length more ≡ count) × TakesBoth t (flat_map shape_text more) x.1 × (list_all (fits_version version) more ≡ true)
+    → (more : List ColumnShape) × (x.0 ≡ before ++ more) × (length more ≡ count) × TakesBoth t (flat_map shape_text more) x.1 × (list_all (fits_version version) more ≡ true) × All IsColumn more
 unfolding columns
 columns_take version zero before t x fits e =
     let made : List ColumnShape × Tail = (before, t) in
-    subst (λ (y : List ColumnShape × Tail). (more : List ColumnShape) × (y.0 ≡ before ++ more) × (length more ≡ 0) × TakesBoth t (flat_map shape_text more) y.1 × (list_all (fits_version version) more ≡ true))
-    (ok_is made x e) ([], sym (append-nil before), refl, record { parts = refl; rest = fits }, refl)
+    subst (λ (y : List ColumnShape × Tail). (more : List ColumnShape) × (y.0 ≡ before ++ more) × (length more ≡ 0) × TakesBoth t (flat_map shape_text more) y.1 × (list_all (fits_version version) more ≡ true) × All IsColumn more)
+    (ok_is made x e) ([], sym (append-nil before), refl, record { parts = refl; rest = fits }, refl, All-nil IsColumn)
 columns_take version (suc count) before t x fits e =
     let a = bind_ok (column version (shape_names before) t) (λ next. columns version (before ++ next ∷ []) count) x e in
     let ta = column_takes version (shape_names before) t a.0 fits a.1 in
@@ -258,6 +283,7 @@ columns_take version (suc count) before t x fits e =
       ap suc r.2,
       takes_then t a.0.1 x.1 (shape_text a.0.0) (flat_map shape_text r.0) ta.0 r.3,
       rw (ta.1, r.4) refl,
+      All-cons IsColumn a.0.0 r.0 ta.2 r.5,
     )
 
 -- what is known of a front and of a header
@@ -302,6 +328,7 @@ pub record IsHeader (h : HeaderShape) : Type 0 where
   pub version : (h.version ≡ 1) ⊎ (h.version ≡ 2)
   pub few : h.rows ≤ most_rows
   pub bounds : list_all (fits_version h.version) h.schema.columns ≡ true
+  pub schema : IsSchema h.schema
 
 pub header_takes : (t : Tail) (x : HeaderShape × Tail) → IsBytes t.bytes → header t ≡ Ok x → TakesBoth t (head_text x.0) x.1 × IsHeader x.0
 unfolding header
@@ -311,14 +338,15 @@ header_takes t x fits e =
     let c = bind_ok (columns a.0.0.version [] a.0.0.columns b.0.1) (λ found. give (header_of a.0.0 b.0.0 found)) x b.2 in
     let ta = front_takes t a.0 fits a.1 in
     let tb = name_takes [] a.0.1 b.0 ta.0.rest b.1 in
-    let tc = columns_take a.0.0.version a.0.0.columns [] b.0.1 c.0 tb.rest c.1 in
+    let tc = columns_take a.0.0.version a.0.0.columns [] b.0.1 c.0 tb.0.rest c.1 in
     let found : c.0.0 ≡ tc.0 = tc.1 in
     let text : TakesBoth b.0.1 (flat_map shape_text c.0.0) c.0.1 = rw found tc.3 in
     let count : length c.0.0 ≡ a.0.0.columns = ap length found ∙ tc.2 in
     let front_part : TakesBoth t (front_text a.0.0.version a.0.0.layout (length c.0.0) a.0.0.rows) a.0.1 = rw count ta.0 in
     let whole = takes_then t b.0.1 c.0.1 (front_text a.0.0.version a.0.0.layout (length c.0.0) a.0.0.rows ++ name_text b.0.0) (flat_map shape_text c.0.0)
-    (takes_then t a.0.1 b.0.1 (front_text a.0.0.version a.0.0.layout (length c.0.0) a.0.0.rows) (name_text b.0.0) front_part tb) text in
+    (takes_then t a.0.1 b.0.1 (front_text a.0.0.version a.0.0.layout (length c.0.0) a.0.0.rows) (name_text b.0.0) front_part tb.0) text in
     let bounds : list_all (fits_version a.0.0.version) c.0.0 ≡ true = rw found tc.4 in
+    let schema : IsSchema (header_of a.0.0 b.0.0 c.0.0).schema = record { name = tb.1; columns = subst (All IsColumn) (sym found) tc.5 } in
     let made : HeaderShape × Tail = (header_of a.0.0 b.0.0 c.0.0, c.0.1) in
     subst (λ (y : HeaderShape × Tail). TakesBoth t (head_text y.0) y.1 × IsHeader y.0) (ok_is made x c.2)
-    (whole, record { version = ta.1.version; few = ta.1.few; bounds = bounds })
+    (whole, record { version = ta.1.version; few = ta.1.few; bounds = bounds; schema = schema })

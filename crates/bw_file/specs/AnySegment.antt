@@ -6,8 +6,10 @@ use Rattle.bw_file.specs.declared.segments.AnySegment.{AnySegment}
 use Rattle.bw_file.specs.declared.segments.AnySegment.TheVariants.{Planes, Slices}
 
 unfoldable pub any_meaning : AnySegment → Meaning
-any_meaning (Planes segment) = planes_meaning segment.shape.value.schema segment.rows segment.bytes.items
-any_meaning (Slices segment) = slices_meaning segment.shape.value.schema segment.rows segment.bytes.items
+any_meaning (Planes segment) =
+    planes_meaning segment.shape.value.schema segment.rows segment.bytes.items
+any_meaning (Slices segment) =
+    slices_meaning segment.shape.value.schema segment.rows segment.bytes.items
 
 -- which is one group's rows
 pub any_is_group : (segment : AnySegment) → IsGroup (any_meaning segment)

@@ -26,11 +26,14 @@ segment_size layout columns = kept.segment_size (form_of layout) columns
 
 -- the first fault of a block of that size, in a segment of so many rows
 abbrev pub block_fault : Layout → List Column → ℕ → ℕ → List ℕ → Option ℕ
-block_fault layout columns column count block = faults.block_fault (form_of layout) columns column count block
+block_fault layout columns column count block =
+    faults.block_fault (form_of layout) columns column count block
 
--- the bytes are the first so many blocks of a segment of so many rows, each without fault; and all of them
+-- the bytes are the first so many blocks of a segment of so many rows, each without fault; and all
+-- of them
 abbrev pub AreSound : Layout → List Column → ℕ → ℕ → List ℕ → Type 0
-AreSound layout columns count blocks bytes = faults.AreSound (form_of layout) columns count blocks bytes
+AreSound layout columns count blocks bytes =
+    faults.AreSound (form_of layout) columns count blocks bytes
 
 abbrev pub IsSound : Layout → List Column → ℕ → List ℕ → Type 0
 IsSound layout columns count bytes = faults.IsSound (form_of layout) columns count bytes

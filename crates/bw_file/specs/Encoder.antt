@@ -20,10 +20,11 @@ rows_in encoder = encoder.rows
 -- bytes are the text of these rows, but that the header tells of no rows yet
 abbrev pub IsTextOf : Layout → Schema → List ℕ → List (List Value) → Type 0
 IsTextOf layout schema bytes rows =
-    bytes ≡ header_text (version_for schema.columns.items) layout schema.name schema.columns.items 0 ++ segments_text layout schema.columns.items rows
+    bytes ≡ header_text (version_for schema.columns.items) layout schema.name schema.columns.items 0
+    ++ segments_text layout schema.columns.items rows
 
--- The encoder was given these rows, which the columns admit: the text of the groups that are whole, behind a header that
--- tells of no rows yet, and less than a group that isn't yet in the text.
+-- The encoder was given these rows, which the columns admit: the text of the groups that are whole,
+-- behind a header that tells of no rows yet, and less than a group that isn't yet in the text.
 pub record Holds (encoder : Encoder) (rows : List (List Value)) : Type 0 where
   pub before : List (List Value)
   pub groups : ℕ

@@ -1,5 +1,5 @@
 -- The bytes of a table file: a header, and the segments of the table's rows.
-use Rattle.std.specs.Prelude.{◌≡◌, ℕ, ℤ, pos, ◌^◌, ◌≤◌, ◌-ℤ◌, Bool, true, false, ◌&&◌, ◌⊎◌, List, [], ◌∷◌, ◌++◌, length, codes, int_le, int_lt, if◌then◌else◌, ◌==◌}
+use Rattle.std.specs.Prelude.{◌≡◌, ℕ, ℤ, pos, ◌^◌, ◌≤◌, ◌-ℤ◌, All, FitsSigned, Bool, true, false, ◌&&◌, ◌⊎◌, List, [], ◌∷◌, ◌++◌, length, codes, int_le, int_lt, if◌then◌else◌, ◌==◌}
 use Rattle.std.specs.Int.{w16, w32, w64, to_le_bytes, cast_unsigned}
 use Rattle.std.specs.List.{flat_map, list_all}
 use Rattle.bw_model.specs.declared.column.Column.{Column}
@@ -7,7 +7,9 @@ use Rattle.bw_model.specs.declared.schema.Schema.{Schema}
 use Rattle.bw_model.specs.Column.{admits_values}
 use Rattle.bw_model.specs.Groups.{groups_of}
 use Rattle.bw_model.specs.Limits.{most_rows}
+use Rattle.bw_model.specs.Name.{is_name}
 use Rattle.bw_model.specs.Row.{Value}
+use Rattle.bw_model.specs.SchemaText.{ColumnShape, SchemaShape, schema_shape}
 use Rattle.bw_file.specs.declared.layout.Layout.{Layout}
 use Rattle.bw_file.specs.declared.layout.Layout.TheVariants.{Planes, Slices}
 use Rattle.bw_file.specs.Blocks.{segment_text}
@@ -25,8 +27,8 @@ abbrev pub flag_byte : Bool → ℕ
 flag_byte false = 0
 flag_byte true = 1
 
--- Numbers stand with their least byte first. The first sixteen bytes: the magic, a byte for the version, one for the
--- layout, the number of columns in two bytes and that of rows in four.
+-- Numbers stand with their least byte first. The first sixteen bytes: the magic, a byte for the
+-- version, one for the layout, the number of columns in two bytes and that of rows in four.
 unfoldable pub front_text : ℕ → Layout → ℕ → ℕ → List ℕ
 front_text version layout columns rows =
     magic ++ (version ∷ layout_byte layout ∷ []) ++ to_le_bytes w16 columns ++ to_le_bytes w32 rows
@@ -41,12 +43,14 @@ bound_text n = to_le_bytes w64 (cast_unsigned w64 n)
 
 -- a column: its name, its bounds, and 1 where it takes null, else 0
 unfoldable pub column_text : List ℕ → ℤ → ℤ → Bool → List ℕ
-column_text name lo hi nullable = name_text name ++ (bound_text lo ++ bound_text hi) ++ flag_byte nullable ∷ []
+column_text name lo hi nullable =
+    name_text name ++ (bound_text lo ++ bound_text hi) ++ flag_byte nullable ∷ []
 
 -- the header of a table of so many rows
 unfoldable pub header_text : ℕ → Layout → List ℕ → List Column → ℕ → List ℕ
 header_text version layout name columns rows =
-    front_text version layout (length columns) rows ++ name_text name ++ flat_map (λ column. column_text column.name column.lo column.hi column.nullable) columns
+    front_text version layout (length columns) rows ++ name_text name
+    ++ flat_map (λ column. column_text column.name column.lo column.hi column.nullable) columns
 
 -- the segments of rows, in groups of 512
 unfoldable pub segments_text : Layout → List Column → List (List Value) → List ℕ
@@ -70,17 +74,31 @@ version_for columns = if list_all (λ column. are_bounds 1 column.lo column.hi) 
 
 -- the text of a table, and the same table's text of version 2
 abbrev pub file_text : Layout → Schema → List (List Value) → List ℕ
-file_text layout schema rows = text_of_version (version_for schema.columns.items) layout schema.name schema.columns.items rows
+file_text layout schema rows =
+    text_of_version (version_for schema.columns.items) layout schema.name schema.columns.items rows
 
 abbrev pub file_text2 : Layout → Schema → List (List Value) → List ℕ
 file_text2 layout schema rows = text_of_version 2 layout schema.name schema.columns.items rows
+
+-- a column as every column is: its name is a name, and 64 bits hold its bounds
+pub record IsColumn (column : ColumnShape) : Type 0 where
+  pub name : is_name column.name ≡ true
+  pub lo : FitsSigned w64 column.lo
+  pub hi : FitsSigned w64 column.hi
+
+-- a schema as every schema is: its name is a name, and each of its columns is such a column
+pub record IsSchema (schema : SchemaShape) : Type 0 where
+  pub name : is_name schema.name ≡ true
+  pub columns : All IsColumn schema.columns
 
 -- at most 2^24 rows, which the columns admit
 pub record AreRows (columns : List Column) (rows : List (List Value)) : Type 0 where
   pub few : length rows ≤ most_rows
   pub admitted : list_all (admits_values columns) rows ≡ true
 
--- the bytes are a table's text, of either version
-abbrev pub IsFileText : List ℕ → Layout → Schema → List (List Value) → Type 0
-IsFileText bytes layout schema rows =
-    AreRows schema.columns.items rows × ((bytes ≡ file_text layout schema rows) ⊎ (bytes ≡ file_text2 layout schema rows))
+-- the bytes are the text, of either version, of the table of these rows under this schema
+pub record IsFileText (bytes : List ℕ) (layout : Layout) (schema : Schema)
+    (rows : List (List Value)) : Type 0 where
+  pub under : IsSchema (schema_shape schema)
+  pub admitted : AreRows schema.columns.items rows
+  pub text : (bytes ≡ file_text layout schema rows) ⊎ (bytes ≡ file_text2 layout schema rows)

@@ -4,4 +4,10 @@ use Rattle.bw_file.specs.declared.header.Header.{Header}
 use Rattle.bw_file.specs.TableReading.{HeaderShape}
 
 abbrev pub header_shape : Header → HeaderShape
-header_shape header = record { version = header.version; layout = header.layout; rows = header.rows; schema = schema_shape header.schema }
+header_shape header =
+    record {
+      version = header.version;
+      layout = header.layout;
+      rows = header.rows;
+      schema = schema_shape header.schema;
+    }

@@ -1,14 +1,9 @@
 pub mod AnySegment
 pub mod Blocks
 pub mod Encoder
-pub mod Failure
 pub mod FileText
-pub mod FromRead
 pub mod Header
 pub mod Reading
-pub mod Sink
-pub mod Source
 pub mod Table
 pub mod TableReader
 pub mod TableReading
-pub mod ToWrite

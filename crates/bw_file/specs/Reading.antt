@@ -3,7 +3,7 @@ use Rattle.std.specs.Prelude.{◌≡◌, ℕ, ◌+◌, false, List, ◌++◌, le
 use Rattle.std.specs.Io.KnownBytes.{Consumes}
 use Rattle.bw_model.specs.declared.fault.Fault.{Fault}
 use Rattle.bw_model.specs.Fault.{at_byte, refused_if}
-use Rattle.bw_file.specs.Source.{is_read_fault, is_input_fault}
+use Rattle.bw_device.specs.Source.{is_read_fault, is_input_fault}
 
 -- the bytes of a file from a place on
 pub record Tail : Type 0 where
@@ -17,7 +17,8 @@ tail at bytes = record { at = at; bytes = bytes }
 abbrev pub Reading : Type 0 → Type 0
 Reading A = Tail → Result (A × Tail) Fault
 
-abbrev pub passed : {A B : Type 0} → Result (A × Tail) Fault → (A → Reading B) → Result (B × Tail) Fault
+abbrev pub passed : {A B : Type 0} → Result (A × Tail) Fault → (A → Reading B)
+    → Result (B × Tail) Fault
 passed (Ok x) next = next x.0 x.1
 passed (Err fault) next = Err fault
 
@@ -30,10 +31,12 @@ abbrev pub ◌>>=◌ : {A B : Type 0} → Reading A → (A → Reading B) → Re
 abbrev pub give : {A : Type 0} → A → Reading A
 give x t = Ok (x, t)
 
--- so many bytes, which are taken whole: where they are wanting, the fault stands at the end of the file
+-- so many bytes, which are taken whole: where they are wanting, the fault stands at the end of the
+-- file
 unfoldable pub field : ℕ → Reading (List ℕ)
 field size t =
-    refused_if (nat_lt (length t.bytes) size) (at_byte 305 (t.at + length t.bytes)) (Ok (take size t.bytes, tail (t.at + size) (drop size t.bytes)))
+    refused_if (nat_lt (length t.bytes) size) (at_byte 305 (t.at + length t.bytes))
+    (Ok (take size t.bytes, tail (t.at + size) (drop size t.bytes)))
 
 -- what bytes say, or their fault, which stands at a place
 abbrev pub placed : {A : Type 0} → ℕ → Result A ℕ → Result A Fault
@@ -48,8 +51,8 @@ said_at at (Err code) t = Err (at_byte code at)
 unfoldable pub judged : {A : Type 0} → ℕ → (List ℕ → Result A ℕ) → Reading A
 judged size says t = (field size >>= λ bytes. said_at t.at (says bytes)) t
 
--- A source as a call finds it or leaves it: the bytes to come, where they are known, how many bytes were taken before
--- them, and how many reads have failed.
+-- A source as a call finds it or leaves it: the bytes to come, where they are known, how many bytes
+-- were taken before them, and how many reads have failed.
 pub record State : Type 0 where
   pub known : Option (List ℕ)
   pub offset : ℕ
@@ -63,15 +66,19 @@ pub record Took (old new : State) (bytes : List ℕ) : Type 0 where
   pub consumed : Consumes old.known new.known bytes
   pub counted : new.offset ≡ old.offset + length bytes
 
--- Bytes were taken of a source, with no failed read, and reading goes on behind them, whatever stands there.
-pub record GoesOn {A : Type 0} (reading : Reading A) (old : State) (next : Reading A) (new : State) : Type 0 where
+-- Bytes were taken of a source, with no failed read, and reading goes on behind them, whatever
+-- stands there.
+pub record GoesOn {A : Type 0} (reading : Reading A) (old : State)
+    (next : Reading A) (new : State) : Type 0 where
   pub bytes : List ℕ
   pub took : Took old new bytes
   pub failures : new.failures ≡ old.failures
   pub on : (rest : List ℕ) → reading (tail old.offset (bytes ++ rest)) ≡ next (tail new.offset rest)
 
--- Reading bytes, and some behind them, which are those to come where they are known, gives this fault.
-pub record HasFault {A : Type 0} (reading : Reading A) (old new : State) (bytes : List ℕ) (fault : Fault) : Type 0 where
+-- Reading bytes, and some behind them, which are those to come where they are known, gives this
+-- fault.
+pub record HasFault {A : Type 0} (reading : Reading A) (old new : State)
+    (bytes : List ℕ) (fault : Fault) : Type 0 where
   pub rest : List ℕ
   pub coming : IfSome new.known (λ known. known ≡ rest)
   pub gives : reading (tail old.offset (bytes ++ rest)) ≡ Err fault
@@ -80,16 +87,16 @@ pub record HasFault {A : Type 0} (reading : Reading A) (old new : State) (bytes 
 abbrev pub failed_reads : Fault → ℕ
 failed_reads fault = if is_read_fault fault then 1 else 0
 
--- Bytes were taken of a source, and a fault was answered: that of a failed read, want of memory, or the one that
--- reading gives.
+-- Bytes were taken of a source, and a fault was answered: that of a failed read, want of memory, or
+-- the one that reading gives.
 pub record Fails {A : Type 0} (reading : Reading A) (old new : State) (fault : Fault) : Type 0 where
   pub bytes : List ℕ
   pub took : Took old new bytes
   pub failures : new.failures ≡ old.failures + failed_reads fault
   pub refused : is_input_fault fault ≡ false → HasFault reading old new bytes fault
 
--- What a call took of a source says what the call answered, seen by view, whatever stands behind it; or it has the
--- fault that the call answered.
+-- What a call took of a source says what the call answered, seen by view, whatever stands behind
+-- it; or it has the fault that the call answered.
 abbrev pub Reads : {A B : Type 0} → (A → B) → Reading B → State → State → Result A Fault → Type 0
 Reads view reading old new (Ok x) = GoesOn reading old (give (view x)) new
 Reads view reading old new (Err fault) = Fails reading old new fault

@@ -1,20 +1,20 @@
 -- What a reader of a table file knows, and what the bytes that came so far say.
-use Rattle.std.specs.Prelude.{◌≡◌, ℕ, ◌-◌, false, List, [], ◌++◌, ◌+◌, length, min, Option, Some, None, IfSome, Result, Ok, Err}
+use Rattle.std.specs.Prelude.{◌≡◌, ℕ, ◌-◌, false, List, [], ◌∷◌, ◌++◌, ◌+◌, length, min, Option, Some, None, IfSome, IfOk, IfErr, Result, Ok, Err}
 use Rattle.std.specs.Io.KnownBytes.{IsAtEnd}
 use Rattle.bw_model.specs.declared.fault.Fault.{Fault}
 use Rattle.bw_model.specs.declared.schema.Schema.{Schema}
-use Rattle.bw_model.specs.Groups.{group_size, together}
+use Rattle.bw_model.specs.Groups.{group_size, groups_of, together}
 use Rattle.bw_model.specs.Row.{Value}
 use Rattle.bw_model.specs.SchemaText.{schema_shape}
 use Rattle.bw_file.specs.AnySegment.{any_meaning}
-use Rattle.bw_file.specs.Source.{is_input_fault}
+use Rattle.bw_device.specs.Source.{is_input_fault}
 use Rattle.bw_file.specs.declared.segments.AnySegment.{AnySegment}
 use Rattle.bw_file.specs.declared.layout.Layout.{Layout}
 use Rattle.bw_file.specs.declared.phase.Phase.{Phase}
 use Rattle.bw_file.specs.declared.phase.Phase.TheVariants.{Reading, Ended, Failed}
 use Rattle.bw_file.specs.declared.table_reader.TableReader.{TableReader}
 use Rattle.bw_file.specs.Reading.{State, Took, GoesOn, failed_reads, give}
-use Rattle.bw_file.specs.TableReading.{HeaderShape, header, body, group_sizes, Found, IsReadAs}
+use Rattle.bw_file.specs.TableReading.{HeaderShape, header, body, group_sizes, Found, found_as, IsReadAs}
 
 abbrev pub schema_in : TableReader → Schema
 schema_in reader = reader.shape.value.schema
@@ -32,7 +32,8 @@ rows_given reader = reader.given
 abbrev pub bytes_taken : TableReader → ℕ
 bytes_taken reader = reader.offset
 
--- what the reader answers from now on without reading: nothing yet, that there is no more, or a fault
+-- what the reader answers from now on without reading: nothing yet, that there is no more, or a
+-- fault
 abbrev pub settled_by : Phase → Option (Result (Unit {0}) Fault)
 settled_by Reading = None
 settled_by Ended = Some (Ok tt)
@@ -44,17 +45,26 @@ settled reader = settled_by reader.phase
 -- the header that the reader read
 abbrev pub header_told : ℕ → TableReader → HeaderShape
 header_told version reader =
-    record { version = version; layout = reader.layout; rows = reader.rows; schema = schema_shape reader.shape.value.schema }
+    record {
+      version = version;
+      layout = reader.layout;
+      rows = reader.rows;
+      schema = schema_shape reader.shape.value.schema;
+    }
 
--- A source, since the start of its file, gave the header that the reader tells of, and then these groups of rows; reading
--- goes on with those that are left, whatever stands there.
-pub record SoFar (start now : State) (reader : TableReader) (groups : List (List (List Value))) : Type 0 where
+-- A source, since the start of its file, gave the header that the reader tells of, and then these
+-- groups of rows; reading goes on with those that are left, whatever stands there.
+pub record SoFar (start now : State) (reader : TableReader)
+    (groups : List (List (List Value))) : Type 0 where
   pub version : ℕ
   pub behind : State
   pub first : start.offset ≡ 0
   pub head : GoesOn header start (give (header_told version reader)) behind
-  pub on : GoesOn (body reader.layout reader.shape.value.schema.columns.items (group_sizes reader.rows) []) behind
-      (body reader.layout reader.shape.value.schema.columns.items (group_sizes (reader.rows - reader.given)) groups) now
+  pub on : GoesOn
+      (body reader.layout reader.shape.value.schema.columns.items
+      (group_sizes reader.rows) []) behind
+      (body reader.layout reader.shape.value.schema.columns.items
+      (group_sizes (reader.rows - reader.given)) groups) now
 
 -- the reader tells of the same table
 pub record SameTable (old new : TableReader) : Type 0 where
@@ -64,7 +74,8 @@ pub record SameTable (old new : TableReader) : Type 0 where
 
 -- the table of these groups
 abbrev pub found_so_far : TableReader → List (List (List Value)) → Found
-found_so_far reader groups = record { layout = reader.layout; schema = schema_shape reader.shape.value.schema; rows = together groups }
+found_so_far reader groups =
+    found_as reader.layout (schema_shape reader.shape.value.schema) (together groups)
 
 -- all bytes were taken, with no failed read, and they are read as this
 pub record ReadWhole (start now : State) (found : Found) : Type 0 where
@@ -80,8 +91,8 @@ pub record HasFirstFault (now : State) (bytes : List ℕ) (fault : Fault) : Type
   pub coming : IfSome now.known (λ known. known ≡ rest)
   pub read : IsReadAs (bytes ++ rest) (Err fault)
 
--- Since the start of the file bytes were taken, and a fault was answered: that of a failed read, want of memory, or the
--- file's first fault.
+-- Since the start of the file bytes were taken, and a fault was answered: that of a failed read,
+-- want of memory, or the file's first fault.
 pub record AnswersFault (start old now : State) (fault : Fault) : Type 0 where
   pub bytes : List ℕ
   pub took : Took start now bytes
@@ -93,7 +104,8 @@ abbrev pub failed_by : {A : Type 0} → Result A Fault → ℕ
 failed_by (Ok x) = 0
 failed_by (Err fault) = failed_reads fault
 
--- a call that answered this took bytes of a source, whose failures rose where it answered a failed read
+-- a call that answered this took bytes of a source, whose failures rose where it answered a failed
+-- read
 pub record DidRead {A : Type 0} (old new : State) (result : Result A Fault) : Type 0 where
   pub bytes : List ℕ
   pub took : Took old new bytes
@@ -115,3 +127,43 @@ Settles (Err fault) next = next ≡ Some (Err fault)
 abbrev pub Repeats : Result (Option AnySegment) Fault → Result (Unit {0}) Fault → Type 0
 Repeats result (Ok x) = result ≡ Ok None
 Repeats result (Err fault) = result ≡ Err fault
+
+-- What a call that is to give the next segment answered, and how it left the source and the reader
+-- that it found so: a segment's rows come behind the groups so far, and None where they are the
+-- groups of all rows of the file, read whole; what was settled is repeated, and then nothing
+-- changes.
+pub record GivesNext {S : Type 0} (source next_source : S) (old now : State)
+    (reader next : TableReader) (result : Result (Option AnySegment) Fault) : Type 0 where
+  pub given : IfOk result
+      (λ found. IfSome found (λ segment. (start : State) (groups : List (List (List Value)))
+      → SoFar start old reader groups
+      → SoFar start now next (groups ++ (any_meaning segment).rows ∷ [])))
+  pub segment : IfOk result (λ found. IfSome found (λ segment. IsSegmentOf reader segment
+      × (rows_given next ≡ rows_given reader + length (any_meaning segment).rows)
+      × (settled next ≡ None)))
+  pub ended : IfOk result
+      (λ found. found ≡ None → settled reader ≡ None
+      → (start : State) (groups : List (List (List Value)))
+      → SoFar start old reader groups → ReadWhole start now (found_so_far reader groups))
+  pub groups : IfOk result
+      (λ found. found ≡ None → settled reader ≡ None
+      → (start : State) (groups : List (List (List Value)))
+      → SoFar start old reader groups → groups ≡ groups_of (together groups))
+  pub refused : IfErr result
+      (λ fault. settled reader ≡ None → (start : State) (groups : List (List (List Value)))
+      → SoFar start old reader groups → AnswersFault start old now fault)
+  pub read : settled reader ≡ None → DidRead old now result
+  pub settles : Settles result (settled next)
+  pub repeats : (answer : Result (Unit {0}) Fault) → settled reader ≡ Some answer
+      → Repeats result answer × (next ≡ reader) × (next_source ≡ source)
+  pub same : SameTable reader next
+
+-- The reader tells of a table of this layout, schema and number of rows, and these groups are the
+-- first ones of its rows.
+pub record GaveFirst (reader : TableReader) (groups : List (List (List Value))) (kept : Layout)
+    (under : Schema) (rows : List (List Value)) : Type 0 where
+  pub layout : layout_in reader ≡ kept
+  pub schema : schema_shape (schema_in reader) ≡ schema_shape under
+  pub count : rows_told reader ≡ length rows
+  pub more : List (List (List Value))
+  pub first : groups ++ more ≡ groups_of rows

@@ -1,4 +1,5 @@
--- What the bytes of a table file say, or the first fault in them: field by field, and then block by block.
+-- What the bytes of a table file say, or the first fault in them: field by field, and then block by
+-- block.
 use Rattle.std.specs.Prelude.{◌≡◌, ℕ, ℤ, zero, suc, ◌+◌, ◌-◌, min, replicate, Bool, true, false, ◌||◌, not, List, [], ◌∷◌, ◌++◌, length, take, drop, slice_index, Option, Some, None, Result, Ok, Err, if◌then◌else◌, ◌==◌, nat_lt}
 use Rattle.std.specs.Int.{w16, w32, w64, from_le_bytes, cast_signed}
 use Rattle.std.specs.List.{list_any}
@@ -27,20 +28,25 @@ magic_says bytes = if bytes_eq bytes magic then Ok tt else Err 301
 -- the version, which is 1 or 2: another is 302
 unfoldable pub version_says : List ℕ → Result ℕ ℕ
 version_says bytes =
-    let version = slice_index bytes 0 in if (version == 1) || (version == 2) then Ok version else Err 302
+    let version = slice_index bytes 0 in
+    if (version == 1) || (version == 2) then Ok version else Err 302
 
 -- the layout: an unknown one is 303
 unfoldable pub layout_says : List ℕ → Result Layout ℕ
-layout_says bytes = if slice_index bytes 0 == 0 then Ok Planes else (if slice_index bytes 0 == 1 then Ok Slices else Err 303)
+layout_says bytes =
+    if slice_index bytes 0 == 0 then Ok Planes
+    else (if slice_index bytes 0 == 1 then Ok Slices else Err 303)
 
 -- the number of columns: none, or more than 64, is 304
 unfoldable pub count_says : List ℕ → Result ℕ ℕ
 count_says bytes =
-    let count = from_le_bytes w16 bytes in if (count == 0) || nat_lt most_columns count then Err 304 else Ok count
+    let count = from_le_bytes w16 bytes in
+    if (count == 0) || nat_lt most_columns count then Err 304 else Ok count
 
 -- the number of rows: more than 2^24 is 310
 unfoldable pub rows_say : List ℕ → Result ℕ ℕ
-rows_say bytes = let rows = from_le_bytes w32 bytes in if nat_lt most_rows rows then Err 310 else Ok rows
+rows_say bytes =
+    let rows = from_le_bytes w32 bytes in if nat_lt most_rows rows then Err 310 else Ok rows
 
 -- the bounds of a column in a file of a version: others than those are 304
 abbrev pub bound_in : List ℕ → ℤ
@@ -54,7 +60,9 @@ bounds_say version bytes =
 
 -- whether a column takes null: another byte than 0 and 1 is 304
 unfoldable pub nullable_says : List ℕ → Result Bool ℕ
-nullable_says bytes = if slice_index bytes 0 == 0 then Ok false else (if slice_index bytes 0 == 1 then Ok true else Err 304)
+nullable_says bytes =
+    if slice_index bytes 0 == 0 then Ok false
+    else (if slice_index bytes 0 == 1 then Ok true else Err 304)
 
 -- a name behind others: what isn't one, or one of the others, ignoring case, is 304
 unfoldable pub name_says : List (List ℕ) → List ℕ → Result (List ℕ) ℕ
@@ -63,12 +71,18 @@ name_says before text =
 
 -- a name, behind a byte for its length, at which its fault stands once all its bytes are there
 unfoldable pub name : List (List ℕ) → Reading (List ℕ)
-name before t = (field 1 >>= λ size. field (slice_index size 0) >>= λ text. said_at t.at (name_says before text)) t
+name before t =
+    (field 1 >>= λ size.
+    field (slice_index size 0) >>= λ text.
+    said_at t.at (name_says before text)) t
 
 -- a column behind others of these names: its name, its bounds, and whether it takes null
 unfoldable pub column : ℕ → List (List ℕ) → Reading ColumnShape
 column version before =
-    name before >>= λ text. judged 16 (bounds_say version) >>= λ bounds. judged 1 nullable_says >>= λ nullable. give (shape text bounds.lo bounds.hi nullable)
+    name before >>= λ text.
+    judged 16 (bounds_say version) >>= λ bounds.
+    judged 1 nullable_says >>= λ nullable.
+    give (shape text bounds.lo bounds.hi nullable)
 
 -- so many columns more
 unfoldable pub columns : ℕ → List ColumnShape → ℕ → Reading (List ColumnShape)
@@ -84,7 +98,8 @@ pub record FrontShape : Type 0 where
   pub rows : ℕ
 
 abbrev pub front_of : ℕ → Layout → ℕ → ℕ → FrontShape
-front_of version layout columns rows = record { version = version; layout = layout; columns = columns; rows = rows }
+front_of version layout columns rows =
+    record { version = version; layout = layout; columns = columns; rows = rows }
 
 unfoldable pub front : Reading FrontShape
 front =
@@ -104,7 +119,12 @@ pub record HeaderShape : Type 0 where
 
 abbrev pub header_of : FrontShape → List ℕ → List ColumnShape → HeaderShape
 header_of first text found =
-    record { version = first.version; layout = first.layout; rows = first.rows; schema = record { name = text; columns = found } }
+    record {
+      version = first.version;
+      layout = first.layout;
+      rows = first.rows;
+      schema = record { name = text; columns = found };
+    }
 
 unfoldable pub header : Reading HeaderShape
 header =
@@ -121,15 +141,16 @@ abbrev pub is_padding : Option ℕ → Bool
 is_padding None = false
 is_padding (Some code) = code == 308
 
--- the first of so many bytes of a block, from this one on, with a bit of a padding row: the front of the block that ends
--- with it is the first with that fault
+-- the first of so many bytes of a block, from this one on, with a bit of a padding row: the front
+-- of the block that ends with it is the first with that fault
 unfoldable pub padding_from : Layout → List Column → ℕ → ℕ → List ℕ → ℕ → ℕ → ℕ
 padding_from layout schema rows number block at zero = at
 padding_from layout schema rows number block at (suc more) =
     if is_padding (block_fault layout schema number rows (front_of_block block (at + 1))) then at
     else padding_from layout schema rows number block (at + 1) more
 
--- where the fault of a block stands in it: 308 at the first byte with a bit of a padding row, another at the first byte
+-- where the fault of a block stands in it: 308 at the first byte with a bit of a padding row,
+-- another at the first byte
 unfoldable pub fault_place : Layout → List Column → ℕ → ℕ → List ℕ → ℕ → ℕ
 fault_place layout schema rows number block code =
     if code == 308 then padding_from layout schema rows number block 0 (length block) else 0
@@ -137,14 +158,17 @@ fault_place layout schema rows number block code =
 -- a block, unless it has a fault
 abbrev pub sound_at : ℕ → Layout → List Column → ℕ → ℕ → List ℕ → Option ℕ → Reading (List ℕ)
 sound_at at layout schema rows number block None t = Ok (block, t)
-sound_at at layout schema rows number block (Some code) t = Err (at_byte code (at + fault_place layout schema rows number block code))
+sound_at at layout schema rows number block (Some code) t =
+    Err (at_byte code (at + fault_place layout schema rows number block code))
 
 -- the block of a column of this number, in a segment of so many rows
 unfoldable pub one_block : Layout → List Column → ℕ → ℕ → Reading (List ℕ)
 one_block layout schema rows number t =
-    (field (block_size layout schema number) >>= λ bytes. sound_at t.at layout schema rows number bytes (block_fault layout schema number rows bytes)) t
+    (field (block_size layout schema number) >>= λ bytes.
+    sound_at t.at layout schema rows number bytes (block_fault layout schema number rows bytes)) t
 
--- the blocks of so many columns from this number on, in a segment of so many rows, behind bytes that were read before
+-- the blocks of so many columns from this number on, in a segment of so many rows, behind bytes
+-- that were read before
 unfoldable pub blocks : Layout → List Column → ℕ → ℕ → ℕ → List ℕ → Reading (List ℕ)
 blocks layout schema rows number zero before = give before
 blocks layout schema rows number (suc more) before =
@@ -154,13 +178,15 @@ blocks layout schema rows number (suc more) before =
 -- the rows of a segment of so many
 unfoldable pub segment : Layout → List Column → ℕ → Reading (List (List Value))
 segment layout schema rows =
-    blocks layout schema rows 0 (length schema) [] >>= λ bytes. give (rows_spelled layout schema rows bytes)
+    blocks layout schema rows 0 (length schema) [] >>= λ bytes.
+    give (rows_spelled layout schema rows bytes)
 
 -- the sizes of the groups of so many rows, at most so many groups
 abbrev pub sizes_within : ℕ → ℕ → List ℕ
 sizes_within zero rows = []
 sizes_within (suc most) zero = []
-sizes_within (suc most) (suc rows) = min group_size (suc rows) ∷ sizes_within most (suc rows - group_size)
+sizes_within (suc most) (suc rows) =
+    min group_size (suc rows) ∷ sizes_within most (suc rows - group_size)
 
 unfoldable pub group_sizes : ℕ → List ℕ
 group_sizes rows = sizes_within rows rows
@@ -173,8 +199,10 @@ has_bytes (byte ∷ bytes) = true
 unfoldable pub end : Reading (Unit {0})
 end t = refused_if (has_bytes t.bytes) (at_byte 309 t.at) (Ok (tt, t))
 
--- what stands behind the header, or is left of it behind groups that were read before: groups of these sizes, and the end
-unfoldable pub body : Layout → List Column → List ℕ → List (List (List Value)) → Reading (List (List (List Value)))
+-- what stands behind the header, or is left of it behind groups that were read before: groups of
+-- these sizes, and the end
+unfoldable pub body : Layout → List Column → List ℕ → List (List (List Value))
+    → Reading (List (List (List Value)))
 body layout schema [] before = end >>= λ _. give before
 body layout schema (size ∷ sizes) before =
     segment layout schema size >>= λ group. body layout schema sizes (before ++ group ∷ [])
@@ -185,16 +213,22 @@ pub record Found : Type 0 where
   pub schema : SchemaShape
   pub rows : List (List Value)
 
-abbrev pub found_in : Layout → SchemaShape → Result (List (List (List Value)) × Tail) Fault → Result Found Fault
-found_in layout schema (Ok x) = Ok (record { layout = layout; schema = schema; rows = together x.0 })
+-- the table of a layout, a schema and rows, and the one that is put together from groups
+abbrev pub found_as : Layout → SchemaShape → List (List Value) → Found
+found_as layout schema rows = record { layout = layout; schema = schema; rows = rows }
+
+abbrev pub found_in : Layout → SchemaShape → Result (List (List (List Value)) × Tail) Fault
+    → Result Found Fault
+found_in layout schema (Ok x) = Ok (found_as layout schema (together x.0))
 found_in layout schema (Err fault) = Err fault
 
--- What bytes are read as: a table, or the first fault in them. The header comes first; what stands behind it is read
--- under columns that are those of the header.
+-- What bytes are read as: a table, or the first fault in them. The header comes first; what stands
+-- behind it is read under columns that are those of the header.
 abbrev pub IsReadBehind : Result (HeaderShape × Tail) Fault → Result Found Fault → Type 0
 IsReadBehind (Ok x) read =
     (schema : Schema) × (schema_shape schema ≡ x.0.schema)
-    × (read ≡ found_in x.0.layout x.0.schema (body x.0.layout schema.columns.items (group_sizes x.0.rows) [] x.1))
+    × (read ≡ found_in x.0.layout x.0.schema
+    (body x.0.layout schema.columns.items (group_sizes x.0.rows) [] x.1))
 IsReadBehind (Err fault) read = read ≡ Err fault
 
 abbrev pub IsReadAs : List ℕ → Result Found Fault → Type 0

@@ -1,4 +1,5 @@
-//! What stands behind a table file's header, read from a source: segments, block by block, and the end.
+//! What stands behind a table file's header, read from a source: segments, block by block, and the
+//! end.
 ghost use Rattle.std.specs.Prelude.{◌≡◌, ◌+◌, ◌-◌, ◌^◌, ◌<◌, ◌≤◌, [], length, None, OnOk, IfOk, IfErr};
 ghost use Rattle.std.specs.Io.KnownBytes.{IsAtEnd};
 ghost use Rattle.bw_model.specs.Groups.{group_size};
@@ -7,17 +8,17 @@ ghost use Rattle.bw_file.specs.Blocks.{block_size, block_fault, bytes_before, se
 ghost use Rattle.bw_file.specs.Reading.{Reads, Fails, Took, state};
 ghost use Rattle.bw_file.specs.TableReading.{is_padding, padding_from, fault_place, one_block, blocks, segment, end};
 
-use crate::failed::Failed;
 use crate::layout::Layout;
 use crate::segments::{AnySegment, block_size, judge, segment_size};
-use crate::source::Source;
 use crate::take::take;
+use bw_device::{Failed, Source};
 use bw_model::{Fault, code};
 use bw_segment::Shape;
 use std::rc::Rc;
 
-/// Reads a segment of so many rows into memory that was used before: a block at a time, each of which is judged before
-/// the next is taken. Faults at the first byte of a block: 308, 307, 306; and 305 at the end of the file.
+/// Reads a segment of so many rows into memory that was used before: a block at a time, each of
+/// which is judged before the next is taken. Faults at the first byte of a block: 308, 307, 306;
+/// and 305 at the end of the file.
 pub(crate) fn read_segment<S: Source>(
     source: &mut S,
     offset: &mut u64,
@@ -30,12 +31,14 @@ pub(crate) fn read_segment<S: Source>(
     requires room { offset.old < 2 ^ 62 }
     requires some { 1 ≤ rows }
     requires few { rows ≤ group_size }
-    ensures reads { Reads (λ found. (any_meaning found).rows) (segment layout shape.now.value.schema.columns.items rows)
+    ensures reads { Reads (λ found. (any_meaning found).rows)
+        (segment layout shape.now.value.schema.columns.items rows)
         (state (S.to_come source.old) offset.old (S.failures source.old))
         (state (S.to_come source.new) offset.new (S.failures source.new)) result }
     ensures counted { OnOk result (offset.new ≤ offset.old + 2 ^ 19) }
     ensures name { IfOk result (λ found. (any_meaning found).name ≡ shape.now.value.schema.name) }
-    ensures columns { IfOk result (λ found. (any_meaning found).columns ≡ shape.now.value.schema.columns.items) }
+    ensures columns { IfOk result
+        (λ found. (any_meaning found).columns ≡ shape.now.value.schema.columns.items) }
     ensures count { IfOk result (λ found. length (any_meaning found).rows ≡ rows) }
 {
     let shared = shape.clone()?;
@@ -57,7 +60,8 @@ fn read_blocks<S: Source>(
     requires room { offset.old < 2 ^ 62 }
     requires rows { rows ≤ group_size }
     requires size { length bytes.old ≡ segment_size layout shape.now.schema.columns.items }
-    ensures reads { Reads (λ _. bytes.new) (blocks layout shape.now.schema.columns.items rows 0 (length shape.now.schema.columns.items) [])
+    ensures reads { Reads (λ _. bytes.new) (blocks layout shape.now.schema.columns.items rows 0
+        (length shape.now.schema.columns.items) [])
         (state (S.to_come source.old) offset.old (S.failures source.old))
         (state (S.to_come source.new) offset.new (S.failures source.new)) result }
     ensures counted { OnOk result (offset.new ≤ offset.old + 2 ^ 19) }
@@ -84,7 +88,8 @@ fn read_blocks<S: Source>(
 /// A law: a column's block ends within the segment.
 fn block_is_within(layout: Layout, shape: &Shape, col: usize)
     requires { col < length shape.now.schema.columns.items }
-    ensures { bytes_before layout shape.now.schema.columns.items col + block_size layout shape.now.schema.columns.items col
+    ensures { bytes_before layout shape.now.schema.columns.items col
+        + block_size layout shape.now.schema.columns.items col
         ≤ segment_size layout shape.now.schema.columns.items }
 {}
 
@@ -104,11 +109,13 @@ fn read_block<S: Source>(
     requires rows { rows ≤ group_size }
     requires size { length block.old ≡ block_size layout shape.now.schema.columns.items col }
     requires small { length block.old ≤ 4160 }
-    ensures reads { Reads (λ _. block.new) (one_block layout shape.now.schema.columns.items rows col)
+    ensures reads { Reads (λ _. block.new)
+        (one_block layout shape.now.schema.columns.items rows col)
         (state (S.to_come source.old) offset.old (S.failures source.old))
         (state (S.to_come source.new) offset.new (S.failures source.new)) result }
     ensures counted { OnOk result (offset.new ≡ offset.old + length block.old) }
-    ensures good { OnOk result (block_fault layout shape.now.schema.columns.items col rows block.new ≡ None) }
+    ensures good { OnOk result
+        (block_fault layout shape.now.schema.columns.items col rows block.new ≡ None) }
 {
     let at = *offset;
     take(source, offset, block)?;
@@ -121,8 +128,8 @@ fn read_block<S: Source>(
     }
 }
 
-/// Where the fault of a block stands in it: 308 at the first byte with a bit of a padding row, and another at the block's
-/// first byte.
+/// Where the fault of a block stands in it: 308 at the first byte with a bit of a padding row, and
+/// another at the block's first byte.
 #[tactic(auto, unfolding(crate::specs::TableReading::fault_place))]
 fn fault_place(
     layout: Layout,
@@ -136,7 +143,8 @@ fn fault_place(
     requires rows { rows ≤ group_size }
     requires size { length block.now ≡ block_size layout shape.now.schema.columns.items col }
     requires small { length block.now ≤ 4160 }
-    ensures place { result ≡ fault_place layout shape.now.schema.columns.items rows col block.now code }
+    ensures place { result
+        ≡ fault_place layout shape.now.schema.columns.items rows col block.now code }
     ensures within { result ≤ 4160 }
 {
     if code == code::PADDING {
@@ -146,14 +154,16 @@ fn fault_place(
     }
 }
 
-/// The first byte of a block with a bit of a padding row: the front of the block that ends with it is the first with that
-/// fault, zeros standing behind it.
+/// The first byte of a block with a bit of a padding row: the front of the block that ends with it
+/// is the first with that fault, zeros standing behind it.
 fn padding_place(layout: Layout, shape: &Shape, col: usize, rows: u32, block: &[u8]) -> usize
     requires column { col < length shape.now.schema.columns.items }
     requires rows { rows ≤ group_size }
     requires size { length block.now ≡ block_size layout shape.now.schema.columns.items col }
     requires small { length block.now ≤ 4160 }
-    ensures place { result ≡ padding_from layout shape.now.schema.columns.items rows col block.now 0 (length block.now) }
+    ensures place { result
+        ≡ padding_from layout shape.now.schema.columns.items rows col
+        block.now 0 (length block.now) }
     ensures within { result ≤ 4160 }
 {
     let mut room = [0; 4160];

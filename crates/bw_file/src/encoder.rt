@@ -24,8 +24,8 @@ const GROUP: usize = 512;
 /// Where the number of rows stands in a file.
 const ROW_COUNT_AT: usize = 12;
 
-/// A table file that is written row by row. Of the rows it keeps no more than one segment, whose memory is used again,
-/// and behind it the text of the segments before.
+/// A table file that is written row by row. Of the rows it keeps no more than one segment, whose
+/// memory is used again, and behind it the text of the segments before.
 #[derive(Drop)]
 pub struct Encoder {
     alloc: Global,
@@ -40,17 +40,20 @@ pub struct Encoder {
     ghost within: { filled ≤ length group.items },
     ghost few: { filled ≤ 512 },
     ghost countable: { rows ≤ most_rows },
-    ghost admitted: { list_all (admits_values shape.schema.columns.items) (map values_of (take filled group.items)) ≡ true },
+    ghost admitted: { list_all (admits_values shape.schema.columns.items)
+        (map values_of (take filled group.items)) ≡ true },
 }
 
 impl Encoder {
     ghost use Rattle.bw_file.specs.Encoder.{Holds, IsTextOf, encoder_schema, encoder_layout, rows_in};
 
-    /// An encoder of a table of this schema, to which no row was added. It keeps a copy of the schema.
+    /// An encoder of a table of this schema, to which no row was added. It keeps a copy of the
+    /// schema.
     pub fn new(alloc: Global, layout: Layout, schema: &Schema) -> Result<Self, Fault>
         ensures layout { IfOk result (λ encoder. encoder_layout encoder ≡ layout) }
         ensures name { IfOk result (λ encoder. (encoder_schema encoder).name ≡ schema.now.name) }
-        ensures columns { IfOk result (λ encoder. (encoder_schema encoder).columns.items ≡ schema.now.columns.items) }
+        ensures columns { IfOk result
+            (λ encoder. (encoder_schema encoder).columns.items ≡ schema.now.columns.items) }
         ensures rows { IfOk result (λ encoder. rows_in encoder ≡ 0) }
         ensures holds { IfOk result (λ encoder. Holds encoder []) }
         ensures only_memory { IsOkUnless result no_memory }
@@ -71,11 +74,14 @@ impl Encoder {
 
     /// Adds a row, which the schema admits, where there are less than 2^24.
     pub fn add(&mut self, row: &Row) -> Result<(), Fault>
-        requires admitted { admits_values (encoder_schema self.old).columns.items (values_of row.now) ≡ true }
+        requires admitted { admits_values (encoder_schema self.old).columns.items
+            (values_of row.now) ≡ true }
         requires room { rows_in self.old < most_rows }
-        ensures holds { OnOk result ((rows : List (List Value)) → Holds self.old rows → Holds self.new (rows ++ values_of row.now ∷ [])) }
+        ensures holds { OnOk result ((rows : List (List Value)) → Holds self.old rows
+            → Holds self.new (rows ++ values_of row.now ∷ [])) }
         ensures rows { OnOk result (rows_in self.new ≡ rows_in self.old + 1) }
-        ensures same { OnOk result ((encoder_layout self.new ≡ encoder_layout self.old) × (encoder_schema self.new ≡ encoder_schema self.old)) }
+        ensures same { OnOk result ((encoder_layout self.new ≡ encoder_layout self.old)
+            × (encoder_schema self.new ≡ encoder_schema self.old)) }
         ensures only_memory { IsOkUnless result no_memory }
     {
         if self.filled == GROUP {
@@ -86,12 +92,15 @@ impl Encoder {
 
     /// Keeps a row behind those that aren't in the text yet.
     fn keep(&mut self, row: &Row) -> Result<(), Fault>
-        requires admitted { admits_values (encoder_schema self.old).columns.items (values_of row.now) ≡ true }
+        requires admitted { admits_values (encoder_schema self.old).columns.items
+            (values_of row.now) ≡ true }
         requires room { rows_in self.old < most_rows }
         requires few { self.old.filled < 512 }
-        ensures holds { OnOk result ((rows : List (List Value)) → Holds self.old rows → Holds self.new (rows ++ values_of row.now ∷ [])) }
+        ensures holds { OnOk result ((rows : List (List Value)) → Holds self.old rows
+            → Holds self.new (rows ++ values_of row.now ∷ [])) }
         ensures rows { OnOk result (rows_in self.new ≡ rows_in self.old + 1) }
-        ensures same { OnOk result ((encoder_layout self.new ≡ encoder_layout self.old) × (encoder_schema self.new ≡ encoder_schema self.old)) }
+        ensures same { OnOk result ((encoder_layout self.new ≡ encoder_layout self.old)
+            × (encoder_schema self.new ≡ encoder_schema self.old)) }
         ensures only_memory { IsOkUnless result no_memory }
     {
         if self.filled < self.group.len() {
@@ -111,11 +120,14 @@ impl Encoder {
     fn flush(&mut self) -> Result<(), Fault>
         requires { 0 < self.old.filled }
         ensures text { OnOk result ((rows : List (List Value)) → Holds self.old rows
-            → IsTextOf (encoder_layout self.old) (encoder_schema self.old) self.new.bytes.items rows) }
-        ensures holds { OnOk result ((rows : List (List Value)) → Holds self.old rows → self.old.filled ≡ 512 → Holds self.new rows) }
+            → IsTextOf (encoder_layout self.old) (encoder_schema self.old)
+            self.new.bytes.items rows) }
+        ensures holds { OnOk result ((rows : List (List Value)) → Holds self.old rows
+            → self.old.filled ≡ 512 → Holds self.new rows) }
         ensures rows { OnOk result (rows_in self.new ≡ rows_in self.old) }
         ensures empty { OnOk result (self.new.filled ≡ 0) }
-        ensures same { OnOk result ((encoder_layout self.new ≡ encoder_layout self.old) × (encoder_schema self.new ≡ encoder_schema self.old)) }
+        ensures same { OnOk result ((encoder_layout self.new ≡ encoder_layout self.old)
+            × (encoder_schema self.new ≡ encoder_schema self.old)) }
         ensures only_memory { IsOkUnless result no_memory }
     {
         append(
@@ -129,9 +141,12 @@ impl Encoder {
         Ok(())
     }
 
-    /// The table file of the rows that were added: its text, of version 1 where that has room for every column.
+    /// The table file of the rows that were added: its text, of version 1 where that has room for
+    /// every column.
     pub fn finish(mut self) -> Result<Vec<u8>, Fault>
-        ensures text { IfOk result (λ bytes. (rows : List (List Value)) → Holds self rows → bytes.items ≡ file_text (encoder_layout self) (encoder_schema self) rows) }
+        ensures text { IfOk result
+            (λ bytes. (rows : List (List Value)) → Holds self rows
+            → bytes.items ≡ file_text (encoder_layout self) (encoder_schema self) rows) }
         ensures only_memory { IsOkUnless result no_memory }
     {
         if self.filled > 0 {
@@ -155,7 +170,8 @@ fn set_row_count(bytes: &mut Vec<u8>, rows: u32)
 /// Adds the header of a table of no rows.
 fn push_header(bytes: &mut Vec<u8>, layout: Layout, schema: &Schema) -> Result<(), Fault>
     ensures header { OnOk result (bytes.new.items ≡ bytes.old.items
-        ++ header_text (version_for schema.now.columns.items) layout schema.now.name schema.now.columns.items 0) }
+        ++ header_text (version_for schema.now.columns.items) layout
+        schema.now.name schema.now.columns.items 0) }
     ensures only_memory { IsOkUnless result no_memory }
 {
     push_front(
@@ -187,7 +203,8 @@ fn are_narrow(columns: &[Column]) -> bool
 /// Adds the first sixteen bytes of a table of no rows.
 #[tactic(auto, unfolding(crate::specs::FileText::front_text, crate::specs::FileText::magic))]
 fn push_front(bytes: &mut Vec<u8>, version: u8, layout: Layout, columns: u16) -> Result<(), Fault>
-    ensures front { OnOk result (bytes.new.items ≡ bytes.old.items ++ front_text version layout columns 0) }
+    ensures front { OnOk result (bytes.new.items ≡ bytes.old.items
+        ++ front_text version layout columns 0) }
     ensures only_memory { IsOkUnless result no_memory }
 {
     bytes.extend_from_slice(MAGIC)?;
@@ -225,7 +242,8 @@ fn push_name(bytes: &mut Vec<u8>, name: &Name) -> Result<(), Fault>
 /// Adds the columns.
 fn push_columns(bytes: &mut Vec<u8>, columns: &[Column]) -> Result<(), Fault>
     ensures columns { OnOk result (bytes.new.items ≡ bytes.old.items
-        ++ flat_map (λ column. column_text column.name column.lo column.hi column.nullable) columns.now) }
+        ++ flat_map (λ column. column_text column.name column.lo column.hi column.nullable)
+        columns.now) }
     ensures only_memory { IsOkUnless result no_memory }
 {
     for column in columns {

@@ -15,8 +15,8 @@ use crate::fields::{
     version_says,
 };
 use crate::layout::Layout;
-use crate::source::Source;
 use crate::take::take;
+use bw_device::Source;
 use bw_model::{Column, Fault, Name, Schema, code, is_name};
 use std::alloc::Global;
 
@@ -129,8 +129,8 @@ fn read_nullable<S: Source>(source: &mut S, offset: &mut u64) -> Result<bool, Fa
     placed(at, nullable_says(&bytes))
 }
 
-/// A name, behind a byte for its length. What isn't a name, or is one of these columns' names, ignoring case, is 304 at
-/// that byte.
+/// A name, behind a byte for its length. What isn't a name, or is one of these columns' names,
+/// ignoring case, is 304 at that byte.
 #[tactic(auto, unfolding(crate::specs::TableReading::name_says))]
 fn read_name<S: Source>(
     alloc: Global,
@@ -144,7 +144,8 @@ fn read_name<S: Source>(
         (state (S.to_come source.old) offset.old (S.failures source.old))
         (state (S.to_come source.new) offset.new (S.failures source.new)) result }
     ensures counted { OnOk result (offset.new ≤ offset.old + 256) }
-    ensures apart { IfOk result (λ text. list_any (λ other. same_text other text) (names_of before.now) ≡ false) }
+    ensures apart { IfOk result
+        (λ text. list_any (λ other. same_text other text) (names_of before.now) ≡ false) }
 {
     let at = *offset;
     let mut size = [0; 1];
@@ -162,8 +163,10 @@ fn read_name<S: Source>(
 #[tactic(auto, using(crate::proofs::HeaderLemmas::list_any_names), unfolding(crate::specs::TableReading::name_says))]
 fn is_new_name(before: &[Column], text: &[u8]) -> bool
     ensures name { IsTrue result → is_name text.now ≡ true }
-    ensures apart { IsTrue result → list_any (λ other. same_text other text.now) (names_of before.now) ≡ false }
-    ensures says { name_says (names_of before.now) text.now ≡ (if result then Ok text.now else Err 304) }
+    ensures apart { IsTrue result
+        → list_any (λ other. same_text other text.now) (names_of before.now) ≡ false }
+    ensures says { name_says (names_of before.now) text.now
+        ≡ (if result then Ok text.now else Err 304) }
 {
     is_name(text) && !has_name(before, text)
 }
@@ -190,7 +193,8 @@ fn read_column<S: Source>(
         (state (S.to_come source.old) offset.old (S.failures source.old))
         (state (S.to_come source.new) offset.new (S.failures source.new)) result }
     ensures counted { OnOk result (offset.new ≤ offset.old + 273) }
-    ensures apart { IfOk result (λ found. list_any (λ other. same_text other found.name) (names_of before.now) ≡ false) }
+    ensures apart { IfOk result
+        (λ found. list_any (λ other. same_text other found.name) (names_of before.now) ≡ false) }
 {
     let name = read_name(alloc, before, source, offset)?;
     let bounds = read_bounds(version, source, offset)?;
@@ -239,7 +243,8 @@ struct Front {
 fn read_front<S: Source>(source: &mut S, offset: &mut u64) -> Result<Front, Fault>
     requires countable { S.failures source.old < 2 ^ 64 - 1 }
     requires room { offset.old < 2 ^ 32 }
-    ensures reads { Reads (λ found. front_of found.version found.layout found.columns found.rows) front
+    ensures reads { Reads (λ found. front_of found.version found.layout found.columns found.rows)
+        front
         (state (S.to_come source.old) offset.old (S.failures source.old))
         (state (S.to_come source.new) offset.new (S.failures source.new)) result }
     ensures counted { OnOk result (offset.new ≡ offset.old + 16) }
@@ -268,8 +273,8 @@ pub(crate) struct Header {
     pub(crate) schema: Schema,
 }
 
-/// The header of a table file, from its first byte on. Faults, each at the first byte of its field: 301 to 304, 310, and
-/// 305 at the end of the file.
+/// The header of a table file, from its first byte on. Faults, each at the first byte of its field:
+/// 301 to 304, 310, and 305 at the end of the file.
 pub(crate) fn read_header<S: Source>(
     alloc: Global,
     source: &mut S,

@@ -1,9 +1,13 @@
-//! Laws of table files: what is read is spelled so.
-ghost use Rattle.std.specs.Prelude.{◌≡◌, ◌<◌, ℕ, List, Ok, slice_index};
-ghost use Rattle.bw_model.specs.declared.schema.Schema.{Schema};
-ghost use Rattle.bw_model.specs.SchemaText.{schema_shape};
-ghost use Rattle.bw_file.specs.FileText.{IsFileText};
-ghost use Rattle.bw_file.specs.TableReading.{Found, IsReadAs};
+//! Laws of table files: what is read is spelled so, and what is spelled is read so.
+ghost use Rattle.std.specs.Prelude.{◌≡◌, ◌<◌, ℕ, List, Result, Ok, slice_index};
+ghost use Rattle.bw_model.specs.declared.fault.Fault.{Fault};
+ghost use Rattle.bw_model.specs.Row.{Value};
+ghost use Rattle.bw_file.specs.declared.layout.Layout.{Layout};
+ghost use Rattle.bw_model.specs.SchemaText.{column_shape, schema_shape};
+ghost use Rattle.bw_file.specs.FileText.{IsColumn, IsSchema, IsFileText};
+ghost use Rattle.bw_file.specs.TableReading.{Found, found_as, IsReadAs};
+
+use bw_model::{Column, Schema};
 
 /// A law: bytes that are read as a table are that table's text, of either version.
 pub fn what_is_read_is_a_file_text()
@@ -12,3 +16,46 @@ pub fn what_is_read_is_a_file_text()
         → (schema : Schema) × (schema_shape schema ≡ found.schema)
         × IsFileText bytes found.layout schema found.rows }
 {}
+
+/// A law: bytes that are a table's text, of either version, are read as that table.
+pub fn what_is_spelled_is_read()
+    ensures { (bytes : List ℕ) (layout : Layout) (schema : Schema) (rows : List (List Value))
+        → IsFileText bytes layout schema rows
+        → IsReadAs bytes (Ok (found_as layout (schema_shape schema) rows)) }
+{}
+
+/// A law: bytes are read in one way.
+pub fn bytes_are_read_in_one_way()
+    ensures { (bytes : List ℕ) (one other : Result Found Fault) → IsReadAs bytes one
+        → IsReadAs bytes other → one ≡ other }
+{}
+
+/// A law: bytes are the text of at most one table, by its layout, its schema's name and columns,
+/// and its rows.
+pub fn a_file_text_is_of_one_table()
+    ensures { (bytes : List ℕ) (layout other_layout : Layout) (schema other_schema : Schema)
+        (rows other_rows : List (List Value))
+        → IsFileText bytes layout schema rows
+        → IsFileText bytes other_layout other_schema other_rows
+        → found_as layout (schema_shape schema) rows
+        ≡ found_as other_layout (schema_shape other_schema) other_rows }
+{}
+
+/// A law: every schema has names that are names, and bounds that 64 bits hold, so that its tables
+/// have a text. It looks at each column.
+pub fn a_schema_has_names_and_bounds(schema: &Schema)
+    ensures { IsSchema (schema_shape schema.now) }
+{
+    let _name = schema.name.as_bytes();
+    for column in &schema.columns {
+        a_column_has_a_name_and_bounds(column);
+    }
+}
+
+/// A law: every column has a name that is one, and bounds that 64 bits hold.
+fn a_column_has_a_name_and_bounds(column: &Column)
+    ensures { IsColumn (column_shape column.now) }
+{
+    let _name = column.name.as_bytes();
+    let _bounds = (column.lo, column.hi);
+}

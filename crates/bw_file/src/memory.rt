@@ -1,8 +1,7 @@
 //! Bytes in memory as a source that never fails.
 ghost use Rattle.std.specs.Prelude.{Some};
 
-use crate::failed::Failed;
-use crate::source::Source;
+use bw_device::{Failed, Source};
 
 /// Bytes that are still to come.
 #[derive(Drop)]

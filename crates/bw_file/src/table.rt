@@ -1,13 +1,15 @@
 //! Whole tables in memory, as the bytes of a table file and back.
 ghost use Rattle.std.specs.Prelude.{◌≡◌, ◌-◌, ◌^◌, ◌<◌, ◌++◌, ◌∷◌, [], List, map, false, length, slice_index_or, Ok, Err, OnOk, IfOk, IfErr, IsOkUnless};
-ghost use Rattle.bw_model.specs.Fault.{no_memory, is_memory};
+ghost use Rattle.bw_model.specs.Fault.{no_memory, is_memory, Gives};
 ghost use Rattle.bw_model.specs.Row.{Value, values_of};
+ghost use Rattle.bw_model.specs.SchemaText.{schema_shape};
 ghost use Rattle.bw_file.specs.AnySegment.{any_meaning};
 ghost use Rattle.bw_file.specs.FileText.{AreRows, IsFileText, file_text};
 ghost use Rattle.bw_file.specs.Table.{found_of};
-ghost use Rattle.bw_file.specs.TableReading.{IsReadAs};
+ghost use Rattle.bw_file.specs.TableReading.{found_as, IsReadAs};
 
 use crate::encoder::Encoder;
+use crate::laws::a_schema_has_names_and_bounds;
 use crate::layout::Layout;
 use crate::memory::Memory;
 use crate::segments::AnySegment;
@@ -24,8 +26,8 @@ pub struct Table {
     pub rows: Vec<Row>,
 }
 
-/// The table file of rows that the schema admits, at most 2^24: of version 1 where that has room for every column, and
-/// else of version 2.
+/// The table file of rows that the schema admits, at most 2^24: of version 1 where that has room
+/// for every column, and else of version 2.
 pub fn encode(
     alloc: Global,
     layout: Layout,
@@ -33,9 +35,13 @@ pub fn encode(
     rows: &[Row],
 ) -> Result<Vec<u8>, Fault>
     requires { AreRows schema.now.columns.items (map values_of rows.now) }
-    ensures text { IfOk result (λ bytes. bytes.items ≡ file_text layout schema.now (map values_of rows.now)) }
+    ensures text { IfOk result
+        (λ bytes. bytes.items ≡ file_text layout schema.now (map values_of rows.now)) }
+    ensures file { IfOk result
+        (λ bytes. IsFileText bytes.items layout schema.now (map values_of rows.now)) }
     ensures only_memory { IsOkUnless result no_memory }
 {
+    a_schema_has_names_and_bounds(schema);
     let mut encoder = Encoder::new(alloc, layout, schema)?;
     for row in rows {
         encoder.add(row)?;
@@ -43,12 +49,17 @@ pub fn encode(
     encoder.finish()
 }
 
-/// The table of a table file, of either version. Refuses other bytes by the first fault in the order of the format: 301 to
-/// 304, 310, 305 to 309.
+/// The table of a table file, of either version, such as [`encode`] makes. Refuses other bytes by
+/// the first fault in the order of the format: 301 to 304, 310, 305 to 309.
 pub fn decode(alloc: Global, bytes: &[u8]) -> Result<Table, Fault>
-    ensures table { IfOk result (λ table. IsFileText bytes.now table.layout table.schema (map values_of table.rows.items)) }
+    ensures table { IfOk result
+        (λ table. IsFileText bytes.now table.layout table.schema (map values_of table.rows.items)) }
+    ensures accepted { (layout : Layout) (schema : Schema) (rows : List (List Value))
+        → IsFileText bytes.now layout schema rows
+        → Gives found_of result (Ok (found_as layout (schema_shape schema) rows)) }
     ensures read { IfOk result (λ table. IsReadAs bytes.now (Ok (found_of table))) }
-    ensures fault { IfErr result (λ fault. is_memory fault ≡ false → IsReadAs bytes.now (Err fault)) }
+    ensures fault { IfErr result
+        (λ fault. is_memory fault ≡ false → IsReadAs bytes.now (Err fault)) }
 {
     let mut source = Memory { rest: bytes };
     let mut reader = TableReader::begin(alloc, &mut source)?;
@@ -65,7 +76,8 @@ pub fn decode(alloc: Global, bytes: &[u8]) -> Result<Table, Fault>
 
 /// Adds the rows of a segment.
 fn push_rows(alloc: Global, segment: &AnySegment, rows: &mut Vec<Row>) -> Result<(), Fault>
-    ensures rows { OnOk result (map values_of rows.new.items ≡ map values_of rows.old.items ++ (any_meaning segment.now).rows) }
+    ensures rows { OnOk result (map values_of rows.new.items ≡ map values_of rows.old.items
+        ++ (any_meaning segment.now).rows) }
     ensures only_memory { IsOkUnless result no_memory }
 {
     for i in 0..segment.rows_in() as usize {
@@ -77,7 +89,8 @@ fn push_rows(alloc: Global, segment: &AnySegment, rows: &mut Vec<Row>) -> Result
 /// A row of a segment.
 fn row_of(alloc: Global, segment: &AnySegment, i: usize) -> Result<Row, Fault>
     requires { i < length (any_meaning segment.now).rows }
-    ensures row { IfOk result (λ row. values_of row ≡ slice_index_or (any_meaning segment.now).rows i []) }
+    ensures row { IfOk result
+        (λ row. values_of row ≡ slice_index_or (any_meaning segment.now).rows i []) }
     ensures only_memory { IsOkUnless result no_memory }
 {
     let count = segment.schema().columns.len();

@@ -1,5 +1,5 @@
 //! A table file read one segment at a time.
-ghost use Rattle.std.specs.Prelude.{◌≡◌, ◌+◌, ◌-◌, ◌*◌, ◌^◌, ◌<◌, ◌≤◌, ◌++◌, ◌∷◌, ℕ, List, [], Result, Some, None, Ok, Err, length, OnOk, IfOk, IfErr};
+ghost use Rattle.std.specs.Prelude.{◌≡◌, ◌+◌, ◌-◌, ◌*◌, ◌^◌, ◌<◌, ◌≤◌, ℕ, [], None, IfOk, IfErr};
 ghost use Rattle.bw_model.specs.Limits.{most_rows};
 ghost use Rattle.bw_file.specs.declared.phase.Phase.TheVariants.{Reading};
 
@@ -8,14 +8,15 @@ use crate::header::{Header, read_header};
 use crate::layout::Layout;
 use crate::phase::Phase;
 use crate::segments::AnySegment;
-use crate::source::Source;
+use bw_device::Source;
 use bw_model::{Fault, Schema};
 use bw_segment::{Segment, Shape};
 use std::alloc::Global;
 use std::rc::Rc;
 
-/// Reads a table file from a source, one segment at a time. It keeps the header, how many bytes it took and how many rows
-/// it gave, and what it repeats: that there is no more, or a fault. It doesn't keep the source.
+/// Reads a table file from a source, one segment at a time. It keeps the header, how many bytes it
+/// took and how many rows it gave, and what it repeats: that there is no more, or a fault. It
+/// doesn't keep the source.
 #[derive(Drop)]
 pub struct TableReader {
     alloc: Global,
@@ -31,17 +32,13 @@ pub struct TableReader {
 }
 
 impl TableReader {
-    ghost use Rattle.std.specs.Prelude.{IfSome};
-    ghost use Rattle.bw_model.specs.declared.fault.Fault.{Fault};
-    ghost use Rattle.bw_model.specs.Row.{Value};
-    ghost use Rattle.bw_file.specs.AnySegment.{any_meaning};
-    ghost use Rattle.bw_file.specs.Reading.{State, Fails, state};
+    ghost use Rattle.bw_file.specs.Reading.{Fails, state};
     ghost use Rattle.bw_file.specs.TableReading.{header};
-    ghost use Rattle.bw_file.specs.TableReader.{schema_in, layout_in, rows_told, rows_given, bytes_taken, settled, SameTable, SoFar, ReadWhole, AnswersFault, DidRead, IsSegmentOf, Settles, Repeats, found_so_far};
+    ghost use Rattle.bw_file.specs.TableReader.{schema_in, layout_in, rows_told, rows_given, bytes_taken, settled, SoFar, AnswersFault, GivesNext};
 
-    /// Reads the header of a table file, and no byte past it: 301 to 304 and 310, each at the first byte of its field, 305
-    /// at the end of a file that ends before, or 701. That the source's count of failures can rise is the caller's
-    /// condition.
+    /// Reads the header of a table file, and no byte past it: 301 to 304 and 310, each at the first
+    /// byte of its field, 305 at the end of a file that ends before, or 701. That the source's
+    /// count of failures can rise is the caller's condition.
     pub fn begin<S: Source>(alloc: Global, source: &mut S) -> Result<Self, Fault>
         requires { S.failures source.old < 2 ^ 64 - 1 }
         ensures began { IfOk result (λ reader. SoFar
@@ -75,36 +72,17 @@ impl TableReader {
         })
     }
 
-    /// The next segment, of 512 rows or, the last one, of fewer; or None behind the last one, where the source has ended.
-    /// Takes a block at a time, and judges it before the next: 308, 307, 306 at the block's first byte, 305 at the end
-    /// of a file that ends before, 309 at a byte behind the last block, or 701. From None on it answers None, and from a
-    /// fault on, want of memory too, that fault, and takes nothing.
+    /// The next segment, of 512 rows or, the last one, of fewer; or None behind the last one, where
+    /// the source has ended. Takes a block at a time, and judges it before the next: 308, 307, 306
+    /// at the block's first byte, 305 at the end of a file that ends before, 309 at a byte behind
+    /// the last block, or 701. From None on it answers None, and from a fault on, want of memory
+    /// too, that fault, and takes nothing.
     pub fn next_segment<S: Source>(&mut self, source: &mut S) -> Result<Option<AnySegment>, Fault>
         requires { S.failures source.old < 2 ^ 64 - 1 }
-        ensures given { IfOk result (λ found. IfSome found (λ segment.
-            (start : State) (groups : List (List (List Value)))
-            → SoFar start (state (S.to_come source.old) (bytes_taken self.old) (S.failures source.old)) self.old groups
-            → SoFar start (state (S.to_come source.new) (bytes_taken self.new) (S.failures source.new)) self.new
-            (groups ++ (any_meaning segment).rows ∷ []))) }
-        ensures segment { IfOk result (λ found. IfSome found (λ segment. IsSegmentOf self.old segment
-            × (rows_given self.new ≡ rows_given self.old + length (any_meaning segment).rows) × (settled self.new ≡ None))) }
-        ensures ended { IfOk result (λ found. found ≡ None → settled self.old ≡ None
-            → (start : State) (groups : List (List (List Value)))
-            → SoFar start (state (S.to_come source.old) (bytes_taken self.old) (S.failures source.old)) self.old groups
-            → ReadWhole start (state (S.to_come source.new) (bytes_taken self.new) (S.failures source.new))
-            (found_so_far self.old groups)) }
-        ensures refused { IfErr result (λ fault. settled self.old ≡ None
-            → (start : State) (groups : List (List (List Value)))
-            → SoFar start (state (S.to_come source.old) (bytes_taken self.old) (S.failures source.old)) self.old groups
-            → AnswersFault start (state (S.to_come source.old) (bytes_taken self.old) (S.failures source.old))
-            (state (S.to_come source.new) (bytes_taken self.new) (S.failures source.new)) fault) }
-        ensures read { settled self.old ≡ None
-            → DidRead (state (S.to_come source.old) (bytes_taken self.old) (S.failures source.old))
-            (state (S.to_come source.new) (bytes_taken self.new) (S.failures source.new)) result }
-        ensures settles { Settles result (settled self.new) }
-        ensures repeats { (answer : Result (Unit {0}) Fault) → settled self.old ≡ Some answer
-            → Repeats result answer × (self.new ≡ self.old) × (source.new ≡ source.old) }
-        ensures same { SameTable self.old self.new }
+        ensures { GivesNext source.old source.new
+            (state (S.to_come source.old) (bytes_taken self.old) (S.failures source.old))
+            (state (S.to_come source.new) (bytes_taken self.new) (S.failures source.new))
+            self.old self.new result }
     {
         let bytes = Vec::new(self.alloc);
         self.next_in(source, bytes)
@@ -117,30 +95,10 @@ impl TableReader {
         spare: Option<AnySegment>,
     ) -> Result<Option<AnySegment>, Fault>
         requires { S.failures source.old < 2 ^ 64 - 1 }
-        ensures given { IfOk result (λ found. IfSome found (λ segment.
-            (start : State) (groups : List (List (List Value)))
-            → SoFar start (state (S.to_come source.old) (bytes_taken self.old) (S.failures source.old)) self.old groups
-            → SoFar start (state (S.to_come source.new) (bytes_taken self.new) (S.failures source.new)) self.new
-            (groups ++ (any_meaning segment).rows ∷ []))) }
-        ensures segment { IfOk result (λ found. IfSome found (λ segment. IsSegmentOf self.old segment
-            × (rows_given self.new ≡ rows_given self.old + length (any_meaning segment).rows) × (settled self.new ≡ None))) }
-        ensures ended { IfOk result (λ found. found ≡ None → settled self.old ≡ None
-            → (start : State) (groups : List (List (List Value)))
-            → SoFar start (state (S.to_come source.old) (bytes_taken self.old) (S.failures source.old)) self.old groups
-            → ReadWhole start (state (S.to_come source.new) (bytes_taken self.new) (S.failures source.new))
-            (found_so_far self.old groups)) }
-        ensures refused { IfErr result (λ fault. settled self.old ≡ None
-            → (start : State) (groups : List (List (List Value)))
-            → SoFar start (state (S.to_come source.old) (bytes_taken self.old) (S.failures source.old)) self.old groups
-            → AnswersFault start (state (S.to_come source.old) (bytes_taken self.old) (S.failures source.old))
-            (state (S.to_come source.new) (bytes_taken self.new) (S.failures source.new)) fault) }
-        ensures read { settled self.old ≡ None
-            → DidRead (state (S.to_come source.old) (bytes_taken self.old) (S.failures source.old))
-            (state (S.to_come source.new) (bytes_taken self.new) (S.failures source.new)) result }
-        ensures settles { Settles result (settled self.new) }
-        ensures repeats { (answer : Result (Unit {0}) Fault) → settled self.old ≡ Some answer
-            → Repeats result answer × (self.new ≡ self.old) × (source.new ≡ source.old) }
-        ensures same { SameTable self.old self.new }
+        ensures { GivesNext source.old source.new
+            (state (S.to_come source.old) (bytes_taken self.old) (S.failures source.old))
+            (state (S.to_come source.new) (bytes_taken self.new) (S.failures source.new))
+            self.old self.new result }
     {
         match spare {
             None => self.next_segment(source),
@@ -155,30 +113,10 @@ impl TableReader {
         bytes: Vec<u8>,
     ) -> Result<Option<AnySegment>, Fault>
         requires { S.failures source.old < 2 ^ 64 - 1 }
-        ensures given { IfOk result (λ found. IfSome found (λ segment.
-            (start : State) (groups : List (List (List Value)))
-            → SoFar start (state (S.to_come source.old) (bytes_taken self.old) (S.failures source.old)) self.old groups
-            → SoFar start (state (S.to_come source.new) (bytes_taken self.new) (S.failures source.new)) self.new
-            (groups ++ (any_meaning segment).rows ∷ []))) }
-        ensures segment { IfOk result (λ found. IfSome found (λ segment. IsSegmentOf self.old segment
-            × (rows_given self.new ≡ rows_given self.old + length (any_meaning segment).rows) × (settled self.new ≡ None))) }
-        ensures ended { IfOk result (λ found. found ≡ None → settled self.old ≡ None
-            → (start : State) (groups : List (List (List Value)))
-            → SoFar start (state (S.to_come source.old) (bytes_taken self.old) (S.failures source.old)) self.old groups
-            → ReadWhole start (state (S.to_come source.new) (bytes_taken self.new) (S.failures source.new))
-            (found_so_far self.old groups)) }
-        ensures refused { IfErr result (λ fault. settled self.old ≡ None
-            → (start : State) (groups : List (List (List Value)))
-            → SoFar start (state (S.to_come source.old) (bytes_taken self.old) (S.failures source.old)) self.old groups
-            → AnswersFault start (state (S.to_come source.old) (bytes_taken self.old) (S.failures source.old))
-            (state (S.to_come source.new) (bytes_taken self.new) (S.failures source.new)) fault) }
-        ensures read { settled self.old ≡ None
-            → DidRead (state (S.to_come source.old) (bytes_taken self.old) (S.failures source.old))
-            (state (S.to_come source.new) (bytes_taken self.new) (S.failures source.new)) result }
-        ensures settles { Settles result (settled self.new) }
-        ensures repeats { (answer : Result (Unit {0}) Fault) → settled self.old ≡ Some answer
-            → Repeats result answer × (self.new ≡ self.old) × (source.new ≡ source.old) }
-        ensures same { SameTable self.old self.new }
+        ensures { GivesNext source.old source.new
+            (state (S.to_come source.old) (bytes_taken self.old) (S.failures source.old))
+            (state (S.to_come source.new) (bytes_taken self.new) (S.failures source.new))
+            self.old self.new result }
     {
         match self.phase {
             Phase::Ended => Ok(None),
@@ -193,28 +131,10 @@ impl TableReader {
         requires countable { S.failures source.old < 2 ^ 64 - 1 }
         requires open { self.old.phase ≡ Reading }
         requires all { self.old.given ≡ self.old.rows }
-        ensures given { IfOk result (λ found. IfSome found (λ segment.
-            (start : State) (groups : List (List (List Value)))
-            → SoFar start (state (S.to_come source.old) (bytes_taken self.old) (S.failures source.old)) self.old groups
-            → SoFar start (state (S.to_come source.new) (bytes_taken self.new) (S.failures source.new)) self.new
-            (groups ++ (any_meaning segment).rows ∷ []))) }
-        ensures segment { IfOk result (λ found. IfSome found (λ segment. IsSegmentOf self.old segment
-            × (rows_given self.new ≡ rows_given self.old + length (any_meaning segment).rows) × (settled self.new ≡ None))) }
-        ensures ended { IfOk result (λ found. found ≡ None → settled self.old ≡ None
-            → (start : State) (groups : List (List (List Value)))
-            → SoFar start (state (S.to_come source.old) (bytes_taken self.old) (S.failures source.old)) self.old groups
-            → ReadWhole start (state (S.to_come source.new) (bytes_taken self.new) (S.failures source.new))
-            (found_so_far self.old groups)) }
-        ensures refused { IfErr result (λ fault. settled self.old ≡ None
-            → (start : State) (groups : List (List (List Value)))
-            → SoFar start (state (S.to_come source.old) (bytes_taken self.old) (S.failures source.old)) self.old groups
-            → AnswersFault start (state (S.to_come source.old) (bytes_taken self.old) (S.failures source.old))
-            (state (S.to_come source.new) (bytes_taken self.new) (S.failures source.new)) fault) }
-        ensures read { settled self.old ≡ None
-            → DidRead (state (S.to_come source.old) (bytes_taken self.old) (S.failures source.old))
-            (state (S.to_come source.new) (bytes_taken self.new) (S.failures source.new)) result }
-        ensures settles { Settles result (settled self.new) }
-        ensures same { SameTable self.old self.new }
+        ensures { GivesNext source.old source.new
+            (state (S.to_come source.old) (bytes_taken self.old) (S.failures source.old))
+            (state (S.to_come source.new) (bytes_taken self.new) (S.failures source.new))
+            self.old self.new result }
     {
         let mut offset = self.offset;
         let answer = read_end(source, &mut offset);
@@ -240,28 +160,10 @@ impl TableReader {
         requires countable { S.failures source.old < 2 ^ 64 - 1 }
         requires open { self.old.phase ≡ Reading }
         requires left { self.old.given < self.old.rows }
-        ensures given { IfOk result (λ found. IfSome found (λ segment.
-            (start : State) (groups : List (List (List Value)))
-            → SoFar start (state (S.to_come source.old) (bytes_taken self.old) (S.failures source.old)) self.old groups
-            → SoFar start (state (S.to_come source.new) (bytes_taken self.new) (S.failures source.new)) self.new
-            (groups ++ (any_meaning segment).rows ∷ []))) }
-        ensures segment { IfOk result (λ found. IfSome found (λ segment. IsSegmentOf self.old segment
-            × (rows_given self.new ≡ rows_given self.old + length (any_meaning segment).rows) × (settled self.new ≡ None))) }
-        ensures ended { IfOk result (λ found. found ≡ None → settled self.old ≡ None
-            → (start : State) (groups : List (List (List Value)))
-            → SoFar start (state (S.to_come source.old) (bytes_taken self.old) (S.failures source.old)) self.old groups
-            → ReadWhole start (state (S.to_come source.new) (bytes_taken self.new) (S.failures source.new))
-            (found_so_far self.old groups)) }
-        ensures refused { IfErr result (λ fault. settled self.old ≡ None
-            → (start : State) (groups : List (List (List Value)))
-            → SoFar start (state (S.to_come source.old) (bytes_taken self.old) (S.failures source.old)) self.old groups
-            → AnswersFault start (state (S.to_come source.old) (bytes_taken self.old) (S.failures source.old))
-            (state (S.to_come source.new) (bytes_taken self.new) (S.failures source.new)) fault) }
-        ensures read { settled self.old ≡ None
-            → DidRead (state (S.to_come source.old) (bytes_taken self.old) (S.failures source.old))
-            (state (S.to_come source.new) (bytes_taken self.new) (S.failures source.new)) result }
-        ensures settles { Settles result (settled self.new) }
-        ensures same { SameTable self.old self.new }
+        ensures { GivesNext source.old source.new
+            (state (S.to_come source.old) (bytes_taken self.old) (S.failures source.old))
+            (state (S.to_come source.new) (bytes_taken self.new) (S.failures source.new))
+            self.old self.new result }
     {
         let rows = (self.rows - self.given).min(512);
         let mut offset = self.offset;

@@ -2,12 +2,11 @@
 ghost use Rattle.std.specs.Prelude.{◌≡◌, ◌-◌, ◌+◌, ◌^◌, ◌<◌, length, OnOk};
 ghost use Rattle.bw_file.specs.Reading.{Reads, state, field};
 
-use crate::failed::Failed;
-use crate::source::Source;
+use bw_device::{Failed, Source};
 use bw_model::{Fault, code};
 
-/// Takes as many bytes as the buffer has room for, and counts them. A source that ends before is 305 at the number of
-/// its bytes, and a failed read 701. No byte more is taken.
+/// Takes as many bytes as the buffer has room for, and counts them. A source that ends before is
+/// 305 at the number of its bytes, and a failed read 701. No byte more is taken.
 pub(crate) fn take<S: Source>(
     source: &mut S,
     offset: &mut u64,

@@ -4,7 +4,7 @@ use Rattle.bw_model.specs.declared.fault.Fault.{Fault}
 use Rattle.bw_model.specs.declared.query.Query.{Query}
 use Rattle.bw_model.specs.declared.schema.Schema.{Schema}
 use Rattle.bw_model.specs.Fault.{no_memory, is_memory}
-use Rattle.bw_file.specs.Sink.{is_write_fault}
+use Rattle.bw_device.specs.Sink.{is_write_fault}
 use Rattle.bw_sql.specs.Refusal.{is_statement_fault, IsStatementFault}
 use Rattle.bw_sql.specs.Statement.{IsReadAs, Parses}
 use Rattle.bw_shell.specs.Arrived.{IsSchemaFrom}

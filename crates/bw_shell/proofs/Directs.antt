@@ -5,7 +5,7 @@ use Rattle.bw_model.specs.declared.fault.Fault.{Fault}
 use Rattle.bw_model.specs.declared.schema.Schema.{Schema}
 use Rattle.bw_model.specs.Fault.{Gives, no_memory, is_memory}
 use Rattle.bw_model.specs.SchemaText.{schema_of, schema_shape, IsSchemaText}
-use Rattle.bw_file.specs.Source.{Came}
+use Rattle.bw_device.specs.Source.{Came}
 use Rattle.bw_shell.specs.Arrived.{IsSchemaFrom, SchemaTold}
 
 -- bytes that came are no failure of the source

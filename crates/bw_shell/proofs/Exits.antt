@@ -8,8 +8,8 @@ use Rattle.bw_model.specs.declared.fault.Fault.{Fault}
 use Rattle.bw_model.specs.declared.schema.Schema.{Schema}
 use Rattle.bw_model.specs.Fault.{no_memory, is_memory, ◌>>=◌}
 use Rattle.bw_csv.specs.Rows.{is_aside, is_any_record, is_rows_fault, IsRowsFault}
-use Rattle.bw_file.specs.Sink.{is_write_fault, TookPart, GoesOut, Went}
-use Rattle.bw_file.specs.Source.{Came}
+use Rattle.bw_device.specs.Sink.{is_write_fault, TookPart, GoesOut, Went}
+use Rattle.bw_device.specs.Source.{Came}
 use Rattle.bw_shell.specs.Arrived.{IsSchemaFrom, SchemaTold, CsvTold, csv_from}
 
 -- what came of a source, and the text that goes out, or a fault

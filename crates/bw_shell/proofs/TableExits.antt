@@ -9,8 +9,8 @@ use Rattle.bw_model.specs.declared.schema.Schema.{Schema}
 use Rattle.bw_model.specs.Fault.{is_memory, no_memory, nowhere, stands_nowhere}
 use Rattle.bw_model.specs.Groups.{together}
 use Rattle.bw_model.specs.SchemaText.{schema_shape}
-use Rattle.bw_file.specs.Sink.{GoesOut}
-use Rattle.bw_file.specs.Source.{is_input_fault, is_read_fault}
+use Rattle.bw_device.specs.Sink.{GoesOut}
+use Rattle.bw_device.specs.Source.{is_input_fault, is_read_fault}
 use Rattle.bw_file.specs.Reading.{State, Fails, failed_reads}
 use Rattle.bw_file.specs.TableReading.{header}
 use Rattle.bw_file.specs.TableReader.{AnswersFault, SoFar, failed_by, schema_in, header_told}

@@ -8,7 +8,7 @@ use Rattle.bw_model.specs.Groups.{together}
 use Rattle.bw_model.specs.Row.{Value}
 use Rattle.bw_answer.specs.Over.{GoesOver, IsOver}
 use Rattle.bw_answer.specs.declared.answer.Answer.{Answer}
-use Rattle.bw_file.specs.Source.{is_input_fault}
+use Rattle.bw_device.specs.Source.{is_input_fault}
 use Rattle.bw_file.specs.Reading.{State, Took, failed_reads}
 use Rattle.bw_file.specs.TableReader.{AnswersFault, SameTable}
 use Rattle.bw_file.specs.declared.table_reader.TableReader.{TableReader}

@@ -3,7 +3,7 @@ use Rattle.std.proofs.Common.{◌≡◌, ℕ, ◌+◌, ◌-◌, ◌≤◌, List,
 use Rattle.std.proofs.Math.Seq.{take-add, take-length}
 use Rattle.std.specs.Io.KnownBytes.{Appends, Consumes}
 use Rattle.std.proofs.KnownBytes.{Appends-trans, Consumes-trans}
-use Rattle.bw_file.specs.Source.{TookAtMost}
+use Rattle.bw_device.specs.Source.{TookAtMost}
 
 -- what stands from m on is the rest
 take-drop_rest : (m : ℕ) (text : List ℕ) → take (length text - m) (drop m text) ≡ drop m text

@@ -2,7 +2,7 @@
 use Rattle.std.specs.Prelude.{◌≡◌, ◌==◌, ℕ, Bool, false, nat_lt, if◌then◌else◌, List, ◌++◌, codes, Option, Result}
 use Rattle.std.specs.List.{list_any}
 use Rattle.bw_model.specs.declared.fault.Fault.{Fault}
-use Rattle.bw_file.specs.Sink.{GoesOut}
+use Rattle.bw_device.specs.Sink.{GoesOut}
 use Rattle.bw_shell.specs.declared.served.By.{By}
 use Rattle.bw_shell.specs.declared.served.By.TheVariants.{Program, Rows}
 use Rattle.bw_shell.specs.declared.served.Served.{Served}

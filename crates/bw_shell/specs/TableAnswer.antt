@@ -13,8 +13,8 @@ use Rattle.bw_model.specs.Row.{Value}
 use Rattle.bw_model.specs.SchemaText.{schema_shape}
 use Rattle.bw_sql.specs.Statement.{IsReadAs}
 use Rattle.bw_answer.specs.Answer.{csv_text, meaning}
-use Rattle.bw_file.specs.Sink.{TookPart}
-use Rattle.bw_file.specs.Source.{is_input_fault}
+use Rattle.bw_device.specs.Sink.{TookPart}
+use Rattle.bw_device.specs.Source.{is_input_fault}
 use Rattle.bw_file.specs.Reading.{State, Took, GoesOn, Fails, give}
 use Rattle.bw_file.specs.TableReading.{HeaderShape, Found, header}
 use Rattle.bw_file.specs.TableReader.{HasFirstFault, ReadWhole, failed_by}

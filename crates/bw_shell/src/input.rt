@@ -1,10 +1,10 @@
 //! Whole inputs, read from a source up to a limit.
 ghost use Rattle.std.specs.Prelude.{◌+◌, ◌-◌, ◌^◌, ◌<◌, IfErr, IsTrue};
 ghost use Rattle.bw_model.specs.Fault.{nowhere};
-ghost use Rattle.bw_file.specs.Source.{Came, TookAtMost, EndsWith, is_input_fault};
+ghost use Rattle.bw_device.specs.Source.{Came, TookAtMost, EndsWith, is_input_fault};
 ghost use Rattle.bw_shell.specs.Input.{arrival};
 
-use bw_file::{Failed, Source};
+use bw_device::{Failed, Source};
 use bw_model::{Fault, code};
 use std::alloc::Global;
 
@@ -49,7 +49,7 @@ pub fn read_limited<S: Source>(alloc: Global, source: &mut S, limit: u64) -> Res
 #[cfg(test)]
 mod tests {
     use super::*;
-    use bw_file::FromRead;
+    use bw_device::FromRead;
     use std::test::Fail;
 
     #[test]

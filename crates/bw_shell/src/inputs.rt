@@ -1,15 +1,15 @@
 //! The texts that a call reads whole: a schema's and a CSV's.
 ghost use Rattle.std.specs.Prelude.{◌≡◌, ◌+◌, ◌-◌, ◌^◌, ◌<◌, ℕ, List, Option, Result, false, IfErr};
 ghost use Rattle.bw_model.specs.declared.fault.Fault.{Fault};
-ghost use Rattle.bw_file.specs.Sink.{is_write_fault};
+ghost use Rattle.bw_device.specs.Sink.{is_write_fault};
 ghost use Rattle.bw_model.specs.Fault.{nowhere};
 ghost use Rattle.bw_model.specs.Limits.{longest_schema, longest_csv};
-ghost use Rattle.bw_file.specs.Source.{Came, TookAtMost, EndsWith};
+ghost use Rattle.bw_device.specs.Source.{Came, TookAtMost, EndsWith};
 ghost use Rattle.bw_shell.specs.Arrived.{SchemaTold, CsvTold};
 ghost use Rattle.bw_shell.specs.Direct.{is_before_csv};
 
 use crate::input::{Input, read_limited};
-use bw_file::Source;
+use bw_device::Source;
 use bw_model::{Fault, MAX_SCHEMA_LEN, Schema, code};
 use std::alloc::Global;
 

@@ -1,8 +1,8 @@
 //! Whole texts, written to a sink.
 ghost use Rattle.std.specs.Prelude.{◌-◌, ◌^◌, ◌<◌};
-ghost use Rattle.bw_file.specs.Sink.{GoesOut};
+ghost use Rattle.bw_device.specs.Sink.{GoesOut};
 
-use bw_file::{Failed, Sink};
+use bw_device::{Failed, Sink};
 use bw_model::{Fault, code};
 
 /// Writes a whole text, or refuses as 702 at the first write that fails, when a part from the text's front
@@ -26,7 +26,7 @@ pub fn write_whole<K: Sink>(sink: &mut K, text: &[u8]) -> Result<(), Fault>
 #[cfg(test)]
 mod tests {
     use super::*;
-    use bw_file::ToWrite;
+    use bw_device::ToWrite;
     use std::test::Fail;
 
     #[test]

@@ -2,11 +2,11 @@
 ghost use Rattle.std.specs.Prelude.{◌≡◌, ◌-◌, ◌^◌, ◌<◌, ◌≤◌, ℕ, List, false, length};
 ghost use Rattle.std.specs.Fmt.InlineText.{inline_text};
 ghost use Rattle.bw_shell.specs.Report.{status_of, has_line_feed, IsLine, PrintsLine, IsStatsLine, by_text};
-ghost use Rattle.bw_file.specs.Sink.{GoesOut};
+ghost use Rattle.bw_device.specs.Sink.{GoesOut};
 
 use crate::output::write_whole;
 use crate::served::{By, Served};
-use bw_file::Sink;
+use bw_device::Sink;
 use bw_model::Fault;
 use std::fmt::InlineText;
 
@@ -108,7 +108,7 @@ pub fn stats_line<K: Sink>(served: &Served, sink: &mut K) -> Result<(), Fault>
 #[cfg(test)]
 mod tests {
     use super::*;
-    use bw_file::ToWrite;
+    use bw_device::ToWrite;
     use bw_model::Place;
     use std::test::Fail;
 

@@ -19,7 +19,8 @@ ghost use Rattle.bw_shell.specs.TableText.{TextOver, TookAll};
 
 use crate::table_rows::hand_segment;
 use bw_answer::Answer;
-use bw_file::{Source, TableReader, bytes_were_taken};
+use bw_device::Source;
+use bw_file::{TableReader, bytes_were_taken};
 use bw_model::{Fault, Query, Row};
 use bw_segment::Segment;
 use std::alloc::Global;

@@ -1,4 +1,4 @@
-use Rattle.std.proofs.Common.{◌≡◌, ◌+◌, ◌++◌, ◌∷◌, [], take, map, sym, ap, ◌∙◌, arith}
+use Rattle.std.proofs.Common.{◌≡◌, ◌+◌, ◌++◌, ◌∷◌, [], take, map, sym, ap, inl, ◌∙◌, arith}
 use Rattle.std.proofs.lemmas.List.{map_more}
 use Rattle.std.proofs.lemmas.Result.{IfOk-weaker}
 use Rattle.bw_model.specs.declared.row.Row.{Row}
@@ -28,3 +28,11 @@ pub returns-clause-text : goal.returns-clause-text
 returns-clause-text c =
     IfOk-weaker c.finish.result _ _ (λ bytes text. text_of_all c.loop-row.encoder c.args.layout c.args.schema.now c.args.rows.now c.loop-row.row-index bytes.items c.loop-row-test.false
     c.loop-row.invariant.layout c.loop-row.invariant.name c.loop-row.invariant.columns text c.loop-row.invariant.holds) c.finish.ensures.text
+
+pub returns-clause-file : goal.returns-clause-file
+returns-clause-file c =
+    IfOk-weaker c.finish.result _ _ (λ bytes text. record {
+      under = c.a_schema_has_names_and_bounds.ensures;
+      admitted = c.requires;
+      text = inl text;
+    }) (returns-clause-text c)

@@ -2,7 +2,7 @@
 use Rattle.std.proofs.Common.{◌≡◌, ◌∙◌, [], refl, sym, ap, true, false, ℕ}
 use Rattle.std.proofs.lemmas.Result.{err_from_is_err_and}
 use Rattle.bw_file.specs.Reading.{State, failed_reads, state}
-use Rattle.bw_file.specs.Source.{is_input_fault}
+use Rattle.bw_device.specs.Source.{is_input_fault}
 use Rattle.bw_file.specs.TableReader.{bytes_taken, schema_in}
 use Rattle.bw_sql.specs.Refusal.{is_statement_fault}
 use Rattle.bw_sql.specs.Statement.{IsReadAs}

@@ -1,10 +1,11 @@
-use Rattle.bw_file.proofs.ReaderLemmas.{end_seen, end_missed}
+use Rattle.std.proofs.Common.{refl}
+use Rattle.bw_file.proofs.NextLemmas.{end_given, byte_given}
 use Rattle.bw_file.proofs.table_reader.TableReader.see_end.Goals as goal
 
-pub returns-in-Ok-clause-ended : goal.returns-in-Ok-clause-ended
-returns-in-Ok-clause-ended g c = λ _ _ start groups so_far.
-    end_seen start _ _ c.args.self.now groups c.requires.all so_far c.in-Ok.ensures.took c.in-Ok.ensures.failures c.in-Ok.ensures.ended
+pub returns-in-Ok : goal.returns-in-Ok
+returns-in-Ok g c =
+    end_given _ _ _ _ c.args.self.now _ (record { layout = refl; schema = refl; rows = refl }) refl c.requires.all (rw c.requires.open refl) c.in-Ok.ensures.took c.in-Ok.ensures.failures c.in-Ok.ensures.ended
 
-pub returns-in-Err-clause-refused : goal.returns-in-Err-clause-refused
-returns-in-Err-clause-refused g c = λ _ start groups so_far.
-    end_missed start _ _ c.args.self.now groups _ c.requires.all so_far c.in-Err.ensures.refused
+pub returns-in-Err : goal.returns-in-Err
+returns-in-Err g c =
+    byte_given _ _ _ _ c.args.self.now _ (record { layout = refl; schema = refl; rows = refl }) _ refl c.requires.all (rw c.requires.open refl) c.in-Err.ensures.refused

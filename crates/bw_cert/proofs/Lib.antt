@@ -1,0 +1,3 @@
+pub mod SelectionLemmas
+pub mod StatedLemmas
+pub mod ValidLemmas

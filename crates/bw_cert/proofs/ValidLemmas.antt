@@ -1,0 +1,178 @@
+-- Sections one after another, and what a valid certificate's lines state.
+use Rattle.std.proofs.Common.{◌≡◌, ◌∙◌, refl, sym, ap, ap₂, subst, ℕ, zero, suc, Bool, true, false, not, ◌&&◌, List, [], ◌∷◌, map, length, Option, Some, None, Result, Ok, Err, slice_get, arith}
+use Rattle.std.specs.List.{list_all}
+use Rattle.bw_model.specs.declared.column.Column.{Column}
+use Rattle.bw_model.specs.declared.fault.Fault.{Fault}
+use Rattle.bw_model.specs.Fault.{at_line, ◌>>=◌, refused_if}
+use Rattle.bw_model.specs.Variable.{first_variable, bit_variable}
+use Rattle.bw_diagram.specs.declared.chain.ChainKind.TheVariants.{Less, Equal}
+use Rattle.bw_diagram.specs.declared.product.Connective.TheVariants.{Xor}
+use Rattle.std.proofs.lemmas.Bool.{eqb-true}
+use Rattle.bw_model.specs.Variable.{Assignment}
+use Rattle.bw_diagram.specs.Node.{node_value}
+use Rattle.bw_diagram.specs.Product.{joined}
+use Rattle.bw_diagram.specs.Cited.{AreWorth, cited}
+use Rattle.bw_diagram.specs.Facts.{Facts, AreTrue, no_facts, with_node, with_chain, with_row}
+use Rattle.bw_program.specs.declared.instr.Instr.{Instr}
+use Rattle.bw_program.specs.declared.instr.Instr.TheVariants as instr
+use Rattle.bw_diagram.specs.declared.node.Node.{Node}
+use Rattle.bw_diagram.specs.declared.chain.Chain.{Chain}
+use Rattle.bw_diagram.specs.declared.product.Product.{Product}
+use Rattle.bw_diagram.specs.declared.product.Reason.{Reason}
+use Rattle.bw_program.specs.Program.{instr_fits}
+use Rattle.bw_program.specs.ProgramText.{found_on}
+use Rattle.bw_cert_text.specs.declared.lines.BodyLine.{BodyLine}
+use Rattle.bw_cert_text.specs.declared.lines.InstructionEntry.{InstructionEntry}
+use Rattle.bw_cert_text.specs.CertificateShape.{CertificateShape}
+use Rattle.bw_known.specs.Instruction.{behind, loaded_node, byte_chain, plane_on, byte_on}
+use Rattle.bw_known.specs.Join.{is_zero}
+use Rattle.bw_known.specs.Known.{Known, node_of}
+use Rattle.bw_known.specs.Walk.{Taken}
+use Rattle.bw_cert.specs.Stated.{on_line, with_lines, with_node_line, with_chain_line, with_row_line, facts_stated}
+use Rattle.bw_cert.specs.Valid.{last_on, end_on}
+
+pub bind_ok : {A B : Type 0} (r : Result A Fault) (f : A → Result B Fault) (y : B) → (r >>= f) ≡ Ok y → (x : A) × (r ≡ Ok x) × (f x ≡ Ok y)
+bind_ok (Ok x) f y is = (x, refl, is)
+bind_ok (Err fault) f y is = cc
+
+pub not_refused : {A : Type 0} (b : Bool) (fault : Fault) (r : Result A Fault) (x : A) → refused_if b fault r ≡ Ok x → (b ≡ false) × (r ≡ Ok x)
+not_refused true fault r x is = cc
+not_refused false fault r x is = (refl, is)
+
+found_ok : {A : Type 0} (code line : ℕ) (o : Option A) (x : A) → found_on code line o ≡ Ok x → o ≡ Some x
+found_ok code line None x is = cc
+found_ok code line (Some y) x is = cc
+
+negated : (b : Bool) → not b ≡ false → b ≡ true
+negated true is = refl
+negated false is = cc
+
+on_line_ok : (line : ℕ) (r : Result Facts Fault) (facts : Facts) → on_line line r ≡ Ok facts → r ≡ Ok facts
+on_line_ok line (Ok x) facts is = is
+on_line_ok line (Err fault) facts is = cc
+
+-- the end, where it is right
+pub record Ended (facts : Facts) (taken : Taken) (result first row : ℕ) : Type 0 where
+  pub none : taken.rest ≡ []
+  pub node : ℕ
+  pub known : node_of taken.known result ≡ Some node
+  pub zero : is_zero (cited facts Xor node first row) ≡ true
+
+pub ended : (facts found : Facts) (end : ℕ) (taken : Taken) (result first row : ℕ) → end_on facts end taken result first row ≡ Ok found → Ended facts taken result first row
+ended facts found end taken result first row is = at taken.rest refl is
+  where
+    at : (rest : List BodyLine) → taken.rest ≡ rest → last_on facts end rest taken.known result first row ≡ Ok found → Ended facts taken result first row
+    at (line ∷ lines) there is = cc
+    at [] there is =
+        let node = bind_ok (found_on 609 end (node_of taken.known result)) _ found is in
+        let zero = not_refused (not (is_zero (cited facts Xor node.0 first row))) _ _ found node.2 in
+        record { none = there; node = node.0; known = found_ok 609 end _ node.0 node.1; zero = negated _ zero.0 }
+
+pub ends : (facts : Facts) (end : ℕ) (known : Known) (result first row node : ℕ) → node_of known result ≡ Some node → is_zero (cited facts Xor node first row) ≡ true →
+    end_on facts end (record { known = known; rest = [] }) result first row ≡ Ok facts
+ends facts end known result first row node there none =
+    ap (λ o. found_on 609 end o >>= λ node. refused_if (not (is_zero (cited facts Xor node first row))) (at_line 610 end) (Ok facts)) there
+    ∙ ap (λ b. refused_if (not b) (at_line 610 end) (Ok facts)) none
+
+-- what holds before lines, and past each that is accepted, holds past all
+pub all_hold : {Line : Type 0} (P : Facts → Type 0) (add : Facts → Line → Result Facts Fault) (facts last : Facts) (lines : List Line) → ((facts more : Facts) (line : Line) → P facts → add facts line ≡ Ok more → P more) →
+    P facts → with_lines add facts lines ≡ Ok last → P last
+unfolding with_lines
+all_hold P add facts last [] each holds is = subst P (same is) holds
+  where
+    same : ◌≡◌ {A = Result Facts Fault} (Ok facts) (Ok last) → facts ≡ last
+    same is = cc
+all_hold P add facts last (line ∷ lines) each holds is =
+    let one = bind_ok (add facts line) _ last is in
+    all_hold P add one.0 last lines each (each facts one.0 line holds one.1) one.2
+
+-- a line that is accepted leaves the columns
+columns_kept : {X : Type 0} (before more : Facts) (found : Result X Fault) (with : X → Facts) → (found >>= λ x. Ok (with x)) ≡ Ok more → ((x : X) → (with x).columns ≡ before.columns) → more.columns ≡ before.columns
+columns_kept before more found with is same =
+    let x = bind_ok found (λ x. Ok (with x)) more is in
+    ap (λ (f : Facts). f.columns) (sym (ok_same x.2)) ∙ same x.0
+  where
+    ok_same : {a b : Facts} → ◌≡◌ {A = Result Facts Fault} (Ok a) (Ok b) → a ≡ b
+    ok_same is = cc
+
+-- what a certificate states is of its columns
+pub stated_columns : (columns : List Column) (certificate : CertificateShape) (facts : Facts) → facts_stated columns certificate ≡ Ok facts → facts.columns ≡ columns
+stated_columns columns certificate facts is =
+    let nodes = bind_ok (with_lines with_node_line (no_facts columns) certificate.nodes) _ facts is in
+    let chains = bind_ok (with_lines with_chain_line nodes.0 certificate.chains) _ facts nodes.2 in
+    let P : Facts → Type 0 = λ facts. facts.columns ≡ columns in
+    all_hold P with_row_line chains.0 facts certificate.rows (λ before more line right is. columns_kept before more _ _ (on_line_ok line.line _ more is) (λ x. refl) ∙ right)
+    (all_hold P with_chain_line nodes.0 chains.0 certificate.chains (λ before more line right is. columns_kept before more _ _ (on_line_ok line.line _ more is) (λ x. refl) ∙ right)
+    (all_hold P with_node_line (no_facts columns) nodes.0 certificate.nodes (λ before more line right is. columns_kept before more _ _ (on_line_ok line.line _ more is) (λ x. refl) ∙ right)
+    refl nodes.1) chains.1) chains.2
+
+-- and true
+pub stated_true : (columns : List Column) (certificate : CertificateShape) (facts : Facts) → AreTrue (no_facts columns) →
+    ((facts more : Facts) (n : ℕ) (node : Node) → AreTrue facts → with_node facts n node ≡ Ok more → AreTrue more) →
+    ((facts more : Facts) (n : ℕ) (named : Option Chain) → AreTrue facts → with_chain facts n named ≡ Ok more → AreTrue more) →
+    ((facts more : Facts) (n : ℕ) (row : Product) (reason : Reason) → AreTrue facts → with_row facts n row reason ≡ Ok more → AreTrue more) →
+    facts_stated columns certificate ≡ Ok facts → AreTrue facts
+stated_true columns certificate facts start node chain row is =
+    let nodes = bind_ok (with_lines with_node_line (no_facts columns) certificate.nodes) _ facts is in
+    let chains = bind_ok (with_lines with_chain_line nodes.0 certificate.chains) _ facts nodes.2 in
+    all_hold AreTrue with_row_line chains.0 facts certificate.rows (λ before more line right is. row before more line.n _ line.reason right (on_line_ok line.line _ more is))
+    (all_hold AreTrue with_chain_line nodes.0 chains.0 certificate.chains (λ before more line right is. chain before more line.n _ right (on_line_ok line.line _ more is))
+    (all_hold AreTrue with_node_line (no_facts columns) nodes.0 certificate.nodes (λ before more line right is. node before more line.n _ right (on_line_ok line.line _ more is))
+    start nodes.1) chains.1) chains.2
+
+-- an instruction whose line is right names what the columns have
+pub behind_fits : (facts : Facts) (known past : Known) (line : ℕ) (i : Instr) (given : InstructionEntry) → behind facts known line i given ≡ Ok past → instr_fits facts.columns i ≡ true
+unfolding behind
+behind_fits facts known past line (instr.Load r column bit) given is =
+    let node = bind_ok (plane_on facts line (instr_fits facts.columns (instr.Load r column bit)) (bit_variable facts.columns column bit) given) _ past is in
+    let named = bind_ok (found_on 607 line (loaded_node given)) _ node.0 node.1 in
+    negated _ (not_refused (not (instr_fits facts.columns (instr.Load r column bit))) _ _ node.0 named.2).0
+behind_fits facts known past line (instr.Nulls r column) given is =
+    let node = bind_ok (plane_on facts line (instr_fits facts.columns (instr.Nulls r column)) (first_variable facts.columns column) given) _ past is in
+    let named = bind_ok (found_on 607 line (loaded_node given)) _ node.0 node.1 in
+    negated _ (not_refused (not (instr_fits facts.columns (instr.Nulls r column))) _ _ node.0 named.2).0
+behind_fits facts known past line (instr.Fill r bit) given is = refl
+behind_fits facts known past line (instr.And r x y) given is = refl
+behind_fits facts known past line (instr.Or r x y) given is = refl
+behind_fits facts known past line (instr.Xor r x y) given is = refl
+behind_fits facts known past line (instr.Not r x) given is = refl
+behind_fits facts known past line (instr.ByteLt r column slice k) given is =
+    let node = bind_ok (byte_on facts line Less (instr_fits facts.columns (instr.ByteLt r column slice k)) column slice k given) _ past is in
+    let named = bind_ok (found_on 607 line (byte_chain given)) _ node.0 node.1 in
+    negated _ (not_refused (not (instr_fits facts.columns (instr.ByteLt r column slice k))) _ _ node.0 named.2).0
+behind_fits facts known past line (instr.ByteEq r column slice k) given is =
+    let node = bind_ok (byte_on facts line Equal (instr_fits facts.columns (instr.ByteEq r column slice k)) column slice k given) _ past is in
+    let named = bind_ok (found_on 607 line (byte_chain given)) _ node.0 node.1 in
+    negated _ (not_refused (not (instr_fits facts.columns (instr.ByteEq r column slice k))) _ _ node.0 named.2).0
+behind_fits facts known past line (instr.Skip x target) given is = refl
+
+-- what is so of each item of a list
+pub all_so : {A : Type 0} (p : A → Bool) (xs : List A) → ((k : ℕ) (x : A) → slice_get xs k ≡ Some x → p x ≡ true) → list_all p xs ≡ true
+all_so p [] each = refl
+all_so p (x ∷ xs) each = ap₂ (λ a b. a && b) (each 0 x refl) (all_so p xs (λ k y there. each (suc k) y there))
+
+pub part_there : {A B : Type 0} (xs : List A) (ys : List B) (k : ℕ) (x : A) → length ys ≡ length xs → slice_get xs k ≡ Some x → (y : B) × (slice_get ys k ≡ Some y)
+part_there [] ys k x long is = cc
+part_there (a ∷ xs) [] k x long is = cc
+part_there (a ∷ xs) (b ∷ ys) zero x long is = (b, refl)
+part_there (a ∷ xs) (b ∷ ys) (suc k) x long is = part_there xs ys k x (omega (arith, long)) is
+
+-- functions that agree give the same list
+pub map_same : {A B : Type 0} (f g : A → B) (xs : List A) → ((x : A) → f x ≡ g x) → map f xs ≡ map g xs
+map_same f g [] same = refl
+map_same {B = B} f g (x ∷ xs) same = ap₂ (λ (y : B) (ys : List B). y ∷ ys) (same x) (map_same f g xs same)
+
+-- of two nodes whose XOR is the node 0 by a row, the values are the same
+pub same_worth : (facts : Facts) (a b row : ℕ) → AreWorth facts → is_zero (cited facts Xor a b row) ≡ true → (assignment : Assignment) → node_value facts.nodes assignment a ≡ node_value facts.nodes assignment b
+same_worth facts a b row worth is assignment =
+    xor_zero _ _ (sym ((worth.row Xor a b row 0 (zero_is _ is)).1 assignment) ∙ worth.zero assignment)
+  where
+    zero_is : (found : Option ℕ) → is_zero found ≡ true → found ≡ Some 0
+    zero_is None is = cc
+    zero_is (Some n) is = ap Some (eqb-true n 0 is)
+
+    xor_zero : (a b : Bool) → joined Xor a b ≡ false → a ≡ b
+    xor_zero true true is = refl
+    xor_zero false false is = refl
+    xor_zero true false is = cc
+    xor_zero false true is = cc

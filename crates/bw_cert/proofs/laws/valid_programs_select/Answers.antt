@@ -1,0 +1,33 @@
+-- Where a certificate is valid, the program fits, and selects what the condition does.
+use Rattle.std.proofs.Common.{◌≡◌, ◌∙◌, sym, ap, subst, true, List}
+use Rattle.bw_model.specs.declared.column.Column.{Column}
+use Rattle.bw_model.specs.declared.cond.Truth.TheVariants.{Yes}
+use Rattle.bw_model.specs.Cond.{truth_of}
+use Rattle.bw_model.specs.Truth.{is_truth}
+use Rattle.bw_model.specs.Variable.{row_of}
+use Rattle.bw_diagram.specs.Node.{node_value}
+use Rattle.bw_program.specs.Machine.{end_state}
+use Rattle.bw_program.specs.Program.{instr_fits, fits}
+use Rattle.bw_cert.proofs.ValidLemmas.{stated_columns, stated_true, behind_fits, all_so, part_there, map_same, same_worth}
+use Rattle.bw_cert.proofs.laws.valid_programs_select.Goals as goal
+
+pub returns-clause-fits : goal.returns-clause-fits
+unfolding fits
+returns-clause-fits c = λ columns cond program certificate valid.
+    let right : valid.facts.columns ≡ columns = stated_columns columns certificate valid.facts valid.stated in
+    all_so (instr_fits columns) program.instrs (λ k i there.
+    let part = part_there program.instrs valid.parts k i valid.obeys.counted there in
+    subst (λ columns. instr_fits columns i ≡ true) right (behind_fits valid.facts _ _ part.0.line i part.0.entry (valid.obeys.instruction k i part.0 there part.1)))
+
+pub returns-clause-selects : goal.returns-clause-selects
+returns-clause-selects c = λ columns cond program certificate named sound valid lanes.
+    let law = c.accepted_lines_are_true.ensures in
+    let right : valid.facts.columns ≡ columns = stated_columns columns certificate valid.facts valid.stated in
+    let are_true = stated_true columns certificate valid.facts (law.start columns) law.node law.chain law.row valid.stated in
+    let worth = c.cited_nodes_are_worth.ensures valid.facts are_true in
+    let holds = c.skip_soundness.ensures.end valid.facts program valid.parts are_true sound valid.obeys lanes in
+    let tells = c.pairs_tell_truths.ensures columns valid.facts certificate.end.line cond certificate.body valid.rest valid.pair right are_true named valid.paired in
+    ap (λ (columns : List Column). (end_state columns lanes program).registers program.result) (sym right)
+    ∙ holds program.result valid.node valid.known
+    ∙ map_same (λ assignment. node_value valid.facts.nodes assignment valid.node) (λ assignment. is_truth (truth_of (row_of columns assignment) cond) Yes) lanes
+    (λ assignment. same_worth valid.facts valid.node valid.pair.yes certificate.end.row worth valid.ended assignment ∙ tells.yes assignment)

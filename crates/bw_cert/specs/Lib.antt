@@ -1,0 +1,3 @@
+pub mod Selects
+pub mod Stated
+pub mod Valid

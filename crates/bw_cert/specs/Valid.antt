@@ -1,0 +1,68 @@
+-- When a certificate shows that a scan program selects what a condition does, and which line is the first that breaks a rule.
+use Rattle.std.specs.Prelude.{◌≡◌, ℕ, List, [], ◌∷◌, length, false, Some, Result, Ok, Err, not, IsTrue}
+use Rattle.bw_model.specs.declared.column.Column.{Column}
+use Rattle.bw_model.specs.declared.cond.Cond.{Cond}
+use Rattle.bw_model.specs.declared.fault.Fault.{Fault}
+use Rattle.bw_model.specs.Fault.{at_line, is_memory, ◌>>=◌, refused_if}
+use Rattle.bw_diagram.specs.declared.product.Connective.TheVariants.{Xor}
+use Rattle.bw_diagram.specs.Cited.{cited}
+use Rattle.bw_diagram.specs.Facts.{Facts}
+use Rattle.bw_program.specs.Program.{ProgramShape}
+use Rattle.bw_program.specs.ProgramText.{found_on}
+use Rattle.bw_cert_text.specs.declared.lines.BodyLine.{BodyLine}
+use Rattle.bw_cert_text.specs.CertificateShape.{CertificateShape}
+use Rattle.bw_pair.specs.declared.nodes.Pair.{Pair}
+use Rattle.bw_pair.specs.Pair.{pair_of}
+use Rattle.bw_known.specs.Accepted.{Part, Obeys, before, lines_of}
+use Rattle.bw_known.specs.Join.{is_zero}
+use Rattle.bw_known.specs.Known.{Known, node_of}
+use Rattle.bw_known.specs.Walk.{Taken, judged}
+use Rattle.bw_cert.specs.Stated.{facts_stated}
+
+-- A certificate is valid for a condition and a program under columns.
+pub record Valid (columns : List Column) (cond : Cond) (program : ProgramShape) (certificate : CertificateShape) : Type 0 where
+  -- the NODE, CHAIN and ROW lines obey their rules, and state these nodes, chains and product rows
+  pub facts : Facts
+  pub stated : facts_stated columns certificate ≡ Ok facts
+  -- the lines of the condition's steps obey theirs, and make this pair: where it is TRUE, and where it is FALSE
+  pub pair : Pair
+  pub rest : List BodyLine
+  pub paired : pair_of columns facts certificate.end.line cond certificate.body ≡ Ok (pair, rest)
+  -- the others are the lines of the program's instructions and joins, which obey theirs, and nothing is left over
+  pub parts : List Part
+  pub obeys : Obeys facts program.instrs parts
+  pub spelled : rest ≡ lines_of 0 parts
+  -- at the end the result register has a node, and END cites a product row that says that its XOR with the first node
+  -- of the pair is 0
+  pub node : ℕ
+  pub known : node_of (before facts program.instrs parts (length program.instrs)) program.result ≡ Some node
+  pub ended : IsTrue (is_zero (cited facts Xor node pair.yes certificate.end.row))
+
+-- END: behind the last line of the program (610 at a line that is left over), the result register has a node (609), whose
+-- XOR with the condition's is 0 by the row (610)
+abbrev pub result_on : Facts → ℕ → Known → ℕ → ℕ → ℕ → Result Facts Fault
+result_on facts end known result first row =
+    found_on 609 end (node_of known result) >>= λ node.
+    refused_if (not (is_zero (cited facts Xor node first row))) (at_line 610 end) (Ok facts)
+
+abbrev pub last_on : Facts → ℕ → List BodyLine → Known → ℕ → ℕ → ℕ → Result Facts Fault
+last_on facts end [] known result first row = result_on facts end known result first row
+last_on facts end (line ∷ lines) known result first row = Err (at_line 610 line.line)
+
+abbrev pub end_on : Facts → ℕ → Taken → ℕ → ℕ → ℕ → Result Facts Fault
+end_on facts end taken result first row = last_on facts end taken.rest taken.known result first row
+
+-- What a certificate states, if it is valid, or the first line that breaks a rule: the sections one after another, and the
+-- lines of each in their order.
+abbrev pub checked : List Column → Cond → ProgramShape → CertificateShape → Result Facts Fault
+checked columns cond program certificate =
+    facts_stated columns certificate >>= λ facts.
+    pair_of columns facts certificate.end.line cond certificate.body >>= λ read.
+    judged facts program.instrs certificate.end.line read.1 >>= λ taken.
+    end_on facts certificate.end.line taken program.result read.0.yes certificate.end.row
+
+-- What the checker answers, where this is expected: yes with what is certified, or the program back with the fault, want of
+-- memory aside.
+abbrev pub Checks : {C P : Type 0} → Result C (P × Fault) → Result Facts Fault → Type 0
+Checks (Ok certified) expected = (facts : Facts) × (expected ≡ Ok facts)
+Checks (Err refused) expected = is_memory refused.1 ≡ false → expected ≡ Err refused.1

@@ -1,0 +1,98 @@
+//! The checker.
+ghost use Rattle.std.specs.Prelude.{◌≡◌, ◌<◌, false, IfOk, IfErr, OnOk, IsTrue, Ok, Err, length};
+ghost use Rattle.bw_model.specs.Cond.{names_within};
+ghost use Rattle.bw_model.specs.CondTree.{tree_of};
+ghost use Rattle.bw_model.specs.Fault.{is_memory};
+ghost use Rattle.bw_diagram.specs.Facts.{Facts};
+ghost use Rattle.bw_cert.specs.Valid.{Valid, Checks, checked, end_on};
+
+use crate::certified::Certified;
+use crate::laws::{valid_exactly_where_checked, valid_programs_select};
+use crate::stated::diagram_of;
+use bw_cert_text::{BodyLine, Certificate, EndLine};
+use bw_diagram::{Connective, Diagram};
+use bw_known::{AtEnd, known_at_end};
+use bw_model::{Cond, Fault, Schema, code};
+use bw_pair::pair;
+use bw_program::Program;
+use std::alloc::Global;
+
+/// Checks a certificate for a program and a condition, whose columns are the schema's.
+///
+/// Refused is the first line that breaks a rule: a NODE, CHAIN or ROW line that breaks its own (601 to 604); a line that isn't
+/// the condition's next, or doesn't show what its step makes (606); one that isn't the program's next, or doesn't show what
+/// its instruction gives (607), or reads a register that isn't known (609); a join that doesn't hold (608); at END, a line that
+/// is left over, a result register that isn't known (609), or another node than the condition's (610). The program comes back.
+pub fn check(
+    alloc: Global,
+    schema: &Schema,
+    condition: &Cond,
+    program: Program,
+    certificate: &Certificate,
+) -> Result<Certified, (Program, Fault)>
+    requires { IsTrue (names_within (length schema.now.columns.items) condition.now) }
+    ensures checked { Checks result (checked schema.now.columns.items condition.now program certificate.now) }
+    ensures valid { IfOk result (λ certified. Valid schema.now.columns.items condition.now program certificate.now) }
+    ensures schema { IfOk result (λ certified. (certified.schema.name ≡ schema.now.name) × (certified.schema.columns.items ≡ schema.now.columns.items)) }
+    ensures condition { IfOk result (λ certified. tree_of certified.condition ≡ tree_of condition.now) }
+    ensures program { IfOk result (λ certified. certified.program ≡ program) }
+    ensures handed_back { IfErr result (λ refused. refused.0 ≡ program) }
+{
+    if let Err(fault) = judge(alloc, schema, condition, &program, certificate) {
+        return Err((program, fault));
+    }
+    valid_exactly_where_checked();
+    valid_programs_select();
+    program.is_valid();
+    Certified::new(alloc, schema, condition, program)
+}
+
+/// Judges the lines of a certificate, section by section.
+fn judge(
+    alloc: Global,
+    schema: &Schema,
+    condition: &Cond,
+    program: &Program,
+    certificate: &Certificate,
+) -> Result<(), Fault>
+    requires { IsTrue (names_within (length schema.now.columns.items) condition.now) }
+    ensures right { OnOk result ((facts : Facts) × (checked schema.now.columns.items condition.now program.now certificate.now ≡ Ok facts)) }
+    ensures fault { IfErr result (λ fault. is_memory fault ≡ false
+        → checked schema.now.columns.items condition.now program.now certificate.now ≡ Err fault) }
+{
+    let diagram = diagram_of(alloc, schema, certificate)?;
+    let end = certificate.end();
+    let (nodes, rest) = pair(schema, &diagram, condition, certificate.body(), end.line)?;
+    let at_end = known_at_end(alloc, schema, &diagram, program, rest, end.line)?;
+    check_end(
+        &diagram,
+        &at_end,
+        program.result(),
+        u64::from(nodes.yes),
+        end,
+    )
+}
+
+/// Judges the end: nothing is left over, and the result register's node is the condition's.
+fn check_end(
+    diagram: &Diagram<'_>,
+    at_end: &AtEnd<'_>,
+    answer: u8,
+    first: u64,
+    end: EndLine,
+) -> Result<(), Fault>
+    requires { answer < 64 }
+    ensures right { OnOk result (end_on diagram.now end.line (record { known = at_end.now.known; rest = at_end.now.rest.now }) answer first end.row ≡ Ok diagram.now) }
+    ensures fault { IfErr result (λ fault. end_on diagram.now end.line (record { known = at_end.now.known; rest = at_end.now.rest.now }) answer first end.row ≡ Err fault) }
+{
+    if let Some(line) = at_end.rest.first() {
+        return Err(Fault::at_line(code::END, line.line));
+    }
+    let Some(node) = at_end.known[answer as usize] else {
+        return Err(Fault::at_line(code::REGISTER_UNKNOWN, end.line));
+    };
+    match diagram.cited(Connective::Xor, node, first, end.row) {
+        Some(0) => Ok(()),
+        _ => Err(Fault::at_line(code::END, end.line)),
+    }
+}

@@ -1,0 +1,125 @@
+//! What the NODE, CHAIN and ROW lines of a certificate state.
+ghost use Rattle.std.specs.Prelude.{◌≡◌, List, true, false};
+ghost use Rattle.bw_model.specs.declared.column.Column.{Column};
+ghost use Rattle.bw_model.specs.Fault.{Gives, is_memory, at_line, no_memory};
+ghost use Rattle.bw_diagram.specs.Chain.{chain_named};
+ghost use Rattle.bw_cert.specs.Stated.{chain_of, facts_stated, with_lines, with_node_line, with_chain_line, with_row_line};
+
+use bw_cert_text::{Certificate, ChainColumns, ChainLine, NodeLine, RowLine};
+use bw_diagram::Diagram;
+use bw_model::{Fault, Place, Schema, code};
+use std::alloc::Global;
+
+/// The nodes, chains and product rows that a certificate's lines state under a schema. Refused is the first line that
+/// breaks its rule, or that there is no room for (601 to 604).
+pub(crate) fn diagram_of<'a>(
+    alloc: Global,
+    schema: &'a Schema,
+    certificate: &Certificate,
+) -> Result<Diagram<'a>, Fault>
+    ensures { Gives (λ diagram. diagram) result (facts_stated schema.now.columns.items certificate.now) }
+{
+    let mut diagram = Diagram::new(alloc, schema);
+    add_nodes(&mut diagram, certificate.node_lines())?;
+    add_chains(&mut diagram, certificate.chain_lines())?;
+    add_rows(&mut diagram, certificate.row_lines())?;
+    Ok(diagram)
+}
+
+/// Adds the nodes of some lines.
+fn add_nodes(diagram: &mut Diagram<'_>, lines: &[NodeLine]) -> Result<(), Fault>
+    ensures { Gives (λ _. diagram.new) result (with_lines with_node_line diagram.old lines.now) }
+{
+    for line in lines {
+        match diagram.add_node(line.n, line.v, line.low, line.high) {
+            Ok(()) => {}
+            Err(fault) => return Err(placed(fault, line.line)),
+        }
+    }
+    Ok(())
+}
+
+/// Adds the chains of some lines.
+fn add_chains(diagram: &mut Diagram<'_>, lines: &[ChainLine]) -> Result<(), Fault>
+    ensures { Gives (λ _. diagram.new) result (with_lines with_chain_line diagram.old lines.now) }
+{
+    for line in lines {
+        add_chain(diagram, line)?;
+    }
+    Ok(())
+}
+
+/// Adds the chain of a line.
+fn add_chain(diagram: &mut Diagram<'_>, line: &ChainLine) -> Result<(), Fault>
+    ensures { Gives (λ _. diagram.new) result (with_chain_line diagram.old line.now) }
+{
+    match diagram.add_chain(line.n, fields_of(&line.columns)) {
+        Ok(()) => Ok(()),
+        Err(fault) => Err(placed(fault, line.line)),
+    }
+}
+
+/// Adds the product rows of some lines.
+fn add_rows(diagram: &mut Diagram<'_>, lines: &[RowLine]) -> Result<(), Fault>
+    ensures { Gives (λ _. diagram.new) result (with_lines with_row_line diagram.old lines.now) }
+{
+    for line in lines {
+        match diagram.add_row(line.n, line.op, line.a, line.b, line.c, line.reason) {
+            Ok(()) => {}
+            Err(fault) => return Err(placed(fault, line.line)),
+        }
+    }
+    Ok(())
+}
+
+/// The fields of a chain's line, as a diagram takes them.
+fn fields_of(columns: &ChainColumns) -> bw_diagram::ChainLine<'_>
+    ensures { (named : List Column) → chain_named named result ≡ chain_of named columns.now }
+{
+    match columns {
+        ChainColumns::One {
+            kind,
+            column,
+            start,
+            len,
+            bound,
+            node,
+            prev,
+        } => bw_diagram::ChainLine::OneColumn {
+            kind: *kind,
+            column: column.as_slice(),
+            start: *start,
+            len: *len,
+            bound: *bound,
+            node: *node,
+            prev: *prev,
+        },
+        ChainColumns::Two {
+            kind,
+            left,
+            right,
+            len,
+            node,
+            prev,
+        } => bw_diagram::ChainLine::TwoColumns {
+            kind: *kind,
+            left: left.as_slice(),
+            right: right.as_slice(),
+            len: *len,
+            node: *node,
+            prev: *prev,
+        },
+    }
+}
+
+/// A fault of a line that stood nowhere. Want of memory stays so.
+fn placed(fault: Fault, line: u64) -> Fault
+    ensures memory { is_memory fault ≡ true → result ≡ fault }
+    ensures line { is_memory fault ≡ false → result ≡ at_line fault.code line }
+{
+    if fault.code == code::OUT_OF_MEMORY && fault.place == Place::Nowhere {
+        fault
+    } else {
+        Fault::at_line(fault.code, line)
+    }
+}

@@ -1,0 +1,401 @@
+-- The canonical text of a certificate spells it, with its lines numbered one after another.
+use Rattle.std.proofs.Common.{◌≡◌, ◌∙◌, refl, sym, ap, subst, ℕ, zero, suc, ◌+◌, ◌^◌, ◌<◌, ◌≤◌, Bool, true, false, not, ◌&&◌, cond, List, [], ◌∷◌, ◌++◌, length, map, Option, Some, None, nat_le, nat_lt, append_assoc, arith}
+use Rattle.std.specs.Char.{to_ascii_lowercase, is_ascii_digit}
+use Rattle.std.specs.Fmt.{decimal}
+use Rattle.std.specs.List.{list_all, position_or_len}
+use Rattle.std.proofs.lemmas.Bool.{ltb-true, lt-ltb, leb-true}
+use Rattle.std.proofs.lemmas.Bool.Decides.{nat_tests}
+use Rattle.std.proofs.lemmas.List.{append-nil}
+use Rattle.std.proofs.lemmas.Slice.Eq.{bytes_eq-Decides}
+use Rattle.bw_diagram.specs.declared.chain.ChainKind.TheVariants as compared
+use Rattle.bw_diagram.specs.declared.product.Connective.{Connective}
+use Rattle.bw_diagram.specs.declared.product.Connective.TheVariants as op
+use Rattle.bw_diagram.specs.declared.product.Reason.{Reason}
+use Rattle.bw_diagram.specs.declared.product.Reason.TheVariants.{Shortcut, Cofactors}
+use Rattle.bw_model.specs.declared.column.Column as stored
+use Rattle.bw_model.specs.Column.{names_of, column_named}
+use Rattle.bw_model.specs.Keyword.{is_reserved}
+use Rattle.bw_model.specs.Limits.{longest_name}
+use Rattle.bw_model.specs.Lines.{NumberedWords, begins_comment, cut_lines, numbered, numbered_from}
+use Rattle.bw_model.specs.Name.{is_name}
+use Rattle.bw_model.specs.Text.{same_text, is_word, begins_word, goes_on_in_word}
+use Rattle.bw_cert_text.specs.declared.lines.NodeLine.{NodeLine}
+use Rattle.bw_cert_text.specs.declared.lines.RowLine.{RowLine}
+use Rattle.bw_cert_text.specs.declared.lines.EndLine.{EndLine}
+use Rattle.bw_cert_text.specs.declared.lines.EdgeRows.{EdgeRows}
+use Rattle.bw_cert_text.specs.declared.lines.ConditionEntry.{ConditionEntry}
+use Rattle.bw_cert_text.specs.declared.lines.ConditionEntry.TheVariants.{Compare, CompareColumns, Fixed, NullTest, And, Or, Not, Is, IsUnknown}
+use Rattle.bw_cert_text.specs.declared.lines.InstructionEntry.{InstructionEntry}
+use Rattle.bw_cert_text.specs.declared.lines.InstructionEntry.TheVariants.{Load, Fill, Op, Byte, Skip}
+use Rattle.bw_cert_text.specs.CertificateFields.{ColumnFields, One, Two, ChainFields, EntryFields, Condition, Instruction, Join, Kept, BodyFields, CertificateFields}
+use Rattle.bw_cert_text.specs.CertificateText.{section_of, with_part, end_alone, SpellsFrom, before_end, at_end, IsCertificateText}
+use Rattle.bw_cert_text.specs.LineText.{Part, Node, Chain, Row, Body}
+use Rattle.bw_cert_text.specs.PrintText.{token_text, line_text, lines_text, body_tokens, schema_spelling, spelling_at, respelled_columns, respelled_chain, respelled, certificate_text, print_text}
+use Rattle.bw_cert_text.specs.Reprint.{node_at, chain_at, row_at, body_at, numbered_on, renumbered, is_small, is_found, is_named, numbers_fit, has_columns}
+use Rattle.bw_cert_text.specs.Token.{Token, Key, Number, Perhaps, Column, Register, IsSpelled, AreSpelled, none, next, node_tokens, column_tokens, chain_tokens, reason_tokens, row_tokens, condition_tokens, instruction_tokens, edge_tokens, entry_tokens, end_tokens, part_tokens, part_line}
+use Rattle.bw_cert_text.specs.Word.{connective_spelling}
+use Rattle.bw_cert_text.proofs.PrintedLines.{both, is_plain, is_plain_word, line_said}
+use Rattle.bw_cert_text.proofs.PrintedNumbers.{Spells, decimal_spells, natural_of-decimal, register_of-text}
+
+same_as_itself : (text : List ℕ) → same_text text text ≡ true
+unfolding same_text
+same_as_itself text = (bytes_eq-Decides (map to_ascii_lowercase text) (map to_ascii_lowercase text)).1 refl
+
+-- digits and names are plain words
+plain_digits : (digits : List ℕ) → list_all is_ascii_digit digits ≡ true → list_all is_plain digits ≡ true
+plain_digits [] h = refl
+plain_digits (d ∷ digits) h =
+    let here = both (is_ascii_digit d) (list_all is_ascii_digit digits) h in
+    let low = both (nat_le 48 d) (nat_le d 57) here.0 in
+    let above : 48 ≤ d = leb-true 48 d low.0 in
+    rw (lt-ltb 32 d (omega arith)) (plain_digits digits here.1)
+
+plain_number : (n : ℕ) → n < 2 ^ 64 → is_plain_word (decimal n) ≡ true
+plain_number n lt = go (decimal n) (decimal_spells n lt)
+  where
+    go : (digits : List ℕ) → Spells n digits → is_plain_word digits ≡ true
+    go [] spells = absurd (omega (arith, spells.some))
+    go (d ∷ digits) spells = plain_digits (d ∷ digits) spells.all
+
+above_blanks : (c : ℕ) → goes_on_in_word c ≡ true → is_plain c ≡ true
+above_blanks c h = let lt : 32 < c = grind (arith, nat_tests) in lt-ltb 32 c lt
+
+begins_above : (c : ℕ) → begins_word c ≡ true → is_plain c ≡ true
+begins_above c h = let lt : 32 < c = grind (arith, nat_tests) in lt-ltb 32 c lt
+
+plain_rest : (text : List ℕ) → list_all goes_on_in_word text ≡ true → list_all is_plain text ≡ true
+plain_rest [] h = refl
+plain_rest (c ∷ text) h =
+    let here = both (goes_on_in_word c) (list_all goes_on_in_word text) h in
+    rw (above_blanks c here.0) (plain_rest text here.1)
+
+plain_name : (text : List ℕ) → is_name text ≡ true → is_plain_word text ≡ true
+unfolding is_name
+plain_name text h =
+    let named = both (is_word text && nat_le (length text) longest_name) (not (is_reserved text)) h in
+    go text (both (is_word text) (nat_le (length text) longest_name) named.0).0
+  where
+    go : (text : List ℕ) → is_word text ≡ true → is_plain_word text ≡ true
+    go [] word = absurd (cc word)
+    go (c ∷ text) word =
+        let here = both (begins_word c) (list_all goes_on_in_word text) word in
+        rw (begins_above c here.0) (plain_rest text here.1)
+
+plain_column : (columns : List stored.Column) (word : List ℕ) (c : ℕ) → list_all is_name (names_of columns) ≡ true → c < length columns → is_plain_word (spelling_at columns word (Some c)) ≡ true
+plain_column [] word c names lt = absurd (omega arith)
+plain_column (column ∷ columns) word zero names lt = plain_name column.name (both (is_name column.name) (list_all is_name (names_of columns)) names).0
+plain_column (column ∷ columns) word (suc c) names lt = plain_column columns word c (both (is_name column.name) (list_all is_name (names_of columns)) names).1 (omega arith)
+
+column_below : (columns : List stored.Column) (word : List ℕ) (n : ℕ) → column_named columns word ≡ Some n → n < length columns
+unfolding column_named
+column_below columns word n e = go (nat_lt (position_or_len test columns) (length columns)) refl e
+  where
+    test : stored.Column → Bool
+    test column = same_text column.name word
+
+    go : (b : Bool) → nat_lt (position_or_len test columns) (length columns) ≡ b → cond b (Some (position_or_len test columns)) None ≡ Some n → n < length columns
+    go true is e = let same : position_or_len test columns ≡ n = cc e in rw (← same) (ltb-true _ _ is)
+    go false is e = absurd (cc e)
+
+plain_spelling : (columns : List stored.Column) (word : List ℕ) → list_all is_name (names_of columns) ≡ true → is_found (column_named columns word) ≡ true → is_plain_word (schema_spelling columns word) ≡ true
+plain_spelling columns word names there = go (column_named columns word) refl there
+  where
+    go : (o : Option ℕ) → column_named columns word ≡ o → is_found o ≡ true → is_plain_word (spelling_at columns word o) ≡ true
+    go None is e = absurd (cc e)
+    go (Some c) is e = plain_column columns word c names (column_below columns word c is)
+
+-- what spells itself in its canonical text
+abbrev is_clear : Token → Bool
+is_clear (Key key) = is_plain_word key
+is_clear (Number n) = nat_lt n (2 ^ 64)
+is_clear (Perhaps None) = true
+is_clear (Perhaps (Some n)) = nat_lt n (2 ^ 64)
+is_clear (Column word) = is_plain_word word
+is_clear (Register r) = nat_lt r 64
+
+token_spelled : (t : Token) → is_clear t ≡ true → IsSpelled t (token_text t)
+token_spelled (Key key) h = same_as_itself key
+token_spelled (Number n) h = natural_of-decimal n (ltb-true n (2 ^ 64) h)
+token_spelled (Perhaps None) h = refl
+token_spelled (Perhaps (Some n)) h = natural_of-decimal n (ltb-true n (2 ^ 64) h)
+token_spelled (Column word) h = refl
+token_spelled (Register r) h = register_of-text r (ltb-true r 64 h)
+
+token_plain : (t : Token) → is_clear t ≡ true → is_plain_word (token_text t) ≡ true
+token_plain (Key key) h = h
+token_plain (Number n) h = plain_number n (ltb-true n (2 ^ 64) h)
+token_plain (Perhaps None) h = refl
+token_plain (Perhaps (Some n)) h = plain_number n (ltb-true n (2 ^ 64) h)
+token_plain (Column word) h = h
+token_plain (Register r) h =
+    let lt : r < 64 = ltb-true r 64 h in
+    plain_digits (decimal r) (decimal_spells r (omega arith)).all
+
+tokens_spelled : (ts : List Token) → list_all is_clear ts ≡ true → AreSpelled ts (map token_text ts)
+tokens_spelled [] h = none
+tokens_spelled (t ∷ ts) h = let here = both (is_clear t) (list_all is_clear ts) h in next (token_spelled t here.0) (tokens_spelled ts here.1)
+
+tokens_plain : (ts : List Token) → list_all is_clear ts ≡ true → list_all is_plain_word (map token_text ts) ≡ true
+tokens_plain [] h = refl
+tokens_plain (t ∷ ts) h = let here = both (is_clear t) (list_all is_clear ts) h in rw (token_plain t here.0) (tokens_plain ts here.1)
+
+-- a line begins with a word of the language that begins no comment
+abbrev begins_line : List Token → Bool
+begins_line [] = false
+begins_line (Key key ∷ ts) = not (begins_comment key)
+begins_line (Number n ∷ ts) = false
+begins_line (Perhaps n ∷ ts) = false
+begins_line (Column word ∷ ts) = false
+begins_line (Register r ∷ ts) = false
+
+not_true : (b : Bool) → not b ≡ true → b ≡ false
+not_true true e = absurd (cc e)
+not_true false e = refl
+
+tokens_said : (number : ℕ) (ts : List Token) (rest : List ℕ) → begins_line ts ≡ true → list_all is_clear ts ≡ true →
+    numbered_from number (cut_lines (line_text ts ++ rest)) ≡ numbered number (map token_text ts) ∷ numbered_from (number + 1) (cut_lines rest)
+tokens_said number [] rest begins h = absurd (cc begins)
+tokens_said number (Key key ∷ ts) rest begins h =
+    let here = both (is_plain_word key) (list_all is_clear ts) h in
+    line_said number (Key key) ts rest here.0 (not_true (begins_comment key) begins) (tokens_plain ts here.1)
+tokens_said number (Number n ∷ ts) rest begins h = absurd (cc begins)
+tokens_said number (Perhaps n ∷ ts) rest begins h = absurd (cc begins)
+tokens_said number (Column word ∷ ts) rest begins h = absurd (cc begins)
+tokens_said number (Register r ∷ ts) rest begins h = absurd (cc begins)
+
+-- so are lines whose numbers fit, with the schema's columns
+row_clear : (a b c : ℕ) (o : Connective) (r : Reason) → list_all is_small (Key (connective_spelling o) ∷ Number a ∷ Number b ∷ Number c ∷ reason_tokens r) ≡ true →
+    list_all is_clear (Key (connective_spelling o) ∷ Number a ∷ Number b ∷ Number c ∷ reason_tokens r) ≡ true
+row_clear a b c op.And Shortcut h = h
+row_clear a b c op.And (Cofactors v i j) h = h
+row_clear a b c op.Or Shortcut h = h
+row_clear a b c op.Or (Cofactors v i j) h = h
+row_clear a b c op.Xor Shortcut h = h
+row_clear a b c op.Xor (Cofactors v i j) h = h
+row_clear a b c op.Diff Shortcut h = h
+row_clear a b c op.Diff (Cofactors v i j) h = h
+
+edges_clear : (edges : List EdgeRows) → list_all is_small (edge_tokens edges) ≡ true → list_all is_clear (edge_tokens edges) ≡ true
+unfolding edge_tokens
+edges_clear [] h = refl
+edges_clear (edge ∷ edges) h =
+    let first = both (nat_lt edge.differs (2 ^ 64)) (nat_lt edge.within (2 ^ 64) && list_all is_small (edge_tokens edges)) h in
+    let second = both (nat_lt edge.within (2 ^ 64)) (list_all is_small (edge_tokens edges)) first.1 in
+    rw (first.0, second.0) (edges_clear edges second.1)
+
+perhaps_clear : (o : Option ℕ) → is_small (Perhaps o) ≡ is_clear (Perhaps o)
+perhaps_clear None = refl
+perhaps_clear (Some n) = refl
+
+condition_clear : (x : ConditionEntry) → list_all is_small (condition_tokens x) ≡ true → list_all is_clear (condition_tokens x) ≡ true
+condition_clear (Compare chain value p q) h = rw (perhaps_clear chain, perhaps_clear value) at h
+condition_clear (CompareColumns chain left right both p q) h = rw (perhaps_clear chain, perhaps_clear left, perhaps_clear right) at h
+condition_clear Fixed h = h
+condition_clear (NullTest i) h = h
+condition_clear (And i j) h = h
+condition_clear (Or i j) h = h
+condition_clear Not h = h
+condition_clear (Is i) h = h
+condition_clear (IsUnknown i j) h = h
+
+instruction_clear : (x : InstructionEntry) → list_all is_small (instruction_tokens x) ≡ true → list_all is_clear (instruction_tokens x) ≡ true
+instruction_clear (Load n) h = h
+instruction_clear Fill h = h
+instruction_clear (Op i) h = h
+instruction_clear (Byte chain) h = rw (perhaps_clear chain) at h
+instruction_clear Skip h = h
+
+entry_clear : (x : EntryFields) → list_all is_small (entry_tokens x) ≡ true → list_all is_clear (entry_tokens x) ≡ true
+entry_clear (Condition x) h = condition_clear x h
+entry_clear (Instruction x) h = instruction_clear x h
+entry_clear (Join target) h = h
+entry_clear (Kept keep) h =
+    let a = both (nat_lt keep.register 64) _ h in
+    let b = both (nat_lt keep.node (2 ^ 64)) _ a.1 in
+    let d = both (nat_lt keep.through (2 ^ 64)) _ b.1 in
+    rw (a.0, b.0, d.0) (edges_clear keep.edges d.1)
+
+entry_begins : (x : EntryFields) → begins_line (entry_tokens x) ≡ true
+entry_begins (Condition (Compare chain value p q)) = refl
+entry_begins (Condition (CompareColumns chain left right both p q)) = refl
+entry_begins (Condition Fixed) = refl
+entry_begins (Condition (NullTest i)) = refl
+entry_begins (Condition (And i j)) = refl
+entry_begins (Condition (Or i j)) = refl
+entry_begins (Condition Not) = refl
+entry_begins (Condition (Is i)) = refl
+entry_begins (Condition (IsUnknown i j)) = refl
+entry_begins (Instruction (Load n)) = refl
+entry_begins (Instruction Fill) = refl
+entry_begins (Instruction (Op i)) = refl
+entry_begins (Instruction (Byte chain)) = refl
+entry_begins (Instruction Skip) = refl
+entry_begins (Join target) = refl
+entry_begins (Kept keep) = refl
+
+and_true : (a b : Bool) → a ≡ true → b ≡ true → (a && b) ≡ true
+and_true a b x y = rw (x, y) refl
+
+module _ (columns : List stored.Column) (names : list_all is_name (names_of columns) ≡ true) where
+  one_clear : (word : List ℕ) (start len bound node : ℕ) (prev : Option ℕ) → list_all is_small (Number start ∷ Number len ∷ Number bound ∷ Number node ∷ Perhaps prev ∷ []) ≡ true →
+      is_found (column_named columns word) ≡ true → list_all is_clear (Column (schema_spelling columns word) ∷ Number start ∷ Number len ∷ Number bound ∷ Number node ∷ Perhaps prev ∷ []) ≡ true
+  one_clear word start len bound node None h there =
+      and_true (is_plain_word (schema_spelling columns word)) (list_all is_clear (Number start ∷ Number len ∷ Number bound ∷ Number node ∷ Perhaps None ∷ [])) (plain_spelling columns word names there) h
+  one_clear word start len bound node (Some prev) h there =
+      and_true (is_plain_word (schema_spelling columns word)) (list_all is_clear (Number start ∷ Number len ∷ Number bound ∷ Number node ∷ Perhaps (Some prev) ∷ [])) (plain_spelling columns word names there) h
+
+  two_clear : (left right : List ℕ) (len node : ℕ) (prev : Option ℕ) → list_all is_small (Number len ∷ Number node ∷ Perhaps prev ∷ []) ≡ true →
+      is_found (column_named columns left) ≡ true → is_found (column_named columns right) ≡ true →
+      list_all is_clear (Column (schema_spelling columns left) ∷ Column (schema_spelling columns right) ∷ Number len ∷ Number node ∷ Perhaps prev ∷ []) ≡ true
+  two_clear left right len node prev h there too =
+      and_true (is_plain_word (schema_spelling columns left)) (list_all is_clear (Column (schema_spelling columns right) ∷ Number len ∷ Number node ∷ Perhaps prev ∷ [])) (plain_spelling columns left names there)
+      (and_true (is_plain_word (schema_spelling columns right)) (list_all is_clear (Number len ∷ Number node ∷ Perhaps prev ∷ [])) (plain_spelling columns right names too) (go prev h))
+    where
+      go : (prev : Option ℕ) → list_all is_small (Number len ∷ Number node ∷ Perhaps prev ∷ []) ≡ true → list_all is_clear (Number len ∷ Number node ∷ Perhaps prev ∷ []) ≡ true
+      go None h = h
+      go (Some n) h = h
+
+  columns_clear : (x : ColumnFields) → list_all is_small (column_tokens x) ≡ true → list_all (is_named columns) (column_tokens x) ≡ true → list_all is_clear (column_tokens (respelled_columns columns x)) ≡ true
+  columns_clear (One compared.Less word start len bound node prev) h g = one_clear word start len bound node prev h (both (is_found (column_named columns word)) true g).0
+  columns_clear (One compared.Equal word start len bound node prev) h g = one_clear word start len bound node prev h (both (is_found (column_named columns word)) true g).0
+  columns_clear (Two compared.Less left right len node prev) h g =
+      let first = both (is_found (column_named columns left)) (is_found (column_named columns right) && true) g in
+      two_clear left right len node prev h first.0 (both (is_found (column_named columns right)) true first.1).0
+  columns_clear (Two compared.Equal left right len node prev) h g =
+      let first = both (is_found (column_named columns left)) (is_found (column_named columns right) && true) g in
+      two_clear left right len node prev h first.0 (both (is_found (column_named columns right)) true first.1).0
+
+  chain_clear : (x : ChainFields) → list_all is_small (chain_tokens x) ≡ true → list_all (is_named columns) (chain_tokens x) ≡ true → list_all is_clear (chain_tokens (respelled_chain columns x)) ≡ true
+  chain_clear x h g =
+      let first = both (nat_lt x.n (2 ^ 64)) (list_all is_small (column_tokens x.columns)) h in
+      rw first.0 (columns_clear x.columns first.1 g)
+
+  -- all lines of a section
+  chains_clear : (xs : List ChainFields) → list_all (λ x. list_all is_small (chain_tokens x)) xs ≡ true → list_all (λ x. list_all (is_named columns) (chain_tokens x)) xs ≡ true →
+      list_all (λ x. list_all is_clear (chain_tokens x)) (map (respelled_chain columns) xs) ≡ true
+  chains_clear [] h g = refl
+  chains_clear (x ∷ xs) h g =
+      let small = both (list_all is_small (chain_tokens x)) (list_all (λ x. list_all is_small (chain_tokens x)) xs) h in
+      let there = both (list_all (is_named columns) (chain_tokens x)) (list_all (λ x. list_all (is_named columns) (chain_tokens x)) xs) g in
+      and_true (list_all is_clear (chain_tokens (respelled_chain columns x))) (list_all (λ x. list_all is_clear (chain_tokens x)) (map (respelled_chain columns) xs))
+      (chain_clear x small.0 there.0) (chains_clear xs small.1 there.1)
+
+all_clear : {A : Type 0} (tokens : A → List Token) → ((x : A) → list_all is_small (tokens x) ≡ true → list_all is_clear (tokens x) ≡ true) → (xs : List A) →
+    list_all (λ x. list_all is_small (tokens x)) xs ≡ true → list_all (λ x. list_all is_clear (tokens x)) xs ≡ true
+all_clear tokens clear [] h = refl
+all_clear tokens clear (x ∷ xs) h =
+    let here = both (list_all is_small (tokens x)) (list_all (λ x. list_all is_small (tokens x)) xs) h in
+    and_true (list_all is_clear (tokens x)) (list_all (λ x. list_all is_clear (tokens x)) xs) (clear x here.0) (all_clear tokens clear xs here.1)
+
+-- a section's lines, in front of a certificate that stands behind them
+from_lower : (s t : ℕ) (lines : List NumberedWords) (c : CertificateFields) → t ≤ s → SpellsFrom s lines c → SpellsFrom t lines c
+from_lower s t _ _ le (before_end part h says rest) = before_end part (omega (arith, le, h)) says rest
+from_lower s t _ _ le (at_end end says) = at_end end says
+
+unfoldable behind_section : {A : Type 0} → (A → Part) → (ℕ → A → A) → ℕ → List A → CertificateFields → CertificateFields
+behind_section part at first [] c = c
+behind_section part at first (x ∷ xs) c = with_part (part (at first x)) (behind_section part at (first + 1) xs c)
+
+module _ {A : Type 0} (part : A → Part) (tokens : A → List Token) (at : ℕ → A → A) (s : ℕ) (same_section : (x : A) → section_of (part x) ≡ s)
+    (same_tokens : (n : ℕ) (x : A) → part_tokens (part (at n x)) ≡ tokens x) (same_line : (n : ℕ) (x : A) → n ≡ part_line (part (at n x))) (begins : (x : A) → begins_line (tokens x) ≡ true) where
+  section_spelled : (first : ℕ) (xs : List A) (rest : List ℕ) (c : CertificateFields) → list_all (λ x. list_all is_clear (tokens x)) xs ≡ true →
+      SpellsFrom s (numbered_from (first + length xs) (cut_lines rest)) c → SpellsFrom s (numbered_from first (cut_lines (lines_text tokens xs ++ rest))) (behind_section part at first xs c)
+  unfolding lines_text behind_section
+  section_spelled first [] rest c h is =
+      let same : first + 0 ≡ first = omega arith in
+      subst (λ (n : ℕ). SpellsFrom s (numbered_from n (cut_lines rest)) c) same is
+  section_spelled first (x ∷ xs) rest c h is =
+      let here = both (list_all is_clear (tokens x)) (list_all (λ x. list_all is_clear (tokens x)) xs) h in
+      let said = tokens_said first (tokens x) (lines_text tokens xs ++ rest) (begins x) here.0 in
+      let all = ap (λ (t : List ℕ). numbered_from first (cut_lines t)) (append_assoc (line_text (tokens x)) (lines_text tokens xs) rest) ∙ said in
+      let shift : first + length (x ∷ xs) ≡ first + 1 + length xs = omega arith in
+      let others = section_spelled (first + 1) xs rest c here.1 (subst (λ (n : ℕ). SpellsFrom s (numbered_from n (cut_lines rest)) c) shift is) in
+      let of_section : s ≡ section_of (part (at first x)) = sym (same_section (at first x)) in
+      let le : s ≤ section_of (part (at first x)) = omega (arith, of_section) in
+      let spelled = subst (λ (ts : List Token). AreSpelled ts (map token_text (tokens x))) (sym (same_tokens first x)) (tokens_spelled (tokens x) here.0) in
+      rw all (before_end (part (at first x)) le (same_line first x, spelled)
+      (subst (λ (k : ℕ). SpellsFrom k (numbered_from (first + 1) (cut_lines (lines_text tokens xs ++ rest))) (behind_section part at (first + 1) xs c)) of_section others))
+
+end_spelled : (n : ℕ) (end : EndLine) → list_all is_small (end_tokens end) ≡ true → SpellsFrom 3 (numbered_from n (cut_lines (line_text (end_tokens end)))) (end_alone (record { line = n; row = end.row }))
+unfolding cut_lines numbered_from
+end_spelled n end h =
+    let said = tokens_said n (end_tokens end) [] refl h in
+    let whole : numbered_from n (cut_lines (line_text (end_tokens end))) ≡ numbered n (map token_text (end_tokens end)) ∷ [] =
+    ap (λ (t : List ℕ). numbered_from n (cut_lines t)) (sym (append-nil (line_text (end_tokens end)))) ∙ said in
+    rw whole (at_end (record { line = n; row = end.row }) (refl, tokens_spelled (end_tokens end) h))
+
+row_all : (x : RowLine) → list_all is_small (row_tokens x) ≡ true → list_all is_clear (row_tokens x) ≡ true
+row_all x h =
+    let first = both (nat_lt x.n (2 ^ 64)) (list_all is_small (Key (connective_spelling x.op) ∷ Number x.a ∷ Number x.b ∷ Number x.c ∷ reason_tokens x.reason)) h in
+    rw first.0 (row_clear x.a x.b x.c x.op x.reason first.1)
+
+nodes_behind : (first : ℕ) (xs : List NodeLine) (c : CertificateFields) →
+    behind_section Node node_at first xs c ≡ record { nodes = numbered_on node_at first xs ++ c.nodes; chains = c.chains; rows = c.rows; body = c.body; end = c.end }
+unfolding numbered_on behind_section
+nodes_behind first [] c = refl
+nodes_behind first (x ∷ xs) c = ap (with_part (Node (node_at first x))) (nodes_behind (first + 1) xs c)
+
+chains_behind : (first : ℕ) (xs : List ChainFields) (c : CertificateFields) →
+    behind_section Chain chain_at first xs c ≡ record { nodes = c.nodes; chains = numbered_on chain_at first xs ++ c.chains; rows = c.rows; body = c.body; end = c.end }
+unfolding numbered_on behind_section
+chains_behind first [] c = refl
+chains_behind first (x ∷ xs) c = ap (with_part (Chain (chain_at first x))) (chains_behind (first + 1) xs c)
+
+rows_behind : (first : ℕ) (xs : List RowLine) (c : CertificateFields) →
+    behind_section Row row_at first xs c ≡ record { nodes = c.nodes; chains = c.chains; rows = numbered_on row_at first xs ++ c.rows; body = c.body; end = c.end }
+unfolding numbered_on behind_section
+rows_behind first [] c = refl
+rows_behind first (x ∷ xs) c = ap (with_part (Row (row_at first x))) (rows_behind (first + 1) xs c)
+
+body_behind : (first : ℕ) (xs : List BodyFields) (c : CertificateFields) →
+    behind_section Body body_at first xs c ≡ record { nodes = c.nodes; chains = c.chains; rows = c.rows; body = numbered_on body_at first xs ++ c.body; end = c.end }
+unfolding numbered_on behind_section
+body_behind first [] c = refl
+body_behind first (x ∷ xs) c = ap (with_part (Body (body_at first x))) (body_behind (first + 1) xs c)
+
+-- a certificate without its end, put in front of that of which this is the end
+put_together : (nodes : List NodeLine) (chains : List ChainFields) (rows : List RowLine) (body : List BodyFields) (a b r y : ℕ) (end : EndLine) →
+    behind_section Node node_at a nodes (behind_section Chain chain_at b chains (behind_section Row row_at r rows (behind_section Body body_at y body (end_alone end))))
+    ≡ record { nodes = numbered_on node_at a nodes; chains = numbered_on chain_at b chains; rows = numbered_on row_at r rows; body = numbered_on body_at y body; end = end }
+put_together nodes chains rows body a b r y end =
+    rw (
+      body_behind y body (end_alone end),
+      append-nil (numbered_on body_at y body),
+      rows_behind r rows (record { nodes = []; chains = []; rows = []; body = numbered_on body_at y body; end = end }),
+      append-nil (numbered_on row_at r rows),
+      chains_behind b chains (record { nodes = []; chains = []; rows = numbered_on row_at r rows; body = numbered_on body_at y body; end = end }),
+      append-nil (numbered_on chain_at b chains),
+      nodes_behind a nodes (record { nodes = []; chains = numbered_on chain_at b chains; rows = numbered_on row_at r rows; body = numbered_on body_at y body; end = end }),
+      append-nil (numbered_on node_at a nodes),
+    ) refl
+
+certificate_spelled : (first : ℕ) (c : CertificateFields) →
+    list_all (λ x. list_all is_clear (node_tokens x)) c.nodes ≡ true → list_all (λ x. list_all is_clear (chain_tokens x)) c.chains ≡ true →
+    list_all (λ x. list_all is_clear (row_tokens x)) c.rows ≡ true → list_all (λ x. list_all is_clear (body_tokens x)) c.body ≡ true → list_all is_small (end_tokens c.end) ≡ true →
+    IsCertificateText first (certificate_text c) (renumbered first c)
+certificate_spelled first c nodes chains rows body end =
+    let b : ℕ = first + length c.nodes in
+    let r : ℕ = b + length c.chains in
+    let y : ℕ = r + length c.rows in
+    let e : ℕ = y + length c.body in
+    let t4 : List ℕ = line_text (end_tokens c.end) in
+    let t3 : List ℕ = lines_text body_tokens c.body ++ t4 in
+    let t2 : List ℕ = lines_text row_tokens c.rows ++ t3 in
+    let t1 : List ℕ = lines_text chain_tokens c.chains ++ t2 in
+    let last = end_spelled e c.end end in
+    let fourth = section_spelled Body body_tokens body_at 3 (λ x. refl) (λ n x. refl) (λ n x. refl) (λ x. entry_begins x.entry) y c.body t4 _ body last in
+    let third = section_spelled Row row_tokens row_at 2 (λ x. refl) (λ n x. refl) (λ n x. refl) (λ x. refl) r c.rows t3 _ rows (from_lower 3 2 _ _ (omega arith) fourth) in
+    let second = section_spelled Chain chain_tokens chain_at 1 (λ x. refl) (λ n x. refl) (λ n x. refl) (λ x. refl) b c.chains t2 _ chains (from_lower 2 1 _ _ (omega arith) third) in
+    let all = section_spelled Node node_tokens node_at 0 (λ x. refl) (λ n x. refl) (λ n x. refl) (λ x. refl) first c.nodes t1 _ nodes (from_lower 1 0 _ _ (omega arith) second) in
+    subst (λ (x : CertificateFields). SpellsFrom 0 (numbered_from first (cut_lines (certificate_text c))) x) (put_together c.nodes c.chains c.rows c.body first b r y (record { line = e; row = c.end.row })) all
+
+pub text_spells : (columns : List stored.Column) (first : ℕ) (c : CertificateFields) → list_all is_name (names_of columns) ≡ true → numbers_fit c ≡ true → has_columns columns c ≡ true →
+    IsCertificateText first (print_text columns c) (renumbered first (respelled columns c))
+text_spells columns first c names small there =
+    let n = both (list_all (λ x. list_all is_small (node_tokens x)) c.nodes) _ small in
+    let k = both (list_all (λ x. list_all is_small (chain_tokens x)) c.chains) _ n.1 in
+    let r = both (list_all (λ x. list_all is_small (row_tokens x)) c.rows) _ k.1 in
+    let b = both (list_all (λ x. list_all is_small (body_tokens x)) c.body) (list_all is_small (end_tokens c.end)) r.1 in
+    let named = both (list_all (λ x. list_all (is_named columns) (chain_tokens x)) c.chains) _ (both (list_all (λ x. list_all (is_named columns) (node_tokens x)) c.nodes) _ there).1 in
+    certificate_spelled first (respelled columns c) (all_clear node_tokens (λ x h. h) c.nodes n.0) (chains_clear columns names c.chains k.0 named.0) (all_clear row_tokens row_all c.rows r.0)
+    (all_clear body_tokens (λ x h. entry_clear x.entry h) c.body b.0) b.1

@@ -1,0 +1,79 @@
+-- The numbers of what a text spells are below 2^64, and its registers are of the 64.
+use Rattle.std.proofs.Common.{◌≡◌, refl, ℕ, ◌^◌, Bool, true, false, ◌&&◌, ◌==◌, cond, List, drop, Option, Some, None, nat_lt}
+use Rattle.std.specs.List.{list_all}
+use Rattle.std.specs.Prelude.{slice_index, ◌||◌}
+use Rattle.bw_model.specs.Lines.{NumberedWords, lines_in, from_line}
+use Rattle.bw_model.specs.Number.{natural_of, are_digits, digits_value, where_64_bits_hold}
+use Rattle.bw_cert_text.specs.CertificateFields.{CertificateFields}
+use Rattle.bw_cert_text.specs.CertificateText.{SpellsFrom, before_end, at_end, IsCertificateText}
+use Rattle.bw_cert_text.specs.LineText.{Node, Chain, Row, Body}
+use Rattle.bw_cert_text.specs.Operand.{register_of, register_below}
+use Rattle.bw_cert_text.specs.PrintText.{body_tokens}
+use Rattle.bw_cert_text.specs.Reprint.{is_small, numbers_fit}
+use Rattle.bw_cert_text.specs.Token.{Token, Key, Number, Perhaps, Column, Register, IsSpelled, AreSpelled, none, next, node_tokens, chain_tokens, row_tokens, end_tokens}
+
+below_so : (bound m n : ℕ) → cond (nat_lt m bound) (Some m) None ≡ Some n → nat_lt n bound ≡ true
+below_so bound m n e = go (nat_lt m bound) refl e
+  where
+    go : (b : Bool) → nat_lt m bound ≡ b → cond b (Some m) None ≡ Some n → nat_lt n bound ≡ true
+    go true is e = let same : m ≡ n = cc e in rw (← same) is
+    go false is e = absurd (cc e)
+
+natural_small : (word : List ℕ) (n : ℕ) → natural_of word ≡ Some n → nat_lt n (2 ^ 64) ≡ true
+unfolding natural_of
+natural_small word n e = go (are_digits word) e
+  where
+    go : (b : Bool) → cond b (where_64_bits_hold (digits_value word)) None ≡ Some n → nat_lt n (2 ^ 64) ≡ true
+    go true e = below_so (2 ^ 64) (digits_value word) n e
+    go false e = absurd (cc e)
+
+register_small : (word : List ℕ) (n : ℕ) → register_of word ≡ Some n → nat_lt n 64 ≡ true
+unfolding register_of
+register_small word n e = go ((slice_index word 0 == 114) || (slice_index word 0 == 82)) (natural_of (drop 1 word)) e
+  where
+    go : (b : Bool) (o : Option ℕ) → cond b (register_below o) None ≡ Some n → nat_lt n 64 ≡ true
+    go true (Some m) e = below_so 64 m n e
+    go true None e = absurd (cc e)
+    go false o e = absurd (cc e)
+
+token_small : (t : Token) (word : List ℕ) → IsSpelled t word → is_small t ≡ true
+token_small (Key key) word is = refl
+token_small (Number n) word is = natural_small word n is
+token_small (Perhaps None) word is = refl
+token_small (Perhaps (Some n)) word is = natural_small word n is
+token_small (Column column) word is = refl
+token_small (Register r) word is = register_small word r is
+
+tokens_small : (ts : List Token) (words : List (List ℕ)) → AreSpelled ts words → list_all is_small ts ≡ true
+tokens_small _ _ none = refl
+tokens_small _ _ (next {token = t} {word = word} {tokens = ts} {words = words} is rest) = rw (token_small t word is) (tokens_small ts words rest)
+
+-- one more line in front of a section's
+first_front : (a n r : Bool) → a ≡ true → (n && r) ≡ true → ((a && n) && r) ≡ true
+first_front a n r x e = rw x e
+
+second_front : (n a k r : Bool) → a ≡ true → (n && (k && r)) ≡ true → (n && ((a && k) && r)) ≡ true
+second_front n a k r x e = rw x e
+
+third_front : (n k a o r : Bool) → a ≡ true → (n && (k && (o && r))) ≡ true → (n && (k && ((a && o) && r))) ≡ true
+third_front n k a o r x e = rw x e
+
+fourth_front : (n k o a b r : Bool) → a ≡ true → (n && (k && (o && (b && r)))) ≡ true → (n && (k && (o && ((a && b) && r)))) ≡ true
+fourth_front n k o a b r x e = rw x e
+
+lines_small : (s : ℕ) (lines : List NumberedWords) (c : CertificateFields) → SpellsFrom s lines c → numbers_fit c ≡ true
+lines_small s _ _ (before_end {line = line} (Node x) {lines = lines} {rest = c} le says rest) =
+    first_front (list_all is_small (node_tokens x)) (list_all (λ x. list_all is_small (node_tokens x)) c.nodes) _ (tokens_small (node_tokens x) line.words says.1) (lines_small 0 lines c rest)
+lines_small s _ _ (before_end {line = line} (Chain x) {lines = lines} {rest = c} le says rest) =
+    second_front (list_all (λ x. list_all is_small (node_tokens x)) c.nodes) (list_all is_small (chain_tokens x)) (list_all (λ x. list_all is_small (chain_tokens x)) c.chains) _
+    (tokens_small (chain_tokens x) line.words says.1) (lines_small 1 lines c rest)
+lines_small s _ _ (before_end {line = line} (Row x) {lines = lines} {rest = c} le says rest) =
+    third_front (list_all (λ x. list_all is_small (node_tokens x)) c.nodes) (list_all (λ x. list_all is_small (chain_tokens x)) c.chains) (list_all is_small (row_tokens x))
+    (list_all (λ x. list_all is_small (row_tokens x)) c.rows) _ (tokens_small (row_tokens x) line.words says.1) (lines_small 2 lines c rest)
+lines_small s _ _ (before_end {line = line} (Body x) {lines = lines} {rest = c} le says rest) =
+    fourth_front (list_all (λ x. list_all is_small (node_tokens x)) c.nodes) (list_all (λ x. list_all is_small (chain_tokens x)) c.chains) (list_all (λ x. list_all is_small (row_tokens x)) c.rows)
+    (list_all is_small (body_tokens x)) (list_all (λ x. list_all is_small (body_tokens x)) c.body) _ (tokens_small (body_tokens x) line.words says.1) (lines_small 3 lines c rest)
+lines_small s _ _ (at_end {line = line} end says) = tokens_small (end_tokens end) line.words says.1
+
+pub text_small : (first : ℕ) (text : List ℕ) (c : CertificateFields) → IsCertificateText first text c → numbers_fit c ≡ true
+text_small first text c is = lines_small 0 (lines_in (from_line first text)) c is

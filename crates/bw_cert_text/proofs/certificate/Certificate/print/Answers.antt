@@ -1,0 +1,28 @@
+-- What is written of each section is that section's text.
+use Rattle.std.proofs.Common.{◌∙◌, sym, ap, subst, ℕ, List}
+use Rattle.bw_cert_text.specs.CertificateFields.{certificate_fields}
+use Rattle.bw_cert_text.specs.CertificateShape.{CertificateShape}
+use Rattle.bw_cert_text.specs.PrintText.{respelled, print_text}
+use Rattle.bw_cert_text.specs.CertificateText.{IsCertificateText}
+use Rattle.bw_cert_text.specs.Reprint.{renumbered}
+use Rattle.bw_cert_text.proofs.PrintLemmas.{text_written, shape_text}
+use Rattle.bw_cert_text.proofs.PrintedText.{text_spells}
+use Rattle.bw_cert_text.proofs.certificate.Certificate.print.Goals as goal
+
+pub returns-clause-text : goal.returns-clause-text
+returns-clause-text c =
+    let columns = c.args.schema.now.columns.items in
+    let inside = c.self.inside in
+    let shape : CertificateShape = record { nodes = inside.nodes.items; chains = inside.chains.items; rows = inside.rows.items; body = inside.body.items; end = inside.end } in
+    let nodes = rw c.deref.ensures.value at c.in_ok-put_nodes.ensures in
+    let chains = rw c.deref-2.ensures.value at c.in_ok-put_chains.ensures in
+    let rows = rw c.deref-3.ensures.value at c.in_ok-put_rows.ensures in
+    let body = rw c.deref-4.ensures.value at c.in_ok-put_body.ensures in
+    text_written _ _ _ _ _ c.put_line.new.text.items _ _ _ _ _ c.new-text.ensures.items nodes chains rows body c.in_ok-put_line.ensures
+    ∙ sym (shape_text columns shape) ∙ ap (λ (shape : CertificateShape). print_text columns (certificate_fields shape)) c.self.view_is
+
+pub returns-clause-spelled : goal.returns-clause-spelled
+returns-clause-spelled c = λ names small there first.
+    let columns = c.args.schema.now.columns.items in
+    let fields = certificate_fields c.args.self.now in
+    subst (λ (text : List ℕ). IsCertificateText first text (renumbered first (respelled columns fields))) (sym (returns-clause-text c)) (text_spells columns first fields names small there)

@@ -1,0 +1,17 @@
+use Rattle.std.proofs.Common.{◌≡◌, Ok, length}
+use Rattle.bw_model.specs.Fault.{◌>>=◌}
+use Rattle.bw_model.specs.Lines.{lines_in, end_in}
+use Rattle.bw_cert_text.specs.CertificateText.{certificate_from}
+use Rattle.bw_cert_text.specs.Parts.{joined}
+use Rattle.bw_cert_text.proofs.parse.read_parts.Given as goal
+
+-- the certificate is that of the lines so far and the lines to come
+abbrev pub invariant-loop-line : goal.invariant-loop-line
+invariant-loop-line l = record {
+  told : certificate_from 0 (lines_in l.initial.lines) (end_in l.initial.lines)
+      ≡ (certificate_from l.section (lines_in l.lines) (end_in l.initial.lines) >>= λ rest. Ok (joined l.parts rest));
+  end : end_in l.initial.lines ≡ end_in l.lines;
+}
+
+abbrev pub decreases-loop-line : goal.decreases-loop-line
+decreases-loop-line l = length (lines_in l.lines)

@@ -1,0 +1,14 @@
+-- The lines of a certificate that were read before its end.
+use Rattle.std.specs.Prelude.{◌++◌, map}
+use Rattle.bw_cert_text.specs.declared.parse.Parts.{Parts}
+use Rattle.bw_cert_text.specs.CertificateFields.{CertificateFields, chain_fields, body_fields}
+
+-- these, and then those of a certificate that stand behind them
+abbrev pub joined : Parts → CertificateFields → CertificateFields
+joined parts rest = record {
+  nodes = parts.nodes.items ++ rest.nodes;
+  chains = map chain_fields parts.chains.items ++ rest.chains;
+  rows = parts.rows.items ++ rest.rows;
+  body = map body_fields parts.body.items ++ rest.body;
+  end = rest.end;
+}

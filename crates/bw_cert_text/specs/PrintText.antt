@@ -1,0 +1,66 @@
+-- The canonical text of a certificate: words of the language in capitals, single blanks, names in the schema's spelling,
+-- numbers without leading zeros, and one line feed after each line.
+use Rattle.std.specs.Prelude.{ℕ, List, [], ◌∷◌, ◌++◌, map, Option, Some, None, codes, slice_index_or}
+use Rattle.std.specs.Fmt.{decimal}
+use Rattle.bw_model.specs.declared.column.Column as column
+use Rattle.bw_model.specs.Column.{names_of, column_named}
+use Rattle.bw_cert_text.specs.CertificateFields.{ColumnFields, One, Two, ChainFields, BodyFields, CertificateFields}
+use Rattle.bw_cert_text.specs.Token.{Token, Key, Number, Perhaps, Column, Register, node_tokens, chain_tokens, row_tokens, entry_tokens, end_tokens}
+
+-- what stands at a place of a line, in its canonical spelling: r is byte 114
+abbrev pub token_text : Token → List ℕ
+token_text (Key key) = key
+token_text (Number n) = decimal n
+token_text (Perhaps (Some n)) = decimal n
+token_text (Perhaps None) = codes "-"
+token_text (Column column) = column
+token_text (Register r) = 114 ∷ decimal r
+
+-- each behind a blank, which is byte 32
+unfoldable pub behind_text : List Token → List ℕ
+behind_text [] = []
+behind_text (token ∷ tokens) = 32 ∷ token_text token ++ behind_text tokens
+
+-- a line, and the line feed behind it, which is byte 10
+abbrev pub line_text : List Token → List ℕ
+line_text [] = 10 ∷ []
+line_text (token ∷ tokens) = token_text token ++ (behind_text tokens ++ 10 ∷ [])
+
+-- a line for each of a list
+unfoldable pub lines_text : {A : Type 0} → (A → List Token) → List A → List ℕ
+lines_text tokens [] = []
+lines_text tokens (x ∷ xs) = line_text (tokens x) ++ lines_text tokens xs
+
+-- all lines of a certificate
+abbrev pub body_tokens : BodyFields → List Token
+body_tokens body = entry_tokens body.entry
+
+abbrev pub certificate_text : CertificateFields → List ℕ
+certificate_text c =
+    lines_text node_tokens c.nodes ++ (lines_text chain_tokens c.chains ++ (lines_text row_tokens c.rows
+    ++ (lines_text body_tokens c.body ++ line_text (end_tokens c.end))))
+
+-- a word in the spelling of the column that it names; a word that names none stands as it is
+abbrev pub spelling_at : List column.Column → List ℕ → Option ℕ → List ℕ
+spelling_at columns word None = word
+spelling_at columns word (Some c) = slice_index_or (names_of columns) c []
+
+abbrev pub schema_spelling : List column.Column → List ℕ → List ℕ
+schema_spelling columns word = spelling_at columns word (column_named columns word)
+
+-- a certificate with its columns in the schema's spelling
+abbrev pub respelled_columns : List column.Column → ColumnFields → ColumnFields
+respelled_columns columns (One kind word start len bound node prev) = One kind (schema_spelling columns word) start len bound node prev
+respelled_columns columns (Two kind left right len node prev) =
+    Two kind (schema_spelling columns left) (schema_spelling columns right) len node prev
+
+abbrev pub respelled_chain : List column.Column → ChainFields → ChainFields
+respelled_chain columns chain = record { line = chain.line; n = chain.n; columns = respelled_columns columns chain.columns }
+
+abbrev pub respelled : List column.Column → CertificateFields → CertificateFields
+respelled columns c =
+    record { nodes = c.nodes; chains = map (respelled_chain columns) c.chains; rows = c.rows; body = c.body; end = c.end }
+
+-- the canonical text of a certificate under a schema's columns
+abbrev pub print_text : List column.Column → CertificateFields → List ℕ
+print_text columns c = certificate_text (respelled columns c)

@@ -1,0 +1,451 @@
+//! What a line of a certificate text says.
+ghost use Rattle.std.specs.Prelude.{◌≡◌, List, ℕ, map, option_map, IfOk};
+ghost use Rattle.bw_model.specs.Lines.{line_of};
+ghost use Rattle.bw_cert_text.specs.CertificateFields.{column_fields, chain_fields, keep_fields, entry_fields};
+ghost use Rattle.bw_cert_text.specs.LineText.{node_in, one_column_in, two_columns_in, columns_behind, chain_in, reason_in, row_in, compare_in, compare_columns_in, is_in, condition_in, byte_in, instruction_in, edges_in, keep_in, body_at, said_behind, said_in};
+ghost use Rattle.bw_cert_text.specs.declared.line.Said.TheVariants as said;
+ghost use Rattle.bw_cert_text.specs.SaidFields.{word_fields, part_fields, said_fields};
+
+use crate::kind::{ConditionKind, Form, InstructionKind, LineKind, connective_of};
+use crate::lines::{
+    BodyLine, ChainColumns, ChainLine, ConditionEntry, EdgeRows, EndLine, Entry, InstructionEntry,
+    Keep, NodeLine, RowLine,
+};
+use crate::operand::{nothing_in, number_in, optional_of, register_of, two_in};
+use bw_diagram::{ChainKind, ChainLine as ChainWords, Reason};
+use bw_model::{Line, is_same_text, natural_number};
+use std::alloc::{AllocError, Global};
+
+/// A line before the end.
+#[derive(Debug, Drop)]
+pub(crate) enum Part {
+    Node(NodeLine),
+    Chain(ChainLine),
+    Row(RowLine),
+    Body(BodyLine),
+}
+
+/// A line.
+#[derive(Debug, Drop)]
+pub(crate) enum Said {
+    Before(Part),
+    End(EndLine),
+}
+
+/// `n v low high`, of a node.
+fn node_in(line: u64, words: &[&[u8]]) -> Option<NodeLine>
+    ensures { result ≡ node_in line (map (λ word. word.now) words.now) }
+{
+    let [n, v, low, high] = words else {
+        return None;
+    };
+    let n = natural_number(n)?;
+    let v = natural_number(v)?;
+    let low = natural_number(low)?;
+    let high = natural_number(high)?;
+    Some(NodeLine {
+        line,
+        n,
+        v,
+        low,
+        high,
+    })
+}
+
+/// `column start len const node prev`.
+fn one_column_in<'a>(kind: ChainKind, words: &[&'a [u8]]) -> Option<ChainWords<'a>>
+    ensures { option_map word_fields result ≡ one_column_in kind (map (λ word. word.now) words.now) }
+{
+    let [column, start, len, bound, node, prev] = words else {
+        return None;
+    };
+    let start = natural_number(start)?;
+    let len = natural_number(len)?;
+    let bound = natural_number(bound)?;
+    let node = natural_number(node)?;
+    let prev = optional_of(prev)?;
+    Some(ChainWords::OneColumn {
+        kind,
+        column,
+        start,
+        len,
+        bound,
+        node,
+        prev,
+    })
+}
+
+/// `left right len node prev`.
+fn two_columns_in<'a>(kind: ChainKind, words: &[&'a [u8]]) -> Option<ChainWords<'a>>
+    ensures { option_map word_fields result ≡ two_columns_in kind (map (λ word. word.now) words.now) }
+{
+    let [left, right, len, node, prev] = words else {
+        return None;
+    };
+    let len = natural_number(len)?;
+    let node = natural_number(node)?;
+    let prev = optional_of(prev)?;
+    Some(ChainWords::TwoColumns {
+        kind,
+        left,
+        right,
+        len,
+        node,
+        prev,
+    })
+}
+
+/// What a chain of this form compares.
+fn columns_behind<'a>(form: Form, words: &[&'a [u8]]) -> Option<ChainWords<'a>>
+    ensures { option_map word_fields result ≡ columns_behind form (map (λ word. word.now) words.now) }
+{
+    match form {
+        Form::Less => one_column_in(ChainKind::Less, words),
+        Form::Equal => one_column_in(ChainKind::Equal, words),
+        Form::LessTwo => two_columns_in(ChainKind::Less, words),
+        Form::EqualTwo => two_columns_in(ChainKind::Equal, words),
+    }
+}
+
+/// The same, with the columns' words in memory of its own.
+fn kept(alloc: Global, words: ChainWords<'_>) -> Result<ChainColumns, AllocError>
+    ensures { IfOk result (λ columns. column_fields columns ≡ word_fields words.entry) }
+{
+    match words {
+        ChainWords::OneColumn {
+            kind,
+            column,
+            start,
+            len,
+            bound,
+            node,
+            prev,
+        } => {
+            let column = Vec::from_slice(alloc, column)?;
+            Ok(ChainColumns::One {
+                kind,
+                column,
+                start,
+                len,
+                bound,
+                node,
+                prev,
+            })
+        }
+        ChainWords::TwoColumns {
+            kind,
+            left,
+            right,
+            len,
+            node,
+            prev,
+        } => {
+            let left = Vec::from_slice(alloc, left)?;
+            let right = Vec::from_slice(alloc, right)?;
+            Ok(ChainColumns::Two {
+                kind,
+                left,
+                right,
+                len,
+                node,
+                prev,
+            })
+        }
+    }
+}
+
+/// A chain's number, its form and what it compares.
+fn chain_in(alloc: Global, line: u64, words: &[&[u8]]) -> Result<Option<ChainLine>, AllocError>
+    ensures { IfOk result
+        (λ chain. option_map chain_fields chain ≡ chain_in line (map (λ word. word.now) words.now)) }
+{
+    let [n, word, rest @ ..] = words else {
+        return Ok(None);
+    };
+    let Some(n) = natural_number(n) else {
+        return Ok(None);
+    };
+    let Some(form) = Form::of(word) else {
+        return Ok(None);
+    };
+    let Some(columns) = columns_behind(form, rest) else {
+        return Ok(None);
+    };
+    let columns = kept(alloc, columns)?;
+    Ok(Some(ChainLine { line, n, columns }))
+}
+
+/// `S`, or `V v i j`.
+fn reason_in(words: &[&[u8]]) -> Option<Reason>
+    ensures { result ≡ reason_in (map (λ word. word.now) words.now) }
+{
+    if let [word] = words {
+        return if is_same_text(b"S", word) {
+            Some(Reason::Shortcut)
+        } else {
+            None
+        };
+    }
+    let [word, v, i, j] = words else {
+        return None;
+    };
+    if !is_same_text(b"V", word) {
+        return None;
+    }
+    let v = natural_number(v)?;
+    let i = natural_number(i)?;
+    let j = natural_number(j)?;
+    Some(Reason::Cofactors { v, i, j })
+}
+
+/// A product row's number, its connective, `a b c` and the reason.
+fn row_in(line: u64, words: &[&[u8]]) -> Option<RowLine>
+    ensures { result ≡ row_in line (map (λ word. word.now) words.now) }
+{
+    let [n, word, a, b, c, rest @ ..] = words else {
+        return None;
+    };
+    let n = natural_number(n)?;
+    let op = connective_of(word)?;
+    let a = natural_number(a)?;
+    let b = natural_number(b)?;
+    let c = natural_number(c)?;
+    let reason = reason_in(rest)?;
+    Some(RowLine {
+        line,
+        n,
+        op,
+        a,
+        b,
+        c,
+        reason,
+    })
+}
+
+/// `chain rn rp rq`, of a column against a literal.
+fn compare_in(words: &[&[u8]]) -> Option<ConditionEntry>
+    ensures { result ≡ compare_in (map (λ word. word.now) words.now) }
+{
+    let [chain, value, yes, no] = words else {
+        return None;
+    };
+    let chain = optional_of(chain)?;
+    let value = optional_of(value)?;
+    let yes = natural_number(yes)?;
+    let no = natural_number(no)?;
+    Some(ConditionEntry::Compare {
+        chain,
+        value,
+        yes,
+        no,
+    })
+}
+
+/// `chain rc rd rm rp rq`, of a column against a column.
+fn compare_columns_in(words: &[&[u8]]) -> Option<ConditionEntry>
+    ensures { result ≡ compare_columns_in (map (λ word. word.now) words.now) }
+{
+    let [chain, left, right, both, yes, no] = words else {
+        return None;
+    };
+    let chain = optional_of(chain)?;
+    let left = optional_of(left)?;
+    let right = optional_of(right)?;
+    let both = natural_number(both)?;
+    let yes = natural_number(yes)?;
+    let no = natural_number(no)?;
+    Some(ConditionEntry::CompareColumns {
+        chain,
+        left,
+        right,
+        both,
+        yes,
+        no,
+    })
+}
+
+/// `i`, or `i j`, of a test of a step's truth.
+fn is_in(words: &[&[u8]]) -> Option<ConditionEntry>
+    ensures { result ≡ is_in (map (λ word. word.now) words.now) }
+{
+    if let [i] = words {
+        let i = natural_number(i)?;
+        return Some(ConditionEntry::Is(i));
+    }
+    let (i, j) = two_in(words)?;
+    Some(ConditionEntry::IsUnknown(i, j))
+}
+
+/// The line of a condition's step.
+fn condition_in(kind: ConditionKind, words: &[&[u8]]) -> Option<ConditionEntry>
+    ensures { result ≡ condition_in kind (map (λ word. word.now) words.now) }
+{
+    match kind {
+        ConditionKind::Compare => compare_in(words),
+        ConditionKind::CompareColumns => compare_columns_in(words),
+        ConditionKind::Fixed => {
+            nothing_in(words)?;
+            Some(ConditionEntry::Fixed)
+        }
+        ConditionKind::NullTest => {
+            let i = number_in(words)?;
+            Some(ConditionEntry::NullTest(i))
+        }
+        ConditionKind::And => {
+            let (i, j) = two_in(words)?;
+            Some(ConditionEntry::And(i, j))
+        }
+        ConditionKind::Or => {
+            let (i, j) = two_in(words)?;
+            Some(ConditionEntry::Or(i, j))
+        }
+        ConditionKind::Not => {
+            nothing_in(words)?;
+            Some(ConditionEntry::Not)
+        }
+        ConditionKind::Is => is_in(words),
+    }
+}
+
+/// The chain of a comparison of bytes, or `-`.
+fn byte_in(words: &[&[u8]]) -> Option<InstructionEntry>
+    ensures { result ≡ byte_in (map (λ word. word.now) words.now) }
+{
+    let [chain] = words else {
+        return None;
+    };
+    let chain = optional_of(chain)?;
+    Some(InstructionEntry::Byte(chain))
+}
+
+/// The line of an instruction.
+fn instruction_in(kind: InstructionKind, words: &[&[u8]]) -> Option<InstructionEntry>
+    ensures { result ≡ instruction_in kind (map (λ word. word.now) words.now) }
+{
+    match kind {
+        InstructionKind::Load => {
+            let node = number_in(words)?;
+            Some(InstructionEntry::Load(node))
+        }
+        InstructionKind::Fill => {
+            nothing_in(words)?;
+            Some(InstructionEntry::Fill)
+        }
+        InstructionKind::Op => {
+            let i = number_in(words)?;
+            Some(InstructionEntry::Op(i))
+        }
+        InstructionKind::Byte => byte_in(words),
+        InstructionKind::Skip => {
+            nothing_in(words)?;
+            Some(InstructionEntry::Skip)
+        }
+    }
+}
+
+/// Whole pairs of numbers.
+fn edges_in(alloc: Global, words: &[&[u8]]) -> Result<Option<Vec<EdgeRows>>, AllocError>
+    ensures { IfOk result
+        (λ edges. option_map (λ edges. edges.items) edges ≡ edges_in (map (λ word. word.now) words.now)) }
+{
+    let mut edges = Vec::new(alloc);
+    let mut rest = words;
+    while let [i, j, more @ ..] = rest {
+        let Some(differs) = natural_number(i) else {
+            return Ok(None);
+        };
+        let Some(within) = natural_number(j) else {
+            return Ok(None);
+        };
+        edges.push(EdgeRows { differs, within })?;
+        rest = more;
+    }
+    if rest.is_empty() {
+        Ok(Some(edges))
+    } else {
+        Ok(None)
+    }
+}
+
+/// `r h x`, and whole pairs.
+fn keep_in(alloc: Global, words: &[&[u8]]) -> Result<Option<Keep>, AllocError>
+    ensures { IfOk result (λ keep. option_map keep_fields keep ≡ keep_in (map (λ word. word.now) words.now)) }
+{
+    let [register, node, through, rest @ ..] = words else {
+        return Ok(None);
+    };
+    let Some(register) = register_of(register) else {
+        return Ok(None);
+    };
+    let Some(node) = natural_number(node) else {
+        return Ok(None);
+    };
+    let Some(through) = natural_number(through) else {
+        return Ok(None);
+    };
+    let Some(edges) = edges_in(alloc, rest)? else {
+        return Ok(None);
+    };
+    Ok(Some(Keep {
+        register,
+        node,
+        through,
+        edges,
+    }))
+}
+
+/// What a line says, in a line of any form.
+pub(crate) fn said_in(alloc: Global, line: &Line) -> Result<Option<Said>, AllocError>
+    ensures { IfOk result (λ said. option_map said_fields said ≡ said_in (line_of line.now)) }
+{
+    let Some((word, rest)) = line.words.as_slice().split_first() else {
+        return Ok(None);
+    };
+    let Some(kind) = LineKind::of(word) else {
+        return Ok(None);
+    };
+    said_behind(alloc, line.number, kind, rest)
+}
+
+/// What the words behind the first one say in a line of this kind.
+fn said_behind(
+    alloc: Global,
+    line: u64,
+    kind: LineKind,
+    words: &[&[u8]],
+) -> Result<Option<Said>, AllocError>
+    ensures { IfOk result
+        (λ said. option_map said_fields said ≡ said_behind line kind (map (λ word. word.now) words.now)) }
+{
+    match kind {
+        LineKind::Node => Ok(before(node_in(line, words).map(Part::Node))),
+        LineKind::Chain => Ok(before(chain_in(alloc, line, words)?.map(Part::Chain))),
+        LineKind::Row => Ok(before(row_in(line, words).map(Part::Row))),
+        LineKind::Condition(kind) => Ok(in_body(
+            line,
+            condition_in(kind, words).map(Entry::Condition),
+        )),
+        LineKind::Instruction(kind) => Ok(in_body(
+            line,
+            instruction_in(kind, words).map(Entry::Instruction),
+        )),
+        LineKind::Join => Ok(in_body(line, number_in(words).map(Entry::Join))),
+        LineKind::Keep => Ok(in_body(line, keep_in(alloc, words)?.map(Entry::Keep))),
+        LineKind::End => Ok(number_in(words).map(|row| Said::End(EndLine { line, row }))),
+    }
+}
+
+/// A line before the end, if it was read.
+fn before(part: Option<Part>) -> Option<Said>
+    ensures { option_map said_fields result ≡ option_map (λ part. said_fields (said.Before part)) part }
+{
+    part.map(Said::Before)
+}
+
+/// A line behind the product rows, if it was read.
+fn in_body(line: u64, entry: Option<Entry>) -> Option<Said>
+    ensures { option_map said_fields result ≡ option_map (λ entry. body_at line (entry_fields entry)) entry }
+{
+    let entry = entry?;
+    Some(Said::Before(Part::Body(BodyLine { line, entry })))
+}

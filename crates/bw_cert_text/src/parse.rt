@@ -1,0 +1,175 @@
+//! Certificate texts, read line by line: nodes, chains and product rows, the lines behind them, and `END`.
+ghost use Rattle.std.specs.Prelude.{◌≡◌, ◌≤◌, ◌^◌, Ok, Err, false, option_map, IfOk, IfErr, OnOk, IsTrue};
+ghost use Rattle.bw_model.specs.Fault.{Gives, is_memory};
+ghost use Rattle.bw_model.specs.Lines.{lines_in, end_in, line_of};
+ghost use Rattle.bw_cert_text.specs.CertificateFields.{CertificateFields, certificate_fields};
+ghost use Rattle.bw_cert_text.specs.CertificateText.{certificate_of, certificate_from, said_on, section_of, with_part, end_alone, last_line, is_before, IsCertificateText, IsCertificateFault};
+ghost use Rattle.bw_cert_text.specs.Parts.{joined};
+ghost use Rattle.bw_cert_text.specs.Reprint.{numbers_fit};
+ghost use Rattle.bw_cert_text.specs.SaidFields.{part_fields, said_fields};
+
+use crate::certificate::Certificate;
+use crate::line::{Part, Said, said_in};
+use crate::lines::{BodyLine, ChainLine, EndLine, NodeLine, RowLine};
+use bw_model::{Fault, Line, Lines, code};
+use std::alloc::{AllocError, Global};
+
+impl Certificate {
+    /// Reads a certificate text, the first line of which has this number, 1 to 2^32.
+    ///
+    /// Refused, by 605 alone, is the first line that has another form, that is a node, chain or product row behind a
+    /// line of a later section, or that stands behind `END`. At the end of the text, one line after the last, an `END`
+    /// that is missing is 605 too.
+    pub fn parse(alloc: Global, first_line: u64, text: &[u8]) -> Result<Certificate, Fault>
+        requires numbered { 1 ≤ first_line }
+        requires few { first_line ≤ 2 ^ 32 }
+        // What is read is spelled so, and what is spelled so is read.
+        ensures spelled { IfOk result
+            (λ certificate. IsCertificateText first_line text.now (certificate_fields certificate)) }
+        ensures accepted { (certificate : CertificateFields) → IsCertificateText first_line text.now certificate
+            → Gives certificate_fields result (Ok certificate) }
+
+        // Which fault it is.
+        ensures fault { Gives certificate_fields result (certificate_of first_line text.now) }
+        ensures code { IfErr result IsCertificateFault }
+
+        // Its numbers are below 2^64, and its registers r0 to r63.
+        ensures fits { IfOk result (λ certificate. IsTrue (numbers_fit (certificate_fields certificate))) }
+    {
+        read_certificate(alloc, first_line, text)
+    }
+}
+
+/// The lines before the end that were read so far.
+#[derive(Drop)]
+pub(crate) struct Parts {
+    nodes: Vec<NodeLine>,
+    chains: Vec<ChainLine>,
+    rows: Vec<RowLine>,
+    body: Vec<BodyLine>,
+}
+
+impl Parts {
+    /// Adds a line to those of its section.
+    fn push(&mut self, part: Part) -> Result<(), AllocError>
+        ensures { OnOk result ((rest : CertificateFields) → joined self.new rest
+            ≡ joined self.old (with_part (part_fields part) rest)) }
+    {
+        match part {
+            Part::Node(node) => self.nodes.push(node)?,
+            Part::Chain(chain) => self.chains.push(chain)?,
+            Part::Row(row) => self.rows.push(row)?,
+            Part::Body(body) => self.body.push(body)?,
+        }
+        Ok(())
+    }
+}
+
+/// The section of a line: 0 the nodes, 1 the chains, 2 the product rows, 3 what stands behind them.
+fn section_of(part: &Part) -> u8
+    ensures { result ≡ section_of (part_fields part.now) }
+{
+    match part {
+        Part::Node(_) => 0,
+        Part::Chain(_) => 1,
+        Part::Row(_) => 2,
+        Part::Body(_) => 3,
+    }
+}
+
+/// Reads a certificate text line by line.
+fn read_certificate(alloc: Global, first_line: u64, text: &[u8]) -> Result<Certificate, Fault>
+    requires { first_line ≤ 2 ^ 32 }
+    ensures read { Gives certificate_fields result (certificate_of first_line text.now) }
+    ensures code { IfErr result IsCertificateFault }
+{
+    let mut lines = Lines::from_line(first_line, text);
+    let mut parts = Parts {
+        nodes: Vec::new(alloc),
+        chains: Vec::new(alloc),
+        rows: Vec::new(alloc),
+        body: Vec::new(alloc),
+    };
+    let end = read_parts(alloc, &mut lines, &mut parts)?;
+    refuse_more(alloc, lines)?;
+    let Parts {
+        nodes,
+        chains,
+        rows,
+        body,
+    } = parts;
+    Ok(Certificate {
+        nodes,
+        chains,
+        rows,
+        body,
+        end,
+    })
+}
+
+/// Reads the lines up to `END`, and gives that.
+fn read_parts(alloc: Global, lines: &mut Lines<'_>, parts: &mut Parts) -> Result<EndLine, Fault>
+    requires { (rest : CertificateFields) → joined parts.old rest ≡ rest }
+    ensures read { IfOk result (λ end. certificate_from 0 (lines_in lines.old) (end_in lines.old)
+        ≡ last_line (lines_in lines.new) (joined parts.new (end_alone end))) }
+    ensures fault { IfErr result (λ fault. is_memory fault ≡ false
+        → certificate_from 0 (lines_in lines.old) (end_in lines.old) ≡ Err fault) }
+    ensures code { IfErr result IsCertificateFault }
+{
+    let mut section = 0;
+    while let Some(line) = lines.next_line(alloc)? {
+        match said_on(alloc, section, &line)? {
+            Said::Before(part) => {
+                section = section_of(&part);
+                parts.push(part)?;
+            }
+            Said::End(end) => return Ok(end),
+        }
+    }
+    Err(Fault::at_line(code::CERTIFICATE_FORM, lines.number()))
+}
+
+/// What a line says that no line of a section behind this one may precede.
+fn said_on(alloc: Global, section: u8, line: &Line) -> Result<Said, Fault>
+    ensures said { Gives said_fields result (said_on section (line_of line.now)) }
+    ensures code { IfErr result IsCertificateFault }
+{
+    let Some(said) = said_in(alloc, line)? else {
+        return Err(Fault::at_line(code::CERTIFICATE_FORM, line.number));
+    };
+    if is_before(section, &said) {
+        return Err(Fault::at_line(code::CERTIFICATE_FORM, line.number));
+    }
+    Ok(said)
+}
+
+/// Whether a line is of a section before this one.
+fn is_before(section: u8, said: &Said) -> bool
+    ensures { result ≡ is_before section (said_fields said.now) }
+{
+    match said {
+        Said::Before(part) => section_of(part) < section,
+        Said::End(_) => false,
+    }
+}
+
+/// Refuses a line behind `END`.
+fn refuse_more(alloc: Global, mut lines: Lines<'_>) -> Result<(), Fault>
+    ensures none { OnOk result ((x : CertificateFields) → last_line (lines_in lines.entry) x ≡ Ok x) }
+    ensures some { IfErr result (λ fault. is_memory fault ≡ false
+        → (x : CertificateFields) → last_line (lines_in lines.entry) x ≡ Err fault) }
+    ensures code { IfErr result IsCertificateFault }
+{
+    let more = lines.next_line(alloc)?;
+    match number_of(&more) {
+        None => Ok(()),
+        Some(number) => Err(Fault::at_line(code::CERTIFICATE_FORM, number)),
+    }
+}
+
+/// The number of a line, where there is one.
+fn number_of(line: &Option<Line<'_>>) -> Option<u64>
+    ensures { result ≡ option_map (λ line. line.number) line.now }
+{
+    line.as_ref().map(|line| line.number)
+}

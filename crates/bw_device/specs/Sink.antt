@@ -1,0 +1,34 @@
+-- What of a text went out to a sink.
+use Rattle.std.specs.Prelude.{◌≡◌, ◌==◌, ℕ, ◌+◌, ◌<◌, Bool, true, false, List, length, take, Option, Result, Ok, Err, IsOkAnd}
+use Rattle.std.specs.Io.KnownBytes.{Appends, Keeps}
+use Rattle.bw_model.specs.declared.fault.Fault.{Fault}
+use Rattle.bw_model.specs.Fault.{nowhere}
+
+-- the fault tells of a failed write
+abbrev pub is_write_fault : Fault → Bool
+is_write_fault fault = fault.code == 702
+
+-- a part from the text's front was taken, and not all of it
+abbrev pub TookPart : Option (List ℕ) → Option (List ℕ) → List ℕ → Type 0
+TookPart old new text = (n : ℕ) × (n < length text) × Appends old new (take n text)
+
+-- The text went out whole, or up to a failed write, after which no other was made. The sink's
+-- failures rise from before to after, by one, at a failed write alone.
+abbrev pub GoesOut : {T : Type 0} → Option (List ℕ) → Option (List ℕ) → ℕ → ℕ → List ℕ
+    → Result T Fault → Type 0
+GoesOut old new before after text (Ok x) = Appends old new text × (after ≡ before)
+GoesOut old new before after text (Err fault) =
+    (fault ≡ nowhere 702) × TookPart old new text × (after ≡ before + 1)
+
+-- A call that is to write a text, or to refuse: the text went out, or up to a failed write; or the
+-- call wrote nothing and refused as it was to, where the fault isn't one of those that are set
+-- aside.
+abbrev pub Went : {T : Type 0} → (Fault → Bool) → Option (List ℕ) → Option (List ℕ) → ℕ → ℕ
+    → Result (List ℕ) Fault → Result T Fault → Type 0
+Went aside old new before after given (Ok x) =
+    IsOkAnd given (λ text. Appends old new text) × (after ≡ before)
+Went aside old new before after given (Err fault) =
+    (is_write_fault fault ≡ true
+    → (fault ≡ nowhere 702) × IsOkAnd given (TookPart old new) × (after ≡ before + 1))
+    × (is_write_fault fault ≡ false
+    → Keeps old new × (after ≡ before) × (aside fault ≡ false → given ≡ Err fault))

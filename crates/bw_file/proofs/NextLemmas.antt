@@ -1,0 +1,83 @@
+-- What a reader gives next: a segment, the end, a fault, or what was settled.
+use Rattle.std.proofs.Common.{◌≡◌, ℕ, min, ◌+◌, ◌-◌, ◌<◌, List, [], ◌++◌, length, Some, None, Ok, Err, refl, sym, ap, subst, ◌∙◌, arith}
+use Rattle.std.specs.Io.KnownBytes.{IsAtEnd}
+use Rattle.bw_model.specs.declared.fault.Fault.{Fault}
+use Rattle.bw_model.specs.Groups.{group_size, groups_of, together}
+use Rattle.bw_model.specs.Row.{Value}
+use Rattle.bw_file.specs.declared.segments.AnySegment.{AnySegment}
+use Rattle.bw_file.specs.declared.table_reader.TableReader.{TableReader}
+use Rattle.bw_file.specs.AnySegment.{any_meaning}
+use Rattle.bw_file.specs.Reading.{tail, State, Took, GoesOn, Fails, give}
+use Rattle.bw_file.specs.TableReading.{segment, end, group_sizes}
+use Rattle.bw_file.specs.TableReader.{settled, SoFar, SameTable, GivesNext}
+use Rattle.bw_file.proofs.BodySpelling.{groups_found}
+use Rattle.bw_file.proofs.ReaderLemmas.{so_far_more, segment_refused, at_end, end_seen, end_missed}
+
+-- where all rows were given, the groups so far are the groups of all rows
+pub all_groups : (start now : State) (reader : TableReader) (groups : List (List (List Value))) → reader.given ≡ reader.rows → SoFar start now reader groups
+    → groups ≡ groups_of (together groups)
+unfolding end
+all_groups start now reader groups all so_far =
+    let on = at_end start now reader groups all so_far in
+    let found = groups_found reader.layout reader.shape.value.schema.columns.items (group_sizes reader.rows) reader.rows [] (tail so_far.behind.offset (on.bytes ++ [])) (groups, tail now.offset []) refl (on.on []) in
+    let same : groups ≡ found.groups = found.behind in
+    sym (subst (λ (l : List (List (List Value))). groups_of (together l) ≡ l) (sym same) found.cut)
+
+module _ {S : Type 0} (source next_source : S) (old now : State) (reader next : TableReader) (same : SameTable reader next) where
+  pub segment_given : (given : AnySegment) (size : ℕ) → settled next ≡ None → reader.given < reader.rows → settled reader ≡ None → size ≡ min group_size (reader.rows - reader.given)
+      → next.given ≡ reader.given + size → (any_meaning given).name ≡ reader.shape.value.schema.name → (any_meaning given).columns ≡ reader.shape.value.schema.columns.items
+      → length (any_meaning given).rows ≡ size → GoesOn (segment reader.layout reader.shape.value.schema.columns.items size) old (give (any_meaning given).rows) now
+      → GivesNext source next_source old now reader next (Ok (Some given))
+  segment_given given size reading left unsettled sized counted name columns count read = record {
+    given = λ start groups so_far. so_far_more start old now reader next groups (any_meaning given).rows size same.layout same.schema same.rows counted left sized so_far read;
+    segment = (record { name = name; columns = columns; count = count ∙ sized }, counted ∙ ap (λ (n : ℕ). reader.given + n) (sym count), reading);
+    ended = λ none. absurd cc;
+    groups = λ none. absurd cc;
+    refused = tt;
+    read = λ _. record { bytes = read.bytes; took = read.took; failures = omega (arith, read.failures) };
+    settles = reading;
+    repeats = λ answer set. absurd (cc (unsettled, set));
+    same = same;
+  }
+
+  pub segment_missed : (size : ℕ) (fault : Fault) → settled next ≡ Some (Err fault) → reader.given < reader.rows → settled reader ≡ None → size ≡ min group_size (reader.rows - reader.given)
+      → Fails (segment reader.layout reader.shape.value.schema.columns.items size) old now fault → GivesNext source next_source old now reader next (Err fault)
+  segment_missed size fault stopped left unsettled sized fails = record {
+    given = tt;
+    segment = tt;
+    ended = tt;
+    groups = tt;
+    refused = λ _ start groups so_far. segment_refused start old now reader groups size fault left sized so_far fails;
+    read = λ _. record { bytes = fails.bytes; took = fails.took; failures = fails.failures };
+    settles = stopped;
+    repeats = λ answer set. absurd (cc (unsettled, set));
+    same = same;
+  }
+
+  pub end_given : settled next ≡ Some (Ok tt) → reader.given ≡ reader.rows → settled reader ≡ None → Took old now [] → now.failures ≡ old.failures → IsAtEnd now.known
+      → GivesNext source next_source old now reader next (Ok None)
+  end_given stopped all unsettled took failures ended = record {
+    given = tt;
+    segment = tt;
+    ended = λ _ _ start groups so_far. end_seen start old now reader groups all so_far took failures ended;
+    groups = λ _ _ start groups so_far. all_groups start old reader groups all so_far;
+    refused = tt;
+    read = λ _. record { bytes = []; took = took; failures = omega (arith, failures) };
+    settles = stopped;
+    repeats = λ answer set. absurd (cc (unsettled, set));
+    same = same;
+  }
+
+  pub byte_given : (fault : Fault) → settled next ≡ Some (Err fault) → reader.given ≡ reader.rows → settled reader ≡ None → Fails end old now fault
+      → GivesNext source next_source old now reader next (Err fault)
+  byte_given fault stopped all unsettled fails = record {
+    given = tt;
+    segment = tt;
+    ended = tt;
+    groups = tt;
+    refused = λ _ start groups so_far. end_missed start old now reader groups fault all so_far fails;
+    read = λ _. record { bytes = fails.bytes; took = fails.took; failures = fails.failures };
+    settles = stopped;
+    repeats = λ answer set. absurd (cc (unsettled, set));
+    same = same;
+  }

@@ -1,0 +1,119 @@
+-- What is spelled is read: the groups behind a table file's header.
+use Rattle.std.proofs.Common.{◌≡◌, ℕ, zero, suc, ◌+◌, ◌-◌, ◌<◌, ◌≤◌, true, All, List, [], ◌∷◌, ◌++◌, length, map, drop, Option, None, Result, Ok, refl, sym, ap, ap₂, subst, ◌∙◌, append_assoc, add-one, length-take, length-drop, arith}
+use Rattle.std.specs.List.{flat_map, list_all, range_with_len}
+use Rattle.std.proofs.lemmas.List.{append-nil}
+use Rattle.std.proofs.lemmas.List.Elements.{All-nil, All-cons, All-head, All-tail}
+use Rattle.std.proofs.lemmas.List.Folds.{list_all-append}
+use Rattle.bw_model.specs.declared.column.Column.{Column}
+use Rattle.bw_model.specs.declared.fault.Fault.{Fault}
+use Rattle.bw_model.specs.Column.{admits_values}
+use Rattle.bw_model.specs.Groups.{group_size, groups_of, together}
+use Rattle.bw_model.specs.Row.{Value}
+use Rattle.bw_model.proofs.BitsLemmas.{both}
+use Rattle.bw_model.proofs.GroupLemmas.{groups_of-nothing, groups_of-first, groups_of-sizes, groups_of-table}
+use Rattle.bw_segment.specs.Layout.{block_text, segment_text, rows_spelled}
+use Rattle.bw_segment.specs.Meaning.{Meaning, IsGroup}
+use Rattle.bw_segment.proofs.TextLemmas.{length-block, block_is_fine, rows_of_text}
+use Rattle.bw_file.specs.declared.layout.Layout.{Layout}
+use Rattle.bw_file.specs.Blocks.{form_of, block_size, block_fault}
+use Rattle.bw_file.specs.Reading.{Tail, tail, passed}
+use Rattle.bw_file.specs.TableReading.{sound_at, one_block, blocks, segment, group_sizes, end, body}
+use Rattle.bw_file.proofs.ReaderLemmas.{group_sizes-some, group_sizes-none}
+use Rattle.bw_file.proofs.SegmentLemmas.{is_layout}
+use Rattle.bw_file.proofs.SpelledHeader.{ReadsText, text_then, text_gives, field_reads}
+
+abbrev group_under : List Column → List (List Value) → Meaning
+group_under columns rows = record { name = []; columns = columns; rows = rows }
+
+-- the blocks of a group's rows
+module _ (layout : Layout) (columns : List Column) (rows : List (List Value)) (group : IsGroup (group_under columns rows)) where
+  abbrev block : ℕ → List ℕ
+  block number = block_text (form_of layout) columns number rows
+
+  block_reads : (number : ℕ) → number < length columns → ReadsText (one_block layout columns (length rows) number) (block number) (block number)
+  unfolding one_block
+  block_reads number there at rest =
+      let law = is_layout layout in
+      let meaning = group_under columns rows in
+      let long = length-block (form_of layout) law meaning group number in
+      let fine : block_fault layout columns number (length rows) (block number) ≡ None = block_is_fine (form_of layout) law meaning group number there in
+      ap (λ (r : Result (List ℕ × Tail) Fault). passed r (λ bytes. sound_at at layout columns (length rows) number bytes (block_fault layout columns number (length rows) bytes)))
+      (field_reads (block_size layout columns number) (block number) long at rest)
+      ∙ ap (λ (fault : Option ℕ). sound_at at layout columns (length rows) number (block number) fault (tail (at + length (block number)) rest)) fine
+
+  blocks_read : (more number : ℕ) (before : List ℕ) → number + more ≤ length columns
+      → ReadsText (blocks layout columns (length rows) number more before) (flat_map block (range_with_len number more)) (before ++ flat_map block (range_with_len number more))
+  unfolding blocks
+  blocks_read zero number before within = λ at rest.
+      let there : at ≡ at + 0 = omega arith in
+      let same : before ≡ before ++ [] = sym (append-nil before) in
+      rw (← there, ← same) refl
+  blocks_read (suc more) number before within =
+      let next = blocks_read more (number + 1) (before ++ block number) (omega (arith, within)) in
+      subst (ReadsText (blocks layout columns (length rows) number (suc more) before) (flat_map block (range_with_len number (suc more))))
+      (append_assoc before (block number) (flat_map block (range_with_len (number + 1) more)))
+      (text_then (one_block layout columns (length rows) number) (λ bytes. blocks layout columns (length rows) (suc number) more (before ++ bytes)) (block number)
+      (flat_map block (range_with_len (number + 1) more)) (block number) ((before ++ block number) ++ flat_map block (range_with_len (number + 1) more))
+      (block_reads number (omega (arith, within)))
+      (subst (λ (n : ℕ). ReadsText (blocks layout columns (length rows) n more (before ++ block number)) (flat_map block (range_with_len (number + 1) more)) ((before ++ block number) ++ flat_map block (range_with_len (number + 1) more))) (add-one number) next))
+
+  pub segment_reads : ReadsText (segment layout columns (length rows)) (segment_text (form_of layout) columns rows) rows
+  unfolding segment segment_text
+  segment_reads =
+      let text = flat_map block (range_with_len 0 (length columns)) in
+      subst (ReadsText (segment layout columns (length rows)) text) (rows_of_text (form_of layout) (is_layout layout) (group_under columns rows) group)
+      (text_gives (blocks layout columns (length rows) 0 (length columns) []) (λ bytes. rows_spelled (form_of layout) columns (length rows) bytes) text text
+      (blocks_read (length columns) 0 [] (omega arith)))
+
+-- the sizes of groups, and what is said of each of them
+abbrev HasSize : List (List Value) → Type 0
+HasSize group = (1 ≤ length group) × (length group ≤ group_size)
+
+abbrev Admits : List Column → List (List Value) → Type 0
+Admits columns group = list_all (admits_values columns) group ≡ true
+
+body_reads : (layout : Layout) (columns : List Column) (groups before : List (List (List Value))) (at : ℕ) → All HasSize groups → All (Admits columns) groups
+    → (t : Tail) × (body layout columns (map length groups) before (tail at (flat_map (segment_text (form_of layout) columns) groups)) ≡ Ok (before ++ groups, t))
+unfolding body end
+body_reads layout columns [] before at sized admitted = (tail at [], rw append-nil refl)
+body_reads layout columns (group ∷ groups) before at sized admitted =
+    let size = All-head HasSize group groups sized in
+    let is : IsGroup (group_under columns group) = record { some = size.0; few = size.1; admitted = All-head (Admits columns) group groups admitted } in
+    let text = segment_text (form_of layout) columns group in
+    let others = flat_map (segment_text (form_of layout) columns) groups in
+    let r = body_reads layout columns groups (before ++ group ∷ []) (at + length text) (All-tail HasSize group groups sized) (All-tail (Admits columns) group groups admitted) in
+    let first = segment_reads layout columns group is at others in (
+      r.0,
+      ap (λ (x : Result (List (List Value) × Tail) Fault). passed x (λ group. body layout columns (map length groups) (before ++ group ∷ []))) first
+          ∙ r.1 ∙ ap (λ (found : List (List (List Value))). Ok (found, r.0)) (append_assoc before (group ∷ []) groups),
+    )
+
+each_admitted : (columns : List Column) (groups : List (List (List Value))) → list_all (admits_values columns) (together groups) ≡ true → All (Admits columns) groups
+each_admitted columns [] all = All-nil (Admits columns)
+each_admitted columns (group ∷ groups) all =
+    let p = both (list_all (admits_values columns) group) (list_all (admits_values columns) (together groups)) (sym (list_all-append (admits_values columns) group (together groups)) ∙ all) in
+    All-cons (Admits columns) group groups p.0 (each_admitted columns groups p.1)
+
+-- the sizes of a table's groups
+sizes_within : (most : ℕ) (rows : List (List Value)) → length rows ≤ most → group_sizes (length rows) ≡ map length (groups_of rows)
+unfolding group_size
+sizes_within most [] few = group_sizes-none ∙ sym (ap (map length) (groups_of-nothing {A = List Value}))
+sizes_within zero (row ∷ rows) few = absurd (omega (arith, few))
+sizes_within (suc most) (row ∷ rows) few =
+    let all = row ∷ rows in
+    let some : 0 < length all = omega arith in
+    let rest : length (drop group_size all) ≡ length all - group_size = length-drop group_size all in
+    let fewer : length (drop group_size all) ≤ most = omega (arith, rest, few) in
+    group_sizes-some (length all) some
+    ∙ ap₂ (λ (size : ℕ) (sizes : List ℕ). size ∷ sizes) (sym (length-take group_size all)) (ap group_sizes (sym rest) ∙ sizes_within most (drop group_size all) fewer)
+    ∙ sym (ap (map length) (groups_of-first all some))
+
+pub sizes_of_groups : (rows : List (List Value)) → group_sizes (length rows) ≡ map length (groups_of rows)
+sizes_of_groups rows = sizes_within (length rows) rows (omega arith)
+
+-- what stands behind a header is read as the groups of its rows
+pub groups_read : (layout : Layout) (columns : List Column) (rows : List (List Value)) (at : ℕ) → list_all (admits_values columns) rows ≡ true
+    → (t : Tail) × (body layout columns (group_sizes (length rows)) [] (tail at (flat_map (segment_text (form_of layout) columns) (groups_of rows))) ≡ Ok (groups_of rows, t))
+groups_read layout columns rows at admitted =
+    let each = each_admitted columns (groups_of rows) (ap (list_all (admits_values columns)) (groups_of-table rows) ∙ admitted) in
+    rw (sizes_of_groups rows) (body_reads layout columns (groups_of rows) [] at (groups_of-sizes rows) each)

@@ -1,0 +1,224 @@
+-- What is spelled is read: the header of a table file.
+use Rattle.std.proofs.Common.{◌≡◌, ℕ, ℤ, suc, ◌+◌, ◌^◌, ◌<◌, ◌≤◌, Bool, true, false, ◌||◌, not, All, FitsSigned, List, [], ◌∷◌, ◌++◌, length, take, drop, eqb, nat_lt, Result, Ok, refl, sym, ap, ap₂, subst, ◌∙◌, append_assoc, length-append, arith, slice_index, inl, inr, ◌⊎◌}
+use Rattle.std.proofs.Math.Facts.{Fits-lt-pow, Fits-of_z}
+use Rattle.std.specs.Int.{w16, w32, w64, to_le_bytes, cast_unsigned}
+use Rattle.std.specs.List.{flat_map, list_all, list_any}
+use Rattle.std.proofs.lemmas.Bool.{le-ltb, ne_eqb}
+use Rattle.std.proofs.lemmas.Int.{to_z-of_z}
+use Rattle.std.proofs.lemmas.List.{append-nil, take_at, drop_at, take_all}
+use Rattle.std.proofs.lemmas.List.Elements.{All-head, All-tail}
+use Rattle.std.proofs.lemmas.Nat.{from_le_bytes-to_le_bytes_2, from_le_bytes-to_le_bytes_4, from_le_bytes-to_le_bytes_8}
+use Rattle.bw_model.specs.declared.fault.Fault.{Fault}
+use Rattle.bw_model.specs.Limits.{most_rows, most_columns}
+use Rattle.bw_model.specs.Name.{is_name, are_apart}
+use Rattle.bw_model.specs.SchemaText.{ColumnShape, shape, shape_names}
+use Rattle.bw_model.specs.Text.{same_text}
+use Rattle.bw_model.proofs.BitsLemmas.{both}
+use Rattle.bw_file.specs.declared.layout.Layout.{Layout}
+use Rattle.bw_file.specs.declared.layout.Layout.TheVariants.{Planes, Slices}
+use Rattle.bw_file.specs.FileText.{magic, layout_byte, flag_byte, front_text, name_text, bound_text, column_text, are_bounds, IsColumn}
+use Rattle.bw_file.specs.Reading.{Tail, tail, Reading, passed, ◌>>=◌, give, field, said_at, judged}
+use Rattle.bw_file.specs.TableReading.{magic_says, version_says, layout_says, count_says, rows_say, bound_in, bounds_say, nullable_says, name_says, name, column, columns, front_of, front, HeaderShape, header_of, header}
+use Rattle.bw_file.proofs.SpellingLemmas.{shape_text, fits_version, head_text, IsHeader}
+
+-- reading gives this of a text, whatever stands behind it
+abbrev pub ReadsText : {A : Type 0} → Reading A → List ℕ → A → Type 0
+ReadsText reading text x = (at : ℕ) (rest : List ℕ) → reading (tail at (text ++ rest)) ≡ Ok (x, tail (at + length text) rest)
+
+abbrev here : {A : Type 0} → A → ℕ → List ℕ → Result (A × Tail) Fault
+here x at rest = Ok (x, tail at rest)
+
+-- one text and then another, which may depend on what the first gave
+pub text_then : {A B : Type 0} (first : Reading A) (next : A → Reading B) (one two : List ℕ) (x : A) (y : B)
+    → ReadsText first one x → ReadsText (next x) two y → ReadsText (first >>= next) (one ++ two) y
+text_then {A = A} first next one two x y p q at rest =
+    let there : at + length one + length two ≡ at + length (one ++ two) = omega (arith, length-append one two) in
+    ap (λ (bytes : List ℕ). passed (first (tail at bytes)) next) (append_assoc one two rest)
+    ∙ ap (λ (r : Result (A × Tail) Fault). passed r next) (p at (two ++ rest))
+    ∙ q (at + length one) rest ∙ ap (λ (n : ℕ). here y n rest) there
+
+-- a text, of which something is made
+pub text_gives : {A B : Type 0} (first : Reading A) (made : A → B) (text : List ℕ) (x : A) → ReadsText first text x → ReadsText (first >>= λ found. give (made found)) text (made x)
+text_gives {A = A} first made text x p at rest = ap (λ (r : Result (A × Tail) Fault). passed r (λ found. give (made found))) (p at rest)
+
+pub text_as : {A : Type 0} (reading : Reading A) (one two : List ℕ) (x : A) → one ≡ two → ReadsText reading one x → ReadsText reading two x
+text_as reading one two x same p = subst (λ (text : List ℕ). ReadsText reading text x) same p
+
+pub field_reads : (size : ℕ) (text : List ℕ) → length text ≡ size → ReadsText (field size) text text
+unfolding field
+field_reads size text whole at rest =
+    let long : nat_lt (length (text ++ rest)) size ≡ false = le-ltb _ _ (omega (arith, length-append text rest)) in
+    rw (long, take_at text rest size whole, drop_at text rest size whole, whole) refl
+
+-- a field whose bytes say something
+said_reads : {A : Type 0} (at size : ℕ) (says : List ℕ → Result A ℕ) (text : List ℕ) (x : A) → length text ≡ size → says text ≡ Ok x
+    → ReadsText (field size >>= λ bytes. said_at at (says bytes)) text x
+said_reads {A = A} at size says text x whole said now rest =
+    ap (λ (r : Result (List ℕ × Tail) Fault). passed r (λ bytes. said_at at (says bytes))) (field_reads size text whole now rest)
+    ∙ ap (λ (r : Result A ℕ). said_at at r (tail (now + length text) rest)) said
+
+pub judged_reads : {A : Type 0} (size : ℕ) (says : List ℕ → Result A ℕ) (text : List ℕ) (x : A) → length text ≡ size → says text ≡ Ok x → ReadsText (judged size says) text x
+unfolding judged
+judged_reads size says text x whole said at rest = said_reads at size says text x whole said at rest
+
+-- what the fields of a header say
+magic_read : magic_says magic ≡ Ok tt
+unfolding magic_says magic
+magic_read = refl
+
+length-magic : length magic ≡ 8
+unfolding magic
+length-magic = refl
+
+version_read : (version : ℕ) → (version ≡ 1) ⊎ (version ≡ 2) → version_says (version ∷ []) ≡ Ok version
+unfolding version_says
+version_read version (inl one) = rw one refl
+version_read version (inr two) = rw two refl
+
+layout_read : (layout : Layout) → layout_says (layout_byte layout ∷ []) ≡ Ok layout
+unfolding layout_says
+layout_read Planes = refl
+layout_read Slices = refl
+
+nullable_read : (nullable : Bool) → nullable_says (flag_byte nullable ∷ []) ≡ Ok nullable
+unfolding nullable_says
+nullable_read false = refl
+nullable_read true = refl
+
+count_read : (count : ℕ) → 1 ≤ count → count ≤ most_columns → count_says (to_le_bytes w16 count) ≡ Ok count
+unfolding count_says
+count_read count some few =
+    let back = from_le_bytes-to_le_bytes_2 count (omega (arith, few)) in
+    let any : eqb count 0 ≡ false = ne_eqb count 0 (λ none. omega (arith, some, none)) in
+    let room : nat_lt most_columns count ≡ false = le-ltb _ _ few in
+    rw (back, any, room) refl
+
+rows_read : (rows : ℕ) → rows ≤ most_rows → rows_say (to_le_bytes w32 rows) ≡ Ok rows
+unfolding rows_say
+rows_read rows few =
+    let back = from_le_bytes-to_le_bytes_4 rows (omega (arith, few)) in
+    let room : nat_lt most_rows rows ≡ false = le-ltb _ _ few in
+    rw (back, room) refl
+
+length-bound_text : (n : ℤ) → length (bound_text n) ≡ 8
+length-bound_text n = refl
+
+bound_read : (n : ℤ) → FitsSigned w64 n → bound_in (bound_text n) ≡ n
+bound_read n fits =
+    let small : cast_unsigned w64 n < 2 ^ 64 = Fits-lt-pow (Fits-of_z fits) in
+    rw (from_le_bytes-to_le_bytes_8 (cast_unsigned w64 n) small) (to_z-of_z w64 n fits)
+
+bounds_read : (version : ℕ) (lo hi : ℤ) → FitsSigned w64 lo → FitsSigned w64 hi → are_bounds version lo hi ≡ true
+    → bounds_say version (bound_text lo ++ bound_text hi) ≡ Ok (record { lo = lo; hi = hi })
+unfolding bounds_say
+bounds_read version lo hi low high ordered =
+    let first : bound_in (take 8 (bound_text lo ++ bound_text hi)) ≡ lo = ap bound_in (take_at (bound_text lo) (bound_text hi) 8 (length-bound_text lo)) ∙ bound_read lo low in
+    let second : bound_in (take 8 (drop 8 (bound_text lo ++ bound_text hi))) ≡ hi =
+    ap (λ (l : List ℕ). bound_in (take 8 l)) (drop_at (bound_text lo) (bound_text hi) 8 (length-bound_text lo))
+    ∙ ap bound_in (take_all 8 (bound_text hi) (omega (arith, length-bound_text hi))) ∙ bound_read hi high in
+    rw (first, second, ordered) refl
+
+new_name : (before : List (List ℕ)) (text : List ℕ) → is_name text ≡ true → list_any (λ (other : List ℕ). same_text other text) before ≡ false → name_says before text ≡ Ok text
+unfolding name_says
+new_name before text is apart = rw (is, apart) refl
+
+name_reads : (before : List (List ℕ)) (text : List ℕ) → is_name text ≡ true → list_any (λ (other : List ℕ). same_text other text) before ≡ false → ReadsText (name before) (name_text text) text
+unfolding name
+name_reads before text is apart at rest =
+    text_then (field 1) (λ size. field (slice_index size 0) >>= λ bytes. said_at at (name_says before bytes)) (length text ∷ []) text (length text ∷ []) text
+    (field_reads 1 (length text ∷ []) refl) (said_reads at (length text) (name_says before) text text refl (new_name before text is apart)) at rest
+
+column_reads : (version : ℕ) (before : List (List ℕ)) (c : ColumnShape) → IsColumn c → fits_version version c ≡ true
+    → list_any (λ (other : List ℕ). same_text other c.name) before ≡ false → ReadsText (column version before) (shape_text c) c
+unfolding column column_text
+column_reads version before c is room apart =
+    let bounds = bound_text c.lo ++ bound_text c.hi in
+    let flag : List ℕ = flag_byte c.nullable ∷ [] in
+    text_as (column version before) (name_text c.name ++ (bounds ++ flag)) (shape_text c) c (sym (append_assoc (name_text c.name) bounds flag))
+    (text_then (name before) (λ text. judged 16 (bounds_say version) >>= λ bounds. judged 1 nullable_says >>= λ nullable. give (shape text bounds.lo bounds.hi nullable))
+    (name_text c.name) (bounds ++ flag) c.name c (name_reads before c.name is.name apart)
+    (text_then (judged 16 (bounds_say version)) (λ bounds. judged 1 nullable_says >>= λ nullable. give (shape c.name bounds.lo bounds.hi nullable))
+    bounds flag (record { lo = c.lo; hi = c.hi }) c
+    (judged_reads 16 (bounds_say version) bounds (record { lo = c.lo; hi = c.hi }) refl (bounds_read version c.lo c.hi is.lo is.hi room))
+    (text_gives (judged 1 nullable_says) (λ nullable. shape c.name c.lo c.hi nullable) flag c.nullable
+    (judged_reads 1 nullable_says flag c.nullable refl (nullable_read c.nullable)))))
+
+-- a name among others that are apart is none of those before it
+not_any : (a b : Bool) → (not (a || b)) ≡ true → (a ≡ false) × (b ≡ false)
+not_any true b e = absurd cc
+not_any false true e = absurd cc
+not_any false false e = (refl, refl)
+
+apart_there : (text name : List ℕ) (before behind : List (List ℕ)) → not (list_any (same_text name) (before ++ text ∷ behind)) ≡ true → same_text name text ≡ false
+apart_there text name [] behind e = (not_any (same_text name text) (list_any (same_text name) behind) e).0
+apart_there text name (other ∷ before) behind e =
+    apart_there text name before behind (ap not (not_any (same_text name other) (list_any (same_text name) (before ++ text ∷ behind)) e).1)
+
+apart_before : (text : List ℕ) (before behind : List (List ℕ)) → are_apart (before ++ text ∷ behind) ≡ true → list_any (λ (other : List ℕ). same_text other text) before ≡ false
+unfolding are_apart
+apart_before text [] behind e = refl
+apart_before text (name ∷ before) behind e =
+    let p = both (not (list_any (same_text name) (before ++ text ∷ behind))) (are_apart (before ++ text ∷ behind)) e in
+    ap₂ ◌||◌ (apart_there text name before behind p.0) (apart_before text before behind p.1)
+
+names-more : (before : List ColumnShape) (c : ColumnShape) (more : List ColumnShape) → shape_names (before ++ c ∷ []) ++ shape_names more ≡ shape_names before ++ c.name ∷ shape_names more
+names-more [] c more = refl
+names-more (b ∷ before) c more = ap (λ (names : List (List ℕ)). b.name ∷ names) (names-more before c more)
+
+columns_read : (version : ℕ) (before more : List ColumnShape) → All IsColumn more → list_all (fits_version version) more ≡ true
+    → are_apart (shape_names before ++ shape_names more) ≡ true → ReadsText (columns version before (length more)) (flat_map shape_text more) (before ++ more)
+unfolding columns
+columns_read version before [] is room apart = λ at rest.
+    let there : at ≡ at + 0 = omega arith in
+    ap₂ (λ (found : List ColumnShape) (n : ℕ). here found n rest) (sym (append-nil before)) there
+columns_read version before (c ∷ more) is room apart =
+    let fits = both (fits_version version c) (list_all (fits_version version) more) room in
+    let next : are_apart (shape_names (before ++ c ∷ []) ++ shape_names more) ≡ true = ap are_apart (names-more before c more) ∙ apart in
+    subst (ReadsText (columns version before (suc (length more))) (flat_map shape_text (c ∷ more))) (append_assoc before (c ∷ []) more)
+    (text_then (column version (shape_names before)) (λ found. columns version (before ++ found ∷ []) (length more)) (shape_text c) (flat_map shape_text more) c ((before ++ c ∷ []) ++ more)
+    (column_reads version (shape_names before) c (All-head IsColumn c more is) fits.0 (apart_before c.name (shape_names before) (shape_names more) apart))
+    (columns_read version (before ++ c ∷ []) more (All-tail IsColumn c more is) fits.1 next))
+
+front_reads : (version : ℕ) (layout : Layout) (columns rows : ℕ) → (version ≡ 1) ⊎ (version ≡ 2) → 1 ≤ columns → columns ≤ most_columns → rows ≤ most_rows
+    → ReadsText front (front_text version layout columns rows) (front_of version layout columns rows)
+unfolding front front_text
+front_reads version layout count rows one_or_two some limited few =
+    let two : List ℕ = version ∷ layout_byte layout ∷ [] in
+    let counted = to_le_bytes w16 count in
+    let told = to_le_bytes w32 rows in
+    let found = front_of version layout count rows in
+    text_as front (magic ++ (two ++ (counted ++ told))) (magic ++ two ++ counted ++ told) found
+    (sym (append_assoc magic two (counted ++ told)) ∙ sym (append_assoc (magic ++ two) counted told))
+    (text_then (judged 8 magic_says) (λ _. judged 1 version_says >>= λ version. judged 1 layout_says >>= λ layout. judged 2 count_says >>= λ count. judged 4 rows_say >>= λ rows. give (front_of version layout count rows))
+    magic (two ++ (counted ++ told)) tt found (judged_reads 8 magic_says magic tt length-magic magic_read)
+    (text_then (judged 1 version_says) (λ version. judged 1 layout_says >>= λ layout. judged 2 count_says >>= λ count. judged 4 rows_say >>= λ rows. give (front_of version layout count rows))
+    (version ∷ []) (layout_byte layout ∷ (counted ++ told)) version found (judged_reads 1 version_says (version ∷ []) version refl (version_read version one_or_two))
+    (text_then (judged 1 layout_says) (λ layout. judged 2 count_says >>= λ count. judged 4 rows_say >>= λ rows. give (front_of version layout count rows))
+    (layout_byte layout ∷ []) (counted ++ told) layout found (judged_reads 1 layout_says (layout_byte layout ∷ []) layout refl (layout_read layout))
+    (text_then (judged 2 count_says) (λ count. judged 4 rows_say >>= λ rows. give (front_of version layout count rows))
+    counted told count found (judged_reads 2 count_says counted count refl (count_read count some limited))
+    (text_gives (judged 4 rows_say) (λ rows. front_of version layout count rows) told rows (judged_reads 4 rows_say told rows refl (rows_read rows few)))))))
+
+-- a header, and what stands in a schema beside its shape
+pub record IsWhole (h : HeaderShape) : Type 0 where
+  pub header : IsHeader h
+  pub some : 1 ≤ length h.schema.columns
+  pub limited : length h.schema.columns ≤ most_columns
+  pub apart : are_apart (shape_names h.schema.columns) ≡ true
+
+pub header_reads : (h : HeaderShape) → IsWhole h → ReadsText header (head_text h) h
+unfolding header
+header_reads h is =
+    let columns_of = h.schema.columns in
+    let count = length columns_of in
+    let first = front_text h.version h.layout count h.rows in
+    let named = name_text h.schema.name in
+    let found = front_of h.version h.layout count h.rows in
+    let texts = flat_map shape_text columns_of in
+    text_as header (first ++ (named ++ texts)) (first ++ named ++ texts) h (sym (append_assoc first named texts))
+    (text_then front (λ first. name [] >>= λ text. columns first.version [] first.columns >>= λ found. give (header_of first text found))
+    first (named ++ texts) found h (front_reads h.version h.layout count h.rows is.header.version is.some is.limited is.header.few)
+    (text_then (name []) (λ text. columns h.version [] count >>= λ columns. give (header_of found text columns))
+    named texts h.schema.name h (name_reads [] h.schema.name is.header.schema.name refl)
+    (text_gives (columns h.version [] count) (λ columns. header_of found h.schema.name columns) texts columns_of
+    (columns_read h.version [] columns_of is.header.schema.columns is.header.bounds is.apart))))

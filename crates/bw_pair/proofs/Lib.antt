@@ -1,0 +1,6 @@
+pub mod ComparisonLemmas
+pub mod NumberLemmas
+pub mod PairLemmas
+pub mod RowLemmas
+pub mod SoundLemmas
+pub mod StepLemmas

@@ -1,0 +1,4 @@
+pub mod Comparison
+pub mod Meaning
+pub mod Pair
+pub mod Rows

@@ -1,0 +1,122 @@
+//! Pairs of nodes, and what a line takes from the product rows that it cites.
+ghost use Rattle.std.specs.Prelude.{◌≡◌};
+ghost use Rattle.bw_pair.specs.Comparison.{constant_pair};
+ghost use Rattle.bw_pair.specs.Rows.{pair_of_nodes, if_both, exchanged, node_joined, cited, null_pair, null_cited, value_node};
+
+use bw_diagram::{Connective, Diagram, Product};
+use bw_model::Truth;
+
+/// The nodes of a condition: where it is TRUE, and where it is FALSE.
+#[derive(Clone, Copy, Debug, PartialEq, Eq)]
+pub struct Pair {
+    pub yes: u32,
+    pub no: u32,
+}
+
+impl Pair {
+    /// The pair of two nodes.
+    pub(crate) const fn new(yes: u32, no: u32) -> Self
+        ensures { result ≡ pair_of_nodes yes no }
+    {
+        Pair { yes, no }
+    }
+
+    /// The pair of a step with one truth on every row.
+    pub(crate) const fn constant(truth: Truth) -> Self
+        ensures { result ≡ constant_pair truth }
+    {
+        match truth {
+            Truth::Yes => Pair::new(1, 0),
+            Truth::No => Pair::new(0, 1),
+            Truth::Unknown => Pair::new(0, 0),
+        }
+    }
+
+    /// The pair of two nodes, if both are there.
+    pub(crate) fn of_both(yes: Option<u32>, no: Option<u32>) -> Option<Self>
+        ensures { result ≡ if_both yes no }
+    {
+        match (yes, no) {
+            (Some(yes), Some(no)) => Some(Pair { yes, no }),
+            _ => None,
+        }
+    }
+
+    /// The pair of the opposite condition.
+    pub(crate) const fn exchanged(self) -> Self
+        ensures { result ≡ exchanged self }
+    {
+        Pair {
+            yes: self.no,
+            no: self.yes,
+        }
+    }
+}
+
+/// Node `c` of the product row of a number, if it is this connective of nodes `a` and `b`.
+pub(crate) fn cited(
+    diagram: &Diagram<'_>,
+    op: Connective,
+    a: u32,
+    b: u32,
+    number: u64,
+) -> Option<u32>
+    ensures { result ≡ cited diagram.now.rows op a b number }
+{
+    match diagram.row(number) {
+        Some(row) => node_joined(op, a, b, row),
+        None => None,
+    }
+}
+
+/// Node `c` of a product row, if it is this connective of nodes `a` and `b`.
+fn node_joined(op: Connective, a: u32, b: u32, row: Product) -> Option<u32>
+    ensures { result ≡ node_joined op a b row }
+{
+    (row.op == op && row.a == a && row.b == b).then_some(row.c)
+}
+
+/// The pair of the product row of a number, if it is the null test of a column with this null
+/// variable: the nodes that are 1 where the column is null, and where it isn't.
+pub(crate) fn null_cited(diagram: &Diagram<'_>, variable: u32, number: u64) -> Option<Pair>
+    ensures { result ≡ null_cited diagram.now variable number }
+{
+    match diagram.row(number) {
+        Some(row) => null_pair(diagram, variable, row),
+        None => None,
+    }
+}
+
+/// The pair of a product row that is the null test of a column.
+fn null_pair(diagram: &Diagram<'_>, variable: u32, row: Product) -> Option<Pair>
+    ensures { result ≡ null_pair diagram.now.nodes variable row }
+{
+    if row.op != Connective::Diff || row.a != 1 {
+        return None;
+    }
+    match diagram.node(u64::from(row.b)) {
+        Some(node) if node.v == variable && node.low == 0 && node.high == 1 => {
+            Some(Pair::new(row.b, row.c))
+        }
+        _ => None,
+    }
+}
+
+/// The node that is 1 where a column with this null variable has a value, which a line cites by the
+/// number of a product row: 1, for `-`, where the column has no null variable.
+pub(crate) fn value_node(
+    diagram: &Diagram<'_>,
+    variable: Option<u32>,
+    number: Option<u64>,
+) -> Option<u32>
+    ensures { result ≡ value_node diagram.now variable number }
+{
+    match (variable, number) {
+        (None, None) => Some(1),
+        (Some(variable), Some(number)) => match null_cited(diagram, variable, number) {
+            Some(pair) => Some(pair.no),
+            None => None,
+        },
+        _ => None,
+    }
+}
