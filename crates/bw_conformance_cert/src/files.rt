@@ -321,3 +321,26 @@ pub(crate) const TWO_COLUMNS: ProgramFile = ProgramFile {
         END 10\n\
         ",
 };
+
+/// `x >= 1` of a column of one bit: the file that `docs/FORMATS.md` explains line by line.
+pub(crate) const ONE_BIT: ProgramFile = ProgramFile {
+    program: "\
+        LOAD r0 x 0\n\
+        RESULT r0\n\
+        ",
+    before: 3,
+    certificate: "\
+        NODE 2 0 1 0\n\
+        NODE 3 0 0 1\n\
+        CHAIN 0 LT x 0 0 0 0 -\n\
+        CHAIN 1 LT x 0 1 1 2 0\n\
+        ROW 0 DIFF 1 1 0 S\n\
+        ROW 1 DIFF 1 0 1 S\n\
+        ROW 2 DIFF 1 2 3 V 0 0 1\n\
+        ROW 3 AND 1 2 2 S\n\
+        ROW 4 XOR 3 3 0 S\n\
+        CMP 1 - 3 2\n\
+        LOAD 3\n\
+        END 4\n\
+        ",
+};

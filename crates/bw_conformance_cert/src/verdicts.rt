@@ -1,6 +1,6 @@
 //! What the checker says of program files.
 use crate::files::{
-    BELOW_EIGHT, EVERY_ROW, FALSE_JOIN, NULLS, ProgramFile, TOP_BITS, TOP_BITS_STRAIGHT,
+    BELOW_EIGHT, EVERY_ROW, FALSE_JOIN, NULLS, ONE_BIT, ProgramFile, TOP_BITS, TOP_BITS_STRAIGHT,
     TWO_COLUMNS, TWO_SKIPS,
 };
 use bw_cert::{Certified, check};
@@ -202,6 +202,7 @@ fn worked_files_are_judged(rt: HostRuntime) -> Result<(), Fail> {
             "CHAIN 1 LT2 y x 1 3 0\n",
             Some((603, 14)),
         ),
+        (BITS, "WHERE x >= 1", ONE_BIT, 0, "", None),
         (APART, "WHERE x < y", TWO_COLUMNS, 0, "", Some((606, 26))),
     ] {
         let table = if schema == BITS || schema == APART {

@@ -6,6 +6,8 @@ mod join;
 mod judge;
 mod known;
 mod laws;
+#[cfg(test)]
+mod tests;
 mod walk;
 
 pub use edge::Edge;

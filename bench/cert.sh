@@ -1,0 +1,13 @@
+#!/usr/bin/env bash
+# Times the reading and checking of a certificate of 1,048,576 product rows. Run by hand on an idle machine: bench/cert.sh. Each
+# line is the least time of five runs, in microseconds, and the most memory of one, in KiB.
+set -euo pipefail
+top=$(cd "$(dirname "$0")/.." && pwd)
+
+# the program is built, and proved, by its first run
+[ -x "$top/crates/bench_cert/out/bench_cert" ] || (cd "$top/crates/bench_cert" && rt run < /dev/null > /dev/null 2>&1)
+
+for _ in 1 2 3 4 5; do
+    "$top/crates/bench_cert/out/bench_cert" 2>&1 > /dev/null
+done | sort -k 1,1 -k 2,2n | awk '!seen[$1]++'
+/usr/bin/time -f 'memory %M' "$top/crates/bench_cert/out/bench_cert" 2>&1 > /dev/null | grep memory

@@ -1,0 +1,81 @@
+//! Reads and checks a certificate of 1,048,576 product rows, each of which but two follows from two earlier ones. Standard
+//! output tells what was accepted, and standard error how long each part took, in microseconds. `bench/cert.sh` runs it.
+#![tactic(auto)]
+
+use bw_cert::check;
+use bw_cert_text::Certificate;
+use bw_model::{Cond, Fault, Schema};
+use bw_program::Program;
+use std::alloc::{AllocError, Global};
+use std::fmt::Write;
+use std::io;
+use std::process::ExitCode;
+use std::rt::Clock;
+use std::time::Instant;
+use thiserror::Error;
+
+const SCHEMA: &[u8] = b"TABLE t\nCOLUMN a 0 255 NOT NULL\n";
+
+/// It selects every row.
+const PROGRAM: &[u8] = b"FILL r0 1\nRESULT r0\n";
+
+const ROWS: u64 = 1_048_576;
+
+#[derive(Debug, Drop, Error)]
+enum Failure {
+    #[error("{0}")]
+    Line(#[from] Fault),
+    #[error("{0}")]
+    Clock(#[from] io::Error),
+    #[error("out of memory")]
+    Memory,
+}
+
+fn main(rt: HostRuntime) -> ExitCode {
+    match measure(&rt) {
+        Ok(()) => ExitCode::SUCCESS,
+        Err(failure) => {
+            let _ = eprintln!(rt; "{failure}");
+            ExitCode::FAILURE
+        }
+    }
+}
+
+#[tactic(auto, using(bw_model::proofs::CondLemmas::names))]
+fn measure(rt: &(impl AllocGlobal + Print + Eprint + Clock)) -> Result<(), Failure> {
+    let schema = Schema::parse(rt.alloc(), SCHEMA)?;
+    let program = Program::parse(rt.alloc(), &schema, PROGRAM)?;
+    let Ok(text) = certificate_text(rt.alloc()) else {
+        return Err(Failure::Memory);
+    };
+    let start = Instant::now(rt)?;
+    let certificate = Certificate::parse(rt.alloc(), 4, text.as_bytes())?;
+    let parsed = start.elapsed(rt)?.as_micros();
+    let start = Instant::now(rt)?;
+    let verdict = check(rt.alloc(), &schema, &Cond::Always, program, &certificate);
+    let checked = start.elapsed(rt)?.as_micros();
+    eprintln!(rt; "parse {parsed}\ncheck {checked}")?;
+    match verdict {
+        Ok(_) => println!(rt; "accepted: {} rows", certificate.rows())?,
+        Err((_, fault)) => println!(rt; "{fault}")?,
+    }
+    Ok(())
+}
+
+/// Node 2 tests variable 0, and each row but the first two says of it, by the first two, that its XOR with itself is 0.
+fn certificate_text(alloc: Global) -> Result<String, AllocError> {
+    let mut text = String::new(alloc);
+    text.push_str("NODE 2 0 0 1\nROW 0 XOR 0 0 0 S\nROW 1 XOR 1 1 0 S\n")?;
+    for n in 2..ROWS {
+        write_row(&mut text, n)?;
+    }
+    text.push_str("FIXED\nFILL\nEND 1\n")?;
+    Ok(text)
+}
+
+fn write_row(text: &mut String, n: u64) -> Result<(), AllocError> {
+    match write!(text, "ROW {n} XOR 2 2 0 V 0 0 1\n") {
+        Ok(()) => Ok(()),
+        Err(_) => Err(AllocError),
+    }
+}
