@@ -20,8 +20,8 @@ use bw_run::{Counts, run_segment};
 use bw_segment::Segment;
 use std::alloc::Global;
 
-/// A scan program that selects exactly the rows for which a condition is TRUE, on every table of a schema. Only
-/// [`check`](crate::check) makes one.
+/// A scan program that selects exactly the rows for which a condition is TRUE, on every table of a
+/// schema. Only [`check`](crate::check) makes one.
 #[derive(Debug, Drop)]
 pub struct Certified {
     pub(crate) schema: Schema,
@@ -41,10 +41,13 @@ impl Certified {
     ) -> Result<Self, (Program, Fault)>
         requires fits { IsTrue (fits schema.now.columns.items program) }
         requires selects { Selects schema.now.columns.items condition.now program }
-        ensures schema { IfOk result (λ certified. (certified.schema.name ≡ schema.now.name) × (certified.schema.columns.items ≡ schema.now.columns.items)) }
-        ensures condition { IfOk result (λ certified. tree_of certified.condition ≡ tree_of condition.now) }
+        ensures schema { IfOk result (λ certified. (certified.schema.name ≡ schema.now.name)
+            × (certified.schema.columns.items ≡ schema.now.columns.items)) }
+        ensures condition { IfOk result (λ certified. tree_of certified.condition
+            ≡ tree_of condition.now) }
         ensures program { IfOk result (λ certified. certified.program ≡ program) }
-        ensures handed_back { IfErr result (λ refused. (refused.0 ≡ program) × (is_memory refused.1 ≡ true)) }
+        ensures handed_back { IfErr result (λ refused. (refused.0 ≡ program)
+            × (is_memory refused.1 ≡ true)) }
     {
         let kept = match schema.copy(alloc) {
             Ok(kept) => kept,
@@ -83,11 +86,13 @@ impl Certified {
         &self.program
     }
 
-    /// Runs the program on a segment of a table of the schema: gives, for each of its rows, whether the condition is TRUE
-    /// on it, and 0 past the last one, with the counts of the run. No memory, no refusal.
+    /// Runs the program on a segment of a table of the schema: gives, for each of its rows, whether
+    /// the condition is TRUE on it, and 0 past the last one, with the counts of the run. No memory,
+    /// no refusal.
     pub fn run_segment<S: Segment>(&self, segment: &S) -> (Plane, Counts)
         requires { (S.meaning segment.now).columns ≡ self.now.schema.columns.items }
-        ensures rows { lanes_of_words result.0 ≡ selection self.now.condition (S.meaning segment.now).rows
+        ensures rows { lanes_of_words result.0
+            ≡ selection self.now.condition (S.meaning segment.now).rows
             ++ replicate (group_size - length (S.meaning segment.now).rows) false }
         ensures loads { result.1.loads ≡ (run_of self.now.program (S.meaning segment.now)).loads }
         ensures skips { result.1.skips ≡ (run_of self.now.program (S.meaning segment.now)).skips }
@@ -96,13 +101,17 @@ impl Certified {
         run_segment(&self.program, segment)
     }
 
-    /// A law, selection exact: on every table of the schema the program selects exactly the rows for which the condition is
-    /// TRUE, whichever skips its runs on the groups of rows take.
+    /// A law, selection exact: on every table of the schema the program selects exactly the rows
+    /// for which the condition is TRUE, whichever skips its runs on the groups of rows take.
     pub fn selects_rows(&self)
-        ensures bits { (rows : List (List Value)) → list_all (admits_values self.now.schema.columns.items) rows ≡ true
-            → selection_by self.now.schema.columns.items self.now.program rows ≡ selection self.now.condition rows }
-        ensures positions { (rows : List (List Value)) → list_all (admits_values self.now.schema.columns.items) rows ≡ true
-            → positions_of (selection_by self.now.schema.columns.items self.now.program rows) ≡ selected self.now.condition rows }
+        ensures bits { (rows : List (List Value))
+            → list_all (admits_values self.now.schema.columns.items) rows ≡ true
+            → selection_by self.now.schema.columns.items self.now.program rows
+            ≡ selection self.now.condition rows }
+        ensures positions { (rows : List (List Value))
+            → list_all (admits_values self.now.schema.columns.items) rows ≡ true
+            → positions_of (selection_by self.now.schema.columns.items self.now.program rows)
+            ≡ selected self.now.condition rows }
     {
         groups_make_the_table();
         self.schema.bits_spell_row();

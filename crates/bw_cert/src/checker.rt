@@ -19,10 +19,12 @@ use std::alloc::Global;
 
 /// Checks a certificate for a program and a condition, whose columns are the schema's.
 ///
-/// Refused is the first line that breaks a rule: a NODE, CHAIN or ROW line that breaks its own (601 to 604); a line that isn't
-/// the condition's next, or doesn't show what its step makes (606); one that isn't the program's next, or doesn't show what
-/// its instruction gives (607), or reads a register that isn't known (609); a join that doesn't hold (608); at END, a line that
-/// is left over, a result register that isn't known (609), or another node than the condition's (610). The program comes back.
+/// Refused is the first line that breaks a rule: a NODE, CHAIN or ROW line that breaks its own (601
+/// to 604); a line that isn't the condition's next, or doesn't show what its step makes (606); one
+/// that isn't the program's next, or doesn't show what its instruction gives (607), or reads a
+/// register that isn't known (609); a join that doesn't hold (608); at END, a line that is left
+/// over, a result register that isn't known (609), or another node than the condition's (610). The
+/// program comes back.
 pub fn check(
     alloc: Global,
     schema: &Schema,
@@ -31,10 +33,14 @@ pub fn check(
     certificate: &Certificate,
 ) -> Result<Certified, (Program, Fault)>
     requires { IsTrue (names_within (length schema.now.columns.items) condition.now) }
-    ensures checked { Checks result (checked schema.now.columns.items condition.now program certificate.now) }
-    ensures valid { IfOk result (λ certified. Valid schema.now.columns.items condition.now program certificate.now) }
-    ensures schema { IfOk result (λ certified. (certified.schema.name ≡ schema.now.name) × (certified.schema.columns.items ≡ schema.now.columns.items)) }
-    ensures condition { IfOk result (λ certified. tree_of certified.condition ≡ tree_of condition.now) }
+    ensures checked { Checks result
+        (checked schema.now.columns.items condition.now program certificate.now) }
+    ensures valid { IfOk result (λ certified.
+        Valid schema.now.columns.items condition.now program certificate.now) }
+    ensures schema { IfOk result (λ certified. (certified.schema.name ≡ schema.now.name)
+        × (certified.schema.columns.items ≡ schema.now.columns.items)) }
+    ensures condition { IfOk result (λ certified.
+        tree_of certified.condition ≡ tree_of condition.now) }
     ensures program { IfOk result (λ certified. certified.program ≡ program) }
     ensures handed_back { IfErr result (λ refused. refused.0 ≡ program) }
 {
@@ -56,7 +62,8 @@ fn judge(
     certificate: &Certificate,
 ) -> Result<(), Fault>
     requires { IsTrue (names_within (length schema.now.columns.items) condition.now) }
-    ensures right { OnOk result ((facts : Facts) × (checked schema.now.columns.items condition.now program.now certificate.now ≡ Ok facts)) }
+    ensures right { OnOk result ((facts : Facts)
+        × (checked schema.now.columns.items condition.now program.now certificate.now ≡ Ok facts)) }
     ensures fault { IfErr result (λ fault. is_memory fault ≡ false
         → checked schema.now.columns.items condition.now program.now certificate.now ≡ Err fault) }
 {
@@ -82,8 +89,12 @@ fn check_end(
     end: EndLine,
 ) -> Result<(), Fault>
     requires { answer < 64 }
-    ensures right { OnOk result (end_on diagram.now end.line (record { known = at_end.now.known; rest = at_end.now.rest.now }) answer first end.row ≡ Ok diagram.now) }
-    ensures fault { IfErr result (λ fault. end_on diagram.now end.line (record { known = at_end.now.known; rest = at_end.now.rest.now }) answer first end.row ≡ Err fault) }
+    ensures right { OnOk result (end_on diagram.now end.line
+        (record { known = at_end.now.known; rest = at_end.now.rest.now }) answer first end.row
+        ≡ Ok diagram.now) }
+    ensures fault { IfErr result (λ fault. end_on diagram.now end.line
+        (record { known = at_end.now.known; rest = at_end.now.rest.now }) answer first end.row
+        ≡ Err fault) }
 {
     if let Some(line) = at_end.rest.first() {
         return Err(Fault::at_line(code::END, line.line));

@@ -1,4 +1,5 @@
-//! Laws: a certificate is valid exactly where no line breaks a rule, and then the program selects what the condition does.
+//! Laws: a certificate is valid exactly where no line breaks a rule, and then the program selects
+//! what the condition does.
 ghost use Rattle.std.specs.Prelude.{◌≡◌, List, Ok, IsTrue, length};
 ghost use Rattle.bw_model.specs.declared.column.Column.{Column};
 ghost use Rattle.bw_model.specs.declared.cond.Cond.{Cond};
@@ -15,21 +16,28 @@ use bw_pair::pairs_tell_truths;
 
 /// A law: a certificate is valid exactly where no line breaks a rule.
 pub fn valid_exactly_where_checked()
-    ensures sound { (columns : List Column) (cond : Cond) (program : ProgramShape) (certificate : CertificateShape) (facts : Facts)
-        → checked columns cond program certificate ≡ Ok facts → Valid columns cond program certificate }
-    ensures complete { (columns : List Column) (cond : Cond) (program : ProgramShape) (certificate : CertificateShape)
-        → (valid : Valid columns cond program certificate) → checked columns cond program certificate ≡ Ok valid.facts }
+    ensures sound { (columns : List Column) (cond : Cond) (program : ProgramShape)
+        (certificate : CertificateShape) (facts : Facts)
+        → checked columns cond program certificate ≡ Ok facts
+        → Valid columns cond program certificate }
+    ensures complete { (columns : List Column) (cond : Cond) (program : ProgramShape)
+        (certificate : CertificateShape)
+        → (valid : Valid columns cond program certificate)
+        → checked columns cond program certificate ≡ Ok valid.facts }
 {
     judged_lines_obey();
     obeying_lines_are_judged();
 }
 
-/// A law: where a certificate is valid, the columns have all that the program names, and in every run, over any lanes and
-/// whichever skips it takes, the result register is 1 at the end exactly in the lanes on whose rows the condition is TRUE.
+/// A law: where a certificate is valid, the columns have all that the program names, and in every
+/// run, over any lanes and whichever skips it takes, the result register is 1 at the end exactly in
+/// the lanes on whose rows the condition is TRUE.
 pub fn valid_programs_select()
-    ensures fits { (columns : List Column) (cond : Cond) (program : ProgramShape) (certificate : CertificateShape)
+    ensures fits { (columns : List Column) (cond : Cond) (program : ProgramShape)
+        (certificate : CertificateShape)
         → Valid columns cond program certificate → IsTrue (fits columns program) }
-    ensures selects { (columns : List Column) (cond : Cond) (program : ProgramShape) (certificate : CertificateShape)
+    ensures selects { (columns : List Column) (cond : Cond) (program : ProgramShape)
+        (certificate : CertificateShape)
         → IsTrue (names_within (length columns) cond) → IsTrue (is_program program)
         → Valid columns cond program certificate → Selects columns cond program }
 {

@@ -1,9 +1,10 @@
-//! Certificates checked: where the checker says yes, a scan program selects exactly the rows for which its condition is
-//! TRUE, on every table of the schema, early skips included.
+//! Certificates checked: where the checker says yes, a scan program selects exactly the rows for
+//! which its condition is TRUE, on every table of the schema, early skips included.
 //!
-//! The contract that the crates above use: [`check`] answers a [`Certified`] exactly where a certificate is valid, as
-//! `specs/Valid.antt` says, and else the first line that breaks a rule; [`Certified::run_segment`] gives, for each row of a
-//! segment, whether the condition is TRUE on it.
+//! The contract that the crates above use: [`check`] answers a [`Certified`] exactly where a
+//! certificate is valid, as `specs/Valid.antt` says, and else the first line that breaks a rule;
+//! [`Certified::run_segment`] gives, for each row of a segment, whether the condition is TRUE on
+//! it.
 //!
 //! Read `specs/Valid.antt` first, and then `checker.rt`.
 #![tactic(auto)]

@@ -10,14 +10,15 @@ use bw_diagram::Diagram;
 use bw_model::{Fault, Place, Schema, code};
 use std::alloc::Global;
 
-/// The nodes, chains and product rows that a certificate's lines state under a schema. Refused is the first line that
-/// breaks its rule, or that there is no room for (601 to 604).
+/// The nodes, chains and product rows that a certificate's lines state under a schema. Refused is
+/// the first line that breaks its rule, or that there is no room for (601 to 604).
 pub(crate) fn diagram_of<'a>(
     alloc: Global,
     schema: &'a Schema,
     certificate: &Certificate,
 ) -> Result<Diagram<'a>, Fault>
-    ensures { Gives (λ diagram. diagram) result (facts_stated schema.now.columns.items certificate.now) }
+    ensures { Gives (λ diagram. diagram) result
+        (facts_stated schema.now.columns.items certificate.now) }
 {
     let mut diagram = Diagram::new(alloc, schema);
     add_nodes(&mut diagram, certificate.node_lines())?;

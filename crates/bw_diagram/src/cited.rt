@@ -8,8 +8,8 @@ use crate::diagram::Diagram;
 use crate::product::Connective;
 
 impl Diagram<'_> {
-    /// The node that product row `number` says to be the connective of `a` and `b`, or None where it isn't a row of
-    /// these.
+    /// The node that product row `number` says to be the connective of `a` and `b`, or None where
+    /// it isn't a row of these.
     #[tactic(auto, unfolding(crate::specs::Cited::cited))]
     pub fn cited(&self, op: Connective, a: u64, b: u64, number: u64) -> Option<u64>
         ensures { result ≡ cited self.now op a b number }
@@ -22,8 +22,8 @@ impl Diagram<'_> {
         }
     }
 
-    /// The node by which chain `number` compares `len` bits of column `col`, from bit `start` upwards, with `bound`, or None
-    /// where it isn't a chain of these.
+    /// The node by which chain `number` compares `len` bits of column `col`, from bit `start`
+    /// upwards, with `bound`, or None where it isn't a chain of these.
     #[tactic(auto, unfolding(crate::specs::Cited::chain_cited))]
     pub fn chain_cited(
         &self,
@@ -41,7 +41,8 @@ impl Diagram<'_> {
             .map(u64::from)
     }
 
-    /// The node by which chain `number` compares the low `len` bits of two columns, or None where it isn't a chain of these.
+    /// The node by which chain `number` compares the low `len` bits of two columns, or None where
+    /// it isn't a chain of these.
     #[tactic(auto, unfolding(crate::specs::Cited::two_cited))]
     pub fn two_cited(
         &self,
@@ -58,7 +59,8 @@ impl Diagram<'_> {
             .map(u64::from)
     }
 
-    /// Node `number`, or None where it isn't worth what variable `v` is: it tests it, with children 0 and 1.
+    /// Node `number`, or None where it isn't worth what variable `v` is: it tests it, with children
+    /// 0 and 1.
     #[tactic(auto, unfolding(crate::specs::Cited::is_variable))]
     pub fn variable_cited(&self, v: u32, number: u64) -> Option<u64>
         ensures { result ≡ variable_cited self.now v number }

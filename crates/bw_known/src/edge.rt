@@ -51,7 +51,8 @@ impl Edges {
     /// Adds the edge of a skip.
     fn push(&mut self, edge: Edge) -> Result<(), AllocError>
         requires { edge.target < length self.old }
-        ensures holds { OnOk result ((edges : List Edge) → Holds self.old edges → Holds self.new (edges ++ edge ∷ [])) }
+        ensures holds { OnOk result ((edges : List Edge) → Holds self.old edges
+            → Holds self.new (edges ++ edge ∷ [])) }
         ensures room { length self.new ≡ length self.old }
     {
         self.by_target[edge.target].push(edge)?;
@@ -62,7 +63,8 @@ impl Edges {
     pub(crate) fn add(&mut self, known: &Known, instr: Instr) -> Result<(), AllocError>
         requires some { 1 ≤ length self.old }
         requires within { goes_past (length self.old - 1) instr ≡ false }
-        ensures holds { OnOk result ((edges : List Edge) → Holds self.old edges → Holds self.new (with_edge edges (edge_of known.now instr))) }
+        ensures holds { OnOk result ((edges : List Edge) → Holds self.old edges
+            → Holds self.new (with_edge edges (edge_of known.now instr))) }
         ensures room { length self.new ≡ length self.old }
     {
         match instr {
@@ -78,7 +80,8 @@ impl Edges {
     /// The edges into a place.
     pub(crate) fn into_place(&self, place: usize) -> &[Edge]
         requires { place < length self.now }
-        ensures { (edges : List Edge) → Holds self.now edges → result.now ≡ edges_into place edges }
+        ensures { (edges : List Edge) → Holds self.now edges
+            → result.now ≡ edges_into place edges }
     {
         &self.by_target[place]
     }

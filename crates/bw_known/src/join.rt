@@ -12,8 +12,8 @@ use bw_diagram::Connective;
 use bw_model::{Fault, code};
 
 impl Judge<'_> {
-    /// Takes the lines of a place's join, if skips come to it, and gives those that follow. Before it the registers are
-    /// known as on falling through, and after it as the join keeps them.
+    /// Takes the lines of a place's join, if skips come to it, and gives those that follow. Before
+    /// it the registers are known as on falling through, and after it as the join keeps them.
     pub(crate) fn take_join<'a>(
         self,
         known: &mut Known,
@@ -23,7 +23,8 @@ impl Judge<'_> {
         end: u64,
     ) -> Result<&'a [BodyLine], Fault>
         ensures taken { IfOk result (λ rest. joined self.entry.diagram.now end place edges.now
-            (record { known = known.old; rest = lines.now }) ≡ Ok (record { known = known.new; rest = rest.now })) }
+            (record { known = known.old; rest = lines.now })
+            ≡ Ok (record { known = known.new; rest = rest.now })) }
         ensures fault { IfErr result (λ fault. joined self.entry.diagram.now end place edges.now
             (record { known = known.old; rest = lines.now }) ≡ Err fault) }
     {
@@ -46,9 +47,11 @@ impl Judge<'_> {
         edges: &[Edge],
         lines: &'a [BodyLine],
     ) -> Result<&'a [BodyLine], Fault>
-        ensures taken { IfOk result (λ rest. keeps_taken self.entry.diagram.now known.old edges.now 0 nothing_known lines.now
+        ensures taken { IfOk result (λ rest.
+            keeps_taken self.entry.diagram.now known.old edges.now 0 nothing_known lines.now
             ≡ Ok (record { known = known.new; rest = rest.now })) }
-        ensures fault { IfErr result (λ fault. keeps_taken self.entry.diagram.now known.old edges.now 0 nothing_known lines.now
+        ensures fault { IfErr result (λ fault.
+            keeps_taken self.entry.diagram.now known.old edges.now 0 nothing_known lines.now
             ≡ Err fault) }
     {
         let through = *known;
@@ -70,10 +73,12 @@ impl Judge<'_> {
         Ok(rest)
     }
 
-    /// Whether a register, not below the least, has the node that its line names, however the join is come to.
+    /// Whether a register, not below the least, has the node that its line names, however the join
+    /// is come to.
     #[tactic(auto, unfolding(crate::specs::Join::is_kept))]
     fn is_kept(self, through: &Known, edges: &[Edge], least: u8, keep: &Keep) -> bool
-        ensures kept { result ≡ is_kept self.entry.diagram.now through.now edges.now least keep.now }
+        ensures kept { result
+            ≡ is_kept self.entry.diagram.now through.now edges.now least keep.now }
         ensures register { result ≡ true → keep.now.register < 64 }
     {
         keep.register >= least
@@ -98,7 +103,8 @@ impl Judge<'_> {
     /// Whether it has that node by each skip, of which each has a pair of rows.
     fn keeps_by_skips(self, keep: &Keep, edges: &[Edge]) -> bool
         requires { keep.now.register < 64 }
-        ensures { result ≡ keeps_by_skips self.entry.diagram.now keep.now edges.now keep.now.edges.items }
+        ensures { result
+            ≡ keeps_by_skips self.entry.diagram.now keep.now edges.now keep.now.edges.items }
     {
         let mut pairs = keep.edges.as_slice();
         let mut skips = edges;

@@ -12,7 +12,8 @@ use bw_diagram::{ChainKind, Connective, Diagram};
 use bw_model::{Fault, Schema, code};
 use bw_program::Instr;
 
-/// What lines are judged by: a schema, and the nodes, chains and product rows that a certificate states under it.
+/// What lines are judged by: a schema, and the nodes, chains and product rows that a certificate
+/// states under it.
 #[derive(Clone, Copy)]
 pub(crate) struct Judge<'a> {
     pub(crate) schema: &'a Schema,
@@ -27,7 +28,8 @@ const fn unfit(line: u64) -> Fault
 }
 
 impl Judge<'_> {
-    /// What is known behind an instruction, by its line. Where the line is refused, it may be known already or not.
+    /// What is known behind an instruction, by its line. Where the line is refused, it may be known
+    /// already or not.
     #[tactic(auto, unfolding(crate::specs::Instruction::behind))]
     pub(crate) fn behind(
         self,
@@ -38,8 +40,10 @@ impl Judge<'_> {
     ) -> Result<(), Fault>
         requires columns { self.diagram.now.columns ≡ self.schema.now.columns.items }
         requires registers { named_by instr ≤ register_count }
-        ensures known { IfOk result (λ _. behind self.entry.diagram.now known.old line instr given ≡ Ok known.new) }
-        ensures fault { IfErr result (λ fault. behind self.entry.diagram.now known.old line instr given ≡ Err fault) }
+        ensures known { IfOk result (λ _.
+            behind self.entry.diagram.now known.old line instr given ≡ Ok known.new) }
+        ensures fault { IfErr result (λ fault.
+            behind self.entry.diagram.now known.old line instr given ≡ Err fault) }
     {
         match instr {
             Instr::Load(r, col, bit) => {
@@ -81,7 +85,9 @@ impl Judge<'_> {
     /// The node of the plane of a column's bit.
     fn plane(self, line: u64, col: u8, bit: u8, given: InstructionEntry) -> Result<u64, Fault>
         requires columns { self.diagram.now.columns ≡ self.schema.now.columns.items }
-        ensures { result ≡ plane_on self.entry.diagram.now line (nat_lt col (length self.entry.diagram.now.columns) && nat_lt bit (width_at self.entry.diagram.now.columns col))
+        ensures { result ≡ plane_on self.entry.diagram.now line
+            (nat_lt col (length self.entry.diagram.now.columns)
+            && nat_lt bit (width_at self.entry.diagram.now.columns col))
             (bit_variable self.entry.diagram.now.columns col bit) given }
     {
         let InstructionEntry::Load(node) = given else {
@@ -103,7 +109,9 @@ impl Judge<'_> {
     /// The node of a column's null plane.
     fn nulls(self, line: u64, col: u8, given: InstructionEntry) -> Result<u64, Fault>
         requires columns { self.diagram.now.columns ≡ self.schema.now.columns.items }
-        ensures { result ≡ plane_on self.entry.diagram.now line (nat_lt col (length self.entry.diagram.now.columns) && is_nullable self.entry.diagram.now.columns col)
+        ensures { result ≡ plane_on self.entry.diagram.now line
+            (nat_lt col (length self.entry.diagram.now.columns)
+            && is_nullable self.entry.diagram.now.columns col)
             (first_variable self.entry.diagram.now.columns col) given }
     {
         let InstructionEntry::Load(node) = given else {
@@ -182,7 +190,9 @@ impl Judge<'_> {
         given: InstructionEntry,
     ) -> Result<u64, Fault>
         requires columns { self.diagram.now.columns ≡ self.schema.now.columns.items }
-        ensures { result ≡ byte_on self.entry.diagram.now line kind (nat_lt col (length self.entry.diagram.now.columns) && nat_lt slice (slices_at self.entry.diagram.now.columns col)) col slice k given }
+        ensures { result ≡ byte_on self.entry.diagram.now line kind
+            (nat_lt col (length self.entry.diagram.now.columns)
+            && nat_lt slice (slices_at self.entry.diagram.now.columns col)) col slice k given }
     {
         let InstructionEntry::Byte(chain) = given else {
             return Err(unfit(line));
@@ -197,7 +207,8 @@ impl Judge<'_> {
         }
     }
 
-    /// The node of a comparison of the bytes of a slice that there is, if the chain is named where there is one.
+    /// The node of a comparison of the bytes of a slice that there is, if the chain is named where
+    /// there is one.
     fn byte_node(
         self,
         kind: ChainKind,

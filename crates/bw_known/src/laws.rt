@@ -12,15 +12,19 @@ ghost use Rattle.bw_known.specs.Walk.{Taken, judged};
 
 use bw_diagram::cited_nodes_are_worth;
 
-/// A law, skip soundness: let parts obey for a program's instructions, over facts that are true. Then in every run, over
-/// any lanes and whichever skips it takes, at each place that it reaches, each register of which a node is known there
-/// holds, in the lane of each assignment, the value of the node. So it is at the end, which every run comes to.
+/// A law, skip soundness: let parts obey for a program's instructions, over facts that are true.
+/// Then in every run, over any lanes and whichever skips it takes, at each place that it reaches,
+/// each register of which a node is known there holds, in the lane of each assignment, the value of
+/// the node. So it is at the end, which every run comes to.
 pub fn skip_soundness()
-    ensures reached { (facts : Facts) (program : ProgramShape) (parts : List Part) → AreTrue facts → IsTrue (is_program program)
+    ensures reached { (facts : Facts) (program : ProgramShape) (parts : List Part)
+        → AreTrue facts → IsTrue (is_program program)
         → Obeys facts program.instrs parts
-        → (lanes : List Assignment) (place : ℕ) (state : State) → Reaches facts.columns lanes program place state
+        → (lanes : List Assignment) (place : ℕ) (state : State)
+        → Reaches facts.columns lanes program place state
         → Hold facts lanes (before facts program.instrs parts place) state.registers }
-    ensures end { (facts : Facts) (program : ProgramShape) (parts : List Part) → AreTrue facts → IsTrue (is_program program)
+    ensures end { (facts : Facts) (program : ProgramShape) (parts : List Part) → AreTrue facts
+        → IsTrue (is_program program)
         → Obeys facts program.instrs parts → (lanes : List Assignment)
         → Hold facts lanes (before facts program.instrs parts (length program.instrs))
         (end_state facts.columns lanes program).registers }
@@ -34,9 +38,11 @@ pub fn judged_lines_obey()
         → judged facts instrs end lines ≡ Ok taken → Accepts facts instrs lines taken }
 {}
 
-/// A law: the lines of parts that obey are judged to be right, and what is known at the end is what is known before it.
+/// A law: the lines of parts that obey are judged to be right, and what is known at the end is what
+/// is known before it.
 pub fn obeying_lines_are_judged()
-    ensures { (facts : Facts) (instrs : List Instr) (parts : List Part) (end : ℕ) → Obeys facts instrs parts
+    ensures { (facts : Facts) (instrs : List Instr) (parts : List Part) (end : ℕ)
+        → Obeys facts instrs parts
         → judged facts instrs end (lines_of 0 parts)
         ≡ Ok (record { known = before facts instrs parts (length instrs); rest = [] }) }
 {}

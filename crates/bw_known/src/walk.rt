@@ -13,20 +13,23 @@ use bw_model::{Fault, Schema, code};
 use bw_program::{Instr, Program};
 use std::alloc::Global;
 
-/// What is known where a program ends, and the lines that follow those of its instructions and joins.
+/// What is known where a program ends, and the lines that follow those of its instructions and
+/// joins.
 #[derive(Clone, Copy, Debug)]
 pub struct AtEnd<'a> {
     pub known: Known,
     pub rest: &'a [BodyLine],
 }
 
-/// Takes the lines of a program's instructions and joins, and gives what is known of the registers at its end and the lines
-/// that follow. `end` is the number of the certificate's last line, behind all lines.
+/// Takes the lines of a program's instructions and joins, and gives what is known of the registers
+/// at its end and the lines that follow. `end` is the number of the certificate's last line, behind
+/// all lines.
 ///
-/// Refused is the first line that breaks a rule: where an instruction's line is wanted, another, or one that doesn't show what
-/// the instruction gives (607), or, of the right kind, reads a register that isn't known (609); where skips meet, another line
-/// than JOIN, or a KEEP line that doesn't hold for falling through and for each skip (608). Where lines are missing, that is so
-/// at the last line.
+/// Refused is the first line that breaks a rule: where an instruction's line is wanted, another, or
+/// one that doesn't show what the instruction gives (607), or, of the right kind, reads a register
+/// that isn't known (609); where skips meet, another line than JOIN, or a KEEP line that doesn't
+/// hold for falling through and for each skip (608). Where lines are missing, that is so at the
+/// last line.
 pub fn known_at_end<'a>(
     alloc: Global,
     schema: &Schema,
@@ -64,9 +67,11 @@ impl Judge<'_> {
     ) -> Result<&'a [BodyLine], Fault>
         requires columns { self.diagram.now.columns ≡ self.schema.now.columns.items }
         requires registers { named_by instr ≤ register_count }
-        ensures taken { IfOk result (λ rest. instruction_taken self.entry.diagram.now end known.old instr lines.now
+        ensures taken { IfOk result (λ rest.
+            instruction_taken self.entry.diagram.now end known.old instr lines.now
             ≡ Ok (record { known = known.new; rest = rest.now })) }
-        ensures fault { IfErr result (λ fault. instruction_taken self.entry.diagram.now end known.old instr lines.now ≡ Err fault) }
+        ensures fault { IfErr result (λ fault.
+            instruction_taken self.entry.diagram.now end known.old instr lines.now ≡ Err fault) }
     {
         let Some((line, rest)) = lines.split_first() else {
             return Err(Fault::at_line(code::INSTRUCTION_LINE, end));

@@ -1,0 +1,5 @@
+pub mod PickedLemmas
+pub mod DescentLemmas
+pub mod SumLemmas
+pub mod ColumnLemmas
+pub mod TotalLemmas
