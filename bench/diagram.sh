@@ -5,7 +5,7 @@ set -euo pipefail
 top=$(cd "$(dirname "$0")/.." && pwd)
 
 # the program is built, and proved, by its first run
-[ -x "$top/crates/bench_diagram/out/bench_diagram" ] || (cd "$top/crates/bench_diagram" && rt run > /dev/null 2>&1)
+[ -x "$top/crates/bench_diagram/out/bench_diagram" ] || (cd "$top/crates/bench_diagram" && rt run < /dev/null > /dev/null 2>&1)
 
 for _ in 1 2 3 4 5; do
     "$top/crates/bench_diagram/out/bench_diagram" 2>&1 > /dev/null

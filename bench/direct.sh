@@ -21,7 +21,7 @@ fi
 
 # both programs are built, and proved, by their first runs
 "$top/bw" direct "$schema" <(printf 'a,b,c,d\n') 'SELECT COUNT(*) FROM m' > /dev/null
-[ -x "$top/crates/bench_reader/out/bench_reader" ] || (cd "$top/crates/bench_reader" && rt run > /dev/null)
+[ -x "$top/crates/bench_reader/out/bench_reader" ] || (cd "$top/crates/bench_reader" && rt run < /dev/null > /dev/null 2>&1)
 
 best() {
     local name=$1

@@ -8,7 +8,7 @@ calls=${1:-5000000}
 folder=$(mktemp -d)
 trap 'rm -r "$folder"' EXIT
 
-[ -x "$top/crates/bench_lanes/out/bench_lanes" ] || (cd "$top/crates/bench_lanes" && rt run > /dev/null)
+[ -x "$top/crates/bench_lanes/out/bench_lanes" ] || (cd "$top/crates/bench_lanes" && rt run < /dev/null > /dev/null)
 gcc -O2 -o "$folder/lanes" "$top/bench/lanes.c"
 echo 'this repository'
 "$top/crates/bench_lanes/out/bench_lanes" "$calls" | sed 's/^/    /'

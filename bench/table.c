@@ -124,11 +124,16 @@ static int slices_are_good(const struct column *column, const unsigned char *blo
     if (column->nullable) {
         __m128i nulls[LANES];
         for (int i = 0; i < LANES; i++) nulls[i] = load(block, i);
-        if (!is_zero(nulls))
-            for (int row = 0; row < rows; row++)
-                if (block[row / 8] >> row % 8 & 1)
-                    for (int s = 0; s < column->slices; s++)
-                        if (slices[ROWS * s + row]) return 0;
+        if (!is_zero(nulls)) {
+            int bad = 0;
+            for (int i = 0; i < ROWS / 16; i++) {
+                __m128i any = load(slices, i);
+                for (int s = 1; s < column->slices; s++) any = _mm_or_si128(any, load(slices + ROWS * s, i));
+                int zeros = _mm_movemask_epi8(_mm_cmpeq_epi8(any, _mm_setzero_si128()));
+                bad |= (block[2 * i] | block[2 * i + 1] << 8) & ~zeros;
+            }
+            if (bad) return 0;
+        }
     }
     return 1;
 }

@@ -1,12 +1,15 @@
 #!/usr/bin/env bash
-# Times `bw load`, `bw query` and `bw dump` over a table of four columns: a from 0 to 255, b from -10 to 10 with nulls, c
-# from 0 to 1,000,000, d from 0 to 4,294,967,295 with nulls. Beside a count without condition stands a plain C loop that
-# reads the same file by pieces of 64 KiB and judges every block (bench/table.c), and beside the load the csv reader alone.
-# Run by hand on an idle machine: bench/table.sh [ROWS [FOLDER]], by default a million rows in a new folder.
-# Each line has the seconds of wall time, those of the processor, and the most memory in KB, of the best of five runs.
+# Times `bw load`, `bw query`, `bw dump` and `bw direct` over a table of four columns: a from 0 to 255, b from -10 to 10 with
+# nulls, c from 0 to 1,000,000, d from 0 to 4,294,967,295 with nulls. Beside a count without condition stand a plain C loop
+# that reads the same file by pieces of 64 KiB and judges every block (bench/table.c), and dd, which reads it and does
+# nothing; beside the load the csv reader alone; beside `bw direct` mawk.
+# Run by hand on an idle machine: bench/table.sh [ROWS [FOLDER]], by default ten million rows in a new folder. It keeps in
+# FOLDER the CSV of ROWS rows (23 bytes a row) and a table file of each layout.
+# Each line has the least wall time of five runs, the runs of all lines taken in turn; millions of bytes a second, of the CSV
+# or the table file that is read, or of the text that a dump writes; and the most memory.
 set -euo pipefail
 top=$(cd "$(dirname "$0")/.." && pwd)
-rows=${1:-1000000}
+rows=${1:-10000000}
 folder=${2:-$(mktemp -d)}
 mkdir -p "$folder"
 schema=$folder/rows.schema
@@ -25,29 +28,59 @@ fi
 
 # the programs are built, and proved, by their first runs
 "$top/bw" direct "$schema" <(printf 'a,b,c,d\n') 'SELECT COUNT(*) FROM m' > /dev/null
-[ -x "$top/crates/bench_reader/out/bench_reader" ] || (cd "$top/crates/bench_reader" && rt run > /dev/null)
-gcc -O2 -o "$folder/table" "$top/bench/table.c"
 bw=$top/crates/bw/out/bw
+reader=$top/crates/bench_reader/out/bench_reader
+[ -x "$reader" ] || (cd "$top/crates/bench_reader" && rt run < /dev/null > /dev/null 2>&1)
+[ -x "$reader" ]
+gcc -O2 -o "$folder/table" "$top/bench/table.c"
 
-best() {
-    local name=$1
-    shift
-    for _ in 1 2 3 4 5; do
-        /usr/bin/time -f '%e s  %U s  %M KB' "$@" 2>&1 > /dev/null
-    done | sort -n | head -n 1 | sed "s/^/$name: /"
+declare -A least most size
+names=()
+
+# runs a command once more, and keeps the least time and the most memory under its name
+run() {
+    local name=$1 bytes=$2 start end memory
+    shift 2
+    start=${EPOCHREALTIME/./}
+    memory=$(/usr/bin/time -f %M "$@" 2>&1 > /dev/null < /dev/null)
+    end=${EPOCHREALTIME/./}
+    [ -n "${least[$name]:-}" ] || names+=("$name")
+    size[$name]=$bytes
+    [ "${least[$name]:-999999999999}" -le $((end - start)) ] || least[$name]=$((end - start))
+    [ "${most[$name]:-0}" -ge "$memory" ] || most[$name]=$memory
 }
-ls -l "$csv" | awk '{ print "CSV: " $5 " bytes" }'
-best 'csv reader alone      ' "$top/crates/bench_reader/out/bench_reader" "$csv"
-best 'direct, COUNT WHERE a<8' "$bw" direct "$schema" "$csv" 'SELECT COUNT(*) FROM m WHERE a < 8'
-if command -v mawk > /dev/null; then
-    best 'mawk, the same count   ' mawk -F, 'NR > 1 && $1 < 8 { n++ } END { print n }' "$csv"
-fi
+
+text=$(stat -c %s "$csv")
 for layout in planes slices; do
-    file=$folder/$layout-$rows.bw
-    echo "in $layout"
-    best '  load                ' "$bw" load --layout $layout "$schema" "$csv" "$file"
-    best '  read and judged in C' "$folder/table" "$file"
-    best '  COUNT(*)            ' "$bw" query "$file" 'SELECT COUNT(*) FROM m'
-    best '  COUNT(*) WHERE a < 8' "$bw" query "$file" 'SELECT COUNT(*) FROM m WHERE a < 8'
-    best '  dump                ' "$bw" dump "$file"
+    "$bw" load --layout $layout "$schema" "$csv" "$folder/$layout-$rows.bw"
 done
+dumped=$("$bw" dump "$folder/planes-$rows.bw" | wc -c)
+echo "CSV $text bytes, planes $(stat -c %s "$folder/planes-$rows.bw"), slices $(stat -c %s "$folder/slices-$rows.bw"), dump $dumped"
+echo "load of the machine before: $(cut -d ' ' -f 1-3 /proc/loadavg)"
+for _ in 1 2 3 4 5; do
+    run 'csv reader alone' "$text" "$reader" "$csv"
+    run 'direct, COUNT(*)' "$text" "$bw" direct "$schema" "$csv" 'SELECT COUNT(*) FROM m'
+    run 'direct, COUNT(*) WHERE a < 8' "$text" "$bw" direct "$schema" "$csv" 'SELECT COUNT(*) FROM m WHERE a < 8'
+    if command -v mawk > /dev/null; then
+        run 'mawk, the same count' "$text" mawk -F, 'NR > 1 && $1 < 8 { n++ } END { print n }' "$csv"
+    fi
+    for layout in planes slices; do
+        file=$folder/$layout-$rows.bw
+        bytes=$(stat -c %s "$file")
+        run "$layout: load" "$text" "$bw" load --layout $layout "$schema" "$csv" "$folder/loaded.bw"
+        rm "$folder/loaded.bw"
+        # the short ones once more each, since they take hundredths of a second
+        for _ in 1 2 3 4; do
+            run "$layout: dd" "$bytes" dd if="$file" of=/dev/null bs=64K status=none
+            run "$layout: read and judged in C" "$bytes" "$folder/table" "$file"
+            run "$layout: COUNT(*)" "$bytes" "$bw" query "$file" 'SELECT COUNT(*) FROM m'
+        done
+        run "$layout: COUNT(*) WHERE a < 8" "$bytes" "$bw" query "$file" 'SELECT COUNT(*) FROM m WHERE a < 8'
+        run "$layout: dump" "$dumped" "$bw" dump "$file"
+    done
+done
+for name in "${names[@]}"; do
+    awk -v name="$name" -v us="${least[$name]}" -v bytes="${size[$name]}" -v memory="${most[$name]}" \
+        'BEGIN { printf "%-30s %9.1f ms %8.0f MB/s %9d KB\n", name, us / 1000, bytes / us, memory }'
+done
+echo "load of the machine after: $(cut -d ' ' -f 1-3 /proc/loadavg)"

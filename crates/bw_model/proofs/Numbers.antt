@@ -20,6 +20,9 @@ decimal_more digits i h = fold_more (λ n digit. 10 * n + (digit - 48)) 0 digits
 pub cut_more : (n m u : ℕ) → m ≡ min n (2 ^ 64 - 1) → min (min (m * 10) (2 ^ 64 - 1) + u) (2 ^ 64 - 1) ≡ min (10 * n + u) (2 ^ 64 - 1)
 cut_more n m u e = omega arith
 
+pub one_more : (n m u : ℕ) → m ≡ min n (2 ^ 64 - 1) → min (10 * m + u) (2 ^ 64 - 1) ≡ min (10 * n + u) (2 ^ 64 - 1)
+one_more n m u e = omega arith
+
 -- a number that is cut at the greatest of 64 bits has a sign and fits just where the number does
 pub negative_is : (r : Option ℤ) (m n : ℕ) → m ≡ min n (2 ^ 64 - 1) → SomeIff r (FitsSigned w64 (pos 0 -ℤ pos m)) (pos 0 -ℤ pos m)
     → r ≡ cond (leb n (2 ^ 63)) (Some (pos 0 -ℤ pos n)) None

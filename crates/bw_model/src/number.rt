@@ -1,5 +1,5 @@
 //! Whole numbers as decimal digits spell them.
-ghost use Rattle.std.specs.Prelude.{◌≡◌, ◌^◌, ◌-◌, ℕ, List, Some, None, min, if◌then◌else◌};
+ghost use Rattle.std.specs.Prelude.{◌≡◌, ◌+◌, ◌*◌, ◌^◌, ◌-◌, ◌<◌, ℕ, List, Some, None, min, if◌then◌else◌};
 ghost use Rattle.std.specs.List.{list_all};
 ghost use Rattle.std.specs.Char.{is_ascii_digit};
 ghost use Rattle.bw_model.specs.Number.{digits_value, are_digits, number_of, natural_of, where_64_bits_hold};
@@ -91,9 +91,21 @@ fn magnitude_in(text: &[u8]) -> Option<u64>
             return None;
         }
         let units = u64::from(digit.saturating_sub(b'0'));
-        magnitude = magnitude.saturating_mul(10).saturating_add(units);
+        magnitude = with_digit(magnitude, units);
     }
     Some(magnitude)
+}
+
+/// A magnitude with one digit more, or the greatest `u64` where that is less.
+fn with_digit(magnitude: u64, units: u64) -> u64
+    requires { units < 10 }
+    ensures { result ≡ min (10 * magnitude + units) (2 ^ 64 - 1) }
+{
+    if magnitude < 1 << 60 {
+        magnitude * 10 + units
+    } else {
+        magnitude.saturating_mul(10).saturating_add(units)
+    }
 }
 
 /// The whole number of a sign and the magnitude of digits, where 64 bits hold it.

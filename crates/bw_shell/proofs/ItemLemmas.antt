@@ -1,11 +1,10 @@
 -- Every column, as items.
-use Rattle.std.proofs.Common.{◌≡◌, ◌∙◌, ℕ, zero, suc, ◌+◌, ◌<◌, ◌≤◌, List, [], ◌∷◌, Bool, true, ◌&&◌, not, map, length, refl, sym, ap, arith}
+use Rattle.std.proofs.Common.{◌≡◌, ℕ, zero, suc, ◌+◌, ◌≤◌, true, map, refl, arith}
 use Rattle.std.specs.List.{list_all, range_with_len}
 use Rattle.std.proofs.lemmas.Bool.{lt-ltb}
-use Rattle.bw_model.specs.declared.query.Item.{Item}
 use Rattle.bw_model.specs.declared.query.Item.TheVariants.{Plain}
-use Rattle.bw_model.specs.Total.{is_aggregate, item_within}
-use Rattle.bw_sql.specs.Items.{AreOfOneKind, is_of_kind, are_of_kind}
+use Rattle.bw_model.specs.Total.{item_within}
+use Rattle.bw_sql.specs.Items.{are_of_kind}
 
 pub columns_within : (width first count : ℕ) → first + count ≤ width → list_all (item_within width) (map Plain (range_with_len first count)) ≡ true
 columns_within width first zero h = refl

@@ -2,6 +2,7 @@ pub mod DirectExits
 pub mod Directs
 pub mod Exits
 pub mod ItemLemmas
+pub mod SameNames
 pub mod TableExits
 pub mod TableLemmas
 pub mod TakenBytes

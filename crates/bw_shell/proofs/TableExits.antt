@@ -1,21 +1,24 @@
 -- Where a call over a table file ends: at the header, at what is asked, at a segment, or when the text goes out.
-use Rattle.std.proofs.Common.{◌≡◌, ◌∙◌, ℕ, ◌+◌, ◌<◌, List, [], Bool, true, false, ◌&&◌, ◌||◌, ◌==◌, inl, inr, Option, Some, None, Result, Ok, Err, refl, sym, ap, subst, arith}
-use Rattle.std.specs.Prelude.{IsOkAnd}
-use Rattle.std.specs.Io.KnownBytes.{Appends, Keeps}
+use Rattle.std.proofs.Common.{◌≡◌, ◌∙◌, ℕ, ◌+◌, List, [], ◌++◌, length, Bool, true, false, ◌||◌, ◌==◌, inl, inr, Option, Some, None, Result, Ok, Err, refl, sym, ap, subst, arith}
+use Rattle.std.specs.Prelude.{OnOk}
+use Rattle.std.specs.Io.KnownBytes.{Appends, Consumes, IsAtEnd, Keeps}
 use Rattle.std.proofs.lemmas.Bool.{eqb-true}
+use Rattle.std.proofs.lemmas.List.{append-nil}
 use Rattle.bw_model.specs.declared.fault.Fault.{Fault}
 use Rattle.bw_model.specs.declared.query.Query.{Query}
 use Rattle.bw_model.specs.declared.schema.Schema.{Schema}
-use Rattle.bw_model.specs.Fault.{is_memory, no_memory, nowhere, stands_nowhere}
+use Rattle.bw_model.specs.Fault.{is_memory}
 use Rattle.bw_model.specs.Groups.{together}
-use Rattle.bw_model.specs.SchemaText.{schema_shape}
-use Rattle.bw_device.specs.Sink.{GoesOut}
+use Rattle.bw_model.specs.Row.{Value}
+use Rattle.bw_device.specs.Sink.{GoesOut, is_write_fault}
 use Rattle.bw_device.specs.Source.{is_input_fault, is_read_fault}
+use Rattle.bw_file.specs.FileText.{IsFileText}
 use Rattle.bw_file.specs.Reading.{State, Fails, failed_reads}
 use Rattle.bw_file.specs.TableReading.{header}
-use Rattle.bw_file.specs.TableReader.{AnswersFault, SoFar, failed_by, schema_in, header_told}
+use Rattle.bw_file.specs.TableReader.{AnswersFault, SoFar, schema_in, header_told}
 use Rattle.bw_file.specs.declared.table_reader.TableReader.{TableReader}
-use Rattle.bw_shell.specs.TableAnswer.{AskedRefused, HeaderRead, SegmentRefused, TableGave, TableText, WholeTable, Wrote, WriteFailed, WroteNothing}
+use Rattle.bw_file.proofs.FileSpelling.{read_is_spelled_by}
+use Rattle.bw_shell.specs.TableAnswer.{AnswersFile, AreBytes, HeaderRead, TableGave, TableText, Wrote, group_count, is_no_verdict}
 use Rattle.bw_shell.specs.TableText.{TextOver}
 
 abbrev pub Given : Type 0
@@ -77,26 +80,75 @@ segment_exit asks start now old offset W reader query fault read failures asked 
       w,
     )
 
+-- the text of the meaning, over a table's rows
+pub text_over : (asks : Schema → Result Query Fault → Type 0) (start now : State) (schema : Schema) (query : Query) (text : List ℕ) (segments : ℕ)
+    → asks schema (Ok query) → TextOver start now schema query text segments → (found : TableText asks start now text) × (segments ≡ group_count found.rows)
+text_over asks start now schema query text segments asked over = (
+  record {
+    schema = schema;
+    rows = together over.groups;
+    query = query;
+    table = record {
+      found = over.found;
+      read = over.read;
+      shape = over.shape;
+      same = over.rows;
+      text = λ fits. let L : List (List Value) → Type 0 = λ rows. IsFileText over.read.bytes over.found.layout schema rows in
+          subst L over.rows (read_is_spelled_by over.read.bytes over.found schema fits (sym over.shape) over.read.read);
+    };
+    asked = asked;
+    is = over.is;
+  },
+  over.count ∙ ap length over.cut,
+)
+
+-- all bytes to come were taken
+all_came : (bytes taken : List ℕ) (old new : Option (List ℕ)) → old ≡ Some bytes → Consumes old new taken → IsAtEnd new → taken ≡ bytes
+all_came bytes taken None new e consumes ends = absurd (cc e)
+all_came bytes taken (Some xs) None e consumes ends = absurd consumes
+all_came bytes taken (Some xs) (Some ys) e consumes ends =
+    let same : xs ≡ bytes = cc e in
+    sym (append-nil taken) ∙ ap (λ (l : List ℕ). taken ++ l) (sym ends) ∙ sym consumes ∙ same
+
+-- so the text went out for known bytes, which are a table file's text
+pub file_answered : (asks : Schema → Result Query Fault → Type 0) (start now : State) (schema : Schema) (query : Query) (text : List ℕ) (segments : ℕ)
+    → asks schema (Ok query) → TextOver start now schema query text segments → (bytes : List ℕ) → start.known ≡ Some bytes → AreBytes bytes
+    → (old new : Option (List ℕ)) → Appends old new text
+    → (file : AnswersFile asks bytes old new) × (segments ≡ group_count file.rows)
+unfolding text_over
+file_answered asks start now schema query text segments asked over bytes known fits old new appends =
+    let found = text_over asks start now schema query text segments asked over in
+    let table = found.0.table in
+    let same = all_came bytes table.read.bytes start.known now.known known table.read.took.consumed table.read.ended in (
+      record {
+        layout = table.found.layout;
+        schema = schema;
+        rows = found.0.rows;
+        query = query;
+        file = let F : List ℕ → Type 0 = λ taken. IsFileText taken table.found.layout schema found.0.rows in
+            subst F same (table.text (subst AreBytes (sym same) fits));
+        asked = asked;
+        text = subst (λ (those : List ℕ). Appends old new those) found.0.is appends;
+      },
+      found.1,
+    )
+
+-- and so where it went out at all
+pub answered_or_not : (asks : Schema → Result Query Fault → Type 0) (start now : State) (schema : Schema) (query : Query) (text : List ℕ) (segments : ℕ)
+    → asks schema (Ok query) → TextOver start now schema query text segments → (bytes : List ℕ) → start.known ≡ Some bytes → AreBytes bytes
+    → (old new : Option (List ℕ)) (before after : ℕ) (result : Result (Unit {0}) Fault) → GoesOut old new before after text result
+    → OnOk result (AnswersFile asks bytes old new)
+answered_or_not asks start now schema query text segments asked over bytes known fits old new before after (Ok x) goes =
+    (file_answered asks start now schema query text segments asked over bytes known fits old new goes.0).0
+answered_or_not asks start now schema query text segments asked over bytes known fits old new before after (Err fault) goes = tt
+
 -- the text went out, or not
 pub text_exit : (asks : Schema → Result Query Fault → Type 0) (start : State) (now : ℕ → State) (offset : ℕ) (W : Given → Type 0) (schema : Schema) (query : Query) (text : List ℕ) (segments : ℕ)
     → asks schema (Ok query) → TextOver start (now offset) schema query text segments → W (Ok text) → Ends asks start now W
 text_exit asks start now offset W schema query text segments asked over w =
-    let given : Given = Ok text in (
-      offset,
-      given,
-      record {
-        failures = omega (arith, over.read.failures);
-        answer = record {
-          schema = schema;
-          rows = together over.groups;
-          query = query;
-          table = record { found = over.found; read = over.read; shape = over.shape; same = over.rows };
-          asked = asked;
-          is = over.is;
-        };
-      },
-      w,
-    )
+    let given : Given = Ok text in
+    let found = text_over asks start (now offset) schema query text segments asked over in
+    (offset, given, record { failures = omega (arith, over.read.failures); answer = found.0 }, w)
 
 -- a call that wrote nothing
 keeps_itself : (old : Option (List ℕ)) → Keeps old old
@@ -131,3 +183,18 @@ own_fault fault own = either (is_memory fault) (is_read_fault fault) own
     either : (a b : Bool) → (a || b) ≡ false → a ≡ false
     either true b e = absurd (cc e)
     either false b e = refl
+
+-- a failed read and want of memory are no verdicts
+pub input_verdict : (fault : Fault) → is_input_fault fault ≡ true → is_no_verdict fault ≡ true
+input_verdict fault is = either (is_input_fault fault) (is_write_fault fault) is
+  where
+    either : (a b : Bool) → a ≡ true → (a || b) ≡ true
+    either true b e = refl
+    either false b e = absurd (cc e)
+
+pub memory_verdict : (fault : Fault) → is_memory fault ≡ true → is_no_verdict fault ≡ true
+memory_verdict fault is = input_verdict fault (either (is_memory fault) (is_read_fault fault) is)
+  where
+    either : (a b : Bool) → a ≡ true → (a || b) ≡ true
+    either true b e = refl
+    either false b e = absurd (cc e)

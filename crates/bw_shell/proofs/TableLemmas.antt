@@ -2,7 +2,6 @@
 use Rattle.std.proofs.Common.{◌≡◌, ◌∙◌, ℕ, ◌+◌, List, [], ◌∷◌, ◌++◌, true, false, refl, sym, ap, subst, append_assoc, arith}
 use Rattle.std.proofs.lemmas.List.{append-nil}
 use Rattle.bw_model.specs.declared.fault.Fault.{Fault}
-use Rattle.bw_model.specs.declared.query.Query.{Query}
 use Rattle.bw_model.specs.Fault.{no_memory}
 use Rattle.bw_model.specs.Groups.{together}
 use Rattle.bw_model.specs.Row.{Value}

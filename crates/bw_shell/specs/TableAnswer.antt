@@ -1,5 +1,5 @@
 -- What an answer from a table file is to be, by the bytes that came of it.
-use Rattle.std.specs.Prelude.{◌≡◌, ◌⊎◌, ℕ, ◌+◌, false, IsTrue, List, length, map, Option, Result, Ok, Err, IsOkAnd}
+use Rattle.std.specs.Prelude.{◌≡◌, ◌⊎◌, ℕ, ◌+◌, ◌<◌, ◌||◌, Bool, false, IsTrue, List, length, map, slice_index, Option, Result, Ok, Err, IsOkAnd}
 use Rattle.std.specs.Io.KnownBytes.{Appends, Keeps}
 use Rattle.std.specs.List.{range_with_len}
 use Rattle.bw_model.specs.declared.fault.Fault.{Fault}
@@ -9,12 +9,15 @@ use Rattle.bw_model.specs.declared.schema.Schema.{Schema}
 use Rattle.bw_model.specs.Fault.{is_memory, nowhere}
 use Rattle.bw_model.specs.Column.{names_of}
 use Rattle.bw_model.specs.Cond.{is_kept}
+use Rattle.bw_model.specs.Groups.{groups_of}
 use Rattle.bw_model.specs.Row.{Value}
 use Rattle.bw_model.specs.SchemaText.{schema_shape}
 use Rattle.bw_sql.specs.Statement.{IsReadAs}
 use Rattle.bw_answer.specs.Answer.{csv_text, meaning}
-use Rattle.bw_device.specs.Sink.{TookPart}
+use Rattle.bw_device.specs.Sink.{TookPart, is_write_fault}
 use Rattle.bw_device.specs.Source.{is_input_fault}
+use Rattle.bw_file.specs.declared.layout.Layout.{Layout}
+use Rattle.bw_file.specs.FileText.{IsFileText}
 use Rattle.bw_file.specs.Reading.{State, Took, GoesOn, Fails, give}
 use Rattle.bw_file.specs.TableReading.{HeaderShape, Found, header}
 use Rattle.bw_file.specs.TableReader.{HasFirstFault, ReadWhole, failed_by}
@@ -25,12 +28,18 @@ pub record HeaderRead (start behind : State) (schema : Schema) : Type 0 where
   pub read : GoesOn header start (give told) behind
   pub shape : schema_shape schema ≡ told.schema
 
--- all bytes of the file were taken, and they are the table of these rows under this schema
+-- each number is a byte
+abbrev pub AreBytes : List ℕ → Type 0
+AreBytes bytes = (i : ℕ) → slice_index bytes i < 256
+
+-- all bytes of the file were taken, and they are the table of these rows under this schema: where each is a byte, they are
+-- the text of its table file
 pub record WholeTable (start now : State) (schema : Schema) (rows : List (List Value)) : Type 0 where
   pub found : Found
   pub read : ReadWhole start now found
   pub shape : found.schema ≡ schema_shape schema
   pub same : found.rows ≡ rows
+  pub text : AreBytes read.bytes → IsFileText read.bytes found.layout schema rows
 
 -- the text of the meaning of what is asked, over the rows of the table
 pub record TableText (asks : Schema → Result Query Fault → Type 0) (start now : State) (text : List ℕ) : Type 0 where
@@ -40,6 +49,21 @@ pub record TableText (asks : Schema → Result Query Fault → Type 0) (start no
   pub table : WholeTable start now schema rows
   pub asked : asks schema (Ok query)
   pub is : text ≡ csv_text (meaning (names_of schema.columns.items) query rows)
+
+-- the bytes are the text of the table file of these rows, and a sink took the text of the meaning of what is asked, over
+-- the rows
+pub record AnswersFile (asks : Schema → Result Query Fault → Type 0) (bytes : List ℕ) (old new : Option (List ℕ)) : Type 0 where
+  pub layout : Layout
+  pub schema : Schema
+  pub rows : List (List Value)
+  pub query : Query
+  pub file : IsFileText bytes layout schema rows
+  pub asked : asks schema (Ok query)
+  pub text : Appends old new (csv_text (meaning (names_of schema.columns.items) query rows))
+
+-- a table's rows are cut into so many groups
+abbrev pub group_count : List (List Value) → ℕ
+group_count rows = length (groups_of rows)
 
 -- what is asked was refused, once the header was read
 pub record AskedRefused (asks : Schema → Result Query Fault → Type 0) (start : State) (fault : Fault) : Type 0 where
@@ -82,6 +106,10 @@ pub record IsEveryRow (schema : Schema) (query : Query) : Type 0 where
 abbrev pub by_dump : Schema → Result Query Fault → Type 0
 by_dump schema (Ok query) = IsEveryRow schema query
 by_dump schema (Err fault) = ⊥
+
+-- a refusal that no bytes and no statement call for: a failed read, a failed write, or want of memory
+abbrev pub is_no_verdict : Fault → Bool
+is_no_verdict fault = is_input_fault fault || is_write_fault fault
 
 -- A call that is to write a text, or to refuse: the text went out; or up to a failed write; or the call wrote nothing and
 -- refused as it was to, want of memory aside.

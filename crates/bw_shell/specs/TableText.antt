@@ -1,9 +1,9 @@
 -- The rows of a table file, all taken by an answer.
-use Rattle.std.specs.Prelude.{◌≡◌, ℕ, List, [], length, Option}
+use Rattle.std.specs.Prelude.{◌≡◌, ℕ, List, [], length}
 use Rattle.bw_model.specs.declared.query.Query.{Query}
 use Rattle.bw_model.specs.declared.schema.Schema.{Schema}
 use Rattle.bw_model.specs.Column.{names_of}
-use Rattle.bw_model.specs.Groups.{together}
+use Rattle.bw_model.specs.Groups.{groups_of, together}
 use Rattle.bw_model.specs.Row.{Value}
 use Rattle.bw_model.specs.SchemaText.{schema_shape}
 use Rattle.bw_answer.specs.Answer.{csv_text, meaning}
@@ -20,6 +20,7 @@ pub record TookAll (old now : State) (reader : TableReader) (before after : Answ
   pub over : GoesOver before (together groups) after
   pub count : segments ≡ length groups
   pub read : (start : State) → SoFar start old reader [] → ReadWhole start now (found_so_far reader groups)
+  pub cut : (start : State) → SoFar start old reader [] → groups ≡ groups_of (together groups)
 
 -- The file was read whole, as a table of this schema and of the rows of so many groups, and the text is that of the
 -- query's meaning over them.
@@ -30,4 +31,5 @@ pub record TextOver (start now : State) (schema : Schema) (query : Query) (text 
   pub shape : found.schema ≡ schema_shape schema
   pub rows : found.rows ≡ together groups
   pub count : segments ≡ length groups
+  pub cut : groups ≡ groups_of (together groups)
   pub is : text ≡ csv_text (meaning (names_of schema.columns.items) query (together groups))

@@ -1,25 +1,30 @@
 //! Queries answered from a table file.
-ghost use Rattle.std.specs.Prelude.{◌≡◌, ◌-◌, ◌^◌, ◌<◌, ◌≤◌, ℕ, List, Result, false, length, vec_len, IsTrue, IfOk, IfErr, OnOk};
+ghost use Rattle.std.specs.Prelude.{◌≡◌, ◌-◌, ◌^◌, ◌<◌, ◌≤◌, ℕ, List, Result, Some, false, length, vec_len, IsTrue, IfOk, IfErr, OnOk};
+ghost use Rattle.std.specs.Io.KnownBytes.{Appends};
 ghost use Rattle.std.specs.List.{list_all};
 ghost use Rattle.bw_model.specs.declared.fault.Fault.{Fault};
 ghost use Rattle.bw_model.specs.declared.query.Query.{Query};
 ghost use Rattle.bw_model.specs.declared.schema.Schema.{Schema};
 ghost use Rattle.bw_model.specs.Cond.{names_within};
 ghost use Rattle.bw_model.specs.Total.{item_within};
+ghost use Rattle.bw_sql.specs.Asked.{Asked};
 ghost use Rattle.bw_sql.specs.Items.{AreOfOneKind};
+ghost use Rattle.bw_sql.specs.Statement.{Spells};
 ghost use Rattle.bw_model.specs.Fault.{nowhere, no_memory};
+ghost use Rattle.bw_model.specs.Row.{Value};
+ghost use Rattle.bw_file.specs.declared.layout.Layout.{Layout};
+ghost use Rattle.bw_file.specs.FileText.{IsFileText};
 ghost use Rattle.bw_file.specs.Reading.{state};
 ghost use Rattle.bw_device.specs.Sink.{is_write_fault};
 ghost use Rattle.bw_device.specs.Source.{EndsWith};
 ghost use Rattle.bw_shell.specs.declared.served.By.TheVariants.{Rows};
-ghost use Rattle.bw_shell.specs.TableText.{TextOver};
-ghost use Rattle.bw_shell.specs.TableAnswer.{IsEveryRow, TableGave, Wrote, by_dump, by_statement};
+ghost use Rattle.bw_shell.specs.TableAnswer.{AnswersFile, AreBytes, IsEveryRow, TableGave, TableText, Wrote, by_dump, by_statement, group_count, is_no_verdict};
 
 use crate::output::write_whole;
 use crate::served::{By, Served};
 use crate::table_text::table_text;
 use bw_device::{Sink, Source};
-use bw_file::{TableReader, bytes_were_taken};
+use bw_file::{TableReader, a_file_text_is_read_whole, bytes_were_taken};
 use bw_model::{Cond, Fault, Item, Query, Schema};
 use bw_sql::parse;
 use std::alloc::Global;
@@ -44,9 +49,19 @@ pub fn answer<S: Source, K: Sink>(
         (state (S.to_come table.new) offset (S.failures table.new)) given
         × Wrote (K.taken sink.old) (K.taken sink.new) (K.failures sink.old) (K.failures sink.new) given result }
     ensures served { IfOk result (λ served. (served.by ≡ Rows) × (served.loads ≡ 0) × (served.skips ≡ 0)) }
-    ensures segments { IfOk result (λ served. (offset : ℕ) × (schema : Schema) × (query : Query) × (text : List ℕ)
-        × TextOver (state (S.to_come table.old) 0 (S.failures table.old))
-        (state (S.to_come table.new) offset (S.failures table.new)) schema query text served.segments) }
+    ensures segments { IfOk result (λ served. (offset : ℕ) × (text : List ℕ)
+        × (found : TableText (by_statement sql.now) (state (S.to_come table.old) 0 (S.failures table.old))
+        (state (S.to_come table.new) offset (S.failures table.new)) text)
+        × Appends (K.taken sink.old) (K.taken sink.new) text × (served.segments ≡ group_count found.rows)) }
+
+    // Where the bytes to come are known: they were a table file's, and the answer is over its rows; and where they are, and
+    // the statement spells a query, it's only a device or memory that can fail.
+    ensures file { (bytes : List ℕ) → S.to_come table.old ≡ Some bytes → AreBytes bytes
+        → IfOk result (λ served. (file : AnswersFile (by_statement sql.now) bytes (K.taken sink.old) (K.taken sink.new))
+        × (served.segments ≡ group_count file.rows)) }
+    ensures accepted { (bytes : List ℕ) (layout : Layout) (schema : Schema) (rows : List (List Value)) (query : Asked)
+        → S.to_come table.old ≡ Some bytes → IsFileText bytes layout schema rows → Spells schema sql.now query
+        → IfErr result (λ fault. IsTrue (is_no_verdict fault)) }
     ensures table_failed { EndsWith (nowhere 701) (S.failures table.old) (S.failures table.new) result }
     ensures sink_failed { EndsWith (nowhere 702) (K.failures sink.old) (K.failures sink.new) result }
     ensures unwritten { IfErr result (λ fault. is_write_fault fault ≡ false
@@ -54,6 +69,7 @@ pub fn answer<S: Source, K: Sink>(
     ensures done { OnOk result (K.failures sink.new ≡ K.failures sink.old) }
 {
     bytes_were_taken();
+    a_file_text_is_read_whole();
     let mut reader = TableReader::begin(alloc, table)?;
     let query = parse(alloc, reader.schema(), sql)?;
     let found = table_text(alloc, &mut reader, table, &query)?;
@@ -78,6 +94,13 @@ pub fn dump<S: Source, K: Sink>(alloc: Global, table: &mut S, sink: &mut K) -> R
         × TableGave by_dump (state (S.to_come table.old) 0 (S.failures table.old))
         (state (S.to_come table.new) offset (S.failures table.new)) given
         × Wrote (K.taken sink.old) (K.taken sink.new) (K.failures sink.old) (K.failures sink.new) given result }
+
+    // Where the bytes to come are known, as of [`answer`].
+    ensures file { (bytes : List ℕ) → S.to_come table.old ≡ Some bytes → AreBytes bytes
+        → OnOk result (AnswersFile by_dump bytes (K.taken sink.old) (K.taken sink.new)) }
+    ensures accepted { (bytes : List ℕ) (layout : Layout) (schema : Schema) (rows : List (List Value))
+        → S.to_come table.old ≡ Some bytes → IsFileText bytes layout schema rows
+        → IfErr result (λ fault. IsTrue (is_no_verdict fault)) }
     ensures table_failed { EndsWith (nowhere 701) (S.failures table.old) (S.failures table.new) result }
     ensures sink_failed { EndsWith (nowhere 702) (K.failures sink.old) (K.failures sink.new) result }
     ensures unwritten { IfErr result (λ fault. is_write_fault fault ≡ false
@@ -85,6 +108,7 @@ pub fn dump<S: Source, K: Sink>(alloc: Global, table: &mut S, sink: &mut K) -> R
     ensures done { OnOk result (K.failures sink.new ≡ K.failures sink.old) }
 {
     bytes_were_taken();
+    a_file_text_is_read_whole();
     let mut reader = TableReader::begin(alloc, table)?;
     let query = every_row(alloc, reader.schema())?;
     let found = table_text(alloc, &mut reader, table, &query)?;

@@ -1,10 +1,10 @@
 -- Each exit, by what its calls told.
-use Rattle.std.proofs.Common.{◌≡◌, List, ℕ, Option, Ok, Err, Some, Result, refl}
+use Rattle.std.proofs.Common.{◌≡◌, Ok, Err, Some, Result, refl}
 use Rattle.std.proofs.lemmas.Result.{err_from_is_err_and}
 use Rattle.bw_model.specs.declared.fault.Fault.{Fault}
 use Rattle.bw_model.specs.declared.schema.Schema.{Schema}
 use Rattle.bw_model.specs.Fault.{◌>>=◌}
-use Rattle.bw_model.specs.Limits.{longest_schema, longest_csv}
+use Rattle.bw_model.specs.Limits.{longest_csv}
 use Rattle.bw_file.specs.declared.layout.Layout.{Layout}
 use Rattle.bw_shell.specs.Arrived.{IsSchemaFrom, csv_from}
 use Rattle.bw_shell.specs.Load.{IsFile, file_of}

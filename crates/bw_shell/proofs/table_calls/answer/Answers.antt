@@ -1,14 +1,13 @@
 -- Each exit, by what its calls told.
-use Rattle.std.proofs.Common.{◌≡◌, ◌∙◌, [], refl, sym, false, ℕ}
+use Rattle.std.proofs.Common.{[], refl, sym, ℕ}
 use Rattle.std.proofs.lemmas.Result.{err_from_is_err_and}
 use Rattle.bw_file.specs.Reading.{State, state}
 use Rattle.bw_file.specs.TableReader.{bytes_taken, schema_in}
 use Rattle.bw_sql.specs.Refusal.{is_statement_fault}
-use Rattle.bw_sql.specs.Statement.{IsReadAs}
-use Rattle.bw_model.specs.declared.schema.Schema.{Schema}
 use Rattle.bw_shell.specs.declared.served.Served.{Served}
 use Rattle.bw_shell.specs.TableAnswer.{by_statement}
-use Rattle.bw_shell.proofs.TableExits.{asked_exit, header_exit, no_failed_read, own_fault, segment_exit, text_exit, wrote_nothing, wrote_text}
+use Rattle.bw_shell.proofs.SameNames.{spells_too}
+use Rattle.bw_shell.proofs.TableExits.{asked_exit, header_exit, no_failed_read, own_fault, file_answered, input_verdict, memory_verdict, segment_exit, text_exit, text_over, wrote_nothing, wrote_text}
 use Rattle.bw_shell.proofs.table_calls.answer.Goals as goal
 
 pub returns-in_err-reader-clause-answer : goal.returns-in_err-reader-clause-answer
@@ -64,4 +63,40 @@ returns-clause-answer g c =
 pub returns-clause-segments : goal.returns-clause-segments
 returns-clause-segments g c =
     let found = c.in_ok-found.found in
-    (bytes_taken c.table_text.new.reader, schema_in c.in_ok-reader.reader, c.in_ok-query.query, found.text.items, c.in_ok-found.ensures.text _ c.in_ok-reader.ensures.began)
+    let parsed = rw c.schema.ensures at c.in_ok-query.ensures.read in
+    let told = text_over (by_statement c.args.sql.now) _ _ (schema_in c.in_ok-reader.reader) c.in_ok-query.query found.text.items found.segments
+    parsed (c.in_ok-found.ensures.text _ c.in_ok-reader.ensures.began) in
+    let goes = rw c.deref.ensures.value at c.in_ok-write_whole.ensures in
+    (bytes_taken c.table_text.new.reader, found.text.items, told.0, goes.0, told.1)
+
+pub returns-clause-file : goal.returns-clause-file
+returns-clause-file g c = λ bytes known fits.
+    let found = c.in_ok-found.found in
+    let parsed = rw c.schema.ensures at c.in_ok-query.ensures.read in
+    let goes = rw c.deref.ensures.value at c.in_ok-write_whole.ensures in
+    file_answered (by_statement c.args.sql.now) _ _ (schema_in c.in_ok-reader.reader) c.in_ok-query.query found.text.items found.segments
+    parsed (c.in_ok-found.ensures.text _ c.in_ok-reader.ensures.began) bytes known fits _ _ goes.0
+
+pub returns-in_err-reader-clause-accepted : goal.returns-in_err-reader-clause-accepted
+returns-in_err-reader-clause-accepted g c =
+    let p = err_from_is_err_and c.from_residual.result c.from_residual.ensures.1 in
+    let refused = c.in_err-reader.ensures.refused in
+    rw (p.1, p.2) (λ bytes layout schema rows query known file spells.
+    input_verdict c.in_err-reader.field-0.0 (c.a_file_text_is_read_whole.ensures.faults bytes layout schema rows file _ _ _ _ known refused.1))
+
+pub returns-in_err-query-clause-accepted : goal.returns-in_err-query-clause-accepted
+returns-in_err-query-clause-accepted g c =
+    let p = err_from_is_err_and c.from_residual-in_err-query.result c.from_residual-in_err-query.ensures.1 in
+    let refused = rw c.schema.ensures at c.in_err-query.ensures.refused in
+    let reader = c.in_ok-reader.reader in
+    rw (p.1, p.2) (λ bytes layout schema rows query known file spells.
+    let gave = c.a_file_text_is_read_whole.ensures.groups bytes layout schema rows file _ _ reader [] known c.in_ok-reader.ensures.began in
+    let asked = spells_too schema (schema_in reader) c.args.sql.now query (sym gave.schema) spells in
+    memory_verdict c.in_err-query.field-0.0 (refused query asked))
+
+pub returns-in_err-found-clause-accepted : goal.returns-in_err-found-clause-accepted
+returns-in_err-found-clause-accepted g c =
+    let p = err_from_is_err_and c.from_residual-in_err-found.result c.from_residual-in_err-found.ensures.1 in
+    let answers = c.in_err-found.ensures.refused _ c.in_ok-reader.ensures.began in
+    rw (p.1, p.2) (λ bytes layout schema rows query known file spells.
+    input_verdict c.in_err-found.field-0.0 (c.a_file_text_is_read_whole.ensures.faults bytes layout schema rows file _ _ _ _ known answers))

@@ -1,14 +1,11 @@
 -- Each exit, by what its calls told.
-use Rattle.std.proofs.Common.{◌≡◌, ◌∙◌, [], refl, sym, ap, true, false, ℕ}
+use Rattle.std.proofs.Common.{◌≡◌, ◌∙◌, [], sym, ap, true, false, ℕ}
 use Rattle.std.proofs.lemmas.Result.{err_from_is_err_and}
 use Rattle.bw_file.specs.Reading.{State, failed_reads, state}
 use Rattle.bw_device.specs.Source.{is_input_fault}
 use Rattle.bw_file.specs.TableReader.{bytes_taken, schema_in}
-use Rattle.bw_sql.specs.Refusal.{is_statement_fault}
-use Rattle.bw_sql.specs.Statement.{IsReadAs}
-use Rattle.bw_model.specs.declared.schema.Schema.{Schema}
 use Rattle.bw_shell.specs.TableAnswer.{by_dump}
-use Rattle.bw_shell.proofs.TableExits.{asked_exit, header_exit, no_failed_read, own_fault, segment_exit, text_exit, wrote_either, wrote_nothing}
+use Rattle.bw_shell.proofs.TableExits.{answered_or_not, asked_exit, header_exit, input_verdict, segment_exit, text_exit, wrote_either, wrote_nothing}
 use Rattle.bw_shell.proofs.table_calls.dump.Goals as goal
 
 pub returns-in_err-reader-clause-answer : goal.returns-in_err-reader-clause-answer
@@ -49,3 +46,25 @@ returns-clause-answer g c =
     let goes = rw c.deref.ensures.value at c.write_whole.ensures in
     text_exit by_dump _ now (bytes_taken c.table_text.new.reader) _ (schema_in c.in_ok-reader.reader) c.in_ok-query.query found.text.items found.segments
     parsed over (wrote_either (Unit {0}) _ _ _ _ _ _ goes)
+
+pub returns-in_err-reader-clause-accepted : goal.returns-in_err-reader-clause-accepted
+returns-in_err-reader-clause-accepted g c =
+    let p = err_from_is_err_and c.from_residual.result c.from_residual.ensures.1 in
+    let refused = c.in_err-reader.ensures.refused in
+    rw (p.1, p.2) (λ bytes layout schema rows known file.
+    input_verdict c.in_err-reader.field-0.0 (c.a_file_text_is_read_whole.ensures.faults bytes layout schema rows file _ _ _ _ known refused.1))
+
+pub returns-in_err-found-clause-accepted : goal.returns-in_err-found-clause-accepted
+returns-in_err-found-clause-accepted g c =
+    let p = err_from_is_err_and c.from_residual-in_err-found.result c.from_residual-in_err-found.ensures.1 in
+    let answers = c.in_err-found.ensures.refused _ c.in_ok-reader.ensures.began in
+    rw (p.1, p.2) (λ bytes layout schema rows known file.
+    input_verdict c.in_err-found.field-0.0 (c.a_file_text_is_read_whole.ensures.faults bytes layout schema rows file _ _ _ _ known answers))
+
+pub returns-clause-file : goal.returns-clause-file
+returns-clause-file g c = λ bytes known fits.
+    let found = c.in_ok-found.found in
+    let parsed = rw c.schema.ensures at c.in_ok-query.ensures.every in
+    let over = c.in_ok-found.ensures.text _ c.in_ok-reader.ensures.began in
+    let goes = rw c.deref.ensures.value at c.write_whole.ensures in
+    answered_or_not by_dump _ _ (schema_in c.in_ok-reader.reader) c.in_ok-query.query found.text.items found.segments parsed over bytes known fits _ _ _ _ c.write_whole.result goes

@@ -1,5 +1,5 @@
 -- One more column; and all are columns of the schema.
-use Rattle.std.proofs.Common.{◌≡◌, ◌∙◌, List, ◌++◌, ◌∷◌, [], true, ap, sym, arith, refl}
+use Rattle.std.proofs.Common.{◌∙◌, List, ◌++◌, ◌∷◌, [], true, ap, sym, arith}
 use Rattle.std.proofs.lemmas.List.FromFn.{map-range_with_len_more}
 use Rattle.bw_model.specs.declared.query.Item.{Item}
 use Rattle.bw_model.specs.declared.query.Item.TheVariants.{Plain}

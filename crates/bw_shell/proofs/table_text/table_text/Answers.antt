@@ -1,6 +1,6 @@
 -- Want of memory before, behind or among the segments; and the text of all rows.
-use Rattle.std.proofs.Common.{◌≡◌, ◌∙◌, List, [], refl, sym}
-use Rattle.std.proofs.lemmas.Result.{err_from_is_err_and, IfOk-weaker}
+use Rattle.std.proofs.Common.{◌∙◌, [], refl, sym}
+use Rattle.std.proofs.lemmas.Result.{err_from_is_err_and}
 use Rattle.bw_model.specs.Column.{names_of}
 use Rattle.bw_model.specs.Groups.{together}
 use Rattle.bw_file.specs.TableReader.{found_so_far, schema_in}
@@ -36,6 +36,7 @@ returns-clause-text g c = λ start read.
       read = all.read start read;
       shape = refl;
       rows = refl;
+      cut = all.cut start read;
       count = all.count;
       is = c.in_ok-into_text.ensures.text (names_of (schema_in c.args.reader.now).columns.items) c.args.query.now (together all.groups)
           (all.over.over (names_of (schema_in c.args.reader.now).columns.items) c.args.query.now [] over);

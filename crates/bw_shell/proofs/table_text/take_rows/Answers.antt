@@ -1,7 +1,6 @@
 -- Each segment's rows are taken behind those of the segments before it.
-use Rattle.std.proofs.Common.{◌≡◌, ◌∙◌, ℕ, ◌+◌, ◌-◌, ◌<◌, ◌≤◌, List, [], ◌∷◌, ◌++◌, Some, None, length, length-append, refl, sym, ap, subst, arith}
+use Rattle.std.proofs.Common.{◌∙◌, ℕ, ◌+◌, [], ◌∷◌, ◌++◌, length, length-append, refl, sym, ap, subst, arith}
 use Rattle.std.proofs.lemmas.Result.{err_from_is_err_and}
-use Rattle.bw_model.specs.Row.{Value}
 use Rattle.bw_answer.specs.AreOver.{CountsRows}
 use Rattle.bw_file.specs.AnySegment.{any_is_group, any_meaning}
 use Rattle.bw_shell.proofs.TableLemmas.{goes_nowhere, goes_on, later_answers, memory_answers, same_table}
@@ -67,4 +66,16 @@ loop-segment-preserved g c =
       few = omega (arith, more, so_far.few, segment.1, group.some);
       wide = λ values admitted. taken.wide values (so_far.wide values admitted);
       counts = λ is. subst CountsRows (sym taken.over.same) (so_far.counts is);
+    }
+
+pub returns-clause-took : goal.returns-clause-took
+returns-clause-took g c =
+    let so_far = c.loop-segment.invariant in
+    let asked = c.in_ok-segment.ensures in
+    record {
+      groups = so_far.groups;
+      over = so_far.over;
+      count = so_far.count;
+      read = λ start read. rw (so_far.same.layout, so_far.same.schema) at (asked.ended c.in_default.is so_far.reading start so_far.groups (so_far.read start read));
+      cut = λ start read. asked.groups c.in_default.is so_far.reading start so_far.groups (so_far.read start read);
     }

@@ -1,9 +1,8 @@
 -- The rows are taken behind those that the answer had taken.
-use Rattle.std.proofs.Common.{◌≡◌, ◌∙◌, ◌++◌, List, Bool, [], sym, subst, ap, refl}
+use Rattle.std.proofs.Common.{◌∙◌, List, Bool, [], sym, subst, ap, refl}
 use Rattle.std.proofs.lemmas.List.{append-nil}
 use Rattle.std.proofs.lemmas.Result.{on_ok_weaker}
 use Rattle.bw_model.specs.Row.{Value}
-use Rattle.bw_model.specs.declared.query.Query.{Query}
 use Rattle.bw_answer.specs.Over.{GoesOver, IsOver}
 use Rattle.bw_answer.specs.declared.answer.Answer.{Answer}
 use Rattle.bw_shell.proofs.table_text.take_segment.Goals as goal
