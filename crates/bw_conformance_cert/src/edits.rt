@@ -37,7 +37,9 @@ fn code(alloc: Global, certificate: &[u8]) -> Result<u16, Fail> {
         TABLE,
         SQL,
         TOP_BITS.program.as_bytes(),
-        certificate, TOP_BITS.before)? {
+        certificate,
+        TOP_BITS.before,
+    )? {
         Ok(_) => Ok(0),
         Err(fault) => Ok(fault.code),
     }

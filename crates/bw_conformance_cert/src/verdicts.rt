@@ -77,7 +77,11 @@ fn verdict(
     others: &str,
 ) -> Result<Option<Fault>, Fail> {
     let in_certificate = usize::from(line.saturating_sub(file.before));
-    let in_program = if in_certificate == 0 { usize::from(line) } else { 0 };
+    let in_program = if in_certificate == 0 {
+        usize::from(line)
+    } else {
+        0
+    };
     let program = with_line(alloc, file.program, in_program, others)?;
     let certificate = with_line(alloc, file.certificate, in_certificate, others)?;
     Ok(judged(alloc, schema, sql, &program, &certificate, file.before)?.err())
