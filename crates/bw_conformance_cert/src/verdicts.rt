@@ -194,6 +194,20 @@ fn worked_files_are_judged(rt: HostRuntime) -> Result<(), Fail> {
             "BYTE -\n",
             Some((607, 33)),
         ),
+    ] {
+        let sql = format!(in alloc; "SELECT COUNT(*) FROM t {condition}")?;
+        let found = verdict(alloc, schema, sql.as_str(), file, line, others)?;
+        let expected = fault.map(|(code, line)| Fault::at_line(code, line));
+        assert_eq!(rt; found, expected, "{condition}, line {line} {others}");
+    }
+    Ok(())
+}
+
+#[test]
+fn files_of_two_columns_are_judged(rt: HostRuntime) -> Result<(), Fail> {
+    let alloc = rt.alloc();
+    // schema, condition, file, its line that is changed (0 for none) and to what, and the fault with its line
+    for (schema, condition, file, line, others, fault) in [
         (BITS, "WHERE x < y", TWO_COLUMNS, 0, "", None),
         (BITS, "WHERE y > x", TWO_COLUMNS, 0, "", None),
         (BITS, "WHERE y < x", TWO_COLUMNS, 0, "", Some((606, 26))),
@@ -209,12 +223,7 @@ fn worked_files_are_judged(rt: HostRuntime) -> Result<(), Fail> {
         (BITS, "WHERE x >= 1", ONE_BIT, 0, "", None),
         (APART, "WHERE x < y", TWO_COLUMNS, 0, "", Some((606, 26))),
     ] {
-        let table = if schema == BITS || schema == APART {
-            "q"
-        } else {
-            "t"
-        };
-        let sql = format!(in alloc; "SELECT COUNT(*) FROM {table} {condition}")?;
+        let sql = format!(in alloc; "SELECT COUNT(*) FROM q {condition}")?;
         let found = verdict(alloc, schema, sql.as_str(), file, line, others)?;
         let expected = fault.map(|(code, line)| Fault::at_line(code, line));
         assert_eq!(rt; found, expected, "{condition}, line {line} {others}");
