@@ -1,55 +1,12 @@
--- What stands in the lanes that are picked.
-use Rattle.std.proofs.Common.{◌≡◌, ◌∙◌, refl, sym, ap, ℕ, ◌+◌, ◌≤◌, Bool, true, false, not, cond, ◌&&◌, List, [], ◌∷◌, map, filter, length, count_by, arith, ◌++◌, replicate, get_or, zero, suc}
-use Rattle.std.specs.List.{list_all, AllByRecursion}
-use Rattle.std.proofs.lemmas.List.Sums.{sum_by-cons}
+-- Lanes of which none is 1 past the first rows.
+use Rattle.std.proofs.Common.{◌≡◌, refl, ℕ, zero, suc, ◌≤◌, Bool, true, false, ◌&&◌, List, [], ◌∷◌, ◌++◌, replicate, get_or, length, append-nil, arith, ℤ, Option}
 use lib.Lanes.{zip2}
+use Rattle.std.proofs.lemmas.Int.{ints}
+use Rattle.bw_model.specs.Row.{Value}
 use Rattle.bw_model.specs.Selection.{picked}
-
--- the items in the lanes that are picked and pass a test
-pub picked_both : (p : ℕ → Bool) (lanes : List Bool) (items : List ℕ) → picked (zip2 (λ a b. a && b) lanes (map p items)) items ≡ filter p (picked lanes items)
-picked_both p [] items = refl
-picked_both p (lane ∷ lanes) [] = refl
-picked_both p (true ∷ lanes) (item ∷ items) = put (p item) (picked_both p lanes items)
-  where
-    put : (b : Bool) → picked (zip2 (λ a b. a && b) lanes (map p items)) items ≡ filter p (picked lanes items) → picked (b ∷ zip2 (λ a b. a && b) lanes (map p items)) (item ∷ items) ≡ cond b (item ∷ filter p (picked lanes items)) (filter p (picked lanes items))
-    put true same = ap (λ l. item ∷ l) same
-    put false same = same
-picked_both p (false ∷ lanes) (item ∷ items) = picked_both p lanes items
-
--- how many these are
-pub count_both : (p : ℕ → Bool) (lanes : List Bool) (items : List ℕ) → count_by (λ lane. lane) (zip2 (λ a b. a && b) lanes (map p items)) ≡ count_by p (picked lanes items)
-count_both p [] items = refl
-count_both p (lane ∷ lanes) [] = refl
-count_both p (true ∷ lanes) (item ∷ items) =
-    sum_by-cons (λ b. cond b 1 0) (p item) (zip2 (λ a b. a && b) lanes (map p items)) ∙ ap (λ k. cond (p item) 1 0 + k) (count_both p lanes items) ∙ sym (sum_by-cons (λ x. cond (p x) 1 0) item (picked lanes items))
-count_both p (false ∷ lanes) (item ∷ items) =
-    sum_by-cons (λ b. cond b 1 0) false (zip2 (λ a b. a && b) lanes (map p items)) ∙ omega (arith, count_both p lanes items)
-
--- how many are picked
-pub count_picked : {A : Type 0} (lanes : List Bool) (items : List A) → length lanes ≤ length items → count_by (λ lane. lane) lanes ≡ length (picked lanes items)
-count_picked [] items le = refl
-count_picked (lane ∷ lanes) [] le = absurd (omega arith)
-count_picked (true ∷ lanes) (item ∷ items) le = sum_by-cons (λ b. cond b 1 0) true lanes ∙ omega (arith, count_picked lanes items (omega arith))
-count_picked (false ∷ lanes) (item ∷ items) le = sum_by-cons (λ b. cond b 1 0) false lanes ∙ omega (arith, count_picked lanes items (omega arith))
-
--- there is none
-abbrev pub is_none : List ℕ → Bool
-is_none [] = true
-is_none (x ∷ xs) = false
-
--- none is picked where no lane is 1
-pub none_picked : (lanes : List Bool) (items : List ℕ) → length lanes ≤ length items → list_all not lanes ≡ is_none (picked lanes items)
-none_picked [] items le = refl
-none_picked (lane ∷ lanes) [] le = absurd (omega arith)
-none_picked (true ∷ lanes) (item ∷ items) le = refl
-none_picked (false ∷ lanes) (item ∷ items) le = none_picked lanes items (omega arith)
-
--- what holds of all holds of those that are picked
-pub all_picked : {A : Type 0} (P : A → Type 0) (lanes : List Bool) (items : List A) → AllByRecursion P items → AllByRecursion P (picked lanes items)
-all_picked P [] items all = tt
-all_picked P (lane ∷ lanes) [] all = tt
-all_picked P (true ∷ lanes) (item ∷ items) all = (all.0, all_picked P lanes items all.1)
-all_picked P (false ∷ lanes) (item ∷ items) all = all_picked P lanes items all.1
+use Rattle.bw_model.specs.Total.{total}
+use Rattle.bw_rowwise.specs.Accumulator.{IsTotalOfRows, Tally, tally_joined}
+use Rattle.bw_aggregate.specs.Picked.{with_picked}
 
 -- no lane past the first rows is 1 among those of the first rows, and none where others have none
 pub first_within : (rows more row : ℕ) → rows ≤ row → get_or (replicate rows true ++ replicate more false) row false ≡ false
@@ -65,3 +22,28 @@ both_within (lane ∷ lanes) [] row within = refl
 both_within (true ∷ lanes) (other ∷ others) zero within = within
 both_within (false ∷ lanes) (other ∷ others) zero within = refl
 both_within (lane ∷ lanes) (other ∷ others) (suc row) within = both_within lanes others row within
+
+-- no more are picked than there are
+pub few_picked : {A : Type 0} (lanes : List Bool) (items : List A) → length (picked lanes items) ≤ length items
+few_picked [] items = omega arith
+few_picked (lane ∷ lanes) [] = omega arith
+few_picked (true ∷ lanes) (item ∷ items) = let rest = few_picked lanes items in omega (arith, rest)
+few_picked (false ∷ lanes) (item ∷ items) = let rest = few_picked lanes items in omega (arith, rest)
+
+pub none_picked : (rows more : List (List Value)) → length more ≡ 0 → rows ++ more ≡ rows
+none_picked rows [] e = append-nil rows
+none_picked rows (row ∷ more) e = absurd (omega (arith, e))
+
+-- what is small for one row is so for more
+pub small_for_more : (count : ℕ) (others : Option ℤ) → 1 ≤ count → IsTotalOfRows 1 others → IsTotalOfRows count others
+small_for_more count others some small x is = let s = small x is in (omega (arith, ints, some), omega (arith, ints, some))
+
+-- a tally with what was picked
+pub joined_picked : (tally : Tally) (rows : List (List Value)) (number : ℕ) (others : Option ℤ) → number ≡ length rows → 1 ≤ number → others ≡ total tally.item rows
+    → tally_joined tally number others ≡ with_picked tally rows
+joined_picked tally [] number others e some is = absurd (omega (arith, e, some))
+joined_picked tally (row ∷ rows) number others e some is = λ i. tally_joined tally (e i) (is i)
+
+pub unpicked : (tally : Tally) (rows : List (List Value)) → length rows ≡ 0 → tally ≡ with_picked tally rows
+unpicked tally [] e = refl
+unpicked tally (row ∷ rows) e = absurd (omega (arith, e))

@@ -5,9 +5,8 @@ ghost use Rattle.std.specs.Int.{int_min, int_max};
 ghost use Rattle.bw_lanes.specs.Lanes.{lanes_of_words};
 ghost use Rattle.bw_model.specs.Code.{value_at};
 ghost use Rattle.bw_aggregate.specs.Picked.{present_lanes, values_in};
-ghost use Rattle.bw_aggregate.specs.Totals.{IsSmall};
+ghost use Rattle.bw_rowwise.specs.Accumulator.{IsTotalOfRows};
 
-use crate::codes::{greatest_code, least_code, sum_of_codes};
 use bw_lanes::{Plane, and, count, not};
 use bw_segment::{Segment, lanes_hold_codes};
 
@@ -41,13 +40,13 @@ pub(crate) fn sum<S: Segment>(segment: &S, col: usize, rows: &Plane) -> Option<i
     requires { col < length (S.meaning segment.now).columns }
     ensures sum { result ≡ reduce (λ a b. a +ℤ b)
         (values_in (S.meaning segment.now) col (lanes_of_words rows.now)) }
-    ensures small { IsSmall 1 result }
+    ensures small { IsTotalOfRows 1 result }
 {
     let number = count(rows);
     if number == 0 {
         return None;
     }
-    let codes = sum_of_codes(segment, col, rows);
+    let codes = segment.sum_of_codes(col, rows);
     Some(sum_of_values(lowest(segment, col), number, codes))
 }
 
@@ -56,9 +55,9 @@ pub(crate) fn least<S: Segment>(segment: &S, col: usize, rows: &Plane) -> Option
     requires { col < length (S.meaning segment.now).columns }
     ensures least { result
         ≡ reduce int_min (values_in (S.meaning segment.now) col (lanes_of_words rows.now)) }
-    ensures small { IsSmall 1 result }
+    ensures small { IsTotalOfRows 1 result }
 {
-    let code = least_code(segment, col, rows)?;
+    let code = segment.least_code(col, rows)?;
     Some(value_of_code(lowest(segment, col), code))
 }
 
@@ -67,9 +66,9 @@ pub(crate) fn greatest<S: Segment>(segment: &S, col: usize, rows: &Plane) -> Opt
     requires { col < length (S.meaning segment.now).columns }
     ensures greatest { result
         ≡ reduce int_max (values_in (S.meaning segment.now) col (lanes_of_words rows.now)) }
-    ensures small { IsSmall 1 result }
+    ensures small { IsTotalOfRows 1 result }
 {
-    let code = greatest_code(segment, col, rows)?;
+    let code = segment.greatest_code(col, rows)?;
     Some(value_of_code(lowest(segment, col), code))
 }
 
@@ -77,7 +76,7 @@ pub(crate) fn greatest<S: Segment>(segment: &S, col: usize, rows: &Plane) -> Opt
 fn value_of_code(lowest: i64, code: u64) -> i128
     requires { code < 2 ^ 63 }
     ensures value { result ≡ lowest +ℤ pos code }
-    ensures small { IsSmall 1 (Some result) }
+    ensures small { IsTotalOfRows 1 (Some result) }
 {
     i128::from(lowest) + i128::from(code)
 }
@@ -87,7 +86,7 @@ fn sum_of_values(lowest: i64, number: u32, codes: u128) -> i128
     requires number { number ≤ 512 }
     requires codes { codes ≤ 2 ^ 72 }
     ensures sum { result ≡ lowest *ℤ pos number +ℤ pos codes }
-    ensures small { IsSmall 1 (Some result) }
+    ensures small { IsTotalOfRows 1 (Some result) }
 {
     i128::from(lowest) * i128::from(number) + codes as i128
 }

@@ -42,11 +42,11 @@ meaning_with_totals names query rows e =
         → text_over names query rows ≡ record_text (map (heading_of names) query.items.items)
     heading_alone names query rows e = rw e (append-nil (record_text (map (heading_of names) query.items.items)))
 
--- one more row that is listed
-pub text_over_more : (names : List (List ℕ)) (query : Query) (before : List (List Value)) (row : List Value) → lists_rows query.items.items ≡ true
-    → text_over names query before ++ csv_text (listed query (row ∷ [])) ≡ text_over names query (before ++ row ∷ [])
-text_over_more names query before row e =
-    rw e (listed_more query before row (record_text (map (heading_of names) query.items.items)))
+-- more rows that are listed
+pub text_over_more : (names : List (List ℕ)) (query : Query) (before rows : List (List Value)) → lists_rows query.items.items ≡ true
+    → text_over names query before ++ csv_text (listed query rows) ≡ text_over names query (before ++ rows)
+text_over_more names query before rows e =
+    rw e (listed_more query before rows (record_text (map (heading_of names) query.items.items)))
 
 -- rows that are totalled add nothing to the text
 pub text_over_same : (names : List (List ℕ)) (query : Query) (before rows : List (List Value)) → lists_rows query.items.items ≡ false

@@ -66,18 +66,29 @@ text_with_dropped query row ended e = rw (e, no_record) (append-nil ended)
 
 pub ruleset one_row = (text_of_kept, text_with_dropped)
 
--- one more row
-kept_more : (query : Query) (before : List (List Value)) (row : List Value) → listed query (before ++ row ∷ []) ≡ listed query before ++ listed query (row ∷ [])
-kept_more query before row =
-    ap (map (λ (r : List Value). filter_map (field_of r) query.items.items)) (filter-append (is_kept query.cond) before (row ∷ []))
-    ∙ map-append (λ (r : List Value). filter_map (field_of r) query.items.items) (kept query.cond before) (kept query.cond (row ∷ []))
+-- more rows
+kept_more : (query : Query) (before rows : List (List Value)) → listed query (before ++ rows) ≡ listed query before ++ listed query rows
+kept_more query before rows =
+    ap (map (λ (r : List Value). filter_map (field_of r) query.items.items)) (filter-append (is_kept query.cond) before rows)
+    ∙ map-append (λ (r : List Value). filter_map (field_of r) query.items.items) (kept query.cond before) (kept query.cond rows)
 
 text_more : (records more : List (List (List ℕ))) → csv_text (records ++ more) ≡ csv_text records ++ csv_text more
 unfolding csv_text
 text_more records more = flat_map-append record_text records more
 
-pub listed_more : (query : Query) (before : List (List Value)) (row : List Value) (ended : List ℕ)
-    → (ended ++ csv_text (listed query before)) ++ csv_text (listed query (row ∷ [])) ≡ ended ++ csv_text (listed query (before ++ row ∷ []))
-listed_more query before row ended =
-    append_assoc ended (csv_text (listed query before)) (csv_text (listed query (row ∷ [])))
-    ∙ ap (λ (l : List ℕ). ended ++ l) (sym (ap csv_text (kept_more query before row) ∙ text_more (listed query before) (listed query (row ∷ []))))
+pub listed_more : (query : Query) (before rows : List (List Value)) (ended : List ℕ)
+    → (ended ++ csv_text (listed query before)) ++ csv_text (listed query rows) ≡ ended ++ csv_text (listed query (before ++ rows))
+listed_more query before rows ended =
+    append_assoc ended (csv_text (listed query before)) (csv_text (listed query rows))
+    ∙ ap (λ (l : List ℕ). ended ++ l) (sym (ap csv_text (kept_more query before rows) ∙ text_more (listed query before) (listed query rows)))
+
+-- the records of no rows, and of one more
+pub no_records : (ended : List ℕ) → ended ++ csv_text [] ≡ ended
+unfolding csv_text
+no_records ended = append-nil ended
+
+pub record_more : (records : List (List (List ℕ))) (fields : List (List ℕ)) (ended : List ℕ)
+    → (ended ++ csv_text records) ++ record_text fields ≡ ended ++ csv_text (records ++ fields ∷ [])
+record_more records fields ended =
+    append_assoc ended (csv_text records) (record_text fields)
+    ∙ ap (λ (l : List ℕ). ended ++ l) (ap (λ (l : List ℕ). csv_text records ++ l) (sym (one_record fields)) ∙ sym (text_more records (fields ∷ [])))

@@ -1,11 +1,14 @@
 //! The answer to a query over rows that come one at a time, as CSV text.
-ghost use Rattle.std.specs.Prelude.{◌≡◌, ◌==◌, ◌≤◌, ◌+◌, ◌++◌, ◌∷◌, List, [], ℕ, true, false, IsTrue, IfOk, IfErr, OnOk, length, vec_len};
+ghost use Rattle.std.specs.Prelude.{◌≡◌, ◌==◌, ◌≤◌, ◌+◌, ◌-◌, ◌++◌, ◌∷◌, List, [], ℕ, true, false, All, IsTrue, IfOk, IfErr, OnOk, length, replicate, vec_len};
 ghost use Rattle.std.specs.List.{list_all};
 ghost use Rattle.bw_model.specs.Column.{admits_values, names_of};
 ghost use Rattle.bw_model.specs.Cond.{names_within};
 ghost use Rattle.bw_model.specs.Fault.{no_memory};
+ghost use Rattle.bw_lanes.specs.Lanes.{lanes_of_words};
+ghost use Rattle.bw_model.specs.Groups.{group_size};
 ghost use Rattle.bw_model.specs.Limits.{most_rows};
 ghost use Rattle.bw_model.specs.Row.{Value, values_of};
+ghost use Rattle.bw_model.specs.Selection.{selection};
 ghost use Rattle.bw_model.specs.Total.{is_aggregate, item_within};
 ghost use Rattle.bw_sql.specs.Items.{AreOfOneKind};
 ghost use Rattle.bw_answer.specs.Answer.{csv_text, is_count_all, lists_rows, meaning};
@@ -15,10 +18,13 @@ ghost use Rattle.bw_answer.specs.Totals.{is_of, has_room};
 use crate::csv_text::CsvText;
 use crate::heading::push_heading;
 use crate::listing::push_kept;
+use crate::picked::{push_picked, total_picked};
 use crate::totals::{add_count, add_kept, push_totals, totals_of};
 use bw_csv::RowTaker;
-use bw_model::{Fault, Item, Query, Row, Schema, admitted_rows_have_each_value};
+use bw_lanes::Plane;
+use bw_model::{Fault, Item, Query, Row, Schema, admitted_rows_have_each_value, totals_join};
 use bw_rowwise::{Accumulator, keeps_all};
+use bw_segment::Segment;
 use std::alloc::Global;
 
 /// Takes the rows of a table of so many columns, one after another, and makes the text of the answer to a query: the
@@ -60,6 +66,7 @@ impl<'a> Answer<'a> {
         ensures starts { IfOk result (λ answer. GoesOver answer [] answer) }
         ensures takes { IfOk result (λ answer. (row : List Value) → IsTrue (admits_values schema.now.columns.items row)
             → IsTrue (length row == answer.width)) }
+        ensures width { IfOk result (λ answer. answer.width ≡ vec_len schema.now.columns) }
         ensures rows { IfOk result (λ answer. answer.rows ≡ 0) }
         ensures only_memory { IfErr result (λ fault. fault ≡ no_memory) }
     {
@@ -74,6 +81,13 @@ impl<'a> Answer<'a> {
             text,
             totals: totals_of(alloc, &query.items)?,
         })
+    }
+
+    /// The query.
+    pub fn query(&self) -> &Query
+        ensures { result.now ≡ asked_by self.now }
+    {
+        self.query
     }
 
     /// Whether the query keeps every row and asks for nothing but their number: then no row need be looked at.
@@ -95,6 +109,40 @@ impl<'a> Answer<'a> {
     {
         add_count(&mut self.totals, count);
         self.rows += count;
+    }
+
+    /// Takes the rows of a segment, of which a plane picks those that the query keeps. A row that is listed is put into
+    /// `row`. That there is room for the segment's rows, and that it is of the answer's table, is the caller's
+    /// condition. Refuses as 801 alone.
+    pub fn take_picked<S: Segment>(
+        &mut self,
+        segment: &S,
+        plane: &Plane,
+        row: &mut Row,
+    ) -> Result<(), Fault>
+        requires picks { lanes_of_words plane.now
+            ≡ selection (asked_by self.old).cond (S.meaning segment.now).rows
+            ++ replicate (group_size - length (S.meaning segment.now).rows) false }
+        requires wide { length (S.meaning segment.now).columns ≡ self.old.width }
+        requires room { self.old.rows + length (S.meaning segment.now).rows ≤ most_rows }
+        ensures over { OnOk result ((start : Answer) (before : List (List Value)) → GoesOver start before self.old
+            → GoesOver start (before ++ (S.meaning segment.now).rows) self.new) }
+        ensures asked { OnOk result (asked_by self.new ≡ asked_by self.old) }
+        ensures width { OnOk result (self.new.width ≡ self.old.width) }
+        ensures rows { OnOk result (self.new.rows ≡ self.old.rows + length (S.meaning segment.now).rows) }
+        ensures only_memory { IfErr result (λ fault. fault ≡ no_memory) }
+    {
+        put_picked(
+            &mut self.text,
+            &mut self.totals,
+            self.query,
+            self.lists,
+            segment,
+            plane,
+            row,
+        )?;
+        self.rows += segment.rows_in();
+        Ok(())
     }
 
     /// The text of the answer over the rows that were taken. Refuses as 801 alone.
@@ -164,6 +212,39 @@ fn put_row(
         push_kept(text, query, row)?;
     } else {
         add_kept(totals, query, row);
+    }
+    Ok(())
+}
+
+/// Adds the rows of a segment that are kept, and that a plane picks, to the text or to the totals.
+fn put_picked<S: Segment>(
+    text: &mut CsvText,
+    totals: &mut [Accumulator],
+    query: &Query,
+    lists: bool,
+    segment: &S,
+    plane: &Plane,
+    row: &mut Row,
+) -> Result<(), Fault>
+    requires picks { lanes_of_words plane.now ≡ selection query.now.cond (S.meaning segment.now).rows
+        ++ replicate (group_size - length (S.meaning segment.now).rows) false }
+    requires items { IsTrue (list_all (item_within (length (S.meaning segment.now).columns)) query.now.items.items) }
+    requires lists { lists ≡ lists_rows query.now.items.items }
+    requires columns { All (λ tally. IsTrue (item_within (length (S.meaning segment.now).columns) tally.item)) totals.old }
+    requires room { All (λ tally. tally.count + length (S.meaning segment.now).rows ≤ most_rows) totals.old }
+    ensures over { OnOk result ((names : List (List ℕ)) → (rows : List (List Value))
+        → AreOver names query.now rows text.old totals.old
+        → AreOver names query.now (rows ++ (S.meaning segment.now).rows) text.new totals.new) }
+    ensures counts { OnOk result ((width rows : ℕ) → IsTrue (list_all (is_of width rows) totals.old)
+        → IsTrue (list_all (is_of width (rows + length (S.meaning segment.now).rows)) totals.new)) }
+    ensures left { IfErr result (λ _. totals.new ≡ totals.old) }
+    ensures only_memory { IfErr result (λ fault. fault ≡ no_memory) }
+{
+    totals_join();
+    if lists {
+        push_picked(text, &query.items, segment, plane, row)?;
+    } else {
+        total_picked(totals, segment, plane);
     }
     Ok(())
 }

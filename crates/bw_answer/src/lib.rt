@@ -12,6 +12,8 @@ mod csv_text;
 mod heading;
 mod kept;
 mod listing;
+mod picked;
 mod totals;
 
 pub use answer::Answer;
+pub use picked::fetch_row;

@@ -30,7 +30,7 @@ pub(crate) fn push_kept(text: &mut CsvText, query: &Query, row: &Row) -> Result<
 }
 
 /// Adds the record of a row to a text: its values in the columns among the items.
-fn push_row(text: &mut CsvText, items: &[Item], row: &Row) -> Result<(), Fault>
+pub(crate) fn push_row(text: &mut CsvText, items: &[Item], row: &Row) -> Result<(), Fault>
     requires columns { IsTrue (list_all (item_within (length (values_of row.now))) items.now) }
     requires lists { IsTrue (lists_rows items.now) }
     ensures row { OnOk result ((ended : List ℕ) → Holds text.old ended []

@@ -1,3 +1,4 @@
+pub mod BareLemmas
 pub mod DigitsAlone
 pub mod FieldLemmas
 pub mod RecordLemmas

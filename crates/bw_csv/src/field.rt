@@ -60,21 +60,21 @@ fn within_bounds(column: &Column, spelled: Option<i64>, number: u32) -> Result<V
 }
 
 /// Whether a field without blanks says nothing, or NULL in any case.
-fn is_null_text(text: &[u8]) -> bool
+pub(crate) fn is_null_text(text: &[u8]) -> bool
     ensures { result ≡ is_null_text text.now }
 {
     text.is_empty() || is_same_text(text, b"NULL")
 }
 
 /// Whether a text begins with a minus sign.
-fn is_minus(text: &[u8]) -> bool
+pub(crate) fn is_minus(text: &[u8]) -> bool
     ensures { result ≡ is_minus text.now }
 {
     !text.is_empty() && text[0] == b'-'
 }
 
 /// A text without its sign, where it has one.
-fn unsigned(text: &[u8]) -> &[u8]
+pub(crate) fn unsigned(text: &[u8]) -> &[u8]
     ensures { result.now ≡ unsigned text.now }
 {
     if !text.is_empty() && (text[0] == b'-' || text[0] == b'+') {

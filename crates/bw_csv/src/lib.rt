@@ -2,12 +2,14 @@
 //!
 //! The contract that the crates above use is that of [`read_rows`]: a text's rows are handed to a [`RowTaker`],
 //! one after another, in one pass, or the first fault in the text is answered. What the rows of a text are is
-//! said once, in `specs/Rows.antt`, over the records that the `csv` crate defines for its bytes.
+//! said once, in `specs/Rows.antt`, over the records that the `csv` crate defines for its bytes. Where there is no
+//! schema yet, [`Records`] and [`read_bare_row`] read the same rows with no bounds but those of 64 bits.
 //!
 //! Read `specs/Rows.antt` first, and then `rows.rt`, `row.rt` and `field.rt`; `records.rt` has the `csv` crate's
-//! reader behind two calls.
+//! reader behind a few calls, and `bare.rt` rows without a schema.
 #![tactic(auto)]
 
+mod bare;
 mod field;
 mod records;
 mod row;
@@ -15,4 +17,6 @@ mod rows;
 #[cfg(test)]
 mod tests;
 
+pub use bare::{bare_rows_are_rows, read_bare_row};
+pub use records::Records;
 pub use rows::{MAX_ROWS, RowTaker, read_rows, rows_are_admitted};

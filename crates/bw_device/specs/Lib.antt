@@ -1,5 +1,6 @@
 pub mod Failure
 pub mod FromRead
+pub mod Input
 pub mod Sink
 pub mod Source
 pub mod ToWrite

@@ -1,8 +1,8 @@
 -- What a diagram holds, what it says of every assignment, and what each line makes of it.
-use Rattle.std.specs.Prelude.{◌≡◌, ℕ, not, List, [], ◌∷◌, ◌++◌, length, Option, Some, None, Result, Ok, Err, slice_get, nat_le}
+use Rattle.std.specs.Prelude.{◌≡◌, ℕ, Bool, not, ◌&&◌, ◌||◌, List, [], ◌∷◌, ◌++◌, length, Option, Some, None, Result, Ok, Err, slice_get, nat_le}
 use Rattle.bw_model.specs.declared.column.Column.{Column}
 use Rattle.bw_model.specs.declared.fault.Fault.{Fault}
-use Rattle.bw_model.specs.Fault.{nowhere, refused_if, ◌>>=◌}
+use Rattle.bw_model.specs.Fault.{is_memory, nowhere, refused_if, ◌>>=◌}
 use Rattle.bw_model.specs.Variable.{variables_of}
 use Rattle.bw_diagram.specs.declared.node.Node.{Node}
 use Rattle.bw_diagram.specs.declared.chain.Chain.{Chain}
@@ -76,3 +76,7 @@ judged_row facts number row reason =
 abbrev pub with_row : Facts → ℕ → Product → Reason → Result Facts Fault
 with_row facts number row reason =
     judged_row facts number row reason >>= λ row. Ok (record facts { rows = facts.rows ++ row ∷ [] })
+
+-- one of 601 to 604, or want of memory
+abbrev pub is_diagram_fault : Fault → Bool
+is_diagram_fault fault = (nat_le 601 fault.code && nat_le fault.code 604) || is_memory fault

@@ -1,11 +1,11 @@
 //! A diagram: nodes, chains and product rows, all true of every assignment.
-ghost use Rattle.std.specs.Prelude.{◌≡◌, ℕ, Some, OnErr, slice_get, IsTrue};
+ghost use Rattle.std.specs.Prelude.{◌≡◌, ℕ, Some, IfErr, OnErr, slice_get, IsTrue};
 ghost use Rattle.bw_model.specs.Fault.{Gives};
 ghost use Rattle.bw_model.specs.Variable.{Assignment};
 ghost use Rattle.bw_diagram.specs.Node.{node_at, node_value};
 ghost use Rattle.bw_diagram.specs.Chain.{IsChain, chain_named};
 ghost use Rattle.bw_diagram.specs.Product.{IsProduct};
-ghost use Rattle.bw_diagram.specs.Facts.{no_facts, judged_node, judged_chain, judged_row, with_node, with_chain, with_row};
+ghost use Rattle.bw_diagram.specs.Facts.{is_diagram_fault, no_facts, judged_node, judged_chain, judged_row, with_node, with_chain, with_row};
 
 mod laws;
 mod steps;
@@ -70,6 +70,7 @@ impl<'a> Diagram<'a> {
         ensures exact { Gives (λ _. self.new) result
             (with_node self.old n (record { v = v; low = low; high = high })) }
         ensures refused { OnErr result (self.new ≡ self.old) }
+        ensures code { IfErr result (λ fault. IsTrue (is_diagram_fault fault)) }
     {
         let node = self.accepted_node(n, v, low, high)?;
         self.nodes.push(node)?;
@@ -83,6 +84,7 @@ impl<'a> Diagram<'a> {
         ensures exact { Gives (λ _. self.new) result
             (with_chain self.old n (chain_named self.old.columns line.entry)) }
         ensures refused { OnErr result (self.new ≡ self.old) }
+        ensures code { IfErr result (λ fault. IsTrue (is_diagram_fault fault)) }
     {
         let chain = self.accepted_chain(n, line)?;
         self.chains.push(chain)?;
@@ -103,6 +105,7 @@ impl<'a> Diagram<'a> {
         ensures exact { Gives (λ _. self.new) result
             (with_row self.old n (record { op = op; a = a; b = b; c = c }) reason) }
         ensures refused { OnErr result (self.new ≡ self.old) }
+        ensures code { IfErr result (λ fault. IsTrue (is_diagram_fault fault)) }
     {
         let row = self.accepted_row(n, op, a, b, c, reason)?;
         self.rows.push(row)?;
@@ -112,7 +115,8 @@ impl<'a> Diagram<'a> {
     /// The node of these fields, if it may come next.
     #[tactic(auto, unfolding(crate::specs::Facts::judged_node, crate::specs::Node::obeys_node))]
     fn accepted_node(&self, n: u64, v: u64, low: u64, high: u64) -> Result<Node, Fault>
-        ensures { result ≡ judged_node self.now n (record { v = v; low = low; high = high }) }
+        ensures judged { result ≡ judged_node self.now n (record { v = v; low = low; high = high }) }
+        ensures code { IfErr result (λ fault. IsTrue (is_diagram_fault fault)) }
     {
         if self.nodes.len() >= MAX_NODES {
             return Err(Fault::new(code::LIMIT));
@@ -134,7 +138,8 @@ impl<'a> Diagram<'a> {
     /// The chain of a line, if it may come next.
     #[tactic(auto, unfolding(crate::specs::Facts::judged_chain, crate::specs::Chain::obeys_chain))]
     fn accepted_chain(&self, n: u64, line: ChainLine<'_>) -> Result<Chain, Fault>
-        ensures { result ≡ judged_chain self.now n (chain_named self.now.columns line.entry) }
+        ensures judged { result ≡ judged_chain self.now n (chain_named self.now.columns line.entry) }
+        ensures code { IfErr result (λ fault. IsTrue (is_diagram_fault fault)) }
     {
         if self.chains.len() >= MAX_CHAINS {
             return Err(Fault::new(code::LIMIT));
@@ -156,7 +161,8 @@ impl<'a> Diagram<'a> {
         c: u64,
         reason: Reason,
     ) -> Result<Product, Fault>
-        ensures { result ≡ judged_row self.now n (record { op = op; a = a; b = b; c = c }) reason }
+        ensures judged { result ≡ judged_row self.now n (record { op = op; a = a; b = b; c = c }) reason }
+        ensures code { IfErr result (λ fault. IsTrue (is_diagram_fault fault)) }
     {
         if self.rows.len() >= MAX_PRODUCTS {
             return Err(Fault::new(code::LIMIT));

@@ -1,5 +1,5 @@
 -- Reading bytes step by step, as calls take them of a source.
-use Rattle.std.proofs.Common.{◌≡◌, ℕ, ◌+◌, ◌-◌, ◌≤◌, ◌<◌, Bool, true, false, List, [], ◌++◌, length, take, Option, Some, None, Result, Ok, Err, refl, sym, ap, ◌∙◌, append_assoc, length-append, arith, nat_lt, ◌&&◌, ◌==◌}
+use Rattle.std.proofs.Common.{◌≡◌, ℕ, ◌+◌, ◌-◌, ◌≤◌, ◌<◌, Bool, true, false, zero, suc, List, [], ◌∷◌, ◌++◌, length, take, lit<, Option, Some, None, Result, Ok, Err, refl, sym, ap, ◌∙◌, append_assoc, length-append, arith, nat_lt, ◌&&◌, ◌==◌}
 use Rattle.std.specs.Prelude.{IfSome}
 use Rattle.std.proofs.lemmas.Bool.{true≢false}
 use Rattle.std.proofs.lemmas.List.{take_at, drop_at, length-take-le, take-append-le}
@@ -11,18 +11,36 @@ use Rattle.std.proofs.KnownBytes.{Consumes-trans}
 use Rattle.bw_model.specs.declared.fault.Fault.{Fault}
 use Rattle.bw_model.specs.Fault.{at_byte, no_memory}
 use Rattle.bw_device.specs.Source.{is_read_fault}
-use Rattle.bw_file.specs.Reading.{Tail, tail, Reading, passed, placed, ◌>>=◌, give, field, said_at, judged, State, state, Took, GoesOn, HasFault, Fails, Reads}
+use Rattle.bw_file.specs.Reading.{AreBytes, Tail, tail, Reading, passed, placed, ◌>>=◌, give, field, said_at, judged, State, state, Took, GoesOn, HasFault, Fails, Reads}
+
+-- the bytes of a buffer are bytes, and so are those in front, and those of several buffers
+no_bytes : AreBytes []
+no_bytes i = lit< tt
+
+one_byte_more : (c : ℕ) (bytes : List ℕ) → c < 256 → AreBytes bytes → AreBytes (c ∷ bytes)
+one_byte_more c bytes first each zero = first
+one_byte_more c bytes first each (suc i) = each i
+
+pub front_bytes : (n : ℕ) (bytes : List ℕ) → AreBytes bytes → AreBytes (take n bytes)
+front_bytes zero bytes each = no_bytes
+front_bytes (suc n) [] each = no_bytes
+front_bytes (suc n) (c ∷ bytes) each = one_byte_more c (take n bytes) (each 0) (front_bytes n bytes (λ k. each (suc k)))
+
+both_bytes : (xs ys : List ℕ) → AreBytes xs → AreBytes ys → AreBytes (xs ++ ys)
+both_bytes [] ys p q = q
+both_bytes (x ∷ xs) ys p q = one_byte_more x (xs ++ ys) (p 0) (both_bytes xs ys (λ k. p (suc k)) q)
 
 -- nothing was taken
 pub took_nothing : (known : Option (List ℕ)) (offset failures : ℕ) → Took (state known offset failures) (state known offset failures) []
-took_nothing None offset failures = record { consumed = tt; counted = sym (omega arith) }
-took_nothing (Some bytes) offset failures = record { consumed = refl; counted = omega arith }
+took_nothing None offset failures = record { consumed = tt; counted = sym (omega arith); each = no_bytes }
+took_nothing (Some bytes) offset failures = record { consumed = refl; counted = omega arith; each = no_bytes }
 
 -- bytes were taken, and then more
 pub took_more : (a b c : State) (xs ys : List ℕ) → Took a b xs → Took b c ys → Took a c (xs ++ ys)
 took_more a b c xs ys p q = record {
   consumed = Consumes-trans a.known b.known c.known xs ys p.consumed q.consumed;
   counted = omega (arith, p.counted, q.counted, length-append xs ys);
+  each = both_bytes xs ys p.each q.each;
 }
 
 -- reading begins where it begins

@@ -1,5 +1,5 @@
 -- Reading bytes field by field: what is read of them, and the bytes behind it, or the first fault.
-use Rattle.std.specs.Prelude.{◌≡◌, ℕ, ◌+◌, false, List, ◌++◌, length, take, drop, Option, IfSome, Result, Ok, Err, if◌then◌else◌, nat_lt}
+use Rattle.std.specs.Prelude.{◌≡◌, ℕ, ◌+◌, false, List, ◌++◌, length, take, drop, Option, IfSome, Result, Ok, Err, if◌then◌else◌, nat_lt, ◌<◌, slice_index}
 use Rattle.std.specs.Io.KnownBytes.{Consumes}
 use Rattle.bw_model.specs.declared.fault.Fault.{Fault}
 use Rattle.bw_model.specs.Fault.{at_byte, refused_if}
@@ -61,10 +61,15 @@ pub record State : Type 0 where
 abbrev pub state : Option (List ℕ) → ℕ → ℕ → State
 state known offset failures = record { known = known; offset = offset; failures = failures }
 
+-- each number is a byte
+abbrev pub AreBytes : List ℕ → Type 0
+AreBytes bytes = (i : ℕ) → slice_index bytes i < 256
+
 -- these bytes were taken of a source
 pub record Took (old new : State) (bytes : List ℕ) : Type 0 where
   pub consumed : Consumes old.known new.known bytes
   pub counted : new.offset ≡ old.offset + length bytes
+  pub each : AreBytes bytes
 
 -- Bytes were taken of a source, with no failed read, and reading goes on behind them, whatever
 -- stands there.

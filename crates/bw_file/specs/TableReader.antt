@@ -19,6 +19,10 @@ use Rattle.bw_file.specs.TableReading.{HeaderShape, header, body, group_sizes, F
 abbrev pub schema_in : TableReader → Schema
 schema_in reader = reader.shape.value.schema
 
+-- the version that the header tells
+abbrev pub version_in : TableReader → ℕ
+version_in reader = reader.version
+
 abbrev pub layout_in : TableReader → Layout
 layout_in reader = reader.layout
 

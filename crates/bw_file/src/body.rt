@@ -10,7 +10,7 @@ ghost use Rattle.bw_file.specs.TableReading.{is_padding, padding_from, fault_pla
 
 use crate::layout::Layout;
 use crate::segments::{AnySegment, block_size, judge, segment_size};
-use crate::take::take;
+use crate::take::{are_bytes, take};
 use bw_device::{Failed, Source};
 use bw_model::{Fault, code};
 use bw_segment::Shape;
@@ -205,6 +205,7 @@ pub(crate) fn read_end<S: Source>(source: &mut S, offset: &mut u64) -> Result<()
     match source.read(&mut byte) {
         Ok(0) => Ok(()),
         Ok(n) => {
+            are_bytes(&byte);
             *offset += n as u64;
             Err(Fault::at_byte(code::BYTES_AFTER_END, at))
         }

@@ -76,6 +76,30 @@ impl Segment for AnySegment {
     }
 
     #[tactic(auto, unfolding(crate::specs::AnySegment::any_meaning))]
+    fn sum_of_codes(&self, col: usize, rows: &Plane) -> u128 {
+        match self {
+            AnySegment::Planes(segment) => segment.sum_of_codes(col, rows),
+            AnySegment::Slices(segment) => segment.sum_of_codes(col, rows),
+        }
+    }
+
+    #[tactic(auto, unfolding(crate::specs::AnySegment::any_meaning))]
+    fn least_code(&self, col: usize, rows: &Plane) -> Option<u64> {
+        match self {
+            AnySegment::Planes(segment) => segment.least_code(col, rows),
+            AnySegment::Slices(segment) => segment.least_code(col, rows),
+        }
+    }
+
+    #[tactic(auto, unfolding(crate::specs::AnySegment::any_meaning))]
+    fn greatest_code(&self, col: usize, rows: &Plane) -> Option<u64> {
+        match self {
+            AnySegment::Planes(segment) => segment.greatest_code(col, rows),
+            AnySegment::Slices(segment) => segment.greatest_code(col, rows),
+        }
+    }
+
+    #[tactic(auto, unfolding(crate::specs::AnySegment::any_meaning))]
     fn value(&self, col: usize, row: usize) -> Value {
         match self {
             AnySegment::Planes(segment) => segment.value(col, row),

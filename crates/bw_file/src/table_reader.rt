@@ -7,7 +7,7 @@ use crate::body::{read_end, read_segment};
 use crate::header::{Header, read_header};
 use crate::layout::Layout;
 use crate::phase::Phase;
-use crate::segments::AnySegment;
+use crate::segments::{AnySegment, block_size};
 use bw_device::Source;
 use bw_model::{Fault, Schema};
 use bw_segment::{Segment, Shape};
@@ -21,6 +21,7 @@ use std::rc::Rc;
 pub struct TableReader {
     alloc: Global,
     shape: Rc<Shape>,
+    version: u8,
     layout: Layout,
     rows: u32,
     given: u32,
@@ -32,9 +33,10 @@ pub struct TableReader {
 }
 
 impl TableReader {
-    ghost use Rattle.bw_file.specs.Reading.{Fails, state};
+    ghost use Rattle.bw_file.specs.Blocks.{segment_size};
+    ghost use Rattle.bw_file.specs.Reading.{Fails, GoesOn, give, state};
     ghost use Rattle.bw_file.specs.TableReading.{header};
-    ghost use Rattle.bw_file.specs.TableReader.{schema_in, layout_in, rows_told, rows_given, bytes_taken, settled, SoFar, AnswersFault, GivesNext};
+    ghost use Rattle.bw_file.specs.TableReader.{schema_in, version_in, layout_in, header_told, rows_told, rows_given, bytes_taken, settled, SoFar, AnswersFault, GivesNext};
 
     /// Reads the header of a table file, and no byte past it: 301 to 304 and 310, each at the first
     /// byte of its field, 305 at the end of a file that ends before, or 701. That the source's
@@ -44,6 +46,11 @@ impl TableReader {
         ensures began { IfOk result (λ reader. SoFar
             (state (S.to_come source.old) 0 (S.failures source.old))
             (state (S.to_come source.new) (bytes_taken reader) (S.failures source.new)) reader []) }
+        ensures told { IfOk result (λ reader. GoesOn header
+            (state (S.to_come source.old) 0 (S.failures source.old))
+            (give (header_told (version_in reader) reader))
+            (state (S.to_come source.new) (bytes_taken reader) (S.failures source.new))) }
+        ensures short { IfOk result (λ reader. bytes_taken reader ≤ 20000) }
         ensures fresh { IfOk result (λ reader. (rows_given reader ≡ 0) × (settled reader ≡ None)) }
         ensures head { IfErr result (λ fault. (offset : ℕ) × Fails header
             (state (S.to_come source.old) 0 (S.failures source.old))
@@ -55,7 +62,7 @@ impl TableReader {
     {
         let mut offset = 0;
         let Header {
-            version: _,
+            version,
             layout,
             rows,
             schema,
@@ -64,6 +71,7 @@ impl TableReader {
         Ok(TableReader {
             alloc,
             shape,
+            version,
             layout,
             rows,
             given: 0,
@@ -195,10 +203,30 @@ impl TableReader {
         self.rows
     }
 
+    /// The version of the file, 1 or 2.
+    pub fn version(&self) -> u8
+        ensures { result ≡ version_in self.now }
+    {
+        self.version
+    }
+
     pub fn layout(&self) -> Layout
         ensures { result ≡ layout_in self.now }
     {
         self.layout
+    }
+
+    /// How many bytes a segment takes.
+    pub fn segment_size(&self) -> usize
+        ensures size { result ≡ segment_size (layout_in self.now) (schema_in self.now).columns.items }
+        ensures small { result ≤ 266240 }
+    {
+        let shape = &self.shape;
+        let mut size = 0;
+        for col in 0..shape.schema.columns.len() {
+            size += block_size(self.layout, shape, col);
+        }
+        size
     }
 
     /// How many bytes it took.

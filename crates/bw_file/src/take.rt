@@ -1,6 +1,6 @@
 //! Bytes taken whole from a source.
 ghost use Rattle.std.specs.Prelude.{◌≡◌, ◌-◌, ◌+◌, ◌^◌, ◌<◌, length, OnOk};
-ghost use Rattle.bw_file.specs.Reading.{Reads, state, field};
+ghost use Rattle.bw_file.specs.Reading.{AreBytes, Reads, state, field};
 
 use bw_device::{Failed, Source};
 use bw_model::{Fault, code};
@@ -21,9 +21,14 @@ pub(crate) fn take<S: Source>(
 {
     let mut filled = 0;
     while filled < buffer.len() {
-        match source.read(&mut buffer[filled..]) {
-            Ok(0) => return Err(Fault::at_byte(code::TRUNCATED, *offset)),
+        let part = &mut buffer[filled..];
+        match source.read(part) {
+            Ok(0) => {
+                are_bytes(part);
+                return Err(Fault::at_byte(code::TRUNCATED, *offset));
+            }
             Ok(n) => {
+                are_bytes(part);
                 filled += n;
                 *offset += n as u64;
             }
@@ -32,3 +37,8 @@ pub(crate) fn take<S: Source>(
     }
     Ok(())
 }
+
+/// A law: what a buffer holds are bytes.
+pub(crate) fn are_bytes(buffer: &[u8])
+    ensures { AreBytes buffer.now }
+{}

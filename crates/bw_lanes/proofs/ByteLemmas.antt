@@ -29,7 +29,7 @@ words_more test bytes words word made eight within before here =
     ∙ ap (map test) (sym (take-add (64 * word) 64 bytes) ∙ ap (λ n. take n bytes) (sym next))
 
 -- a bit that is taken by a mask of that bit alone
-bit_by_mask : (bit n : ℕ) → eqb (bit_and n (2 ^ bit)) (2 ^ bit) ≡ (bit_at n bit == 1)
+pub bit_by_mask : (bit n : ℕ) → eqb (bit_and n (2 ^ bit)) (2 ^ bit) ≡ (bit_at n bit == 1)
 bit_by_mask bit n = ap (λ k. eqb k (2 ^ bit)) (and_pow n bit) ∙ shown (bit_at n bit) (2 ^ bit) (bit_at-lt n bit) (pow_pos bit)
   where
     shown : (b k : ℕ) → b < 2 → 0 < k → eqb (b * k) k ≡ (b == 1)

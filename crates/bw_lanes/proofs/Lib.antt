@@ -1,5 +1,9 @@
 pub mod BitLemmas
 pub mod ByteLemmas
+pub mod ChoiceLemmas
+pub mod CountLemmas
 pub mod MaskLemmas
+pub mod PartLemmas
+pub mod PickedLemmas
 pub mod StoredLemmas
 pub mod WordLemmas

@@ -51,7 +51,7 @@ word_of_count_is n = elim (cases_lt n 64) [
     least n le = omega arith
 
 -- a choice between two values, lane by lane
-chosen : {A B : Type 0} (test : A → Bool) (f g : A → B) (xs : List A) → sel_l (map test xs) (map f xs) (map g xs) ≡ map (λ x. cond (test x) (f x) (g x)) xs
+pub chosen : {A B : Type 0} (test : A → Bool) (f g : A → B) (xs : List A) → sel_l (map test xs) (map f xs) (map g xs) ≡ map (λ x. cond (test x) (f x) (g x)) xs
 chosen test f g [] = refl
 chosen test f g (x ∷ xs) = ap (λ l. cond (test x) (f x) (g x) ∷ l) (chosen test f g xs)
 

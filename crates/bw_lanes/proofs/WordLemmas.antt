@@ -100,7 +100,7 @@ zero_words a (word ∷ words) small =
     ∙ ap (λ t. (a == 0) && t) (sym (list_all-append not (bits_from_least 64 word) (lanes_of_words words)))
 
 -- a number of so many bits has as many ones as bits that are 1
-ones_in_bits : (count n : ℕ) → n < 2 ^ count → count_ones n ≡ count_by (λ lane. lane) (bits_from_least count n)
+pub ones_in_bits : (count n : ℕ) → n < 2 ^ count → count_ones n ≡ count_by (λ lane. lane) (bits_from_least count n)
 ones_in_bits zero n small =
     let none : n ≡ 0 = omega arith in
     omega (arith, ones_le_self n, ap (count_by (λ (lane : Bool). lane)) (nil_from_length (bits_from_least 0 n) (length-bits_from_least 0 n)))

@@ -2,7 +2,7 @@
 ghost use Rattle.std.specs.Prelude.{◌≡◌, ◌-◌, ◌<◌, ◌≤◌, ◌++◌, ◌&&◌, ◌||◌, true, false, not, map, count_by, replicate, min, slice_index_or};
 ghost use Rattle.std.specs.List.{flat_map, list_all};
 ghost use lib.Lanes.{zip2};
-ghost use Rattle.bw_lanes.specs.Lanes.{lanes_of_words, differ};
+ghost use Rattle.bw_lanes.specs.Lanes.{bits_from_least, lanes_of_words, differ};
 
 use std::simd::prelude::*;
 
@@ -71,7 +71,18 @@ pub fn count_and(a: &Plane, b: &Plane) -> u32
         (zip2 (λ x y. x && y) (lanes_of_words a.now) (lanes_of_words b.now)) }
     ensures bound { result ≤ 512 }
 {
-    count(&and(a, b))
+    let mut ones = 0;
+    for word in 0..8 {
+        ones += ones_of(a[word] & b[word]);
+    }
+    ones
+}
+
+/// How many bits of a word are 1.
+fn ones_of(word: u64) -> u32
+    ensures { result ≡ count_by (λ lane. lane) (bits_from_least 64 word) }
+{
+    word.count_ones()
 }
 
 /// The plane in which the first rows, so many, are 1, and the others 0.

@@ -1,7 +1,7 @@
 //! Worked planes and bytes, and each kernel once.
 use crate::{
-    Plane, and, bytes_bit, bytes_eq, bytes_lt, bytes_none, count, count_and, is_zero, lane, load,
-    mask, not, or, to_bytes, xor,
+    Plane, and, bytes_bit, bytes_eq, bytes_lt, bytes_none, bytes_of_plane, count, count_and,
+    greatest_in, is_zero, keep_in, lane, least_in, load, mask, not, or, sum_in, to_bytes, xor,
 };
 
 /// Bytes of which byte i is i mod 256.
@@ -63,4 +63,33 @@ fn planes_are_joined_and_kept(rt: HostRuntime) {
     assert_eq!(rt; to_bytes(&MIXED)[0], 0xEF);
     assert!(rt; lane(&MIXED, 256) && !lane(&MIXED, 257) && lane(&MIXED, 319));
     assert_eq!(rt; load(to_bytes(&MIXED).as_slice()), MIXED);
+}
+
+#[test]
+fn bytes_are_totalled_in_some_rows(rt: HostRuntime) {
+    let bytes = counted();
+    let none = bytes_of_plane(&mask(0));
+    let first = bytes_of_plane(&mask(100));
+    let all = bytes_of_plane(&mask(512));
+    assert_eq!(rt; (first[99], first[100]), (255, 0));
+    assert_eq!(rt; sum_in(&bytes, &none), 0);
+    assert_eq!(rt; sum_in(&bytes, &first), 99 * 100 / 2);
+    assert_eq!(rt; sum_in(&bytes, &all), 2 * 255 * 256 / 2);
+    assert_eq!(rt; sum_in(&[255; 512], &all), 512 * 255);
+    assert_eq!(rt;
+        (least_in(&bytes, &none), greatest_in(&bytes, &none)),
+        (255, 0)
+    );
+    assert_eq!(rt;
+        (least_in(&bytes, &first), greatest_in(&bytes, &first)),
+        (0, 99)
+    );
+    let mut rows = bytes_of_plane(&not(&mask(300)));
+    assert_eq!(rt;
+        (least_in(&bytes, &rows), greatest_in(&bytes, &rows)),
+        (44, 255)
+    );
+    keep_in(&mut rows, &bytes, 60);
+    assert_eq!(rt; (rows[60], rows[316], rows[317]), (0, 255, 0));
+    assert_eq!(rt; sum_in(&bytes, &rows), 60);
 }

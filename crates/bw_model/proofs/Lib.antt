@@ -10,5 +10,7 @@ pub mod SchemaCodes
 pub mod SchemaLemmas
 pub mod SchemaSpelling
 pub mod StoredLemmas
+pub mod TotalLemmas
 pub mod TreeLemmas
 pub mod VariableLemmas
+pub mod WordLemmas

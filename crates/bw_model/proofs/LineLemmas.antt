@@ -1,11 +1,11 @@
 -- How a text is cut into lines, one line at a time.
-use Rattle.std.proofs.Common.{◌≡◌, ℕ, ◌+◌, Bool, true, false, List, [], ◌∷◌, take, drop, refl, ap, ◌∙◌, cond, arith, suc, not, ◌<◌, length, Some, None, position, ◌≤◌}
-use Rattle.std.specs.List.{before_first, after_first, position_or_len}
-use Rattle.std.proofs.lemmas.Bool.{ltb-false}
+use Rattle.std.proofs.Common.{◌≡◌, ℕ, ◌+◌, Bool, true, false, List, [], ◌∷◌, take, drop, refl, ap, ◌∙◌, cond, arith, suc, not, ◌<◌, length, Some, None, position, ◌≤◌, ◌++◌, inl, inr, subst}
+use Rattle.std.specs.List.{before_first, after_first, position_or_len, list_all}
+use Rattle.std.proofs.lemmas.Bool.{eqb-true, ltb-false, ltb-true}
 use Rattle.std.proofs.lemmas.List.{take_all}
 use Rattle.std.proofs.lemmas.Option.{cond_some}
 use Rattle.std.proofs.Math.ListN.{drop_of_length-le}
-use Rattle.bw_model.specs.Lines.{cut_lines, with_first, is_line_feed, is_skipped, words_of, numbered_from, numbered, NumberedWords}
+use Rattle.bw_model.specs.Lines.{cut_lines, with_first, is_line_feed, is_skipped, words_of, numbered_from, numbered, NumberedWords, IsFirstLine}
 
 -- one byte more in front, at the list of lines that the rest is cut into
 lines_with : Bool → ℕ → List (List ℕ) → List (List ℕ)
@@ -90,3 +90,44 @@ nothing_in n (c ∷ cs) e = absurd (omega arith)
 -- the same words, in front of other lines
 pub cons-words : (n : ℕ) (w v : List (List ℕ)) (rest : List NumberedWords) → w ≡ v → numbered n w ∷ rest ≡ numbered n v ∷ rest
 cons-words n w v rest e = ap (λ (x : List (List ℕ)). numbered n x ∷ rest) e
+
+-- before the first line feed there is none, and behind it comes the rest
+
+before_by : (b : Bool) (c : ℕ) (cs : List ℕ) (n : ℕ) → is_line_feed c ≡ b → list_all (λ x. not (is_line_feed x)) (take n cs) ≡ true
+    → list_all (λ x. not (is_line_feed x)) (take (cond (not b) (1 + n) 0) (c ∷ cs)) ≡ true
+before_by true c cs n e rest = refl
+before_by false c cs n e rest =
+    let one : 1 + n ≡ suc n = omega arith in
+    rw (one, e) rest
+
+pub none_before : (text : List ℕ) → list_all (λ c. not (is_line_feed c)) (take (position_or_len is_line_feed text) text) ≡ true
+none_before [] = refl
+none_before (c ∷ cs) = before_by (is_line_feed c) c cs (position_or_len is_line_feed cs) refl (none_before cs)
+
+split_by : (b : Bool) (c : ℕ) (cs : List ℕ) (n : ℕ) → is_line_feed c ≡ b → (n < length cs → cs ≡ take n cs ++ (10 ∷ drop (n + 1) cs))
+    → cond (not b) (1 + n) 0 < length (c ∷ cs) → c ∷ cs ≡ take (cond (not b) (1 + n) 0) (c ∷ cs) ++ (10 ∷ drop (cond (not b) (1 + n) 0 + 1) (c ∷ cs))
+split_by true c cs n e behind h = ap (λ x. x ∷ cs) (eqb-true _ _ e)
+split_by false c cs n e behind h =
+    let one : 1 + n ≡ suc n = omega arith in
+    let two : suc n + 1 ≡ suc (n + 1) = omega arith in
+    rw (one, two) (ap (λ xs. c ∷ xs) (behind (omega arith)))
+
+pub fed_at : (text : List ℕ) → position_or_len is_line_feed text < length text
+    → text ≡ take (position_or_len is_line_feed text) text ++ (10 ∷ drop (position_or_len is_line_feed text + 1) text)
+fed_at [] h = absurd (omega arith)
+fed_at (c ∷ cs) h = split_by (is_line_feed c) c cs (position_or_len is_line_feed cs) refl (fed_at cs) h
+
+-- where the first line feed stands, the line ends; a text with none is one line
+pub first_at : (text : List ℕ) (at : ℕ) → position is_line_feed text ≡ Some at → IsFirstLine text (take at text) (drop (at + 1) text)
+first_at text at e =
+    let found = cond_some _ _ _ e in
+    let same : position_or_len is_line_feed text ≡ at = found.1 in
+    let within : position_or_len is_line_feed text < length text = ltb-true _ _ found.0 in (
+      subst (λ n. list_all (λ c. not (is_line_feed c)) (take n text) ≡ true) same (none_before text),
+      inl (subst (λ n. text ≡ take n text ++ (10 ∷ drop (n + 1) text)) same (fed_at text within)),
+    )
+
+pub first_whole : (text : List ℕ) → position is_line_feed text ≡ None → IsFirstLine text text []
+first_whole text e =
+    let past : length text ≤ position_or_len is_line_feed text = ltb-false _ _ (not_found _ _ e) in
+    (subst (λ line. list_all (λ c. not (is_line_feed c)) line ≡ true) (take_all (position_or_len is_line_feed text) text past) (none_before text), inr (refl, refl))

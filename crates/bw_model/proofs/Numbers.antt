@@ -1,9 +1,10 @@
 -- Decimal digits, one more at a time.
-use Rattle.std.proofs.Common.{◌≡◌, ◌∙◌, ap, sym, ℕ, ◌+◌, ◌-◌, ◌*◌, ◌^◌, ◌<◌, ◌≤◌, List, [], ◌∷◌, ◌++◌, fold, length, take, drop, min, get_or, refl, arith}
+use Rattle.std.proofs.Common.{◌≡◌, ◌∙◌, ap, sym, ℕ, suc, ◌+◌, ◌-◌, ◌*◌, ◌^◌, ◌<◌, ◌≤◌, List, [], ◌∷◌, ◌++◌, fold, length, take, drop, min, get_or, refl, arith}
 use Rattle.std.proofs.lemmas.List.{take-append-drop}
 use Rattle.std.proofs.lemmas.List.Sums.{fold_more, fold-append}
 use Rattle.std.proofs.Common.{ℤ, pos, ◌-ℤ◌, cond, true, false, Option, Some, None, FitsSigned, w64, leb, ltb}
 use Rattle.std.proofs.lemmas.Int.{ints}
+use Rattle.std.proofs.Math.Nat.{pow-le-pow_right, pow-succ'}
 use Rattle.std.specs.Option.{SomeIff}
 use Rattle.std.proofs.lemmas.Bool.{le-leb, lt-leb, lt-ltb, le-ltb}
 use Rattle.bw_model.specs.Number.{digits_value, where_64_bits_hold}
@@ -62,3 +63,19 @@ too_much digits i n lt is over =
 
 pub enough : (n : ℕ) → n < 2 ^ 64 → Some n ≡ where_64_bits_hold n
 enough n lt = let within : ltb n (2 ^ 64) ≡ true = lt-ltb _ _ lt in rw within refl
+
+-- so many digits spell less than the power of ten with so many zeros
+pub one_zero_more : (i n u : ℕ) → n < 10 ^ i → u < 10 → 10 * n + u < 10 ^ (i + 1)
+one_zero_more i n u below digit =
+    let next : i + 1 ≡ suc i = omega arith in
+    let tenfold : 10 ^ (i + 1) ≡ 10 * 10 ^ i = ap (λ (k : ℕ). 10 ^ k) next ∙ pow-succ' 10 i in
+    omega arith
+
+pub few_zeros : (i n : ℕ) → i ≤ 18 → n < 10 ^ i → n < 10 ^ 18
+few_zeros i n few below = let most : 10 ^ i ≤ 10 ^ 18 = pow-le-pow_right (omega arith) few in omega arith
+
+pub zeros_before_last : (i n : ℕ) → i < 18 → n < 10 ^ i → n < 10 ^ 17
+zeros_before_last i n few below =
+    let place : i ≤ 17 = omega arith in
+    let most : 10 ^ i ≤ 10 ^ 17 = pow-le-pow_right (omega arith) place in
+    omega arith

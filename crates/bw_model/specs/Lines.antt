@@ -1,6 +1,6 @@
 -- Texts by lines, as schemas, programs and certificates are written.
-use Rattle.std.specs.Prelude.{ℕ, ◌+◌, Bool, true, false, List, [], ◌∷◌, length, map, filter, not, ◌||◌, ◌==◌, if◌then◌else◌}
-use Rattle.std.specs.List.{slice_split}
+use Rattle.std.specs.Prelude.{ℕ, ◌+◌, Bool, true, false, List, [], ◌∷◌, ◌++◌, length, map, filter, not, ◌||◌, ◌==◌, if◌then◌else◌, ◌≡◌, ◌⊎◌, Option, Some, None}
+use Rattle.std.specs.List.{slice_split, list_all}
 use Rattle.std.specs.Str.Lines.{strip_carriage_return}
 use Rattle.bw_model.specs.declared.lines.Line.{Line}
 
@@ -22,6 +22,13 @@ unfoldable pub cut_lines : List ℕ → List (List ℕ)
 cut_lines [] = []
 cut_lines (c ∷ cs) = if is_line_feed c then [] ∷ cut_lines cs else with_first c (cut_lines cs)
 
+-- A line stands first in a text, and the rest behind its line feed, which is byte 10; or it is the whole text, and nothing
+-- is left.
+abbrev pub IsFirstLine : List ℕ → List ℕ → List ℕ → Type 0
+IsFirstLine text line rest =
+    (list_all (λ c. not (is_line_feed c)) line ≡ true)
+    × ((text ≡ line ++ (10 ∷ rest)) ⊎ ((text ≡ line) × (rest ≡ [])))
+
 -- a space or a tab
 abbrev pub is_blank : ℕ → Bool
 is_blank c = (c == 32) || (c == 9)
@@ -29,6 +36,12 @@ is_blank c = (c == 32) || (c == 9)
 -- the words of a line, between spaces and tabs, and before the carriage return at its end, if there is one
 unfoldable pub words_of : List ℕ → List (List ℕ)
 words_of line = filter (λ word. not (is_empty word)) (slice_split is_blank (strip_carriage_return line))
+
+-- the only one of some words; none, where there is none, or are several
+abbrev pub only_of : List (List ℕ) → Option (List ℕ)
+only_of [] = None
+only_of (word ∷ []) = Some word
+only_of (word ∷ other ∷ words) = None
 
 -- a line without words, or whose first word begins with #, says nothing
 abbrev pub begins_comment : List ℕ → Bool

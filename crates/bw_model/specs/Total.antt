@@ -19,6 +19,21 @@ total (Sum column) rows = reduce (λ a b. a +ℤ b) (present column rows)
 total (Min column) rows = reduce int_min (present column rows)
 total (Max column) rows = reduce int_max (present column rows)
 
+-- what an aggregate makes of two totals that are there
+abbrev pub of_both : Item → ℤ → ℤ → ℤ
+of_both (Plain column) a b = a +ℤ b
+of_both CountAll a b = a +ℤ b
+of_both (Count column) a b = a +ℤ b
+of_both (Sum column) a b = a +ℤ b
+of_both (Min column) a b = int_min a b
+of_both (Max column) a b = int_max a b
+
+-- the total of some rows and others, from the totals of both: null, which stands for no value, adds nothing
+abbrev pub joined : Item → Option ℤ → Option ℤ → Option ℤ
+joined item None others = others
+joined item (Some a) None = Some a
+joined item (Some a) (Some b) = Some (of_both item a b)
+
 -- the item is an aggregate
 abbrev pub is_aggregate : Item → Bool
 is_aggregate (Plain column) = false

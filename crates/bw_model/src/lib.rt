@@ -26,6 +26,7 @@ mod schema;
 #[cfg(test)]
 mod tests;
 mod text;
+mod total;
 mod variable;
 
 pub use column::Column;
@@ -36,7 +37,7 @@ pub use groups::{
     lanes_are_rows_and_zeros,
 };
 pub use keyword::{KEYWORDS, Keyword};
-pub use lines::{Line, Lines};
+pub use lines::{Line, Lines, only_word};
 pub use name::{Name, is_name};
 pub use number::{natural_number, number_in, whole_number};
 pub use parse::{MAX_COLUMNS, MAX_SCHEMA_LEN};
@@ -44,3 +45,4 @@ pub use query::{Item, Query};
 pub use row::{Row, Value};
 pub use schema::Schema;
 pub use text::{begins_word, goes_on_in_word, is_same_text, is_word};
+pub use total::totals_join;

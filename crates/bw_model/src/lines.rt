@@ -1,10 +1,10 @@
 //! Texts by lines: a line ends at a line feed or at the text's end, with a carriage return before it or
 //! without; its words stand between spaces and tabs; a line without words, or whose first word begins with
 //! `#`, is skipped, but counted.
-ghost use Rattle.std.specs.Prelude.{◌≡◌, ◌+◌, ◌<◌, ◌^◌, [], ◌∷◌, IfOk, IfSome, IfNone, OnOk, map, filter, not, length};
-ghost use Rattle.std.specs.List.{position, slice_split};
+ghost use Rattle.std.specs.Prelude.{◌≡◌, ◌+◌, ◌<◌, ◌^◌, [], ◌∷◌, IfOk, IfSome, IfNone, OnOk, map, filter, not, option_map, length};
+ghost use Rattle.std.specs.List.{find, position, slice_split};
 ghost use Rattle.std.specs.Str.Lines.{strip_carriage_return};
-ghost use Rattle.bw_model.specs.Lines.{cut_lines, is_line_feed, is_blank, words_of, is_empty, is_skipped, line_of, lines_in, end_in, whole, from_line};
+ghost use Rattle.bw_model.specs.Lines.{cut_lines, is_line_feed, is_blank, words_of, only_of, is_empty, is_skipped, line_of, lines_in, end_in, whole, from_line, IsFirstLine};
 
 use std::alloc::{AllocError, Global};
 use std::marker::Model;
@@ -69,6 +69,7 @@ impl<'a> Lines<'a> {
     /// The next line as it stands, without its line feed, or none at the end of the text. It takes no memory.
     pub fn cut_line(&mut self) -> Option<&'a [u8]>
         ensures line { IfSome result (λ line. cut_lines self.old.text ≡ line.now ∷ cut_lines self.new.text) }
+        ensures split { IfSome result (λ line. IsFirstLine self.old.text line.now self.new.text) }
         ensures number { IfSome result (λ line. self.new.number ≡ self.old.number + 1) }
         ensures none { IfNone result ((cut_lines self.old.text ≡ []) × (self.new ≡ self.old)) }
     {
@@ -106,6 +107,7 @@ impl<'a> Lines<'a> {
 fn split_line(text: &[u8]) -> (&[u8], &[u8])
     requires { 0 < length text.now }
     ensures cut { cut_lines text.now ≡ result.0.now ∷ cut_lines result.1.now }
+    ensures split { IsFirstLine text.now result.0.now result.1.now }
     ensures shorter { length result.1.now < length text.now }
 {
     match line_feed_in(text) {
@@ -127,6 +129,36 @@ fn words_of(alloc: Global, line: &[u8]) -> Result<Vec<&[u8]>, AllocError>
     ensures { IfOk result (λ words. map (λ word. word.now) words.items ≡ words_of line.now) }
 {
     words_between_blanks(alloc, without_carriage_return(line))
+}
+
+/// The only word of a line; none where it has no word, or several. It takes no memory.
+#[tactic(auto, using(crate::proofs::WordLemmas::first_kept, crate::proofs::WordLemmas::none_alone), unfolding(crate::specs::Lines::words_of))]
+pub fn only_word(line: &[u8]) -> Option<&[u8]>
+    ensures { option_map (λ word. word.now) result ≡ only_of (words_of line.now) }
+{
+    let bare = without_carriage_return(line);
+    if count_words(bare) == 1 {
+        first_word(bare)
+    } else {
+        None
+    }
+}
+
+/// How many words there are between blanks.
+fn count_words(line: &[u8]) -> usize
+    ensures { result ≡ length (filter (λ word. not (is_empty word)) (slice_split is_blank line.now)) }
+{
+    line.split(|c| is_blank(*c))
+        .filter(|word| !word.is_empty())
+        .count()
+}
+
+/// The first word between blanks.
+fn first_word(line: &[u8]) -> Option<&[u8]>
+    ensures { option_map (λ word. word.now) result
+        ≡ find (λ word. not (is_empty word)) (slice_split is_blank line.now) }
+{
+    line.split(|c| is_blank(*c)).find(|word| !word.is_empty())
 }
 
 /// A line without the carriage return at its end, if there is one.

@@ -1,5 +1,5 @@
 //! Whole numbers as decimal digits spell them.
-ghost use Rattle.std.specs.Prelude.{◌≡◌, ◌+◌, ◌*◌, ◌^◌, ◌-◌, ◌<◌, ℕ, List, Some, None, min, if◌then◌else◌};
+ghost use Rattle.std.specs.Prelude.{◌≡◌, ◌+◌, ◌*◌, ◌^◌, ◌-◌, ◌<◌, ◌≤◌, ℕ, List, Some, None, length, min, if◌then◌else◌};
 ghost use Rattle.std.specs.List.{list_all};
 ghost use Rattle.std.specs.Char.{is_ascii_digit};
 ghost use Rattle.bw_model.specs.Number.{digits_value, are_digits, number_of, natural_of, where_64_bits_hold};
@@ -80,6 +80,36 @@ fn magnitude_of(digits: &[u8]) -> u64
 
 /// The same for a text of digits; none for another one.
 fn magnitude_in(text: &[u8]) -> Option<u64>
+    ensures { result ≡ if are_digits text.now then Some (min (digits_value text.now) (2 ^ 64 - 1)) else None }
+{
+    if text.len() <= 18 {
+        short_magnitude(text)
+    } else {
+        long_magnitude(text)
+    }
+}
+
+/// The same for a text so short that 64 bits hold each number on the way.
+fn short_magnitude(text: &[u8]) -> Option<u64>
+    requires { length text.now ≤ 18 }
+    ensures { result ≡ if are_digits text.now then Some (min (digits_value text.now) (2 ^ 64 - 1)) else None }
+{
+    if text.is_empty() {
+        return None;
+    }
+    let mut magnitude: u64 = 0;
+    for digit in text {
+        if !digit.is_ascii_digit() {
+            return None;
+        }
+        let units = u64::from(digit.saturating_sub(b'0'));
+        magnitude = 10 * magnitude + units;
+    }
+    Some(magnitude)
+}
+
+/// The same for a text of any length.
+fn long_magnitude(text: &[u8]) -> Option<u64>
     ensures { result ≡ if are_digits text.now then Some (min (digits_value text.now) (2 ^ 64 - 1)) else None }
 {
     if text.is_empty() {

@@ -3,3 +3,4 @@ pub mod CompareLemmas
 pub mod JudgeLemmas
 pub mod LayoutLemmas
 pub mod SegmentLemmas
+pub mod SumLemmas

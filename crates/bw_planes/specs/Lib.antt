@@ -1,1 +1,2 @@
+pub mod PlaneSegment
 pub mod Planes

@@ -9,6 +9,7 @@
 #![tactic(auto)]
 
 mod build;
+mod codes;
 mod compare;
 mod judge;
 mod layout;

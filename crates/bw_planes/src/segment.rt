@@ -7,6 +7,7 @@ ghost use Rattle.bw_segment.specs.Layout.{block_size, segment_size, segment_text
 ghost use Rattle.bw_segment.specs.Meaning.{IsGroup};
 ghost use Rattle.bw_planes.specs.Planes.{planes_meaning, plane_layout, ArePlanes};
 
+use crate::codes::{greatest_code, least_code, sum_of_codes};
 use crate::compare::{eq, lt};
 use crate::read::{bit, number};
 use bw_lanes::{Plane, load};
@@ -56,6 +57,18 @@ impl Segment for PlaneSegment {
     fn byte_eq(&self, col: usize, slice: usize, c: u8) -> Plane {
         let (first, count) = self.planes_of_byte(col, slice);
         eq(&self.bytes, first, count, c)
+    }
+
+    fn sum_of_codes(&self, col: usize, rows: &Plane) -> u128 {
+        sum_of_codes(self, col, rows)
+    }
+
+    fn least_code(&self, col: usize, rows: &Plane) -> Option<u64> {
+        least_code(self, col, rows)
+    }
+
+    fn greatest_code(&self, col: usize, rows: &Plane) -> Option<u64> {
+        greatest_code(self, col, rows)
     }
 
     fn value(&self, col: usize, row: usize) -> Value {

@@ -1,9 +1,10 @@
-//! Laws of the segment machine, for what stands on its runs.
-ghost use Rattle.std.specs.Prelude.{◌≡◌, ◌+◌, ◌<◌, ◌⊎◌, ℕ, List};
+//! Laws of the segment machine, for what stands on its runs, and of program texts.
+ghost use Rattle.std.specs.Prelude.{◌≡◌, ◌+◌, ◌<◌, ◌⊎◌, ℕ, List, Ok};
 ghost use Rattle.bw_model.specs.declared.column.Column.{Column};
 ghost use Rattle.bw_model.specs.Variable.{Assignment};
 ghost use Rattle.bw_program.specs.Machine.{State, Reaches, FallsThrough, SkipsTo, start, state_after, steps_from};
 ghost use Rattle.bw_program.specs.Program.{ProgramShape};
+ghost use Rattle.bw_program.specs.ProgramText.{IsProgramText, program_of};
 
 /// A law: a run of more steps goes on from the state of fewer, and no step leaves the state where it begins.
 pub fn runs_go_on()
@@ -20,4 +21,13 @@ pub fn places_are_reached()
     ensures { (columns : List Column) (lanes : List Assignment) (program : ProgramShape) (place : ℕ) (state : State)
         → Reaches columns lanes program place state → 0 < place
         → FallsThrough columns lanes program place state ⊎ SkipsTo columns lanes program place state }
+{}
+
+/// A law: a text is read as a program exactly where its lines spell it. So it spells at most one, and then it has no
+/// fault.
+pub fn programs_are_read_as_spelled()
+    ensures read { (columns : List Column) (text : List ℕ) (program : ProgramShape)
+        → IsProgramText columns text program → program_of columns text ≡ Ok program }
+    ensures spelled { (columns : List Column) (text : List ℕ) (program : ProgramShape)
+        → program_of columns text ≡ Ok program → IsProgramText columns text program }
 {}

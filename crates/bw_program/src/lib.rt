@@ -19,7 +19,7 @@ mod program;
 mod tests;
 
 pub use instr::Instr;
-pub use laws::{places_are_reached, runs_go_on};
+pub use laws::{places_are_reached, programs_are_read_as_spelled, runs_go_on};
 pub use opcode::Opcode;
 pub use print::canonical_texts_spell_programs;
 pub use program::Program;

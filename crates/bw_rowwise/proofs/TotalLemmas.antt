@@ -9,8 +9,8 @@ use Rattle.std.proofs.lemmas.Int.{ints, clamps}
 use Rattle.bw_model.specs.declared.query.Item.{Item}
 use Rattle.bw_model.specs.declared.query.Item.TheVariants.{Plain, CountAll, Count, Sum, Min, Max}
 use Rattle.bw_model.specs.Row.{Value, value_in}
-use Rattle.bw_model.specs.Total.{total, present}
-use Rattle.bw_rowwise.specs.Accumulator.{Tally, tally_of, IsTotalOfRows, answer_with, including, of_both}
+use Rattle.bw_model.specs.Total.{total, present, of_both}
+use Rattle.bw_rowwise.specs.Accumulator.{Tally, tally_of, IsTotalOfRows, answer_with, including}
 
 pub small_one : (rows : ℕ) (n : ℤ) → FitsSigned w64 n → IsTotalOfRows (rows + 1) (Some n)
 small_one rows n fits x is =
@@ -40,6 +40,31 @@ adds item m n (inr (inr (inr (column, is)))) = ap (λ (item : Item). of_both ite
 
 pub small_below : (rows limit : ℕ) (answer : Option ℤ) → rows ≤ limit → IsTotalOfRows rows answer → IsTotalOfRows limit answer
 small_below rows limit answer le small x is = let s = small x is in (omega (arith, ints), omega (arith, ints))
+
+-- totals of some rows and others
+pub small_left : (rows more : ℕ) (answer : Option ℤ) → IsTotalOfRows rows answer → IsTotalOfRows (rows + more) answer
+small_left rows more answer small x is = let s = small x is in (omega (arith, ints), omega (arith, ints))
+
+pub small_right : (rows more : ℕ) (answer : Option ℤ) → IsTotalOfRows more answer → IsTotalOfRows (rows + more) answer
+small_right rows more answer small x is = let s = small x is in (omega (arith, ints), omega (arith, ints))
+
+pub small_both : (rows more : ℕ) (a b total : ℤ) → IsTotalOfRows rows (Some a) → IsTotalOfRows more (Some b) → total ≡ a +ℤ b → IsTotalOfRows (rows + more) (Some total)
+small_both rows more a b total small other is x e =
+    let s = small a refl in
+    let o = other b refl in
+    let same : total ≡ x = cc in (omega (arith, ints), omega (arith, ints))
+
+pub small_least : (rows more : ℕ) (a b total : ℤ) → IsTotalOfRows rows (Some a) → IsTotalOfRows more (Some b) → total ≡ int_min a b → IsTotalOfRows (rows + more) (Some total)
+small_least rows more a b total small other is x e =
+    let s = small a refl in
+    let o = other b refl in
+    let same : total ≡ x = cc in (omega (arith, ints, clamps), omega (arith, ints, clamps))
+
+pub small_most : (rows more : ℕ) (a b total : ℤ) → IsTotalOfRows rows (Some a) → IsTotalOfRows more (Some b) → total ≡ int_max a b → IsTotalOfRows (rows + more) (Some total)
+small_most rows more a b total small other is x e =
+    let s = small a refl in
+    let o = other b refl in
+    let same : total ≡ x = cc in (omega (arith, ints, clamps), omega (arith, ints, clamps))
 
 reduce_append : (f : ℤ → ℤ → ℤ) (xs : List ℤ) (value : Value) → reduce f (xs ++ option_to_list value) ≡ including f (reduce f xs) value
 reduce_append f [] None = refl

@@ -1,11 +1,10 @@
 -- What an accumulator has to show of the rows that it was given.
 use Rattle.std.specs.Prelude.{ℕ, ◌+◌, ℤ, pos, ◌+ℤ◌, ◌*◌, ◌^◌, ◌≤ℤ◌, neg_ℤ, List, Option, Some, None, length}
 use Rattle.std.specs.Option.{ForSome, option_map}
-use Rattle.std.specs.Int.{int_min, int_max}
 use Rattle.bw_model.specs.declared.query.Item.{Item}
 use Rattle.bw_model.specs.declared.query.Item.TheVariants.{Plain, CountAll, Count, Sum, Min, Max}
 use Rattle.bw_model.specs.Row.{Value, value_in}
-use Rattle.bw_model.specs.Total.{total}
+use Rattle.bw_model.specs.Total.{joined, of_both, total}
 
 -- an aggregate, the number of rows, and their total
 pub record Tally : Type 0 where
@@ -32,15 +31,6 @@ added_by (Sum column) row = value_in row column
 added_by (Min column) row = value_in row column
 added_by (Max column) row = value_in row column
 
--- what an aggregate makes of two numbers
-abbrev pub of_both : Item → ℤ → ℤ → ℤ
-of_both (Plain column) a b = a +ℤ b
-of_both CountAll a b = a +ℤ b
-of_both (Count column) a b = a +ℤ b
-of_both (Sum column) a b = a +ℤ b
-of_both (Min column) a b = int_min a b
-of_both (Max column) a b = int_max a b
-
 -- the total of an aggregate over some rows and one more, from the total over the rows
 abbrev pub answer_with : Item → Option ℤ → List Value → Option ℤ
 answer_with item answer row = including (of_both item) answer (added_by item row)
@@ -53,7 +43,12 @@ tally_with tally row = record { item = tally.item; count = tally.count + 1; answ
 abbrev pub counted : Tally → ℕ → Tally
 counted tally more = record { item = tally.item; count = tally.count + more; answer = Some (pos (tally.count + more)) }
 
--- a total of so many rows is at most as many times 2^63 in size, as each value is at most 2^63
+-- a tally and the total of so many more rows
+abbrev pub tally_joined : Tally → ℕ → Option ℤ → Tally
+tally_joined tally more others = record { item = tally.item; count = tally.count + more; answer = joined tally.item tally.answer others }
+
+-- A total of so many rows is at most as many times 2^73 in size. A value is at most 2^63, and the total of a segment's
+-- rows, of which there are at most 512 and one at least, is within 2^73.
 abbrev pub IsTotalOfRows : ℕ → Option ℤ → Type 0
 IsTotalOfRows count answer =
-    ForSome answer (λ n. (neg_ℤ (pos (count * 2 ^ 63)) ≤ℤ n) × (n ≤ℤ pos (count * 2 ^ 63)))
+    ForSome answer (λ n. (neg_ℤ (pos (count * 2 ^ 73)) ≤ℤ n) × (n ≤ℤ pos (count * 2 ^ 73)))

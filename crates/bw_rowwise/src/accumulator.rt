@@ -4,10 +4,10 @@ ghost use Rattle.bw_model.specs.Limits.{most_rows};
 ghost use Rattle.bw_model.specs.declared.query.Item.TheVariants.{CountAll};
 ghost use Rattle.bw_model.specs.Row.{Value, values_of};
 ghost use Rattle.bw_model.specs.Total.{total, is_aggregate, item_within};
-ghost use Rattle.bw_rowwise.specs.Accumulator.{tally_of, tally_with, counted};
+ghost use Rattle.bw_rowwise.specs.Accumulator.{tally_of, tally_with, tally_joined, counted, IsTotalOfRows};
 
-use crate::total::answer_with;
-use bw_model::{Item, Row};
+use crate::total::{answer_with, joined};
+use bw_model::{Item, Row, totals_join};
 use std::marker::Model;
 
 /// The total of an aggregate over the rows that it has been given so far, of which there are at most 2^24.
@@ -49,6 +49,13 @@ impl Accumulator {
         }
     }
 
+    /// The aggregate.
+    pub fn item(&self) -> Item
+        ensures { result ≡ self.now.item }
+    {
+        self.item
+    }
+
     /// Adds a row to those so far. It has the aggregate's column.
     pub fn add(&mut self, row: &Row)
         requires room { self.old.count < most_rows }
@@ -76,6 +83,23 @@ impl Accumulator {
             item: self.item,
             rows,
             total: Some(i128::from(rows)),
+        };
+    }
+
+    /// Adds so many rows, of which the total is known, to those so far.
+    #[tactic(auto, using(crate::proofs::TotalLemmas::small_below))]
+    pub fn add_total(&mut self, count: u32, others: Option<i128>)
+        requires room { self.old.count + count ≤ most_rows }
+        requires small { IsTotalOfRows count others }
+        ensures step { self.new ≡ tally_joined self.old count others }
+        ensures total { (rows more : List (List Value)) → length more ≡ count → others ≡ total self.old.item more
+            → self.old ≡ tally_of self.old.item rows → self.new ≡ tally_of self.old.item (rows ++ more) }
+    {
+        totals_join();
+        *self = Accumulator {
+            item: self.item,
+            rows: self.rows + count,
+            total: joined(self.item, self.total, others),
         };
     }
 

@@ -3,8 +3,8 @@ ghost use Rattle.std.specs.Prelude.{◌≡◌, ◌+◌, ◌<◌, ◌+ℤ◌, ℕ
 ghost use Rattle.std.specs.Int.{w64};
 ghost use Rattle.bw_model.specs.Limits.{most_rows};
 ghost use Rattle.bw_model.specs.Row.{values_of};
-ghost use Rattle.bw_model.specs.Total.{item_within};
-ghost use Rattle.bw_rowwise.specs.Accumulator.{answer_with, added_by, of_both, IsTotalOfRows};
+ghost use Rattle.bw_model.specs.Total.{item_within, joined, of_both};
+ghost use Rattle.bw_rowwise.specs.Accumulator.{answer_with, added_by, IsTotalOfRows};
 
 use bw_model::{Item, Row, Value};
 
@@ -67,4 +67,44 @@ fn widened(n: i64) -> i128
     ensures fits { FitsSigned w64 n }
 {
     i128::from(n)
+}
+
+/// The total of some rows and others, from the totals of both.
+#[tactic(auto, using(crate::proofs::TotalLemmas::small_left, crate::proofs::TotalLemmas::small_right))]
+pub fn joined(item: Item, answer: Option<i128>, others: Option<i128>) -> Option<i128>
+    requires few { IsTotalOfRows most_rows answer }
+    requires others { IsTotalOfRows most_rows others }
+    ensures value { result ≡ joined item answer others }
+    ensures small { (rows more : ℕ) → IsTotalOfRows rows answer → IsTotalOfRows more others
+        → IsTotalOfRows (rows + more) result }
+{
+    match (answer, others) {
+        (Some(a), Some(b)) => Some(total_of_both(item, a, b)),
+        (None, others) => others,
+        (_, None) => answer,
+    }
+}
+
+/// What an aggregate makes of two totals that are there.
+fn total_of_both(item: Item, a: i128, b: i128) -> i128
+    requires few { IsTotalOfRows most_rows (Some a) }
+    requires others { IsTotalOfRows most_rows (Some b) }
+    ensures value { result ≡ of_both item a b }
+    ensures small { (rows more : ℕ) → IsTotalOfRows rows (Some a) → IsTotalOfRows more (Some b)
+        → IsTotalOfRows (rows + more) (Some result) }
+{
+    match item {
+        Item::Min(_) => a.min(b),
+        Item::Max(_) => a.max(b),
+        Item::Plain(_) | Item::CountAll | Item::Count(_) | Item::Sum(_) => sum_of_both(a, b),
+    }
+}
+
+/// The sum of two totals.
+fn sum_of_both(a: i128, b: i128) -> i128
+    requires few { IsTotalOfRows most_rows (Some a) }
+    requires others { IsTotalOfRows most_rows (Some b) }
+    ensures { result ≡ a +ℤ b }
+{
+    a + b
 }

@@ -1,7 +1,10 @@
 pub mod CodeLemmas
+pub mod DescentLemmas
 pub mod FaultLemmas
 pub mod LaneLemmas
 pub mod LayoutLemmas
+pub mod PickedCodes
+pub mod PickedLemmas
 pub mod ShapeLemmas
 pub mod SoundLemmas
 pub mod SpanLemmas

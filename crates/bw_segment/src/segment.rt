@@ -1,11 +1,13 @@
 //! What every segment answers, in whichever layout.
-ghost use Rattle.std.specs.Prelude.{◌≡◌, ◌<◌, ◌≤◌, ◌==◌, length, map, nat_lt, slice_index_or, []};
+ghost use Rattle.std.specs.Prelude.{◌≡◌, ◌^◌, ◌<◌, ◌≤◌, ◌==◌, length, map, max, min, nat_lt, slice_index_or, sum, [], IfSome};
+ghost use Rattle.std.specs.List.{reduce};
 ghost use Rattle.bw_lanes.specs.Lanes.{lanes_of_words};
 ghost use Rattle.bw_model.specs.Code.{slices_at};
 ghost use Rattle.bw_model.specs.Groups.{group_size};
 ghost use Rattle.bw_model.specs.Row.{value_in};
 ghost use Rattle.bw_model.specs.Variable.{variables_of};
 ghost use Rattle.bw_segment.specs.Meaning.{Meaning, IsGroup, variable_lanes, byte_lanes};
+ghost use Rattle.bw_segment.specs.Picked.{codes_in};
 
 use crate::shape::Shape;
 use bw_lanes::Plane;
@@ -48,6 +50,27 @@ pub trait Segment {
         requires slice { slice < slices_at (meaning self.now).columns col }
         ensures { lanes_of_words result
             ≡ map (λ byte. byte == c) (byte_lanes (meaning self.now) col slice) };
+
+    /// The sum of a column's codes in some rows, where null and the rows past the last one count as code 0.
+    fn sum_of_codes(&self, col: usize, rows: &Plane) -> u128
+        requires { col < length (meaning self.now).columns }
+        ensures sum { result ≡ sum (codes_in (meaning self.now) col (lanes_of_words rows.now)) }
+        ensures bound { result ≤ 2 ^ 72 };
+
+    /// The least of a column's codes in some rows, where null and the rows past the last one count as code 0; none
+    /// where there are no rows.
+    fn least_code(&self, col: usize, rows: &Plane) -> Option<u64>
+        requires { col < length (meaning self.now).columns }
+        ensures least { result
+            ≡ reduce min (codes_in (meaning self.now) col (lanes_of_words rows.now)) }
+        ensures bound { IfSome result (λ code. code < 2 ^ 63) };
+
+    /// The greatest of these codes.
+    fn greatest_code(&self, col: usize, rows: &Plane) -> Option<u64>
+        requires { col < length (meaning self.now).columns }
+        ensures greatest { result
+            ≡ reduce max (codes_in (meaning self.now) col (lanes_of_words rows.now)) }
+        ensures bound { IfSome result (λ code. code < 2 ^ 63) };
 
     /// The value of a row, from 0, in a column.
     fn value(&self, col: usize, row: usize) -> Value

@@ -1,4 +1,6 @@
 pub mod BlockLemmas
+pub mod ByteLemmas
+pub mod CodeLemmas
 pub mod JudgeLemmas
 pub mod LayoutLemmas
 pub mod MeaningLemmas

@@ -1,1 +1,2 @@
+pub mod SliceSegment
 pub mod Slices

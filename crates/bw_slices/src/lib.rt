@@ -9,6 +9,7 @@
 #![tactic(auto)]
 
 mod build;
+mod codes;
 mod judge;
 mod layout;
 mod read;

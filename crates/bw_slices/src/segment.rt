@@ -7,6 +7,7 @@ ghost use Rattle.bw_segment.specs.Blocks.{block_start};
 ghost use Rattle.bw_segment.specs.Meaning.{IsGroup};
 ghost use Rattle.bw_slices.specs.Slices.{slice_layout, slices_meaning, AreSlices};
 
+use crate::codes::{greatest_code, least_code, sum_of_codes};
 use crate::read::{bit, slice_at, start_of};
 use bw_lanes::{Plane, bytes_bit, bytes_eq, bytes_lt, load};
 use bw_model::{Schema, Value};
@@ -63,6 +64,18 @@ impl Segment for SliceSegment {
 
     fn byte_eq(&self, col: usize, slice: usize, c: u8) -> Plane {
         bytes_eq(slice_at(&self.bytes, start_of(&self.shape, col, slice)), c)
+    }
+
+    fn sum_of_codes(&self, col: usize, rows: &Plane) -> u128 {
+        sum_of_codes(self, col, rows)
+    }
+
+    fn least_code(&self, col: usize, rows: &Plane) -> Option<u64> {
+        least_code(self, col, rows)
+    }
+
+    fn greatest_code(&self, col: usize, rows: &Plane) -> Option<u64> {
+        greatest_code(self, col, rows)
     }
 
     fn value(&self, col: usize, row: usize) -> Value {

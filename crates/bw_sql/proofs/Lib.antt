@@ -12,6 +12,8 @@ pub mod Readers
 pub mod Repeats
 pub mod Delimiters
 pub mod Runs
+pub mod SameColumns
+pub mod SameNames
 pub mod Sound
 pub mod Spelled
 pub mod Stops

@@ -1,5 +1,5 @@
 -- From what the tokens are read as to what they spell.
-use Rattle.std.proofs.Common.{◌≡◌, ℕ, ◌≤◌, Bool, true, false, List, length, Option, Some, None, Result, Ok, Err, IfErr, refl, sym, ◌∙◌, ap}
+use Rattle.std.proofs.Common.{◌≡◌, ℕ, ◌≤◌, Bool, true, false, List, length, Option, Some, None, Result, Ok, Err, IfErr, refl, sym, ◌∙◌, ap, subst}
 use Rattle.bw_model.specs.declared.fault.Fault.{Fault}
 use Rattle.bw_model.specs.declared.query.Query.{Query}
 use Rattle.bw_model.specs.declared.schema.Schema.{Schema}
@@ -18,6 +18,11 @@ use Rattle.bw_sql.proofs.Spelled.{query_read}
 
 pub same_query : (schema : Schema) (tokens : List Lexeme) (query other : Asked) → IsQuery schema tokens query → IsQuery schema tokens other → query ≡ other
 same_query schema tokens query other a b = let both : ◌≡◌ {A = Result Asked Halt} (Ok query) (Ok other) = sym (query_read schema tokens query a) ∙ query_read schema tokens other b in cc
+
+pub text_query : (schema : Schema) (text : List ℕ) (query other : Asked) → Spells schema text query → Spells schema text other → query ≡ other
+text_query schema text query other a b =
+    let one = one_cut_of 0 text a.tokens b.tokens None None a.cut b.cut in
+    same_query schema (tokens_of b.tokens) query other (subst (λ (tokens : List Spot). IsQuery schema (tokens_of tokens) query) one.tokens_same a.spelled) b.spelled
 
 judged_ok : (schema : Schema) (text : List ℕ) → length text ≤ longest_statement → (query : Asked) (tokens : List Spot) (stop : Option ℕ) (reading : Result Asked Halt) → IsCut 0 text tokens stop →
     statement_at schema (tokens_of tokens) ≡ reading → Ok query ≡ judged tokens stop (length text) reading → Spells schema text query

@@ -21,6 +21,7 @@ ghost use Rattle.std.specs.Prelude.{List, ℕ, Option, ◌≡◌, ◌<◌, ◌�
 ghost use Rattle.std.specs.List.{list_all};
 ghost use Rattle.bw_model.specs.Fault.{at_byte, is_memory};
 ghost use Rattle.bw_model.specs.Cond.{names_within, is_whole};
+ghost use Rattle.bw_model.specs.SchemaText.{schema_shape};
 ghost use Rattle.bw_model.specs.Total.{item_within};
 ghost use Rattle.bw_sql.specs.Asked.{Asked};
 ghost use Rattle.bw_sql.specs.Cut.{IsCut, Spot, spots};
@@ -118,6 +119,21 @@ pub fn read_as_spelled()
 pub fn one_query()
     ensures { (schema : Schema) (tokens : List Lexeme) (query other : Asked)
         → IsQuery schema tokens query → IsQuery schema tokens other → query ≡ other }
+{}
+
+/// A text spells at most one query.
+pub fn one_query_of_a_text()
+    ensures { (schema : Schema) (text : List ℕ) (query other : Asked)
+        → Spells schema text query → Spells schema text other → query ≡ other }
+{}
+
+/// Schemas of one shape have the same columns, and a text spells the same query under both.
+pub fn schemas_of_one_shape()
+    ensures columns { (schema other : Schema) → schema_shape schema ≡ schema_shape other
+        → schema.columns.items ≡ other.columns.items }
+    ensures spelled { (schema other : Schema) (text : List ℕ) (query : Asked)
+        → schema_shape schema ≡ schema_shape other
+        → Spells schema text query → Spells other text query }
 {}
 
 /// A text has at most one fault, and none where it spells a query.

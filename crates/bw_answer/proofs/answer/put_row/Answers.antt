@@ -14,7 +14,7 @@ returns-in_ok-push_kept-clause-over c = λ names rows over.
     let lists = sym c.requires.lists ∙ c.if-lists.true in
     let row = values_of c.args.row.now in
     record {
-      written = subst (λ (text : List ℕ). Holds c.push_kept.new.text text []) (text_over_more names query rows row lists)
+      written = subst (λ (text : List ℕ). Holds c.push_kept.new.text text []) (text_over_more names query rows (row ∷ []) lists)
           (c.in_ok-push_kept.ensures.row _ over.written);
       totalled = λ totals. absurd (cc (lists, totals));
     }

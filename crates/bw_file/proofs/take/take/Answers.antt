@@ -1,7 +1,7 @@
-use Rattle.std.proofs.Common.{◌≡◌, ◌+◌, ◌++◌, ◌∙◌, take, arith, length-take, length-append}
+use Rattle.std.proofs.Common.{rules, ◌≡◌, ◌+◌, ◌++◌, ◌∙◌, take, arith, length-take, length-append}
 use Rattle.std.proofs.lemmas.List.{take_all}
 use Rattle.bw_file.specs.Reading.{state, Took}
-use Rattle.bw_file.proofs.ReadingLemmas.{took_more, took_into, field_taken, field_ended}
+use Rattle.bw_file.proofs.ReadingLemmas.{front_bytes, took_more, took_into, field_taken, field_ended}
 use Rattle.bw_file.proofs.take.take.Goals as goal
 
 -- a read of nothing is the end
@@ -10,7 +10,7 @@ returns-in-Ok-eq0-clause-reads g c =
     let more : Took
     (state (g.S.Source.to_come c.loop-filled.source) c.loop-filled.offset (g.S.Source.failures c.loop-filled.source))
     (state (g.S.Source.to_come c.read.new.self) c.loop-filled.offset (g.S.Source.failures c.read.new.self))
-    (take c.in-Ok-eq0.field-0 c.read.new.buffer) = record { consumed = c.in-Ok-eq0.ensures.bytes.0; counted = omega (arith, c.in-Ok-eq0.ensures.bound) } in
+    (take c.in-Ok-eq0.field-0 c.read.new.buffer) = record { consumed = c.in-Ok-eq0.ensures.bytes.0; counted = omega (arith, c.in-Ok-eq0.ensures.bound); each = front_bytes _ c.read.new.buffer c.are_bytes.ensures } in
     rw c.at_byte.ensures (field_ended _ _ _ _ _ (take c.loop-filled.filled c.loop-filled.buffer ++ take c.in-Ok-eq0.field-0 c.read.new.buffer)
     (took_more _ _ _ _ _ c.loop-filled.invariant.came more)
     (c.in-Ok-eq0.ensures.count ∙ c.loop-filled.invariant.count)
@@ -22,7 +22,7 @@ loop-filled-preserved g c =
     let came : Took
     (state (g.S.Source.to_come c.loop-filled.source) c.loop-filled.offset (g.S.Source.failures c.loop-filled.source))
     (state (g.S.Source.to_come c.read.new.self) (c.loop-filled.offset + c.in-Ok.n) (g.S.Source.failures c.read.new.self))
-    (take c.in-Ok.n c.read.new.buffer) = record { consumed = c.in-Ok.ensures.bytes.0; counted = omega (arith, c.in-Ok.ensures.bound) } in
+    (take c.in-Ok.n c.read.new.buffer) = record { consumed = c.in-Ok.ensures.bytes.0; counted = omega (arith, c.in-Ok.ensures.bound); each = front_bytes _ c.read.new.buffer c.are_bytes-in-Ok.ensures } in
     record {
       within = omega (arith, c.in-Ok.ensures.bound, c.read.auto.buffer);
       came = took_into _ _ _ c.loop-filled.filled c.in-Ok.n c.loop-filled.buffer c.read.new.buffer (omega arith) (omega (arith, c.in-Ok.ensures.bound)) c.loop-filled.invariant.came came;

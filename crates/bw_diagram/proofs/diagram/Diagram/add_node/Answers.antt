@@ -9,7 +9,7 @@ use Rattle.bw_diagram.proofs.diagram.Diagram.add_node.Goals as goal
 pub invariant_of-self-2 : goal.invariant_of-self-2
 invariant_of-self-2 c =
     let P : List Node → Type 0 = λ nodes. AreTrue (record (held c.self.inside) { nodes = nodes }) in
-    let judged = ap (λ facts. judged_node facts c.args.n (record { v = c.args.v; low = c.args.low; high = c.args.high })) c.self.view_is ∙ sym c.in_ok-node.ensures in
+    let judged = ap (λ facts. judged_node facts c.args.n (record { v = c.args.v; low = c.args.low; high = c.args.high })) c.self.view_is ∙ sym c.in_ok-node.ensures.judged in
     record {
       variable_count = c.self.invariant.variable_count;
       few_nodes =

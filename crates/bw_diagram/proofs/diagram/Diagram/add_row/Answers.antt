@@ -9,7 +9,7 @@ use Rattle.bw_diagram.proofs.diagram.Diagram.add_row.Goals as goal
 pub invariant_of-self-2 : goal.invariant_of-self-2
 invariant_of-self-2 c =
     let P : List Product → Type 0 = λ rows. AreTrue (record (held c.self.inside) { rows = rows }) in
-    let judged = ap (λ facts. judged_row facts c.args.n (record { op = c.args.op; a = c.args.a; b = c.args.b; c = c.args.c }) c.args.reason) c.self.view_is ∙ sym c.in_ok-row.ensures in
+    let judged = ap (λ facts. judged_row facts c.args.n (record { op = c.args.op; a = c.args.a; b = c.args.b; c = c.args.c }) c.args.reason) c.self.view_is ∙ sym c.in_ok-row.ensures.judged in
     record {
       variable_count = c.self.invariant.variable_count;
       few_nodes = c.self.invariant.few_nodes;

@@ -1,5 +1,5 @@
 -- The bit's variable stands so far before those of the next column.
-use Rattle.std.proofs.Common.{◌≡◌, ◌+◌, ◌≤◌, suc, arith}
+use Rattle.std.proofs.Common.{◌≤◌, suc, arith}
 use Rattle.bw_model.specs.Variable.{first_variable, variables_of}
 use Rattle.bw_model.proofs.VariableLemmas.{width_before_next, first_variable_next, first_variable_within}
 use Rattle.bw_segment.proofs.shape.Shape.bit_variable.Goals as goal

@@ -1,0 +1,121 @@
+-- Rows that a plane picks.
+use Rattle.std.proofs.Common.{◌≡◌, ◌∙◌, refl, sym, ap, ℕ, zero, suc, ◌+◌, ◌<◌, ◌≤◌, Bool, true, false, not, ◌&&◌, List, [], ◌∷◌, ◌++◌, map, filter, take, drop, length, replicate, get_or, append-nil, length-append, cond, arith, nat_le, subst}
+use Rattle.std.specs.List.{list_all}
+use Rattle.std.proofs.lemmas.Bool.{leb-true, le-leb}
+use Rattle.std.proofs.lemmas.List.Sums.{count_by-le-length, length-filter}
+use Rattle.bw_model.specs.declared.cond.Cond.{Cond}
+use Rattle.bw_model.specs.declared.query.Item.{Item}
+use Rattle.bw_model.specs.Cond.{is_kept}
+use Rattle.bw_model.specs.Row.{Value}
+use Rattle.bw_model.specs.Selection.{kept, picked, selection}
+use Rattle.bw_model.specs.Total.{item_within, joined, total}
+use Rattle.bw_rowwise.specs.Accumulator.{Tally, tally_of}
+use Rattle.bw_aggregate.specs.Picked.{with_picked}
+use Rattle.bw_answer.specs.Totals.{is_of}
+use Rattle.bw_answer.proofs.TotalsLemmas.{and_true, both}
+
+-- the lanes of a selection, and zeros, pick what is kept
+zeros_pick_none : (n : ℕ) (rows : List (List Value)) → picked (replicate n false) rows ≡ []
+zeros_pick_none zero rows = refl
+zeros_pick_none (suc n) [] = refl
+zeros_pick_none (suc n) (row ∷ rows) = zeros_pick_none n rows
+
+kept_by : (b : Bool) (row : List Value) (bits : List Bool) (rows those : List (List Value)) → picked bits rows ≡ those → picked (b ∷ bits) (row ∷ rows) ≡ cond b (row ∷ those) those
+kept_by true row bits rows those e = ap (λ (l : List (List Value)). row ∷ l) e
+kept_by false row bits rows those e = e
+
+pub picked_as_kept : (c : Cond) (rows : List (List Value)) (n : ℕ) → picked (selection c rows ++ replicate n false) rows ≡ kept c rows
+picked_as_kept c [] n = zeros_pick_none n []
+picked_as_kept c (row ∷ rows) n = kept_by (is_kept c row) row (selection c rows ++ replicate n false) rows (kept c rows) (picked_as_kept c rows n)
+
+-- one row after another
+picked_next : (lanes : List Bool) (rows : List (List Value)) (i : ℕ) → i < length rows → get_or lanes i false ≡ true
+    → picked (take (suc i) lanes) (take (suc i) rows) ≡ picked (take i lanes) (take i rows) ++ get_or rows i [] ∷ []
+picked_next [] rows i h e = absurd (cc e)
+picked_next (lane ∷ lanes) [] i h e = absurd (omega arith)
+picked_next (true ∷ lanes) (row ∷ rows) zero h e = refl
+picked_next (false ∷ lanes) (row ∷ rows) zero h e = absurd (cc e)
+picked_next (true ∷ lanes) (row ∷ rows) (suc i) h e = ap (λ (l : List (List Value)). row ∷ l) (picked_next lanes rows i (omega arith) e)
+picked_next (false ∷ lanes) (row ∷ rows) (suc i) h e = picked_next lanes rows i (omega arith) e
+
+passed_next : (lanes : List Bool) (rows : List (List Value)) (i : ℕ) → i < length rows → get_or lanes i false ≡ false
+    → picked (take (suc i) lanes) (take (suc i) rows) ≡ picked (take i lanes) (take i rows)
+passed_next [] rows zero h e = refl
+passed_next [] rows (suc i) h e = refl
+passed_next (lane ∷ lanes) [] i h e = absurd (omega arith)
+passed_next (true ∷ lanes) (row ∷ rows) zero h e = absurd (cc e)
+passed_next (false ∷ lanes) (row ∷ rows) zero h e = refl
+passed_next (true ∷ lanes) (row ∷ rows) (suc i) h e = ap (λ (l : List (List Value)). row ∷ l) (passed_next lanes rows i (omega arith) e)
+passed_next (false ∷ lanes) (row ∷ rows) (suc i) h e = passed_next lanes rows i (omega arith) e
+
+pub picked_more : (lanes : List Bool) (rows : List (List Value)) (i : ℕ) → i < length rows → get_or lanes i false ≡ true
+    → picked (take (i + 1) lanes) (take (i + 1) rows) ≡ picked (take i lanes) (take i rows) ++ get_or rows i [] ∷ []
+picked_more lanes rows i h e =
+    let one : i + 1 ≡ suc i = omega arith in
+    ap (λ n. picked (take n lanes) (take n rows)) one ∙ picked_next lanes rows i h e
+
+pub picked_no_more : (lanes : List Bool) (rows : List (List Value)) (i : ℕ) → i < length rows → get_or lanes i false ≡ false
+    → picked (take (i + 1) lanes) (take (i + 1) rows) ≡ picked (take i lanes) (take i rows)
+picked_no_more lanes rows i h e =
+    let one : i + 1 ≡ suc i = omega arith in
+    ap (λ n. picked (take n lanes) (take n rows)) one ∙ passed_next lanes rows i h e
+
+pub all_picked : (lanes : List Bool) (rows : List (List Value)) (n : ℕ) → length rows ≤ n → picked (take n lanes) (take n rows) ≡ picked lanes rows
+all_picked [] rows zero h = refl
+all_picked [] rows (suc n) h = refl
+all_picked (lane ∷ lanes) [] zero h = refl
+all_picked (lane ∷ lanes) [] (suc n) h = refl
+all_picked (lane ∷ lanes) (row ∷ rows) zero h = absurd (omega arith)
+all_picked (true ∷ lanes) (row ∷ rows) (suc n) h = ap (λ (l : List (List Value)). row ∷ l) (all_picked lanes rows n (omega arith))
+all_picked (false ∷ lanes) (row ∷ rows) (suc n) h = all_picked lanes rows n (omega arith)
+
+pub none_picked : (lanes : List Bool) (rows : List (List Value)) → list_all not lanes ≡ true → picked lanes rows ≡ []
+none_picked [] rows e = refl
+none_picked (lane ∷ lanes) [] e = refl
+none_picked (true ∷ lanes) (row ∷ rows) e = absurd (cc e)
+none_picked (false ∷ lanes) (row ∷ rows) e = none_picked lanes rows e
+
+-- totals of some rows are those of the picked rows too
+one_total : (item : Item) (rows more : List (List Value)) → ((item : Item) (a b : List (List Value)) → total item (a ++ b) ≡ joined item (total item a) (total item b))
+    → with_picked (tally_of item rows) more ≡ tally_of item (rows ++ more)
+one_total item rows [] join = ap (λ (l : List (List Value)). tally_of item l) (sym (append-nil rows))
+one_total item rows (row ∷ more) join =
+    let long : length (rows ++ row ∷ more) ≡ length rows + length (row ∷ more) = length-append rows (row ∷ more) in
+    let whole : total item (rows ++ row ∷ more) ≡ joined item (total item rows) (total item (row ∷ more)) = join item rows (row ∷ more) in
+    λ i. record { item = item; count = sym long i; answer = sym whole i }
+
+pub all_totals : (items : List Item) (rows more : List (List Value)) → ((item : Item) (a b : List (List Value)) → total item (a ++ b) ≡ joined item (total item a) (total item b))
+    → map (λ (tally : Tally). with_picked tally more) (map (λ item. tally_of item rows) items) ≡ map (λ item. tally_of item (rows ++ more)) items
+all_totals [] rows more join = refl
+all_totals (item ∷ items) rows more join = λ i. one_total item rows more join i ∷ all_totals items rows more join i
+
+-- and of so many rows and more
+picked_item : (tally : Tally) (more : List (List Value)) → (with_picked tally more).item ≡ tally.item
+picked_item tally [] = refl
+picked_item tally (row ∷ more) = refl
+
+picked_count : (tally : Tally) (more : List (List Value)) → (with_picked tally more).count ≡ tally.count + length more
+picked_count tally [] = omega arith
+picked_count tally (row ∷ more) = refl
+
+pub is_of-picked : (width rows n : ℕ) (more : List (List Value)) (tallies : List Tally) → length more ≤ n → list_all (is_of width rows) tallies ≡ true
+    → list_all (is_of width (rows + n)) (map (λ (tally : Tally). with_picked tally more) tallies) ≡ true
+is_of-picked width rows n more [] few e = refl
+is_of-picked width rows n more (t ∷ ts) few e =
+    let parts = both (is_of width rows t) (list_all (is_of width rows) ts) e in
+    let here = both (item_within width t.item) (nat_le t.count rows) parts.0 in
+    let count : (with_picked t more).count ≤ rows + n = omega (arith, leb-true t.count rows here.1, picked_count t more, few) in
+    let item : item_within width (with_picked t more).item ≡ true = ap (item_within width) (picked_item t more) ∙ here.0 in
+    and_true _ _ (and_true _ _ item (le-leb _ _ count)) (is_of-picked width rows n more ts few parts.1)
+
+pub is_of-later : (width rows n : ℕ) (tallies : List Tally) → list_all (is_of width rows) tallies ≡ true → list_all (is_of width (rows + n)) tallies ≡ true
+is_of-later width rows n [] e = refl
+is_of-later width rows n (t ∷ ts) e =
+    let parts = both (is_of width rows t) (list_all (is_of width rows) ts) e in
+    let here = both (item_within width t.item) (nat_le t.count rows) parts.0 in
+    let count : t.count ≤ rows + n = omega (arith, leb-true t.count rows here.1) in
+    and_true _ _ (and_true _ _ here.0 (le-leb _ _ count)) (is_of-later width rows n ts parts.1)
+
+-- no more rows are kept than there are
+pub few_kept : (c : Cond) (rows : List (List Value)) → length (kept c rows) ≤ length rows
+few_kept c rows = let some = count_by-le-length (is_kept c) rows in omega (arith, length-filter (is_kept c) rows, some)

@@ -1,0 +1,177 @@
+-- The rows of a text where there is no schema yet, one more at a time.
+use Rattle.std.proofs.Common.{◌≡◌, ◌∙◌, ℕ, ℤ, zero, suc, ◌+◌, ◌<◌, ◌^◌, ltb, eqb, List, [], ◌∷◌, ◌++◌, length, get_or, arith, Option, Some, None, Result, Ok, Err, Bool, true, false, refl, sym, ap, subst, All}
+use Rattle.std.specs.Prelude.{◌&&◌, not, int_le, if◌then◌else◌}
+use Rattle.std.specs.List.{list_all}
+use Rattle.std.proofs.lemmas.Bool.{eqb-true}
+use Rattle.std.proofs.lemmas.List.{append-nil}
+use Rattle.std.proofs.lemmas.List.Elements.{All-nil, All-cons}
+use Rattle.csv.specs.Records.{field_at}
+use Rattle.bw_model.specs.declared.column.Column.{Column}
+use Rattle.bw_model.specs.declared.fault.Fault.{Fault}
+use Rattle.bw_model.specs.Fault.{◌>>=◌, at_record, refused_if}
+use Rattle.bw_model.specs.Column.{admits_value, admits_values}
+use Rattle.bw_model.specs.Number.{are_digits, number_of}
+use Rattle.bw_model.specs.Row.{Value}
+use Rattle.bw_csv.specs.Bare.{bare_number, bare_row, bare_rows, bare_value, bare_values, within_64_bits}
+use Rattle.bw_csv.specs.Rows.{is_minus, is_null_text, number_value, row_of_record, rows_from, unsigned, value_of_field, values_of_fields, with_row, within_bounds, without_blanks}
+use Rattle.bw_csv.proofs.FieldLemmas.{behind, behind-cons}
+
+-- the rows of a record and of those behind it
+pub bare_rows-next : (width number : ℕ) (fields : List (List ℕ)) (row : List Value) (records more : List (List (List ℕ)))
+    → records ≡ fields ∷ more → bare_row number width fields ≡ Ok row → bare_rows width number records ≡ with_row row (bare_rows width (number + 1) more)
+unfolding bare_rows
+bare_rows-next width number fields row records more e r = rw (e, r) refl
+
+pub bare_rows-fault : (width number : ℕ) (fields : List (List ℕ)) (more : List (List (List ℕ))) (fault : Fault)
+    → bare_row number width fields ≡ Err fault → bare_rows width number (fields ∷ more) ≡ Err fault
+unfolding bare_rows
+bare_rows-fault width number fields more fault r = rw r refl
+
+pub bare_rows-end : (width number : ℕ) (records : List (List (List ℕ))) → records ≡ [] → bare_rows width number records ≡ Ok []
+unfolding bare_rows
+bare_rows-end width number records e = rw e refl
+
+pub ruleset rows_of_records = (bare_rows-next, bare_rows-fault, bare_rows-end)
+
+-- one more value
+pub bare_values-next : (number : ℕ) (fs fs2 : List (List ℕ)) (field : List ℕ) (value : Value) (done : List Value)
+    → fs ≡ field ∷ fs2 → bare_value number field ≡ Ok value
+    → behind done (bare_values number fs) ≡ behind (done ++ value ∷ []) (bare_values number fs2)
+unfolding bare_values
+bare_values-next number fs fs2 field value done f v = rw (f, v) (behind-cons done value (bare_values number fs2))
+
+pub bare_values-fault : (number : ℕ) (fs fs2 : List (List ℕ)) (field : List ℕ) (fault : Fault) (done : List Value)
+    → fs ≡ field ∷ fs2 → bare_value number field ≡ Err fault → behind done (bare_values number fs) ≡ Err fault
+unfolding bare_values
+bare_values-fault number fs fs2 field fault done f v = rw (f, v) refl
+
+pub bare_values-end : (number : ℕ) (fs : List (List ℕ)) (done : List Value) → fs ≡ [] → behind done (bare_values number fs) ≡ Ok done
+unfolding bare_values
+bare_values-end number fs done e = rw e (ap Ok (append-nil done))
+
+-- what was read in two steps was read in each
+pub bound : {A B : Type 0} (first : Result A Fault) (next : A → Result B Fault) (y : B) → (first >>= next) ≡ Ok y → (x : A) × (first ≡ Ok x) × (next x ≡ Ok y)
+bound (Ok x) next y e = (x, refl, e)
+bound (Err fault) next y e = cc e
+
+pub passed : {A : Type 0} (test : Bool) (fault : Fault) (next : Result A Fault) (x : A) → refused_if test fault next ≡ Ok x → (test ≡ false) × (next ≡ Ok x)
+passed true fault next x e = cc e
+passed false fault next x e = (refl, e)
+
+pub both : (a b : Bool) → (a && b) ≡ true → (a ≡ true) × (b ≡ true)
+both true b e = (refl, e)
+both false b e = cc e
+
+-- a value that a column admits is that of the field in the column
+null_is : (number : ℕ) (column : Column) (value : Value) (nullable : Bool) → column.nullable ≡ nullable → ◌≡◌ {A = Result Value Fault} (Ok None) (Ok value)
+    → admits_value column value ≡ true → refused_if (not nullable) (at_record 206 number) (Ok None) ≡ Ok value
+null_is number column value true n e admitted = e
+null_is number column value false n e admitted =
+    let same : ◌≡◌ {A = Value} None value = cc e in
+    let takes : column.nullable ≡ true = rw (← same) at admitted in
+    absurd (let contrary : false ≡ true = sym n ∙ takes in cc contrary)
+
+within_is : (number : ℕ) (column : Column) (spelled : Option ℤ) (value : Value) → within_64_bits number spelled ≡ Ok value → admits_value column value ≡ true
+    → within_bounds number column spelled ≡ Ok value
+within_is number column None value e admitted = cc e
+within_is number column (Some n) value e admitted =
+    let same : ◌≡◌ {A = Value} (Some n) value = cc e in
+    let inside : (int_le column.lo n && int_le n column.hi) ≡ true = rw (← same) at admitted in
+    rw inside e
+
+number_is : (number : ℕ) (column : Column) (spelled : Option ℤ) (value : Value) (digits : Bool) → refused_if (not digits) (at_record 204 number) (within_64_bits number spelled) ≡ Ok value
+    → admits_value column value ≡ true → refused_if (not digits) (at_record 204 number) (within_bounds number column spelled) ≡ Ok value
+number_is number column spelled value true e admitted = within_is number column spelled value e admitted
+number_is number column spelled value false e admitted = cc e
+
+either_is : (number : ℕ) (column : Column) (text : List ℕ) (value : Value) (null : Bool) → (if null then Ok None else bare_number number (is_minus text) (unsigned text)) ≡ Ok value
+    → admits_value column value ≡ true
+    → (if null then refused_if (not column.nullable) (at_record 206 number) (Ok None) else number_value number column (is_minus text) (unsigned text)) ≡ Ok value
+either_is number column text value true e admitted = null_is number column value column.nullable refl e admitted
+either_is number column text value false e admitted = number_is number column (number_of (is_minus text) (unsigned text)) value (are_digits (unsigned text)) e admitted
+
+value_is : (number : ℕ) (column : Column) (field : List ℕ) (value : Value) → bare_value number field ≡ Ok value → admits_value column value ≡ true
+    → value_of_field number column field ≡ Ok value
+unfolding bare_value value_of_field
+value_is number column field value e admitted = either_is number column (without_blanks field) value (is_null_text (without_blanks field)) e admitted
+
+values_are : (number : ℕ) (columns : List Column) (fields : List (List ℕ)) (values : List Value) → bare_values number fields ≡ Ok values → admits_values columns values ≡ true
+    → values_of_fields number columns fields ≡ Ok values
+unfolding bare_values values_of_fields
+values_are number [] fields [] e admitted = refl
+values_are number [] fields (value ∷ values) e admitted = cc admitted
+values_are number (column ∷ columns) [] [] e admitted = cc admitted
+values_are number (column ∷ columns) [] (value ∷ values) e admitted = cc e
+values_are number (column ∷ columns) (field ∷ fields) values e admitted =
+    let one = bound (bare_value number field) (λ value. bare_values number fields >>= λ rest. Ok (value ∷ rest)) values e in
+    let more = bound (bare_values number fields) (λ rest. Ok (one.0 ∷ rest)) values one.2 in
+    let same : one.0 ∷ more.0 ≡ values = cc more.2 in
+    let all = both (admits_value column one.0) (admits_values columns more.0) (rw (← same) at admitted) in
+    rw (value_is number column field one.0 one.1 all.0, values_are number columns fields more.0 more.1 all.1) (ap Ok same)
+
+row_is : (number : ℕ) (columns : List Column) (fields : List (List ℕ)) (row : List Value) → bare_row number (length columns) fields ≡ Ok row → admits_values columns row ≡ true
+    → row_of_record number columns fields ≡ Ok row
+unfolding bare_row row_of_record
+row_is number columns fields row e admitted = tested (eqb (length fields) (length columns)) (ltb (2 ^ 24) number) e
+  where
+    tested : (wide late : Bool) → refused_if (not wide) (at_record 203 number) (refused_if late (at_record 207 number) (bare_values number fields)) ≡ Ok row
+        → refused_if (not wide) (at_record 203 number) (refused_if late (at_record 207 number) (values_of_fields number columns fields)) ≡ Ok row
+    tested true false h = values_are number columns fields row h admitted
+    tested true true h = cc h
+    tested false late h = cc h
+
+-- rows without a schema that columns admit are the rows under these columns
+pub rows_are : (columns : List Column) (number : ℕ) (records : List (List (List ℕ))) (rows : List (List Value)) → bare_rows (length columns) number records ≡ Ok rows
+    → list_all (admits_values columns) rows ≡ true → rows_from columns number records ≡ Ok rows
+unfolding bare_rows rows_from
+rows_are columns number [] rows e admitted = e
+rows_are columns number (fields ∷ more) rows e admitted =
+    let one = bound (bare_row number (length columns) fields) (λ row. with_row row (bare_rows (length columns) (number + 1) more)) rows e in
+    let others = bound (bare_rows (length columns) (number + 1) more) (λ rest. Ok (one.0 ∷ rest)) rows one.2 in
+    let same : one.0 ∷ others.0 ≡ rows = cc others.2 in
+    let all = both (admits_values columns one.0) (list_all (admits_values columns) others.0) (rw (← same) at admitted) in
+    rw (row_is number columns fields one.0 one.1 all.0, rows_are columns (number + 1) more others.0 others.1 all.1) (ap Ok same)
+
+-- the field at a place
+pub field_found : (fields : List (List ℕ)) (i : ℕ) (field : List ℕ) → field_at fields i ≡ Some field → field ≡ get_or fields i []
+unfolding field_at
+field_found [] i field e = cc e
+field_found (f ∷ fs) zero field e = let same : f ≡ field = cc e in sym same
+field_found (f ∷ fs) (suc i) field e = field_found fs i field e
+
+pub field_there : (fields : List (List ℕ)) (i : ℕ) → field_at fields i ≡ None → i < length fields → ⊥
+unfolding field_at
+field_there [] zero e h = omega arith
+field_there [] (suc i) e h = omega arith
+field_there (f ∷ fs) zero e h = cc e
+field_there (f ∷ fs) (suc i) e h = field_there fs i e (omega arith)
+
+-- a row has as many values as its record has fields, and each row as many as are wanted
+values_wide : (number : ℕ) (fields : List (List ℕ)) (values : List Value) → bare_values number fields ≡ Ok values → length values ≡ length fields
+unfolding bare_values
+values_wide number [] values e = let same : ◌≡◌ {A = List Value} [] values = cc e in ap length (sym same)
+values_wide number (field ∷ fields) values e =
+    let one = bound (bare_value number field) (λ value. bare_values number fields >>= λ rest. Ok (value ∷ rest)) values e in
+    let more = bound (bare_values number fields) (λ rest. Ok (one.0 ∷ rest)) values one.2 in
+    let same : one.0 ∷ more.0 ≡ values = cc more.2 in
+    ap length (sym same) ∙ ap suc (values_wide number fields more.0 more.1)
+
+row_wide : (number width : ℕ) (fields : List (List ℕ)) (row : List Value) → bare_row number width fields ≡ Ok row → length row ≡ width
+unfolding bare_row
+row_wide number width fields row e =
+    let one = passed (not (eqb (length fields) width)) (at_record 203 number) (refused_if (ltb (2 ^ 24) number) (at_record 207 number) (bare_values number fields)) row e in
+    let two = passed (ltb (2 ^ 24) number) (at_record 207 number) (bare_values number fields) row one.1 in
+    values_wide number fields row two.1 ∙ eqb-true _ _ (not_not (eqb (length fields) width) one.0)
+  where
+    not_not : (b : Bool) → not b ≡ false → b ≡ true
+    not_not true h = refl
+    not_not false h = cc h
+
+pub rows_wide : (width number : ℕ) (records : List (List (List ℕ))) (rows : List (List Value)) → bare_rows width number records ≡ Ok rows → All (λ (row : List Value). length row ≡ width) rows
+unfolding bare_rows
+rows_wide width number [] rows e = let same : ◌≡◌ {A = List (List Value)} [] rows = cc e in subst (All (λ (row : List Value). length row ≡ width)) same (All-nil (λ (row : List Value). length row ≡ width))
+rows_wide width number (fields ∷ more) rows e =
+    let one = bound (bare_row number width fields) (λ row. with_row row (bare_rows width (number + 1) more)) rows e in
+    let others = bound (bare_rows width (number + 1) more) (λ rest. Ok (one.0 ∷ rest)) rows one.2 in
+    let same : one.0 ∷ others.0 ≡ rows = cc others.2 in
+    subst (All (λ (row : List Value). length row ≡ width)) same (All-cons (λ (row : List Value). length row ≡ width) one.0 others.0 (row_wide number width fields one.0 one.1) (rows_wide width (number + 1) more others.0 others.1))

@@ -1,0 +1,104 @@
+//! The rows of records where there is no schema yet.
+ghost use Rattle.std.specs.Prelude.{◌≡◌, ◌≤◌, ◌+◌, ℕ, List, [], true, false, length, Ok, Err, OnOk, IfOk, IfErr, IsTrue};
+ghost use Rattle.std.specs.List.{list_all};
+ghost use Rattle.csv.specs.Records.{fields_of};
+ghost use Rattle.bw_model.specs.declared.column.Column.{Column};
+ghost use Rattle.bw_model.specs.Column.{admits_values};
+ghost use Rattle.bw_model.specs.Limits.{most_rows};
+ghost use Rattle.bw_model.specs.Row.{Value, values_of};
+ghost use Rattle.bw_csv.specs.Bare.{bare_number, bare_row, bare_rows, bare_text, bare_value, bare_values, within_64_bits};
+ghost use Rattle.bw_csv.specs.Records.{IsOpen, coming};
+ghost use Rattle.bw_csv.specs.Rows.{is_aside, rows_from, with_row, GivesButAside, IsRowsFault, stands_at};
+
+use crate::field::{is_minus, is_null_text, unsigned, without_blanks};
+use crate::records::Records;
+use crate::rows::MAX_ROWS;
+use bw_model::{Fault, Row, Value, code, number_in};
+use csv::ByteRecord;
+
+/// Puts the row of the next record, which has this number and is to have so many fields, into `row`, in the place of what
+/// that was, or answers that there is no record. An `Err` is the first fault in the record: the number of its fields
+/// (203), a row past 2^24 (207), and then its fields from the left: no whole number (204), or one that 64 bits don't hold
+/// (205); or it is want of memory, or an error of the reader's own (209).
+#[tactic(auto, using(crate::proofs::BareLemmas::rows_of_records))]
+pub fn read_bare_row(
+    records: &mut Records<'_>,
+    width: usize,
+    number: u32,
+    row: &mut Row,
+) -> Result<bool, Fault>
+    requires { IsOpen records.old }
+    ensures some { IfOk result (λ found. found ≡ true → bare_rows width number (coming records.old) ≡ with_row (values_of row.new) (bare_rows width (number + 1) (coming records.new))) }
+    ensures open { IfOk result (λ found. found ≡ true → IsOpen records.new × (number ≤ most_rows) × (length (values_of row.new) ≡ width)) }
+    ensures none { IfOk result (λ found. found ≡ false → bare_rows width number (coming records.old) ≡ Ok []) }
+    ensures row { IfErr result (λ fault. is_aside fault ≡ false → bare_rows width number (coming records.old) ≡ Err fault) }
+    ensures fault { IfErr result IsRowsFault }
+    ensures place { IfErr result (λ fault. IsTrue (stands_at number fault)) }
+{
+    if !records.next(number)? {
+        return Ok(false);
+    }
+    read_record(&records.fields, width, number, row)?;
+    Ok(true)
+}
+
+/// Puts the row of a record into `row`.
+#[tactic(auto, unfolding(crate::specs::Bare::bare_row))]
+fn read_record(fields: &ByteRecord, width: usize, number: u32, row: &mut Row) -> Result<(), Fault>
+    ensures row { OnOk result (bare_row number width (fields_of fields.now) ≡ Ok (values_of row.new)) }
+    ensures first { IfErr result (λ fault. is_aside fault ≡ false → bare_row number width (fields_of fields.now) ≡ Err fault) }
+    ensures within { OnOk result ((number ≤ most_rows) × (length (values_of row.new) ≡ width)) }
+    ensures fault { IfErr result IsRowsFault }
+    ensures place { IfErr result (λ fault. IsTrue (stands_at number fault)) }
+{
+    if fields.len() != width {
+        return Err(Fault::at_record(code::RECORD_LENGTH, number));
+    }
+    if number > MAX_ROWS {
+        return Err(Fault::at_record(code::TOO_MANY_ROWS, number));
+    }
+    read_values(fields, number, row)
+}
+
+/// Puts the values of the fields into `row`.
+fn read_values(fields: &ByteRecord, number: u32, row: &mut Row) -> Result<(), Fault>
+    ensures values { GivesButAside (λ _. values_of row.new) result (bare_values number (fields_of fields.now)) }
+    ensures many { OnOk result (length (values_of row.new) ≡ length (fields_of fields.now)) }
+    ensures fault { IfErr result IsRowsFault }
+    ensures place { IfErr result (λ fault. IsTrue (stands_at number fault)) }
+{
+    row.values.clear();
+    for i in 0..fields.len() {
+        let Some(field) = fields.get(i) else {
+            return Err(Fault::at_record(code::RECORD_LENGTH, number));
+        };
+        let value = value_of(field, number)?;
+        row.values.push(value)?;
+    }
+    Ok(())
+}
+
+/// The value that a field spells: null, or a number that 64 bits hold.
+#[tactic(auto, unfolding(crate::specs::Bare::bare_value))]
+fn value_of(field: &[u8], number: u32) -> Result<Value, Fault>
+    ensures value { GivesButAside (λ value. value) result (bare_value number field.now) }
+    ensures fault { IfErr result IsRowsFault }
+    ensures place { IfErr result (λ fault. IsTrue (stands_at number fault)) }
+{
+    let text = without_blanks(field);
+    if is_null_text(text) {
+        return Ok(None);
+    }
+    match number_in(is_minus(text), unsigned(text)) {
+        Some(Some(n)) => Ok(Some(n)),
+        Some(None) => Err(Fault::at_record(code::OUT_OF_RANGE, number)),
+        None => Err(Fault::at_record(code::NOT_A_NUMBER, number)),
+    }
+}
+
+/// A law: rows without a schema that columns admit are the rows of the same records under these columns.
+pub fn bare_rows_are_rows()
+    ensures { (columns : List Column) (number : ℕ) (records : List (List (List ℕ))) (rows : List (List Value))
+        → bare_rows (length columns) number records ≡ Ok rows → IsTrue (list_all (admits_values columns) rows)
+        → rows_from columns number records ≡ Ok rows }
+{}

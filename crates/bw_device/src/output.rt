@@ -1,0 +1,42 @@
+//! Whole texts, written to a sink.
+ghost use Rattle.std.specs.Prelude.{◌-◌, ◌^◌, ◌<◌};
+ghost use Rattle.bw_device.specs.Sink.{GoesOut};
+
+use crate::failed::Failed;
+use crate::sink::Sink;
+use bw_model::{Fault, code};
+
+/// Writes a whole text, or refuses as 702 at the first write that fails, when a part from the text's front
+/// has gone out. That the sink's count of failures can rise is the caller's condition.
+#[tactic(auto, using(crate::proofs::TakenBytes::more_taken))]
+pub fn write_whole<K: Sink>(sink: &mut K, text: &[u8]) -> Result<(), Fault>
+    requires { K.failures sink.old < 2 ^ 64 - 1 }
+    ensures { GoesOut (K.taken sink.old) (K.taken sink.new)
+        (K.failures sink.old) (K.failures sink.new) text.now result }
+{
+    let mut written = 0;
+    while written < text.len() {
+        match sink.write(&text[written..]) {
+            Ok(n) => written += n,
+            Err(Failed) => return Err(Fault::new(code::WRITE_FAILED)),
+        }
+    }
+    Ok(())
+}
+
+#[cfg(test)]
+mod tests {
+    use super::*;
+    use crate::to_write::ToWrite;
+    use std::test::Fail;
+
+    #[test]
+    fn a_text_is_written_whole(rt: HostRuntime) -> Result<(), Fail> {
+        let mut sink = ToWrite::new(Vec::new(rt.alloc()));
+        write_whole(&mut sink, b"COUNT(*)\n")?;
+        write_whole(&mut sink, b"")?;
+        write_whole(&mut sink, b"3\n")?;
+        assert_eq!(rt; sink.into_inner().as_slice(), b"COUNT(*)\n3\n".as_slice());
+        Ok(())
+    }
+}

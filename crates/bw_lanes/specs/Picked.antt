@@ -1,0 +1,11 @@
+-- Some of 512 rows, a byte each, and the bytes of a slice in these rows.
+use Rattle.std.specs.Prelude.{ℕ, Bool, List, if◌then◌else◌}
+use lib.Lanes.{zip2}
+
+-- the byte of a lane: all bits 1 or all bits 0
+abbrev pub as_byte : Bool → ℕ
+as_byte lane = if lane then 255 else 0
+
+-- a byte of each lane: the one that stands there where the lane is 1, and else another one
+abbrev pub bytes_picked : ℕ → List Bool → List ℕ → List ℕ
+bytes_picked other lanes bytes = zip2 (λ lane byte. if lane then byte else other) lanes bytes

@@ -1,0 +1,12 @@
+//! A law of totals, for the crates that total rows in parts.
+ghost use Rattle.std.specs.Prelude.{◌≡◌, ◌++◌, List};
+ghost use Rattle.bw_model.specs.declared.query.Item.{Item};
+ghost use Rattle.bw_model.specs.Row.{Value};
+ghost use Rattle.bw_model.specs.Total.{joined, total};
+
+/// A law: the total of some rows and others is made of the totals of both.
+#[tactic(auto, using(crate::proofs::TotalLemmas::total_append))]
+pub fn totals_join()
+    ensures { (item : Item) (rows others : List (List Value))
+        → total item (rows ++ others) ≡ joined item (total item rows) (total item others) }
+{}
