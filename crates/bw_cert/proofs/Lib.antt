@@ -1,3 +1,4 @@
+pub mod SameLemmas
 pub mod SelectionLemmas
 pub mod StatedLemmas
 pub mod ValidLemmas

@@ -1,12 +1,12 @@
 -- When a certificate shows that a scan program selects what a condition does, and which line is the first that breaks a rule.
-use Rattle.std.specs.Prelude.{◌≡◌, ℕ, List, [], ◌∷◌, length, false, Some, Result, Ok, Err, not, IsTrue}
+use Rattle.std.specs.Prelude.{◌≡◌, ℕ, List, [], ◌∷◌, length, false, Some, Result, Ok, Err, not, IsTrue, Bool, ◌&&◌, ◌||◌, nat_le}
 use Rattle.bw_model.specs.declared.column.Column.{Column}
 use Rattle.bw_model.specs.declared.cond.Cond.{Cond}
 use Rattle.bw_model.specs.declared.fault.Fault.{Fault}
 use Rattle.bw_model.specs.Fault.{at_line, is_memory, ◌>>=◌, refused_if}
 use Rattle.bw_diagram.specs.declared.product.Connective.TheVariants.{Xor}
 use Rattle.bw_diagram.specs.Cited.{cited}
-use Rattle.bw_diagram.specs.Facts.{Facts}
+use Rattle.bw_diagram.specs.Facts.{Facts, is_diagram_fault}
 use Rattle.bw_program.specs.Program.{ProgramShape}
 use Rattle.bw_program.specs.ProgramText.{found_on}
 use Rattle.bw_cert_text.specs.declared.lines.BodyLine.{BodyLine}
@@ -66,3 +66,8 @@ checked columns cond program certificate =
 abbrev pub Checks : {C P : Type 0} → Result C (P × Fault) → Result Facts Fault → Type 0
 Checks (Ok certified) expected = (facts : Facts) × (expected ≡ Ok facts)
 Checks (Err refused) expected = is_memory refused.1 ≡ false → expected ≡ Err refused.1
+
+-- one of 601 to 604 or 606 to 610, or want of memory
+abbrev pub is_check_fault : Fault → Bool
+is_check_fault fault =
+    is_diagram_fault fault || (nat_le 606 fault.code && nat_le fault.code 610)

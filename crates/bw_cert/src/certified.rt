@@ -1,5 +1,5 @@
 //! Certified programs.
-ghost use Rattle.std.specs.Prelude.{◌≡◌, ◌-◌, ◌++◌, true, false, IfOk, IfErr, List, length, replicate};
+ghost use Rattle.std.specs.Prelude.{◌≡◌, ◌+◌, ◌-◌, ◌≤◌, ◌++◌, true, false, IfOk, IfErr, List, length, replicate};
 ghost use Rattle.std.specs.List.{list_all};
 ghost use Rattle.bw_lanes.specs.Lanes.{lanes_of_words};
 ghost use Rattle.bw_model.specs.Column.{admits_values};
@@ -87,8 +87,8 @@ impl Certified {
     }
 
     /// Runs the program on a segment of a table of the schema: gives, for each of its rows, whether
-    /// the condition is TRUE on it, and 0 past the last one, with the counts of the run. No memory,
-    /// no refusal.
+    /// the condition is TRUE on it, and 0 past the last one, with the counts of the run, which come
+    /// to at most 4,096. No memory, no refusal.
     pub fn run_segment<S: Segment>(&self, segment: &S) -> (Plane, Counts)
         requires { (S.meaning segment.now).columns ≡ self.now.schema.columns.items }
         ensures rows { lanes_of_words result.0
@@ -96,7 +96,9 @@ impl Certified {
             ++ replicate (group_size - length (S.meaning segment.now).rows) false }
         ensures loads { result.1.loads ≡ (run_of self.now.program (S.meaning segment.now)).loads }
         ensures skips { result.1.skips ≡ (run_of self.now.program (S.meaning segment.now)).skips }
+        ensures bounded { result.1.loads + result.1.skips ≤ 4096 }
     {
+        self.program.is_valid();
         self.schema.bits_spell_row();
         run_segment(&self.program, segment)
     }

@@ -4,7 +4,7 @@ ghost use Rattle.bw_model.specs.Cond.{names_within};
 ghost use Rattle.bw_model.specs.CondTree.{tree_of};
 ghost use Rattle.bw_model.specs.Fault.{is_memory};
 ghost use Rattle.bw_diagram.specs.Facts.{Facts};
-ghost use Rattle.bw_cert.specs.Valid.{Valid, Checks, checked, end_on};
+ghost use Rattle.bw_cert.specs.Valid.{Valid, Checks, checked, end_on, is_check_fault};
 
 use crate::certified::Certified;
 use crate::laws::{valid_exactly_where_checked, valid_programs_select};
@@ -43,6 +43,7 @@ pub fn check(
         tree_of certified.condition ≡ tree_of condition.now) }
     ensures program { IfOk result (λ certified. certified.program ≡ program) }
     ensures handed_back { IfErr result (λ refused. refused.0 ≡ program) }
+    ensures code { IfErr result (λ refused. IsTrue (is_check_fault refused.1)) }
 {
     if let Err(fault) = judge(alloc, schema, condition, &program, certificate) {
         return Err((program, fault));
@@ -66,6 +67,7 @@ fn judge(
         × (checked schema.now.columns.items condition.now program.now certificate.now ≡ Ok facts)) }
     ensures fault { IfErr result (λ fault. is_memory fault ≡ false
         → checked schema.now.columns.items condition.now program.now certificate.now ≡ Err fault) }
+    ensures code { IfErr result (λ fault. IsTrue (is_check_fault fault)) }
 {
     let diagram = diagram_of(alloc, schema, certificate)?;
     let end = certificate.end();
@@ -95,6 +97,7 @@ fn check_end(
     ensures fault { IfErr result (λ fault. end_on diagram.now end.line
         (record { known = at_end.now.known; rest = at_end.now.rest.now }) answer first end.row
         ≡ Err fault) }
+    ensures code { IfErr result (λ fault. IsTrue (is_check_fault fault)) }
 {
     if let Some(line) = at_end.rest.first() {
         return Err(Fault::at_line(code::END, line.line));

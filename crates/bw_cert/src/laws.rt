@@ -4,15 +4,19 @@ ghost use Rattle.std.specs.Prelude.{◌≡◌, List, Ok, IsTrue, length};
 ghost use Rattle.bw_model.specs.declared.column.Column.{Column};
 ghost use Rattle.bw_model.specs.declared.cond.Cond.{Cond};
 ghost use Rattle.bw_model.specs.Cond.{names_within};
+ghost use Rattle.bw_model.specs.CondTree.{tree_of};
 ghost use Rattle.bw_diagram.specs.Facts.{Facts};
 ghost use Rattle.bw_program.specs.Program.{ProgramShape, is_program, fits};
+ghost use Rattle.bw_cert_text.specs.CertificateFields.{certificate_fields};
 ghost use Rattle.bw_cert_text.specs.CertificateShape.{CertificateShape};
 ghost use Rattle.bw_cert.specs.Selects.{Selects};
 ghost use Rattle.bw_cert.specs.Valid.{Valid, checked};
 
 use bw_diagram::{accepted_lines_are_true, cited_nodes_are_worth};
-use bw_known::{judged_lines_obey, obeying_lines_are_judged, skip_soundness};
-use bw_pair::pairs_tell_truths;
+use bw_known::{
+    judged_lines_obey, lines_are_judged_by_what_they_say, obeying_lines_are_judged, skip_soundness,
+};
+use bw_pair::{pairs_are_of_trees, pairs_tell_truths};
 
 /// A law: a certificate is valid exactly where no line breaks a rule.
 pub fn valid_exactly_where_checked()
@@ -45,4 +49,16 @@ pub fn valid_programs_select()
     cited_nodes_are_worth();
     skip_soundness();
     pairs_tell_truths();
+}
+
+/// A law: certificates that say the same are judged alike, for conditions of one tree: no line breaks
+/// a rule in either, or one fault is the first in both.
+pub fn certificates_are_judged_by_what_they_say()
+    ensures { (columns : List Column) (cond same : Cond) (program : ProgramShape)
+        (certificate other : CertificateShape)
+        → tree_of cond ≡ tree_of same → certificate_fields certificate ≡ certificate_fields other
+        → checked columns cond program certificate ≡ checked columns same program other }
+{
+    pairs_are_of_trees();
+    lines_are_judged_by_what_they_say();
 }

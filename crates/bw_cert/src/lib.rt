@@ -16,4 +16,6 @@ mod stated;
 
 pub use certified::Certified;
 pub use checker::check;
-pub use laws::{valid_exactly_where_checked, valid_programs_select};
+pub use laws::{
+    certificates_are_judged_by_what_they_say, valid_exactly_where_checked, valid_programs_select,
+};

@@ -1,8 +1,9 @@
 //! What the NODE, CHAIN and ROW lines of a certificate state.
-ghost use Rattle.std.specs.Prelude.{◌≡◌, List, true, false};
+ghost use Rattle.std.specs.Prelude.{◌≡◌, List, true, false, IfErr, IsTrue};
 ghost use Rattle.bw_model.specs.declared.column.Column.{Column};
 ghost use Rattle.bw_model.specs.Fault.{Gives, is_memory, at_line, no_memory};
 ghost use Rattle.bw_diagram.specs.Chain.{chain_named};
+ghost use Rattle.bw_diagram.specs.Facts.{is_diagram_fault};
 ghost use Rattle.bw_cert.specs.Stated.{chain_of, facts_stated, with_lines, with_node_line, with_chain_line, with_row_line};
 
 use bw_cert_text::{Certificate, ChainColumns, ChainLine, NodeLine, RowLine};
@@ -17,8 +18,9 @@ pub(crate) fn diagram_of<'a>(
     schema: &'a Schema,
     certificate: &Certificate,
 ) -> Result<Diagram<'a>, Fault>
-    ensures { Gives (λ diagram. diagram) result
+    ensures stated { Gives (λ diagram. diagram) result
         (facts_stated schema.now.columns.items certificate.now) }
+    ensures code { IfErr result (λ fault. IsTrue (is_diagram_fault fault)) }
 {
     let mut diagram = Diagram::new(alloc, schema);
     add_nodes(&mut diagram, certificate.node_lines())?;
@@ -29,7 +31,8 @@ pub(crate) fn diagram_of<'a>(
 
 /// Adds the nodes of some lines.
 fn add_nodes(diagram: &mut Diagram<'_>, lines: &[NodeLine]) -> Result<(), Fault>
-    ensures { Gives (λ _. diagram.new) result (with_lines with_node_line diagram.old lines.now) }
+    ensures stated { Gives (λ _. diagram.new) result (with_lines with_node_line diagram.old lines.now) }
+    ensures code { IfErr result (λ fault. IsTrue (is_diagram_fault fault)) }
 {
     for line in lines {
         match diagram.add_node(line.n, line.v, line.low, line.high) {
@@ -42,7 +45,8 @@ fn add_nodes(diagram: &mut Diagram<'_>, lines: &[NodeLine]) -> Result<(), Fault>
 
 /// Adds the chains of some lines.
 fn add_chains(diagram: &mut Diagram<'_>, lines: &[ChainLine]) -> Result<(), Fault>
-    ensures { Gives (λ _. diagram.new) result (with_lines with_chain_line diagram.old lines.now) }
+    ensures stated { Gives (λ _. diagram.new) result (with_lines with_chain_line diagram.old lines.now) }
+    ensures code { IfErr result (λ fault. IsTrue (is_diagram_fault fault)) }
 {
     for line in lines {
         add_chain(diagram, line)?;
@@ -52,7 +56,8 @@ fn add_chains(diagram: &mut Diagram<'_>, lines: &[ChainLine]) -> Result<(), Faul
 
 /// Adds the chain of a line.
 fn add_chain(diagram: &mut Diagram<'_>, line: &ChainLine) -> Result<(), Fault>
-    ensures { Gives (λ _. diagram.new) result (with_chain_line diagram.old line.now) }
+    ensures stated { Gives (λ _. diagram.new) result (with_chain_line diagram.old line.now) }
+    ensures code { IfErr result (λ fault. IsTrue (is_diagram_fault fault)) }
 {
     match diagram.add_chain(line.n, fields_of(&line.columns)) {
         Ok(()) => Ok(()),
@@ -62,7 +67,8 @@ fn add_chain(diagram: &mut Diagram<'_>, line: &ChainLine) -> Result<(), Fault>
 
 /// Adds the product rows of some lines.
 fn add_rows(diagram: &mut Diagram<'_>, lines: &[RowLine]) -> Result<(), Fault>
-    ensures { Gives (λ _. diagram.new) result (with_lines with_row_line diagram.old lines.now) }
+    ensures stated { Gives (λ _. diagram.new) result (with_lines with_row_line diagram.old lines.now) }
+    ensures code { IfErr result (λ fault. IsTrue (is_diagram_fault fault)) }
 {
     for line in lines {
         match diagram.add_row(line.n, line.op, line.a, line.b, line.c, line.reason) {

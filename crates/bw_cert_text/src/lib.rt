@@ -24,4 +24,5 @@ pub use lines::{
     BodyLine, ChainColumns, ChainLine, ConditionEntry, EdgeRows, EndLine, Entry, InstructionEntry,
     Keep, NodeLine, RowLine,
 };
+pub use parse::certificates_are_read_as_spelled;
 pub use print::{canonical_texts_spell_certificates, spelled_numbers_fit};

@@ -1,5 +1,5 @@
 //! Certificate texts, read line by line: nodes, chains and product rows, the lines behind them, and `END`.
-ghost use Rattle.std.specs.Prelude.{◌≡◌, ◌≤◌, ◌^◌, Ok, Err, false, option_map, IfOk, IfErr, OnOk, IsTrue};
+ghost use Rattle.std.specs.Prelude.{◌≡◌, ◌≤◌, ◌^◌, ℕ, List, Ok, Err, false, option_map, IfOk, IfErr, OnOk, IsTrue};
 ghost use Rattle.bw_model.specs.Fault.{Gives, is_memory};
 ghost use Rattle.bw_model.specs.Lines.{lines_in, end_in, line_of};
 ghost use Rattle.bw_cert_text.specs.CertificateFields.{CertificateFields, certificate_fields};
@@ -39,6 +39,15 @@ impl Certificate {
         read_certificate(alloc, first_line, text)
     }
 }
+
+/// A law: a text is read as a certificate exactly where its lines spell it. So it spells at most one, and then it has no
+/// fault.
+pub fn certificates_are_read_as_spelled()
+    ensures read { (first : ℕ) (text : List ℕ) (certificate : CertificateFields)
+        → IsCertificateText first text certificate → certificate_of first text ≡ Ok certificate }
+    ensures spelled { (first : ℕ) (text : List ℕ) (certificate : CertificateFields)
+        → certificate_of first text ≡ Ok certificate → IsCertificateText first text certificate }
+{}
 
 /// The lines before the end that were read so far.
 #[derive(Drop)]

@@ -2,6 +2,7 @@ pub mod AcceptLemmas
 pub mod EdgeLemmas
 pub mod HoldLemmas
 pub mod JoinLemmas
+pub mod SameLemmas
 pub mod SoundLemmas
 pub mod StepLemmas
 pub mod WalkLemmas

@@ -1,5 +1,5 @@
 -- The lines of a program's instructions and joins, judged one after another: what is known at the end, or the first fault.
-use Rattle.std.specs.Prelude.{ℕ, suc, Bool, false, not, ◌==◌, List, [], ◌∷◌, Option, Some, None, Result, Ok, Err}
+use Rattle.std.specs.Prelude.{ℕ, suc, Bool, false, not, ◌==◌, List, [], ◌∷◌, map, Option, Some, None, Result, Ok, Err}
 use Rattle.bw_model.specs.declared.fault.Fault.{Fault}
 use Rattle.bw_model.specs.Fault.{at_line, ◌>>=◌, refused_if}
 use Rattle.bw_diagram.specs.Facts.{Facts}
@@ -8,6 +8,7 @@ use Rattle.bw_cert_text.specs.declared.lines.BodyLine.{BodyLine}
 use Rattle.bw_cert_text.specs.declared.lines.Entry.{Entry}
 use Rattle.bw_cert_text.specs.declared.lines.Entry.TheVariants as line_of
 use Rattle.bw_cert_text.specs.declared.lines.Keep.{Keep}
+use Rattle.bw_cert_text.specs.CertificateFields.{BodyFields, body_fields}
 use Rattle.bw_known.specs.declared.edge.Edge.{Edge}
 use Rattle.bw_known.specs.Known.{Known, with_node, nothing_known}
 use Rattle.bw_known.specs.Instruction.{behind}
@@ -17,6 +18,11 @@ use Rattle.bw_known.specs.Join.{edge_of, with_edge, edges_into, is_kept}
 pub record Taken : Type 0 where
   pub known : Known
   pub rest : List BodyLine
+
+-- what was found, the lines to come being what they say, wherever their parts lie in memory
+abbrev pub told : Result Taken Fault → Result (Known × List BodyFields) Fault
+told (Ok taken) = Ok (taken.known, map body_fields taken.rest)
+told (Err fault) = Err fault
 
 -- where the line of an instruction is wanted, any other is wrong (607); where the lines have run out, that is so at the end
 abbrev pub instruction_on : Facts → Known → Instr → BodyLine → Entry → Result Known Fault

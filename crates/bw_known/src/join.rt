@@ -1,7 +1,7 @@
 //! The lines of joins, each judged by its rule.
-ghost use Rattle.std.specs.Prelude.{◌≡◌, ◌<◌, true, IfOk, IfErr, Ok, Err};
+ghost use Rattle.std.specs.Prelude.{◌≡◌, ◌<◌, true, IsTrue, IfOk, IfErr, Ok, Err};
 ghost use Rattle.bw_known.specs.Join.{is_zero, is_kept, keeps_through, keeps_by_skip, keeps_by_skips};
-ghost use Rattle.bw_known.specs.Known.{nothing_known};
+ghost use Rattle.bw_known.specs.Known.{is_known_fault, nothing_known};
 ghost use Rattle.bw_known.specs.Walk.{is_join, joined, keeps_taken};
 
 use crate::edge::Edge;
@@ -27,6 +27,7 @@ impl Judge<'_> {
             ≡ Ok (record { known = known.new; rest = rest.now })) }
         ensures fault { IfErr result (λ fault. joined self.entry.diagram.now end place edges.now
             (record { known = known.old; rest = lines.now }) ≡ Err fault) }
+        ensures code { IfErr result (λ fault. IsTrue (is_known_fault fault)) }
     {
         if edges.is_empty() {
             return Ok(lines);
@@ -53,6 +54,7 @@ impl Judge<'_> {
         ensures fault { IfErr result (λ fault.
             keeps_taken self.entry.diagram.now known.old edges.now 0 nothing_known lines.now
             ≡ Err fault) }
+        ensures code { IfErr result (λ fault. IsTrue (is_known_fault fault)) }
     {
         let through = *known;
         let mut kept: Known = [None; 64];

@@ -1,10 +1,11 @@
 //! The lines of instructions, each judged by its rule.
-ghost use Rattle.std.specs.Prelude.{◌≡◌, ◌<◌, ◌≤◌, ◌&&◌, IfOk, IfErr, Ok, Err, length, nat_lt};
+ghost use Rattle.std.specs.Prelude.{◌≡◌, ◌<◌, ◌≤◌, ◌&&◌, IsTrue, IfOk, IfErr, Ok, Err, length, nat_lt};
 ghost use Rattle.bw_model.specs.Code.{width_at, slices_at};
 ghost use Rattle.bw_model.specs.Fault.{at_line};
 ghost use Rattle.bw_model.specs.Variable.{first_variable, bit_variable, is_nullable};
 ghost use Rattle.bw_program.specs.Program.{named_by, register_count};
 ghost use Rattle.bw_known.specs.Instruction.{behind, plane_on, read_on, joined_on, opposite_on, operation_on, byte_on, byte_node, past_node};
+ghost use Rattle.bw_known.specs.Known.{is_known_fault};
 
 use crate::known::Known;
 use bw_cert_text::InstructionEntry;
@@ -44,6 +45,7 @@ impl Judge<'_> {
             behind self.entry.diagram.now known.old line instr given ≡ Ok known.new) }
         ensures fault { IfErr result (λ fault.
             behind self.entry.diagram.now known.old line instr given ≡ Err fault) }
+        ensures code { IfErr result (λ fault. IsTrue (is_known_fault fault)) }
     {
         match instr {
             Instr::Load(r, col, bit) => {
@@ -85,10 +87,11 @@ impl Judge<'_> {
     /// The node of the plane of a column's bit.
     fn plane(self, line: u64, col: u8, bit: u8, given: InstructionEntry) -> Result<u64, Fault>
         requires columns { self.diagram.now.columns ≡ self.schema.now.columns.items }
-        ensures { result ≡ plane_on self.entry.diagram.now line
+        ensures node { result ≡ plane_on self.entry.diagram.now line
             (nat_lt col (length self.entry.diagram.now.columns)
             && nat_lt bit (width_at self.entry.diagram.now.columns col))
             (bit_variable self.entry.diagram.now.columns col bit) given }
+        ensures code { IfErr result (λ fault. IsTrue (is_known_fault fault)) }
     {
         let InstructionEntry::Load(node) = given else {
             return Err(unfit(line));
@@ -109,10 +112,11 @@ impl Judge<'_> {
     /// The node of a column's null plane.
     fn nulls(self, line: u64, col: u8, given: InstructionEntry) -> Result<u64, Fault>
         requires columns { self.diagram.now.columns ≡ self.schema.now.columns.items }
-        ensures { result ≡ plane_on self.entry.diagram.now line
+        ensures node { result ≡ plane_on self.entry.diagram.now line
             (nat_lt col (length self.entry.diagram.now.columns)
             && is_nullable self.entry.diagram.now.columns col)
             (first_variable self.entry.diagram.now.columns col) given }
+        ensures code { IfErr result (λ fault. IsTrue (is_known_fault fault)) }
     {
         let InstructionEntry::Load(node) = given else {
             return Err(unfit(line));
@@ -141,7 +145,8 @@ impl Judge<'_> {
         given: InstructionEntry,
     ) -> Result<u64, Fault>
         requires registers { (x < 64) × (y < 64) }
-        ensures { result ≡ joined_on self.entry.diagram.now known.now line op x y given }
+        ensures node { result ≡ joined_on self.entry.diagram.now known.now line op x y given }
+        ensures code { IfErr result (λ fault. IsTrue (is_known_fault fault)) }
     {
         let InstructionEntry::Op(row) = given else {
             return Err(unfit(line));
@@ -160,7 +165,8 @@ impl Judge<'_> {
         given: InstructionEntry,
     ) -> Result<u64, Fault>
         requires register { x < 64 }
-        ensures { result ≡ opposite_on self.entry.diagram.now known.now line x given }
+        ensures node { result ≡ opposite_on self.entry.diagram.now known.now line x given }
+        ensures code { IfErr result (λ fault. IsTrue (is_known_fault fault)) }
     {
         let InstructionEntry::Op(row) = given else {
             return Err(unfit(line));
@@ -171,7 +177,8 @@ impl Judge<'_> {
 
     /// The node that a row says an operation gives.
     fn operation(self, line: u64, op: Connective, a: u64, b: u64, row: u64) -> Result<u64, Fault>
-        ensures { result ≡ operation_on self.entry.diagram.now line op a b row }
+        ensures node { result ≡ operation_on self.entry.diagram.now line op a b row }
+        ensures code { IfErr result (λ fault. IsTrue (is_known_fault fault)) }
     {
         match self.diagram.cited(op, a, b, row) {
             Some(node) => Ok(node),
@@ -190,9 +197,10 @@ impl Judge<'_> {
         given: InstructionEntry,
     ) -> Result<u64, Fault>
         requires columns { self.diagram.now.columns ≡ self.schema.now.columns.items }
-        ensures { result ≡ byte_on self.entry.diagram.now line kind
+        ensures node { result ≡ byte_on self.entry.diagram.now line kind
             (nat_lt col (length self.entry.diagram.now.columns)
             && nat_lt slice (slices_at self.entry.diagram.now.columns col)) col slice k given }
+        ensures code { IfErr result (λ fault. IsTrue (is_known_fault fault)) }
     {
         let InstructionEntry::Byte(chain) = given else {
             return Err(unfit(line));
@@ -248,7 +256,8 @@ const fn past_node(kind: ChainKind) -> u64
 /// The node of a register that is read.
 fn read(known: &Known, line: u64, register: u8) -> Result<u64, Fault>
     requires { register < 64 }
-    ensures { result ≡ read_on known.now line register }
+    ensures node { result ≡ read_on known.now line register }
+    ensures code { IfErr result (λ fault. IsTrue (is_known_fault fault)) }
 {
     match known[register as usize] {
         Some(node) => Ok(node),

@@ -1,14 +1,15 @@
 //! Laws: what lines say is known, and that it holds in every run.
-ghost use Rattle.std.specs.Prelude.{◌≡◌, ℕ, List, [], Ok, IsTrue, length};
+ghost use Rattle.std.specs.Prelude.{◌≡◌, ℕ, List, [], Ok, IsTrue, length, map};
 ghost use Rattle.bw_model.specs.Variable.{Assignment};
 ghost use Rattle.bw_diagram.specs.Facts.{Facts, AreTrue};
 ghost use Rattle.bw_program.specs.Machine.{State, Reaches, end_state};
 ghost use Rattle.bw_program.specs.Program.{ProgramShape, is_program};
 ghost use Rattle.bw_program.specs.declared.instr.Instr.{Instr};
+ghost use Rattle.bw_cert_text.specs.CertificateFields.{body_fields};
 ghost use Rattle.bw_cert_text.specs.declared.lines.BodyLine.{BodyLine};
 ghost use Rattle.bw_known.specs.Accepted.{Part, Obeys, Accepts, before, lines_of};
 ghost use Rattle.bw_known.specs.Sound.{Hold};
-ghost use Rattle.bw_known.specs.Walk.{Taken, judged};
+ghost use Rattle.bw_known.specs.Walk.{Taken, judged, told};
 
 use bw_diagram::cited_nodes_are_worth;
 
@@ -45,4 +46,12 @@ pub fn obeying_lines_are_judged()
         → Obeys facts instrs parts
         → judged facts instrs end (lines_of 0 parts)
         ≡ Ok (record { known = before facts instrs parts (length instrs); rest = [] }) }
+{}
+
+/// A law: lines that say the same are judged alike, to what is known at the end and lines behind it
+/// that say the same, or to one fault.
+pub fn lines_are_judged_by_what_they_say()
+    ensures { (facts : Facts) (instrs : List Instr) (end : ℕ) (lines others : List BodyLine)
+        → map body_fields lines ≡ map body_fields others
+        → told (judged facts instrs end lines) ≡ told (judged facts instrs end others) }
 {}

@@ -20,5 +20,7 @@ mod walk;
 
 pub use edge::Edge;
 pub use known::Known;
-pub use laws::{judged_lines_obey, obeying_lines_are_judged, skip_soundness};
+pub use laws::{
+    judged_lines_obey, lines_are_judged_by_what_they_say, obeying_lines_are_judged, skip_soundness,
+};
 pub use walk::{AtEnd, known_at_end};

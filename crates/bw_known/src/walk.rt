@@ -1,8 +1,9 @@
 //! The lines of a program's instructions and joins, taken one after another.
-ghost use Rattle.std.specs.Prelude.{◌≡◌, ◌≤◌, IfOk, IfErr, Ok, Err};
+ghost use Rattle.std.specs.Prelude.{◌≡◌, ◌≤◌, IsTrue, IfOk, IfErr, Ok, Err};
 ghost use Rattle.bw_model.specs.Fault.{Gives};
 ghost use Rattle.bw_program.specs.Program.{named_by, register_count};
 ghost use Rattle.bw_known.specs.Walk.{judged, instruction_taken};
+ghost use Rattle.bw_known.specs.Known.{is_known_fault};
 
 use crate::edge::Edges;
 use crate::judge::Judge;
@@ -41,6 +42,7 @@ pub fn known_at_end<'a>(
     requires { diagram.now.columns ≡ schema.now.columns.items }
     ensures judged { Gives (λ at. record { known = at.known; rest = at.rest.now }) result
         (judged diagram.now program.now.instrs end lines.now) }
+    ensures code { IfErr result (λ fault. IsTrue (is_known_fault fault)) }
 {
     let judge = Judge { schema, diagram };
     let mut known: Known = [None; 64];
@@ -72,6 +74,7 @@ impl Judge<'_> {
             ≡ Ok (record { known = known.new; rest = rest.now })) }
         ensures fault { IfErr result (λ fault.
             instruction_taken self.entry.diagram.now end known.old instr lines.now ≡ Err fault) }
+        ensures code { IfErr result (λ fault. IsTrue (is_known_fault fault)) }
     {
         let Some((line, rest)) = lines.split_first() else {
             return Err(Fault::at_line(code::INSTRUCTION_LINE, end));

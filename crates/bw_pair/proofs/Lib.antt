@@ -4,3 +4,4 @@ pub mod PairLemmas
 pub mod RowLemmas
 pub mod SoundLemmas
 pub mod StepLemmas
+pub mod TreeLemmas

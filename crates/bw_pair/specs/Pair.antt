@@ -21,6 +21,7 @@ use Rattle.bw_cert_text.specs.declared.lines.BodyLine.{BodyLine}
 use Rattle.bw_cert_text.specs.declared.lines.Entry.{Entry}
 use Rattle.bw_cert_text.specs.declared.lines.Entry.TheVariants.{Condition}
 use Rattle.bw_cert_text.specs.declared.lines.ConditionEntry.{ConditionEntry}
+use Rattle.bw_cert_text.specs.CertificateFields.{BodyFields, body_fields}
 use Rattle.bw_cert_text.specs.declared.lines.ConditionEntry.TheVariants.{NullTest, And, Or, Not, Is, IsUnknown}
 use Rattle.bw_pair.specs.declared.nodes.Pair.{Pair}
 use Rattle.bw_pair.specs.declared.steps.Junction.{Junction}
@@ -31,6 +32,11 @@ use Rattle.bw_pair.specs.Comparison.{fixed, comparison}
 -- What reading a certificate's lines gives: a pair, and the lines behind those that made it, or the first fault.
 abbrev pub Reading : Type 0
 Reading = Result (Pair × List BodyLine) Fault
+
+-- the same, the lines behind being what they say, wherever their parts lie in memory
+abbrev pub told : Reading → Result (Pair × List BodyFields) Fault
+told (Ok read) = Ok (read.0, map body_fields read.1)
+told (Err fault) = Err fault
 
 -- what a reader answered is a reading
 abbrev pub Answers : Result (Pair × Bor (List BodyLine)) Fault → Reading → Type 0

@@ -18,6 +18,6 @@ mod steps;
 #[cfg(test)]
 mod tests;
 
-pub use laws::pairs_tell_truths;
+pub use laws::{pairs_are_of_trees, pairs_tell_truths};
 pub use nodes::Pair;
 pub use steps::pair;

@@ -14,21 +14,19 @@ loop-number-init c = record {
   room = c.in_ok-edges.ensures.0 ∙ ap (λ n. n + 1) c.len.ensures.count;
 }
 
-pub returns-in_err-rest : goal.returns-in_err-rest
-returns-in_err-rest c =
+pub returns-in_err-rest-clause-judged : goal.returns-in_err-rest-clause-judged
+returns-in_err-rest-clause-judged c =
     let p = err_from_is_err_and c.from_residual-in_err-rest.result c.from_residual-in_err-rest.ensures.1 in
     let walking = c.loop-number.invariant.walking in
-    rw (p.1, p.2) (record { judged = λ _. walking.told ∙ walked_refused _ _ _ _ _ _ _ _ c.instr-instr.ensures.instr c.in_err-rest.ensures.fault })
+    rw (p.1, p.2) (λ _. walking.told ∙ walked_refused _ _ _ _ _ _ _ _ c.instr-instr.ensures.instr c.in_err-rest.ensures.fault)
 
-pub returns-in_err-rest-2 : goal.returns-in_err-rest-2
-returns-in_err-rest-2 c =
+pub returns-in_err-rest-2-clause-judged : goal.returns-in_err-rest-2-clause-judged
+returns-in_err-rest-2-clause-judged c =
     let p = err_from_is_err_and c.from_residual-in_err-rest-2.result c.from_residual-in_err-rest-2.ensures.1 in
     let walking = c.loop-number.invariant.walking in
     let holds = c.in_ok-add.ensures.holds walking.edges walking.holds in
-    rw (p.1, p.2) (record {
-      judged = λ _. walking.told ∙ join_refused _ _ _ _ _ _ _ _ _ _ _ c.instr-instr.ensures.instr c.in_ok-rest.ensures.taken (sym (suc-is c.loop-number.number))
-          (c.into_place.ensures _ holds) c.in_err-rest-2.ensures.fault;
-    })
+    rw (p.1, p.2) (λ _. walking.told ∙ join_refused _ _ _ _ _ _ _ _ _ _ _ c.instr-instr.ensures.instr c.in_ok-rest.ensures.taken (sym (suc-is c.loop-number.number))
+    (c.into_place.ensures _ holds) c.in_err-rest-2.ensures.fault)
 
 pub loop-number-preserved : goal.loop-number-preserved
 loop-number-preserved c =
@@ -44,5 +42,5 @@ loop-number-preserved c =
       room = c.add.ensures.room ∙ c.loop-number.invariant.room;
     }
 
-pub returns : goal.returns
-returns c = record { judged = c.loop-number.invariant.walking.told ∙ walked_end _ _ _ _ _ _ (omega (arith, c.loop-number-test.false, c.len-number-end.ensures.count)) }
+pub returns-clause-judged : goal.returns-clause-judged
+returns-clause-judged c = c.loop-number.invariant.walking.told ∙ walked_end _ _ _ _ _ _ (omega (arith, c.loop-number-test.false, c.len-number-end.ensures.count))

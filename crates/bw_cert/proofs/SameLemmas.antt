@@ -1,0 +1,94 @@
+-- A certificate is judged by what its lines say, wherever their parts lie in memory.
+use Rattle.std.proofs.Common.{◌≡◌, ◌∙◌, refl, sym, ap, ℕ, List, [], ◌∷◌, map, Option, Result, Ok, Err}
+use Rattle.bw_model.specs.declared.column.Column.{Column}
+use Rattle.bw_model.specs.declared.fault.Fault.{Fault}
+use Rattle.bw_model.specs.Fault.{at_line, ◌>>=◌}
+use Rattle.bw_diagram.specs.declared.chain.Chain.{Chain}
+use Rattle.bw_diagram.specs.Chain.{one_named, two_named}
+use Rattle.bw_diagram.specs.Facts.{Facts, no_facts, with_chain}
+use Rattle.bw_cert_text.specs.declared.lines.BodyLine.{BodyLine}
+use Rattle.bw_cert_text.specs.declared.lines.ChainLine.{ChainLine}
+use Rattle.bw_cert_text.specs.declared.lines.ChainColumns.{ChainColumns}
+use Rattle.bw_cert_text.specs.declared.lines.ChainColumns.TheVariants as words
+use Rattle.bw_cert_text.specs.CertificateFields.{CertificateFields, ChainFields, ColumnFields, BodyFields, One, Two, chain_fields, column_fields, body_fields, certificate_fields}
+use Rattle.bw_cert_text.specs.CertificateShape.{CertificateShape}
+use Rattle.bw_pair.specs.declared.nodes.Pair.{Pair}
+use Rattle.bw_pair.specs.Pair as pairs
+use Rattle.bw_known.specs.Known.{Known}
+use Rattle.bw_known.specs.Walk.{Taken}
+use Rattle.bw_known.specs.Walk as walk
+use Rattle.bw_cert.specs.Stated.{on_line, with_lines, with_node_line, chain_of, with_chain_line, with_row_line, facts_stated}
+use Rattle.bw_cert.specs.Valid.{last_on}
+
+abbrev pub SayTheSame : List BodyLine → List BodyLine → Type 0
+SayTheSame lines others = map body_fields lines ≡ map body_fields others
+
+pub then-same : {A B : Type 0} (r : Result A Fault) (f g : A → Result B Fault) → ((x : A) → f x ≡ g x) → (r >>= f) ≡ (r >>= g)
+then-same (Ok x) f g each = each x
+then-same (Err fault) f g each = refl
+
+-- a CHAIN line is judged by its fields
+abbrev chain_said : List Column → ColumnFields → Option Chain
+chain_said columns (One kind column start len bound node prev) = one_named columns kind column start len bound node prev
+chain_said columns (Two kind left right len node prev) = two_named columns kind left right len node prev
+
+chain-said : (columns : List Column) (compared : ChainColumns) → chain_of columns compared ≡ chain_said columns (column_fields compared)
+chain-said columns (words.One kind column start len bound node prev) = refl
+chain-said columns (words.Two kind left right len node prev) = refl
+
+abbrev with_chain_said : Facts → ChainFields → Result Facts Fault
+with_chain_said facts chain = on_line chain.line (with_chain facts chain.n (chain_said facts.columns chain.columns))
+
+chains-said : (facts : Facts) (lines : List ChainLine) → with_lines with_chain_line facts lines ≡ with_lines with_chain_said facts (map chain_fields lines)
+unfolding with_lines
+chains-said facts [] = refl
+chains-said facts (line ∷ lines) =
+    ap (λ (named : Option Chain). on_line line.line (with_chain facts line.n named) >>= λ more. with_lines with_chain_line more lines) (chain-said facts.columns line.columns)
+    ∙ then-same (with_chain_said facts (chain_fields line)) (λ more. with_lines with_chain_line more lines) (λ more. with_lines with_chain_said more (map chain_fields lines)) (λ more. chains-said more lines)
+
+abbrev stated_said : List Column → CertificateFields → Result Facts Fault
+stated_said columns said =
+    with_lines with_node_line (no_facts columns) said.nodes >>= λ facts.
+    with_lines with_chain_said facts said.chains >>= λ facts.
+    with_lines with_row_line facts said.rows
+
+stated-said : (columns : List Column) (certificate : CertificateShape) → facts_stated columns certificate ≡ stated_said columns (certificate_fields certificate)
+stated-said columns certificate =
+    then-same (with_lines with_node_line (no_facts columns) certificate.nodes) _ _
+    (λ facts. ap (λ r. r >>= λ facts. with_lines with_row_line facts certificate.rows) (chains-said facts certificate.chains))
+
+pub stated-same : (columns : List Column) (certificate other : CertificateShape) → certificate_fields certificate ≡ certificate_fields other → facts_stated columns certificate ≡ facts_stated columns other
+stated-same columns certificate other same = stated-said columns certificate ∙ ap (stated_said columns) same ∙ sym (stated-said columns other)
+
+-- what follows a condition's lines, and a program's
+pub after_pair : (read other : pairs.Reading) (f g : Pair × List BodyLine → Result Facts Fault) → pairs.told read ≡ pairs.told other →
+    ((pair : Pair) (lines others : List BodyLine) → SayTheSame lines others → f (pair, lines) ≡ g (pair, others)) → (read >>= f) ≡ (other >>= g)
+after_pair (Ok a) (Ok b) f g same each =
+    let both : (a.0, map body_fields a.1) ≡ (b.0, map body_fields b.1) = cc in
+    let pair : a.0 ≡ b.0 = ap (λ (said : Pair × List BodyFields). said.0) both in
+    let rests : SayTheSame a.1 b.1 = ap (λ (said : Pair × List BodyFields). said.1) both in
+    each a.0 a.1 b.1 rests ∙ ap (λ pair. g (pair, b.1)) pair
+after_pair (Ok a) (Err fault) f g same each = cc
+after_pair (Err fault) (Ok b) f g same each = cc
+after_pair (Err fault) (Err other) f g same each = cc
+
+pub after_walk : (read other : Result Taken Fault) (f g : Taken → Result Facts Fault) → walk.told read ≡ walk.told other →
+    ((known : Known) (lines others : List BodyLine) → SayTheSame lines others → f (record { known = known; rest = lines }) ≡ g (record { known = known; rest = others })) →
+    (read >>= f) ≡ (other >>= g)
+after_walk (Ok a) (Ok b) f g same each =
+    let both : (a.known, map body_fields a.rest) ≡ (b.known, map body_fields b.rest) = cc in
+    let known : a.known ≡ b.known = ap (λ (said : Known × List BodyFields). said.0) both in
+    let rests : SayTheSame a.rest b.rest = ap (λ (said : Known × List BodyFields). said.1) both in
+    each a.known a.rest b.rest rests ∙ ap (λ known. g (record { known = known; rest = b.rest })) known
+after_walk (Ok a) (Err fault) f g same each = cc
+after_walk (Err fault) (Ok b) f g same each = cc
+after_walk (Err fault) (Err other) f g same each = cc
+
+pub end-same : (facts : Facts) (end : ℕ) (known : Known) (lines others : List BodyLine) (result first row : ℕ) → SayTheSame lines others →
+    last_on facts end lines known result first row ≡ last_on facts end others known result first row
+end-same facts end known [] [] result first row same = refl
+end-same facts end known [] (other ∷ others) result first row same = cc
+end-same facts end known (line ∷ lines) [] result first row same = cc
+end-same facts end known (line ∷ lines) (other ∷ others) result first row same =
+    let here : body_fields line ≡ body_fields other = cc in
+    ap (λ (fields : BodyFields). Err (at_line 610 fields.line)) here

@@ -1,0 +1,3 @@
+pub mod SplitLemmas
+pub mod TextLemmas
+pub mod VerdictLemmas

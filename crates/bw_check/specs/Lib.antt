@@ -1,0 +1,3 @@
+pub mod CheckText
+pub mod Judged
+pub mod ProgramFile

@@ -1,0 +1,40 @@
+//! Why there is no proposal.
+ghost use Rattle.bw_derive.specs.Refused.{IsRefusal};
+
+use bw_model::{Fault, code};
+use std::alloc::{AllocError, AllocFailed};
+
+/// Why there is no proposal.
+#[derive(Clone, Copy)]
+pub enum Refusal {
+    /// A limit of certificates or programs would be passed, or a form has no rule.
+    NoProgram,
+    /// A register isn't known to hold one node behind the skips that meet.
+    Unjoined,
+    /// Memory was refused.
+    NoMemory,
+}
+
+impl From<AllocError> for Refusal {
+    fn from(_error: AllocError) -> Self {
+        Refusal::NoMemory
+    }
+}
+
+impl<T: Drop> From<AllocFailed<T>> for Refusal {
+    fn from(_error: AllocFailed<T>) -> Self {
+        Refusal::NoMemory
+    }
+}
+
+impl Refusal {
+    /// The fault that is told, which stands nowhere: 651, or 801 for `NoMemory`.
+    pub fn fault(self) -> Fault
+        ensures { IsRefusal result }
+    {
+        match self {
+            Refusal::NoProgram | Refusal::Unjoined => Fault::new(code::NO_PROGRAM),
+            Refusal::NoMemory => Fault::new(code::OUT_OF_MEMORY),
+        }
+    }
+}

@@ -1,0 +1,389 @@
+//! Instructions, with the node of each register.
+use bw_cert_text::{EdgeRows, Entry, InstructionEntry, Keep};
+use bw_derive::{Facts, Kind, Logic, Order, Refusal};
+use bw_program::Instr;
+use std::alloc::Global;
+
+/// A program has at most this many instructions.
+const MAX_INSTRUCTIONS: usize = 4096;
+
+/// A register: the node that it is known to hold, whether it's needed, and whether it holds a plane
+/// as it was loaded, which may be wanted again.
+#[derive(Clone, Copy)]
+pub(crate) struct Register {
+    node: Option<u32>,
+    needed: bool,
+    is_plane: bool,
+}
+
+/// A skip whose target is still to come: its number, the node of its register, and the nodes of
+/// all registers there.
+#[derive(Clone, Copy)]
+pub(crate) struct Skip {
+    number: usize,
+    tested: u32,
+    nodes: [Option<u32>; 64],
+}
+
+/// The instructions so far, and the lines of the certificate behind those of its facts.
+#[derive(Drop)]
+pub(crate) struct Code<'a> {
+    pub(crate) alloc: Global,
+    pub(crate) facts: Facts<'a>,
+    pub(crate) lines: Vec<Entry>,
+    pub(crate) instrs: Vec<Instr>,
+    /// The order of variables in which registers' nodes are worked out.
+    pub(crate) order: Order,
+    registers: [Register; 64],
+    skips: Vec<Skip>,
+    /// The skips from this one on meet before the next instruction.
+    meeting: usize,
+    /// Whether there are to be skips.
+    with_skips: bool,
+}
+
+impl<'a> Code<'a> {
+    /// No instructions, behind the lines of a condition.
+    pub(crate) fn new(
+        alloc: Global,
+        facts: Facts<'a>,
+        lines: Vec<Entry>,
+        with_skips: bool,
+    ) -> Self {
+        let register = Register {
+            node: None,
+            needed: false,
+            is_plane: false,
+        };
+        Code {
+            alloc,
+            facts,
+            lines,
+            instrs: Vec::new(alloc),
+            order: Order::Whole,
+            registers: [register; 64],
+            skips: Vec::new(alloc),
+            meeting: usize::MAX,
+            with_skips,
+        }
+    }
+
+    /// Appends an instruction and its line.
+    fn put(&mut self, instr: Instr, entry: InstructionEntry) -> Result<(), Refusal> {
+        if self.instrs.len() >= MAX_INSTRUCTIONS {
+            return Err(Refusal::NoProgram);
+        }
+        self.instrs.push(instr)?;
+        self.lines.push(Entry::Instruction(entry))?;
+        Ok(())
+    }
+
+    /// The node of a register.
+    pub(crate) fn node(&self, register: u8) -> Result<u32, Refusal> {
+        let known = self.registers.get(register as usize).copied();
+        known
+            .and_then(|register| register.node)
+            .ok_or(Refusal::NoProgram)
+    }
+
+    /// Says what a register holds.
+    fn hold(&mut self, register: u8, node: u32, is_plane: bool) {
+        if let Some(kept) = self.registers.get_mut(register as usize) {
+            *kept = Register {
+                node: Some(node),
+                needed: true,
+                is_plane,
+            };
+        }
+    }
+
+    /// A register that isn't needed, from now on needed: one that holds nothing, if there is one.
+    fn claim(&mut self) -> Result<u8, Refusal> {
+        self.meet()?;
+        let mut found = None;
+        for (number, register) in self.registers.iter().enumerate() {
+            if !register.needed && register.node.is_none() {
+                found = Some(number);
+                break;
+            }
+            if !register.needed && found.is_none() {
+                found = Some(number);
+            }
+        }
+        let number = found.ok_or(Refusal::NoProgram)?;
+        u8::try_from(number).map_err(|_| Refusal::NoProgram)
+    }
+
+    /// A register that isn't needed and holds a plane of this node, from now on needed.
+    fn held(&mut self, node: u32) -> Result<Option<u8>, Refusal> {
+        self.meet()?;
+        for (number, register) in self.registers.iter_mut().enumerate() {
+            if !register.needed && register.is_plane && register.node == Some(node) {
+                register.needed = true;
+                return Ok(u8::try_from(number).ok());
+            }
+        }
+        Ok(None)
+    }
+
+    /// Lets a register go. Where it holds a plane, that may be wanted again.
+    pub(crate) fn release(&mut self, register: u8) {
+        if let Some(kept) = self.registers.get_mut(register as usize) {
+            kept.needed = false;
+            if !kept.is_plane {
+                kept.node = None;
+            }
+        }
+    }
+
+    /// A register that holds one bit in every lane.
+    pub(crate) fn fill(&mut self, bit: bool) -> Result<u8, Refusal> {
+        let register = self.claim()?;
+        self.put(Instr::Fill(register, bit), InstructionEntry::Fill)?;
+        self.hold(register, u32::from(bit), false);
+        Ok(register)
+    }
+
+    /// A register that holds the plane of a column's bit.
+    pub(crate) fn bit(&mut self, column: u8, bit: u32) -> Result<u8, Refusal> {
+        let node = self.facts.bit(column, bit)?;
+        if let Some(register) = self.held(node)? {
+            return Ok(register);
+        }
+        let place = u8::try_from(bit).map_err(|_| Refusal::NoProgram)?;
+        let register = self.claim()?;
+        let entry = InstructionEntry::Load(u64::from(node));
+        self.put(Instr::Load(register, column, place), entry)?;
+        self.hold(register, node, true);
+        Ok(register)
+    }
+
+    /// A register that holds a column's null plane, if it has one.
+    pub(crate) fn nulls(&mut self, column: u8) -> Result<Option<u8>, Refusal> {
+        let Some(node) = self.facts.nulls(column)? else {
+            return Ok(None);
+        };
+        if let Some(register) = self.held(node)? {
+            return Ok(Some(register));
+        }
+        let register = self.claim()?;
+        let entry = InstructionEntry::Load(u64::from(node));
+        self.put(Instr::Nulls(register, column), entry)?;
+        self.hold(register, node, true);
+        Ok(Some(register))
+    }
+
+    /// A register that is 1 where a column has a value, if it can have none.
+    pub(crate) fn values(&mut self, column: u8) -> Result<Option<u8>, Refusal> {
+        let Some(nulls) = self.facts.nulls(column)? else {
+            return Ok(None);
+        };
+        let values = self.facts.row(self.order, Logic::Diff, 1, nulls)?;
+        if let Some(register) = self.held(values.node)? {
+            return Ok(Some(register));
+        }
+        let Some(register) = self.nulls(column)? else {
+            return Ok(None);
+        };
+        self.oppose(register, register)?;
+        self.hold(register, values.node, true);
+        Ok(Some(register))
+    }
+
+    /// A register that is 1 where a byte of a column is less than (equal to) a number.
+    pub(crate) fn byte(
+        &mut self,
+        kind: Kind,
+        column: u8,
+        slice: u8,
+        byte: u8,
+    ) -> Result<u8, Refusal> {
+        let start = u32::from(slice) * 8;
+        let len = self.facts.width(column).saturating_sub(start).min(8);
+        let cited = self.facts.bound(kind, column, start, len, u64::from(byte))?;
+        if let Some(register) = self.held(cited.node)? {
+            return Ok(register);
+        }
+        let register = self.claim()?;
+        let instr = match kind {
+            Kind::Less => Instr::ByteLt(register, column, slice, byte),
+            Kind::Equal => Instr::ByteEq(register, column, slice, byte),
+        };
+        let chain = Some(u64::from(cited.number));
+        self.put(instr, InstructionEntry::Byte(chain))?;
+        self.hold(register, cited.node, true);
+        Ok(register)
+    }
+
+    /// Makes a register a connective of two.
+    pub(crate) fn join(&mut self, op: Logic, to: u8, x: u8, y: u8) -> Result<(), Refusal> {
+        self.meet()?;
+        let (a, b) = (self.node(x)?, self.node(y)?);
+        let row = self.facts.row(self.order, op, a, b)?;
+        let instr = match op {
+            Logic::And => Instr::And(to, x, y),
+            Logic::Or => Instr::Or(to, x, y),
+            Logic::Xor => Instr::Xor(to, x, y),
+            Logic::Diff => return Err(Refusal::NoProgram),
+        };
+        self.put(instr, InstructionEntry::Op(u64::from(row.number)))?;
+        self.hold(to, row.node, false);
+        Ok(())
+    }
+
+    /// Makes a register a connective of itself and another, which is let go.
+    pub(crate) fn join_into(&mut self, op: Logic, to: u8, y: u8) -> Result<(), Refusal> {
+        self.join(op, to, to, y)?;
+        self.release(y);
+        Ok(())
+    }
+
+    /// Makes a register the opposite of one.
+    pub(crate) fn oppose(&mut self, to: u8, x: u8) -> Result<(), Refusal> {
+        self.meet()?;
+        let a = self.node(x)?;
+        let row = self.facts.row(self.order, Logic::Diff, 1, a)?;
+        let entry = InstructionEntry::Op(u64::from(row.number));
+        self.put(Instr::Not(to, x), entry)?;
+        self.hold(to, row.node, false);
+        Ok(())
+    }
+
+    /// A register that is the opposite of one, or, where `any`, the OR of one and another.
+    pub(crate) fn opposite(&mut self, x: u8) -> Result<u8, Refusal> {
+        let register = self.claim()?;
+        self.oppose(register, x)?;
+        Ok(register)
+    }
+
+    /// How many skips are still to meet, apart from those that meet here.
+    pub(crate) fn waiting(&mut self) -> Result<usize, Refusal> {
+        self.meet()?;
+        Ok(self.skips.len())
+    }
+
+    /// Goes on where skips meet if a register is zero in every lane.
+    pub(crate) fn skip(&mut self, register: u8) -> Result<(), Refusal> {
+        if !self.with_skips {
+            return Ok(());
+        }
+        self.meet()?;
+        let tested = self.node(register)?;
+        let number = self.instrs.len();
+        self.put(Instr::Skip(register, 0), InstructionEntry::Skip)?;
+        let mut nodes = [None; 64];
+        for (node, register) in nodes.iter_mut().zip(self.registers.iter()) {
+            *node = register.node;
+        }
+        self.skips.push(Skip {
+            number,
+            tested,
+            nodes,
+        })?;
+        Ok(())
+    }
+
+    /// Lets the skips from this one on meet before the next instruction.
+    pub(crate) fn meet_from(&mut self, first: usize) {
+        self.meeting = self.meeting.min(first);
+    }
+
+    /// Lets skips meet here, if some are to.
+    pub(crate) fn meet(&mut self) -> Result<(), Refusal> {
+        let first = self.meeting;
+        self.meeting = usize::MAX;
+        if first >= self.skips.len() {
+            return Ok(());
+        }
+        let target = self.instrs.len();
+        for at in first..self.skips.len() {
+            self.aim(at, target);
+        }
+        self.lines.push(Entry::Join(target as u64))?;
+        for register in 0..64u8 {
+            self.keep(register, first)?;
+        }
+        self.skips.truncate(first);
+        Ok(())
+    }
+
+    /// Gives a skip its target.
+    fn aim(&mut self, at: usize, target: usize) {
+        let Some(skip) = self.skips.get(at) else {
+            return;
+        };
+        if let Some(instr) = self.instrs.get_mut(skip.number) {
+            if let Instr::Skip(register, _) = *instr {
+                *instr = Instr::Skip(register, target);
+            }
+        }
+    }
+
+    /// Keeps a register where skips meet, if it's needed, or holds the same plane by each way.
+    fn keep(&mut self, register: u8, first: usize) -> Result<(), Refusal> {
+        let Some(kept) = self.registers.get(register as usize).copied() else {
+            return Ok(());
+        };
+        let Some(node) = kept.node else {
+            return Ok(());
+        };
+        if !kept.needed && !self.is_everywhere(register, node, first) {
+            if let Some(kept) = self.registers.get_mut(register as usize) {
+                kept.node = None;
+            }
+            return Ok(());
+        }
+        let through = self.facts.row(self.order, Logic::Xor, node, node)?;
+        let mut edges = Vec::new(self.alloc);
+        for at in first..self.skips.len() {
+            edges.push(self.edge(register, node, at)?)?;
+        }
+        self.lines.push(Entry::Keep(Keep {
+            register,
+            node: u64::from(node),
+            through: u64::from(through.number),
+            edges,
+        }))?;
+        Ok(())
+    }
+
+    /// Whether a register holds this node by each skip.
+    fn is_everywhere(&self, register: u8, node: u32, first: usize) -> bool {
+        for at in first..self.skips.len() {
+            let known = self.skips.get(at).map(|skip| skip.nodes);
+            let held = known.and_then(|nodes| nodes.get(register as usize).copied());
+            if held != Some(Some(node)) {
+                return false;
+            }
+        }
+        true
+    }
+
+    /// The rows of a register that is kept, for one skip.
+    fn edge(&mut self, register: u8, node: u32, at: usize) -> Result<EdgeRows, Refusal> {
+        let Some(skip) = self.skips.get(at).copied() else {
+            return Err(Refusal::Unjoined);
+        };
+        let Some(Some(held)) = skip.nodes.get(register as usize).copied() else {
+            return Err(Refusal::Unjoined);
+        };
+        let differs = self.facts.row(self.order, Logic::Xor, held, node)?;
+        let within = self
+            .facts
+            .row(self.order, Logic::Diff, differs.node, skip.tested)?;
+        if within.node != 0 {
+            return Err(Refusal::Unjoined);
+        }
+        Ok(EdgeRows {
+            differs: u64::from(differs.number),
+            within: u64::from(within.number),
+        })
+    }
+
+    /// Whether a skip stands among the instructions.
+    pub(crate) fn has_skips(&self) -> bool {
+        self.instrs
+            .iter()
+            .any(|instr| matches!(instr, Instr::Skip(..)))
+    }
+}

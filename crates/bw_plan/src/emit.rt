@@ -1,0 +1,317 @@
+//! Programs and certificates, from instructions, facts and lines.
+ghost use Rattle.std.specs.Prelude.{IsTrue, IfOk};
+ghost use Rattle.bw_model.specs.Column.{column_named};
+ghost use Rattle.bw_program.specs.Program.{fits};
+ghost use Rattle.bw_cert_text.specs.CertificateFields.{certificate_fields};
+ghost use Rattle.bw_cert_text.specs.Reprint.{has_columns, is_found};
+ghost use Rattle.bw_plan.specs.Named.{is_chain_named, are_chains_named};
+
+use bw_cert_text::{
+    BodyLine, Certificate, ChainColumns, ChainLine, EndLine, Entry, NodeLine, RowLine,
+};
+use bw_derive::{Answer, Compared, Facts, Link, Node, Question, Refusal};
+use bw_diagram::Reason;
+use bw_model::{Schema, code};
+use bw_program::{Instr, Program};
+use indexmap::IndexMap;
+use std::alloc::{AllocError, Global};
+
+/// The program of instructions and a result register, by its text.
+pub(crate) fn program(
+    alloc: Global,
+    schema: &Schema,
+    instrs: &[Instr],
+    answer: u8,
+) -> Result<Program, Refusal>
+    ensures { IfOk result (λ program. IsTrue (fits schema.now.columns.items program)) }
+{
+    let mut text = Vec::new(alloc);
+    for instr in instrs {
+        put_instr(alloc, schema, *instr, &mut text)?;
+    }
+    put_line(
+        alloc,
+        schema,
+        "RESULT",
+        &[Word::Register(answer)],
+        &mut text,
+    )?;
+    match Program::parse(alloc, schema, &text) {
+        Ok(program) => Ok(program),
+        Err(fault) if fault.code == code::OUT_OF_MEMORY => Err(Refusal::NoMemory),
+        Err(_) => Err(Refusal::NoProgram),
+    }
+}
+
+/// What stands behind a keyword.
+#[derive(Clone, Copy)]
+enum Word {
+    Register(u8),
+    Column(u8),
+    Number(u64),
+}
+
+/// Appends the line of an instruction.
+fn put_instr(
+    alloc: Global,
+    schema: &Schema,
+    instr: Instr,
+    text: &mut Vec<u8>,
+) -> Result<(), AllocError> {
+    use Word::{Column, Number, Register};
+    match instr {
+        Instr::Load(r, column, bit) => {
+            let words = [Register(r), Column(column), Number(u64::from(bit))];
+            put_line(alloc, schema, "LOAD", &words, text)
+        }
+        Instr::Nulls(r, column) => {
+            put_line(alloc, schema, "NULLS", &[Register(r), Column(column)], text)
+        }
+        Instr::Fill(r, bit) => {
+            let words = [Register(r), Number(u64::from(bit))];
+            put_line(alloc, schema, "FILL", &words, text)
+        }
+        Instr::And(r, x, y) => put_three(alloc, schema, "AND", r, x, y, text),
+        Instr::Or(r, x, y) => put_three(alloc, schema, "OR", r, x, y, text),
+        Instr::Xor(r, x, y) => put_three(alloc, schema, "XOR", r, x, y, text),
+        Instr::Not(r, x) => put_line(alloc, schema, "NOT", &[Register(r), Register(x)], text),
+        Instr::ByteLt(r, column, slice, k) => {
+            let (slice, k) = (Number(u64::from(slice)), Number(u64::from(k)));
+            let words = [Register(r), Column(column), slice, k];
+            put_line(alloc, schema, "BYTELT", &words, text)
+        }
+        Instr::ByteEq(r, column, slice, k) => {
+            let (slice, k) = (Number(u64::from(slice)), Number(u64::from(k)));
+            let words = [Register(r), Column(column), slice, k];
+            put_line(alloc, schema, "BYTEEQ", &words, text)
+        }
+        Instr::Skip(x, target) => {
+            let words = [Register(x), Number(target as u64)];
+            put_line(alloc, schema, "SKIP", &words, text)
+        }
+    }
+}
+
+/// Appends the line of a connective of registers.
+fn put_three(
+    alloc: Global,
+    schema: &Schema,
+    keyword: &str,
+    r: u8,
+    x: u8,
+    y: u8,
+    text: &mut Vec<u8>,
+) -> Result<(), AllocError> {
+    let words = [Word::Register(r), Word::Register(x), Word::Register(y)];
+    put_line(alloc, schema, keyword, &words, text)
+}
+
+/// Appends a line.
+fn put_line(
+    alloc: Global,
+    schema: &Schema,
+    keyword: &str,
+    words: &[Word],
+    text: &mut Vec<u8>,
+) -> Result<(), AllocError> {
+    text.extend_from_slice(keyword.as_bytes())?;
+    for word in words {
+        text.push(b' ')?;
+        match *word {
+            Word::Register(register) => {
+                text.push(b'r')?;
+                put_number(alloc, u64::from(register), text)?;
+            }
+            Word::Column(column) => {
+                if let Some(column) = schema.columns.get(column as usize) {
+                    text.extend_from_slice(column.name.as_bytes())?;
+                }
+            }
+            Word::Number(number) => put_number(alloc, number, text)?,
+        }
+    }
+    text.push(b'\n')?;
+    Ok(())
+}
+
+/// Appends a number's decimal digits.
+fn put_number(alloc: Global, number: u64, text: &mut Vec<u8>) -> Result<(), AllocError> {
+    let digits = number.to_string(alloc)?;
+    text.extend_from_slice(digits.as_bytes())
+}
+
+/// The certificate of facts and lines, whose lines have the numbers that they have in a program
+/// file.
+pub(crate) fn certificate(
+    alloc: Global,
+    schema: &Schema,
+    facts: &Facts<'_>,
+    entries: Vec<Entry>,
+    row: u32,
+    before: usize,
+) -> Result<Certificate, Refusal>
+    ensures { IfOk result (λ certificate.
+        IsTrue (has_columns schema.now.columns.items (certificate_fields certificate))) }
+{
+    let line = (before as u64).saturating_add(1);
+    let nodes = node_lines(alloc, facts.nodes(), line)?;
+    let line = line.saturating_add(nodes.len() as u64);
+    let chains = chain_lines(alloc, schema, facts.chains(), line)?;
+    let line = line.saturating_add(chains.len() as u64);
+    let rows = row_lines(alloc, facts.rows(), line)?;
+    let line = line.saturating_add(rows.len() as u64);
+    let body = body_lines(alloc, entries, line)?;
+    let end = EndLine {
+        line: line.saturating_add(body.len() as u64),
+        row: u64::from(row),
+    };
+    Ok(Certificate::new(nodes, chains, rows, body, end))
+}
+
+/// The lines of nodes, from a number of a line on.
+fn node_lines(alloc: Global, nodes: &[Node], first: u64) -> Result<Vec<NodeLine>, Refusal> {
+    let mut lines = Vec::new(alloc);
+    for node in nodes {
+        let number = lines.len() as u64;
+        lines.push(node_line(first.saturating_add(number), number, *node))?;
+    }
+    Ok(lines)
+}
+
+/// The lines of chains.
+fn chain_lines(
+    alloc: Global,
+    schema: &Schema,
+    chains: &IndexMap<Compared, Link>,
+    first: u64,
+) -> Result<Vec<ChainLine>, Refusal>
+    ensures { IfOk result (λ lines. IsTrue (are_chains_named schema.now.columns.items lines.items)) }
+{
+    let mut lines = Vec::new(alloc);
+    for (compared, link) in chains {
+        let number = lines.len() as u64;
+        let line = first.saturating_add(number);
+        lines.push(chain_line(alloc, schema, line, number, *compared, *link)?)?;
+    }
+    Ok(lines)
+}
+
+/// The lines of product rows.
+fn row_lines(
+    alloc: Global,
+    rows: &IndexMap<Question, Answer>,
+    first: u64,
+) -> Result<Vec<RowLine>, Refusal> {
+    let mut lines = Vec::new(alloc);
+    for (question, answer) in rows {
+        let number = lines.len() as u64;
+        lines.push(row_line(first.saturating_add(number), number, *question, *answer))?;
+    }
+    Ok(lines)
+}
+
+/// The lines of the condition, the instructions and the joins.
+fn body_lines(alloc: Global, entries: Vec<Entry>, first: u64) -> Result<Vec<BodyLine>, Refusal> {
+    let mut lines = Vec::new(alloc);
+    for entry in entries {
+        let line = first.saturating_add(lines.len() as u64);
+        lines.push(BodyLine { line, entry })?;
+    }
+    Ok(lines)
+}
+
+/// The line of a node.
+fn node_line(line: u64, number: u64, node: Node) -> NodeLine {
+    NodeLine {
+        line,
+        n: number.saturating_add(2),
+        v: u64::from(node.variable),
+        low: u64::from(node.low),
+        high: u64::from(node.high),
+    }
+}
+
+/// The line of a product row.
+fn row_line(line: u64, number: u64, question: Question, answer: Answer) -> RowLine {
+    let reason = match answer.reason {
+        None => Reason::Shortcut,
+        Some(cofactors) => Reason::Cofactors {
+            v: u64::from(cofactors.variable),
+            i: u64::from(cofactors.low),
+            j: u64::from(cofactors.high),
+        },
+    };
+    RowLine {
+        line,
+        n: number,
+        op: question.op.connective(),
+        a: u64::from(question.a),
+        b: u64::from(question.b),
+        c: u64::from(answer.node),
+        reason,
+    }
+}
+
+/// The line of a chain.
+fn chain_line(
+    alloc: Global,
+    schema: &Schema,
+    line: u64,
+    number: u64,
+    compared: Compared,
+    link: Link,
+) -> Result<ChainLine, Refusal>
+    ensures { IfOk result (λ line. IsTrue (is_chain_named schema.now.columns.items line)) }
+{
+    let node = u64::from(link.node);
+    let prev = link.prev.map(u64::from);
+    let columns = match compared {
+        Compared::Bound {
+            kind,
+            column,
+            start,
+            len,
+            bound,
+        } => ChainColumns::One {
+            kind: kind.chain_kind(),
+            column: name(alloc, schema, column)?,
+            start: u64::from(start),
+            len: u64::from(len),
+            bound,
+            node,
+            prev,
+        },
+        Compared::Columns {
+            kind,
+            left,
+            right,
+            len,
+        } => ChainColumns::Two {
+            kind: kind.chain_kind(),
+            left: name(alloc, schema, left)?,
+            right: name(alloc, schema, right)?,
+            len: u64::from(len),
+            node,
+            prev,
+        },
+    };
+    Ok(ChainLine {
+        line,
+        n: number,
+        columns,
+    })
+}
+
+/// The name of a column, which the schema finds again.
+fn name(alloc: Global, schema: &Schema, column: u8) -> Result<Vec<u8>, Refusal>
+    ensures { IfOk result (λ word. IsTrue (is_found (column_named schema.now.columns.items word.items))) }
+{
+    let Some(column) = schema.columns.get(column as usize) else {
+        return Err(Refusal::NoProgram);
+    };
+    let word = Vec::from_slice(alloc, column.name.as_bytes())?;
+    if schema.column_named(&word).is_none() {
+        return Err(Refusal::NoProgram);
+    }
+    Ok(word)
+}

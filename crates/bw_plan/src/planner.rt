@@ -1,0 +1,97 @@
+//! Proposals: a program, and a certificate for it.
+ghost use Rattle.std.specs.Prelude.{IsTrue, IfOk, IfErr, length};
+ghost use Rattle.bw_model.specs.Cond.{names_within};
+ghost use Rattle.bw_program.specs.Program.{fits};
+ghost use Rattle.bw_cert_text.specs.CertificateFields.{certificate_fields};
+ghost use Rattle.bw_cert_text.specs.Reprint.{has_columns};
+ghost use Rattle.bw_derive.specs.Refused.{IsRefusal};
+
+use crate::code::Code;
+use crate::emit;
+use crate::truths::Wanted;
+use bw_cert_text::Certificate;
+use bw_derive::{Facts, Logic, Order, Refusal, steps_of};
+use bw_model::{Cond, Fault, Schema};
+use bw_program::Program;
+use std::alloc::Global;
+
+/// A program for a condition, and a certificate that is to show that it selects the right rows.
+#[derive(Debug, Drop)]
+pub struct Proposal {
+    pub program: Program,
+    pub certificate: Certificate,
+}
+
+/// Proposes a program for a condition.
+pub fn propose(alloc: Global, schema: &Schema, cond: &Cond) -> Result<Proposal, Fault>
+    requires { IsTrue (names_within (length schema.now.columns.items) cond.now) }
+    ensures program { IfOk result (λ proposal.
+        IsTrue (fits schema.now.columns.items proposal.program)) }
+    ensures certificate { IfOk result (λ proposal.
+        IsTrue (has_columns schema.now.columns.items (certificate_fields proposal.certificate))) }
+    ensures fault { IfErr result IsRefusal }
+{
+    let first = planned(alloc, schema, cond, true);
+    let made = match first {
+        Err(Refusal::Unjoined) => planned(alloc, schema, cond, false),
+        _ => first,
+    };
+    match made {
+        Ok(proposal) => Ok(proposal),
+        Err(refusal) => Err(refusal.fault()),
+    }
+}
+
+/// A program for a condition, with skips or without.
+fn planned(
+    alloc: Global,
+    schema: &Schema,
+    cond: &Cond,
+    with_skips: bool,
+) -> Result<Proposal, Refusal>
+    ensures program { IfOk result (λ proposal.
+        IsTrue (fits schema.now.columns.items proposal.program)) }
+    ensures certificate { IfOk result (λ proposal.
+        IsTrue (has_columns schema.now.columns.items (certificate_fields proposal.certificate))) }
+{
+    let mut facts = Facts::new(alloc, schema, cond)?;
+    let mut lines = Vec::new(alloc);
+    let pair = steps_of(&mut facts, &mut lines, cond)?;
+    let mut code = Code::new(alloc, facts, lines, with_skips);
+    let answer = written(&mut code, cond)?;
+    let node = code.node(answer)?;
+    let end = code.facts.row(Order::Whole, Logic::Xor, node, pair.yes)?;
+    if end.node != 0 {
+        return Err(Refusal::Unjoined);
+    }
+    let Code {
+        facts,
+        lines,
+        instrs,
+        ..
+    } = code;
+    let program = emit::program(alloc, schema, &instrs, answer)?;
+    let before = instrs.len().saturating_add(2);
+    let certificate = emit::certificate(alloc, schema, &facts, lines, end.number, before)?;
+    Ok(Proposal {
+        program,
+        certificate,
+    })
+}
+
+/// Writes the instructions of a condition, and gives the result register.
+fn written(code: &mut Code<'_>, cond: &Cond) -> Result<u8, Refusal> {
+    let wanted = Wanted {
+        yes: true,
+        no: false,
+    };
+    let made = code.truths(cond, wanted)?;
+    let answer = made.yes.ok_or(Refusal::NoProgram)?;
+    if !code.has_skips() {
+        let first = code.waiting()?;
+        code.skip(answer)?;
+        code.meet_from(first);
+    }
+    code.meet()?;
+    Ok(answer)
+}

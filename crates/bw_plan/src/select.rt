@@ -1,0 +1,153 @@
+//! Instructions that compare a column's codes with numbers, from the most significant byte down.
+use crate::code::Code;
+use crate::sets::{byte_of, first_group, going_on};
+use bw_derive::{Kind, Logic, Refusal};
+
+impl Code<'_> {
+    /// A register that is 1 where a column's code has an odd number of bounds above it. The bounds
+    /// are sorted and different.
+    pub(crate) fn codes(&mut self, column: u8, bounds: &[u64]) -> Result<u8, Refusal> {
+        let top = self.facts.width(column).saturating_sub(1) / 8;
+        let Ok(top) = u8::try_from(top) else {
+            return Err(Refusal::NoProgram);
+        };
+        match bounds {
+            [] => self.fill(false),
+            [code, next] if top > 0 && code.checked_add(1) == Some(*next) => {
+                self.code(column, top, *code)
+            }
+            _ => self.within(column, top, bounds, None, None),
+        }
+    }
+
+    /// A register that is 1 where a column has this code.
+    fn code(&mut self, column: u8, top: u8, code: u64) -> Result<u8, Refusal> {
+        let first = self.waiting()?;
+        let same = self.byte(Kind::Equal, column, top, byte_of(code, top))?;
+        for slice in (0..top).rev() {
+            self.skip(same)?;
+            let next = self.byte(Kind::Equal, column, slice, byte_of(code, slice))?;
+            self.join_into(Logic::And, same, next)?;
+        }
+        self.meet_from(first);
+        Ok(same)
+    }
+
+    /// A register, `out` if there is one, with the lanes turned round that are 1 in `mask` and whose
+    /// low bytes, from this one down, have an odd number of bounds above them.
+    #[cycle(within)]
+    fn within(
+        &mut self,
+        column: u8,
+        slice: u8,
+        bounds: &[u64],
+        mask: Option<u8>,
+        out: Option<u8>,
+    ) -> Result<u8, Refusal> {
+        let here = self.bytes(column, slice, bounds)?;
+        let mut out = self.added(here, mask, out)?;
+        if slice > 0 {
+            let mut rest = bounds;
+            for _ in 0..bounds.len() {
+                let (group, others) = first_group(rest, slice);
+                out = self.below(column, slice, group, mask, out)?;
+                rest = others;
+            }
+        }
+        match out {
+            Some(register) => Ok(register),
+            None => self.fill(false),
+        }
+    }
+
+    /// The same for the bounds with one byte in common, where the codes have it too.
+    #[cycle(within)]
+    fn below(
+        &mut self,
+        column: u8,
+        slice: u8,
+        group: &[u64],
+        mask: Option<u8>,
+        out: Option<u8>,
+    ) -> Result<Option<u8>, Refusal> {
+        let inner = going_on(group, slice);
+        let Some(byte) = inner.first().map(|bound| byte_of(*bound, slice)) else {
+            return Ok(out);
+        };
+        if slice == 0 {
+            return Ok(out);
+        }
+        let out = match out {
+            Some(register) => register,
+            None => self.fill(false)?,
+        };
+        let first = self.waiting()?;
+        let same = self.byte(Kind::Equal, column, slice, byte)?;
+        if let Some(mask) = mask {
+            self.join(Logic::And, same, same, mask)?;
+        }
+        self.skip(same)?;
+        let out = self.within(column, slice - 1, inner, Some(same), Some(out))?;
+        self.release(same);
+        self.meet_from(first);
+        Ok(Some(out))
+    }
+
+    /// A register that is 1 where a byte has an odd number of the bounds' bytes above it.
+    fn bytes(&mut self, column: u8, slice: u8, bounds: &[u64]) -> Result<Option<u8>, Refusal> {
+        let mut made = None;
+        let mut before: Option<u8> = None;
+        let mut rest = bounds;
+        for _ in 0..bounds.len() {
+            let (group, others) = first_group(rest, slice);
+            rest = others;
+            let Some(byte) = group.first().map(|bound| byte_of(*bound, slice)) else {
+                continue;
+            };
+            if group.len() % 2 == 0 || byte == 0 {
+                continue;
+            }
+            before = match before {
+                Some(last) if last.checked_add(1) == Some(byte) => {
+                    let next = self.byte(Kind::Equal, column, slice, last)?;
+                    made = self.added(Some(next), None, made)?;
+                    None
+                }
+                Some(last) => {
+                    let next = self.byte(Kind::Less, column, slice, last)?;
+                    made = self.added(Some(next), None, made)?;
+                    Some(byte)
+                }
+                None => Some(byte),
+            };
+        }
+        match before {
+            Some(last) => {
+                let next = self.byte(Kind::Less, column, slice, last)?;
+                self.added(Some(next), None, made)
+            }
+            None => Ok(made),
+        }
+    }
+
+    /// A register, `out` if there is one, with the lanes turned round that are 1 in another and in
+    /// `mask`.
+    fn added(
+        &mut self,
+        next: Option<u8>,
+        mask: Option<u8>,
+        out: Option<u8>,
+    ) -> Result<Option<u8>, Refusal> {
+        let Some(next) = next else {
+            return Ok(out);
+        };
+        if let Some(mask) = mask {
+            self.join(Logic::And, next, next, mask)?;
+        }
+        let Some(out) = out else {
+            return Ok(Some(next));
+        };
+        self.join_into(Logic::Xor, out, next)?;
+        Ok(Some(out))
+    }
+}

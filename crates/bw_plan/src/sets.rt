@@ -1,0 +1,107 @@
+//! Sets of a column's codes.
+use bw_derive::{Bound, Kind, Refusal};
+use std::alloc::Global;
+
+/// A set of numbers of so many bits: those with an odd number of bounds above them, or, where it is
+/// inverted, with an even number.
+#[derive(Drop)]
+pub(crate) struct Set {
+    pub(crate) bounds: Vec<u64>,
+    pub(crate) inverted: bool,
+    width: u32,
+}
+
+impl Set {
+    /// The empty set.
+    pub(crate) fn new(alloc: Global, width: u32) -> Self {
+        Set {
+            bounds: Vec::new(alloc),
+            inverted: false,
+            width,
+        }
+    }
+
+    /// Puts the numbers below a limit in where they aren't, and takes them out where they are.
+    fn toggle(&mut self, limit: i128) -> Result<(), Refusal> {
+        if limit >= 1 << self.width.min(63) {
+            self.inverted = !self.inverted;
+        } else if let Ok(limit) = u64::try_from(limit) {
+            self.bounds.push(limit)?;
+        }
+        Ok(())
+    }
+
+    /// Puts the numbers in from one on and below another.
+    pub(crate) fn add(&mut self, from: i128, below: i128) -> Result<(), Refusal> {
+        if from < below {
+            self.toggle(from)?;
+            self.toggle(below)?;
+        }
+        Ok(())
+    }
+
+    /// The set of a comparison with a number.
+    pub(crate) fn of(alloc: Global, width: u32, bound: Bound) -> Result<Self, Refusal> {
+        let mut set = Set::new(alloc, width);
+        match bound.kind {
+            Kind::Less => set.add(0, bound.limit)?,
+            Kind::Equal => set.add(bound.limit, bound.limit.saturating_add(1))?,
+        }
+        set.finish()?;
+        set.inverted ^= bound.negated;
+        Ok(set)
+    }
+
+    /// Sorts the bounds, and drops those that stand twice, which cancel.
+    pub(crate) fn finish(&mut self) -> Result<(), Refusal> {
+        self.bounds.sort_unstable();
+        let mut kept = 0;
+        for at in 0..self.bounds.len() {
+            let Some(bound) = self.bounds.get(at).copied() else {
+                break;
+            };
+            if bound == 0 {
+                continue;
+            }
+            if kept > 0 && self.bounds.get(kept - 1).copied() == Some(bound) {
+                kept -= 1;
+            } else if let Some(slot) = self.bounds.get_mut(kept) {
+                *slot = bound;
+                kept += 1;
+            }
+        }
+        self.bounds.truncate(kept);
+        Ok(())
+    }
+}
+
+/// A byte of a number.
+pub(crate) fn byte_of(number: u64, slice: u8) -> u8 {
+    (number >> (u32::from(slice) * 8).min(63) & 0xff) as u8
+}
+
+/// What a byte leaves of a number: the bytes below it.
+fn below(number: u64, slice: u8) -> u64 {
+    number % (1 << (u32::from(slice) * 8).min(63))
+}
+
+/// The first of sorted bounds with one byte in common, and the others.
+pub(crate) fn first_group(bounds: &[u64], slice: u8) -> (&[u64], &[u64]) {
+    let Some((first, others)) = bounds.split_first() else {
+        return (bounds, bounds);
+    };
+    for (at, bound) in others.iter().enumerate() {
+        if byte_of(*bound, slice) != byte_of(*first, slice) {
+            return (&bounds[..at + 1], &bounds[at + 1..]);
+        }
+    }
+    (bounds, &others[others.len()..])
+}
+
+/// The bounds of a group that go on below a byte.
+pub(crate) fn going_on(group: &[u64], slice: u8) -> &[u64] {
+    match group {
+        [first, rest @ ..] if below(*first, slice) == 0 => rest,
+        _ => group,
+    }
+}

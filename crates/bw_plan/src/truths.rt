@@ -1,0 +1,431 @@
+//! Instructions that work out where a condition is TRUE, and where it is FALSE.
+use crate::code::Code;
+use crate::room::leading;
+use crate::sets::Set;
+use bw_derive::{Bound, Comparison, Kind, Logic, Order, Refusal, Relation, compare};
+use bw_model::{Cond, Op, Operand, Truth};
+
+/// Which truths are wanted.
+#[derive(Clone, Copy)]
+pub(crate) struct Wanted {
+    pub(crate) yes: bool,
+    pub(crate) no: bool,
+}
+
+impl Wanted {
+    /// What is wanted of the opposite.
+    fn exchanged(self) -> Self {
+        Wanted {
+            yes: self.no,
+            no: self.yes,
+        }
+    }
+
+    /// What is wanted of a condition that is negated, or isn't.
+    fn turned(self, negated: bool) -> Self {
+        if negated { self.exchanged() } else { self }
+    }
+}
+
+/// The registers that are 1 where a condition is TRUE, and where it is FALSE, of those that are
+/// wanted.
+#[derive(Clone, Copy)]
+pub(crate) struct Halves {
+    pub(crate) yes: Option<u8>,
+    pub(crate) no: Option<u8>,
+}
+
+impl Halves {
+    /// The registers of the opposite.
+    fn exchanged(self) -> Self {
+        Halves {
+            yes: self.no,
+            no: self.yes,
+        }
+    }
+
+    /// The registers of a condition that is negated, or isn't.
+    fn turned(self, negated: bool) -> Self {
+        if negated { self.exchanged() } else { self }
+    }
+}
+
+/// So many parts of a condition are looked at for an early end.
+const SKIPPED_PARTS: usize = 16;
+
+impl Code<'_> {
+    /// The registers of a condition.
+    #[cycle(truths)]
+    pub(crate) fn truths(&mut self, cond: &Cond, wanted: Wanted) -> Result<Halves, Refusal> {
+        match cond {
+            Cond::Always => self.constant(Truth::Yes, wanted),
+            Cond::Cmp(op, x, y) => self.compared(*op, *x, *y, wanted),
+            Cond::Between(x, y, z) => self.between(*x, *y, *z, wanted),
+            Cond::Among(x, items) => self.among(*x, items, wanted),
+            Cond::IsNull(x) => self.null_tested(*x, wanted),
+            Cond::And(parts) => self.all_joined(false, parts, wanted),
+            Cond::Or(parts) => self.all_joined(true, parts, wanted),
+            Cond::Not(part) => Ok(self.truths(part, wanted.exchanged())?.exchanged()),
+            Cond::Test(part, truth) => {
+                let needed = Wanted {
+                    yes: *truth != Truth::No,
+                    no: *truth != Truth::Yes,
+                };
+                let made = self.truths(part, needed)?;
+                self.tested(*truth, made, wanted)
+            }
+        }
+    }
+
+    /// The registers of parts of which any, or else each, is to hold: first of the part that takes
+    /// many registers, if there is one.
+    #[cycle(truths)]
+    fn all_joined(&mut self, any: bool, parts: &[Cond], wanted: Wanted) -> Result<Halves, Refusal> {
+        let first = self.waiting()?;
+        let leading = leading(parts);
+        let mut made = None;
+        for (number, part) in parts.iter().enumerate() {
+            if number == leading {
+                made = Some(self.truths(part, wanted)?);
+            }
+        }
+        for (number, part) in parts.iter().enumerate() {
+            if number == leading {
+                continue;
+            }
+            let Some(before) = made else {
+                break;
+            };
+            if number < SKIPPED_PARTS {
+                self.skip_if_settled(any, before)?;
+            }
+            let next = self.truths(part, wanted)?;
+            self.joined(any, before, next)?;
+        }
+        self.meet_from(first);
+        made.ok_or(Refusal::NoProgram)
+    }
+
+    /// Skips to the end of parts where the others can change nothing.
+    fn skip_if_settled(&mut self, any: bool, made: Halves) -> Result<(), Refusal> {
+        let made = made.turned(any);
+        match (made.yes, made.no) {
+            (_, Some(excluded)) => {
+                let left = self.opposite(excluded)?;
+                self.skip(left)?;
+                self.release(left);
+                Ok(())
+            }
+            (Some(picked), None) => self.skip(picked),
+            (None, None) => Ok(()),
+        }
+    }
+
+    /// Joins the registers of one part with those of another, which are let go.
+    fn joined(&mut self, any: bool, made: Halves, next: Halves) -> Result<(), Refusal> {
+        let (made, next) = (made.turned(any), next.turned(any));
+        if let (Some(to), Some(y)) = (made.yes, next.yes) {
+            self.join_into(Logic::And, to, y)?;
+        }
+        if let (Some(to), Some(y)) = (made.no, next.no) {
+            self.join_into(Logic::Or, to, y)?;
+        }
+        Ok(())
+    }
+
+    /// The registers of one truth on every row.
+    fn constant(&mut self, truth: Truth, wanted: Wanted) -> Result<Halves, Refusal> {
+        let mut made = Halves {
+            yes: None,
+            no: None,
+        };
+        if wanted.yes {
+            made.yes = Some(self.fill(truth == Truth::Yes)?);
+        }
+        if wanted.no {
+            made.no = Some(self.fill(truth == Truth::No)?);
+        }
+        Ok(made)
+    }
+
+    /// The registers of `IS TRUE`, `IS FALSE` or `IS UNKNOWN`.
+    fn tested(&mut self, truth: Truth, made: Halves, wanted: Wanted) -> Result<Halves, Refusal> {
+        let (held, negated) = match (truth, made.yes, made.no) {
+            (Truth::Yes, Some(held), _) | (Truth::No, _, Some(held)) => (held, false),
+            (Truth::Unknown, Some(held), Some(other)) => {
+                self.join_into(Logic::Or, held, other)?;
+                (held, true)
+            }
+            _ => return Err(Refusal::NoProgram),
+        };
+        Ok(
+            self.sides(held, &[], wanted.turned(negated))?
+                .turned(negated),
+        )
+    }
+
+    /// The registers of `IS NULL`.
+    fn null_tested(&mut self, x: Operand, wanted: Wanted) -> Result<Halves, Refusal> {
+        let column = match x {
+            Operand::Col(column) => self.facts.column(column)?,
+            Operand::Lit(_) => return self.constant(Truth::No, wanted),
+            Operand::Null => return self.constant(Truth::Yes, wanted),
+        };
+        if !wanted.yes {
+            return match self.values(column)? {
+                Some(values) => Ok(Halves {
+                    yes: None,
+                    no: Some(values),
+                }),
+                None => self.constant(Truth::No, wanted),
+            };
+        }
+        match self.nulls(column)? {
+            Some(nulls) => self.sides(nulls, &[], wanted),
+            None => self.constant(Truth::No, wanted),
+        }
+    }
+
+    /// The registers of a comparison.
+    fn compared(
+        &mut self,
+        op: Op,
+        x: Operand,
+        y: Operand,
+        wanted: Wanted,
+    ) -> Result<Halves, Refusal> {
+        match compare(&self.facts, op, x, y)? {
+            Comparison::Fixed(truth) => self.constant(truth, wanted),
+            Comparison::Bound(bound) => self.bounded(bound, wanted),
+            Comparison::Relation(relation) => self.related(relation, wanted),
+        }
+    }
+
+    /// The registers of a comparison of a column with a number.
+    fn bounded(&mut self, bound: Bound, wanted: Wanted) -> Result<Halves, Refusal> {
+        let set = Set::of(self.alloc, self.facts.width(bound.column), bound)?;
+        self.in_set(bound.column, &set, wanted)
+    }
+
+    /// The registers of whether a column's code is in a set.
+    fn in_set(&mut self, column: u8, set: &Set, wanted: Wanted) -> Result<Halves, Refusal> {
+        let first = self.waiting()?;
+        let inside = self.codes(column, &set.bounds)?;
+        let made = self.sides(inside, &[column], wanted.turned(set.inverted))?;
+        self.meet_from(first);
+        Ok(made.turned(set.inverted))
+    }
+
+    /// The registers of `BETWEEN`.
+    fn between(
+        &mut self,
+        x: Operand,
+        y: Operand,
+        z: Operand,
+        wanted: Wanted,
+    ) -> Result<Halves, Refusal> {
+        if let (Operand::Col(column), Operand::Lit(least), Operand::Lit(most)) = (x, y, z) {
+            let column = self.facts.column(column)?;
+            let lo = i128::from(self.facts.lo(column)?);
+            let mut set = Set::new(self.alloc, self.facts.width(column));
+            let from = (i128::from(least) - lo).max(0);
+            set.add(from, (i128::from(most) - lo).saturating_add(1))?;
+            set.finish()?;
+            return self.in_set(column, &set, wanted);
+        }
+        let first = self.waiting()?;
+        let made = self.compared(Op::Ge, x, y, wanted)?;
+        self.skip_if_settled(false, made)?;
+        let next = self.compared(Op::Le, x, z, wanted)?;
+        self.joined(false, made, next)?;
+        self.meet_from(first);
+        Ok(made)
+    }
+
+    /// The registers of `IN`: the literals at once, and then what else is in the list.
+    fn among(&mut self, x: Operand, items: &[Operand], wanted: Wanted) -> Result<Halves, Refusal> {
+        let first = self.waiting()?;
+        let mut made = self.among_literals(x, items, wanted)?;
+        let at_once = made.is_some();
+        for item in items {
+            if at_once && matches!(item, Operand::Lit(_)) {
+                continue;
+            }
+            if let Some(made) = made {
+                self.skip_if_settled(true, made)?;
+            }
+            let next = self.compared(Op::Eq, x, *item, wanted)?;
+            match made {
+                Some(made) => self.joined(true, made, next)?,
+                None => made = Some(next),
+            }
+        }
+        self.meet_from(first);
+        made.ok_or(Refusal::NoProgram)
+    }
+
+    /// The registers of whether a column is one of the literals of a list, if it is a column and
+    /// there are some.
+    fn among_literals(
+        &mut self,
+        x: Operand,
+        items: &[Operand],
+        wanted: Wanted,
+    ) -> Result<Option<Halves>, Refusal> {
+        let Operand::Col(column) = x else {
+            return Ok(None);
+        };
+        let column = self.facts.column(column)?;
+        let lo = i128::from(self.facts.lo(column)?);
+        let mut codes = Vec::new(self.alloc);
+        for item in items {
+            if let Operand::Lit(n) = *item {
+                codes.push(i128::from(n) - lo)?;
+            }
+        }
+        if codes.is_empty() {
+            return Ok(None);
+        }
+        codes.sort_unstable();
+        let mut set = Set::new(self.alloc, self.facts.width(column));
+        let mut last = None;
+        for code in &codes {
+            if last != Some(*code) && *code >= 0 {
+                set.add(*code, code.saturating_add(1))?;
+            }
+            last = Some(*code);
+        }
+        set.finish()?;
+        Ok(Some(self.in_set(column, &set, wanted)?))
+    }
+
+    /// The registers of a comparison of two columns.
+    fn related(&mut self, relation: Relation, wanted: Wanted) -> Result<Halves, Refusal> {
+        let first = self.waiting()?;
+        self.order = relation.order();
+        let held = match relation.terminal() {
+            Some(terminal) => self.fill(terminal == 1)?,
+            None => self.relation(relation)?,
+        };
+        let [c, d] = relation.columns;
+        let both = [c, d];
+        let count = if c == d { 1 } else { 2 };
+        let made = self.sides(held, &both[..count], wanted.turned(relation.negated))?;
+        self.meet_from(first);
+        self.meet()?;
+        self.order = Order::Whole;
+        Ok(made.turned(relation.negated))
+    }
+
+    /// The registers that are 1 where all of some columns have values and a register is 1, and
+    /// where they have values and it is 0.
+    fn sides(&mut self, held: u8, columns: &[u8], wanted: Wanted) -> Result<Halves, Refusal> {
+        let mut made = Halves {
+            yes: None,
+            no: None,
+        };
+        if wanted.no {
+            let outside = if wanted.yes { self.copied(held)? } else { held };
+            for column in columns {
+                if let Some(nulls) = self.nulls(*column)? {
+                    self.join_into(Logic::Or, outside, nulls)?;
+                }
+            }
+            self.oppose(outside, outside)?;
+            made.no = Some(outside);
+        }
+        if wanted.yes {
+            for column in columns {
+                if !wanted.no && self.facts.nulls(*column)?.is_some() {
+                    self.skip(held)?;
+                }
+                if let Some(values) = self.values(*column)? {
+                    self.join_into(Logic::And, held, values)?;
+                }
+            }
+            made.yes = Some(held);
+        } else if !wanted.no {
+            self.release(held);
+        }
+        Ok(made)
+    }
+
+    /// A register with the same lanes as another.
+    fn copied(&mut self, register: u8) -> Result<u8, Refusal> {
+        let copy = self.fill(false)?;
+        self.join(Logic::Or, copy, copy, register)?;
+        Ok(copy)
+    }
+
+    /// A register that is 1 where the code of a column is less than (equal to) that of another, by
+    /// their bits from the top down.
+    fn relation(&mut self, relation: Relation) -> Result<u8, Refusal> {
+        let bits = self
+            .facts
+            .width(relation.left)
+            .max(self.facts.width(relation.right));
+        let mut less = match relation.kind {
+            Kind::Less => Some(self.fill(false)?),
+            Kind::Equal => None,
+        };
+        let mut same = None;
+        for bit in (0..bits).rev() {
+            let (differs, below) = self.bits(relation, bit)?;
+            if let (Some(less), Some(below)) = (less, below) {
+                if let Some(same) = same {
+                    self.join(Logic::And, below, below, same)?;
+                }
+                self.join_into(Logic::Or, less, below)?;
+            }
+            self.oppose(differs, differs)?;
+            same = match same {
+                Some(same) => {
+                    self.join_into(Logic::And, same, differs)?;
+                    Some(same)
+                }
+                None => Some(differs),
+            };
+            if let Some(same) = same {
+                if bit > 0 {
+                    self.skip(same)?;
+                }
+            }
+        }
+        match (less.take(), same) {
+            (Some(less), Some(same)) => {
+                self.release(same);
+                Ok(less)
+            }
+            (None, Some(same)) => Ok(same),
+            _ => Err(Refusal::NoProgram),
+        }
+    }
+
+    /// Registers that are 1 where two columns differ in a bit, and where the left one's is 0 then,
+    /// if that is wanted and can be.
+    fn bits(&mut self, relation: Relation, bit: u32) -> Result<(u8, Option<u8>), Refusal> {
+        let on_left = bit < self.facts.width(relation.left);
+        let on_right = bit < self.facts.width(relation.right);
+        let is_less = relation.kind == Kind::Less;
+        if !on_right {
+            return Ok((self.bit(relation.left, bit)?, None));
+        }
+        let right = self.bit(relation.right, bit)?;
+        if !on_left {
+            let below = if is_less {
+                Some(self.copied(right)?)
+            } else {
+                None
+            };
+            return Ok((right, below));
+        }
+        let left = self.bit(relation.left, bit)?;
+        self.join(Logic::Xor, left, left, right)?;
+        if !is_less {
+            self.release(right);
+            return Ok((left, None));
+        }
+        self.join(Logic::And, right, right, left)?;
+        Ok((left, Some(right)))
+    }
+}
