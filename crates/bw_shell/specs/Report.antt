@@ -3,9 +3,9 @@ use Rattle.std.specs.Prelude.{◌≡◌, ◌==◌, ℕ, Bool, false, nat_lt, if�
 use Rattle.std.specs.List.{list_any}
 use Rattle.bw_model.specs.declared.fault.Fault.{Fault}
 use Rattle.bw_device.specs.Sink.{GoesOut}
-use Rattle.bw_shell.specs.declared.served.By.{By}
-use Rattle.bw_shell.specs.declared.served.By.TheVariants.{Program, Rows}
-use Rattle.bw_shell.specs.declared.served.Served.{Served}
+use Rattle.bw_query.specs.declared.served.By.{By}
+use Rattle.bw_query.specs.declared.served.By.TheVariants.{Program, Rows}
+use Rattle.bw_query.specs.declared.served.Served.{Served}
 
 -- the exit status of a fault, by the hundred that its number is of: 6xx is the certificate's, 7xx a
 -- device's and 8xx memory's
@@ -34,3 +34,7 @@ by_text Rows = codes "rows"
 abbrev pub IsStatsLine : Served → List ℕ → Type 0
 IsStatsLine served line =
     (words : List ℕ) × (has_line_feed words ≡ false) × (line ≡ ((codes "served " ++ by_text served.by) ++ words) ++ codes "\n")
+
+-- one line that tells of an accepted program file: its only line feed is at its end
+abbrev pub IsAcceptedLine : List ℕ → Type 0
+IsAcceptedLine line = (words : List ℕ) × (has_line_feed words ≡ false) × (line ≡ codes "accepted: " ++ (words ++ codes "\n"))

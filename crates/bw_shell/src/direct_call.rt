@@ -13,10 +13,9 @@ ghost use Rattle.bw_csv.specs.Rows.{is_aside, GivesButAside, IsRowsFault};
 ghost use Rattle.bw_shell.specs.Direct.{IsAnswer, answer_of, is_before_csv};
 
 use crate::inputs::{read_csv, read_schema};
-use crate::output::write_whole;
 use bw_answer::Answer;
 use bw_csv::read_rows;
-use bw_device::{Sink, Source};
+use bw_device::{Sink, Source, write_whole};
 use bw_model::{Fault, Query, Schema};
 use bw_sql::parse;
 use std::alloc::Global;

@@ -8,8 +8,7 @@ ghost use Rattle.bw_device.specs.Source.{Came, TookAtMost, EndsWith};
 ghost use Rattle.bw_shell.specs.Arrived.{SchemaTold, CsvTold};
 ghost use Rattle.bw_shell.specs.Direct.{is_before_csv};
 
-use crate::input::{Input, read_limited};
-use bw_device::Source;
+use bw_device::{Input, Source, read_limited};
 use bw_model::{Fault, MAX_SCHEMA_LEN, Schema, code};
 use std::alloc::Global;
 

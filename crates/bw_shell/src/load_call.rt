@@ -12,9 +12,8 @@ ghost use Rattle.bw_shell.specs.Direct.{is_before_csv};
 ghost use Rattle.bw_shell.specs.Load.{IsFile, file_of};
 
 use crate::inputs::{read_csv, read_schema};
-use crate::output::write_whole;
 use bw_csv::{RowTaker, read_rows};
-use bw_device::{Sink, Source};
+use bw_device::{Sink, Source, write_whole};
 use bw_file::{Encoder, Layout};
 use bw_model::{Fault, Row, Schema};
 use std::alloc::Global;

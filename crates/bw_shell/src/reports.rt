@@ -1,17 +1,22 @@
 //! Lines that a call prints beside its result, put together without memory.
 ghost use Rattle.std.specs.Prelude.{◌≡◌, ◌-◌, ◌^◌, ◌<◌, ◌≤◌, ℕ, List, false, length};
 ghost use Rattle.std.specs.Fmt.InlineText.{inline_text};
-ghost use Rattle.bw_shell.specs.Report.{status_of, has_line_feed, IsLine, PrintsLine, IsStatsLine, by_text};
+ghost use Rattle.bw_shell.specs.Report.{status_of, has_line_feed, IsLine, PrintsLine, IsStatsLine, IsAcceptedLine, by_text};
 ghost use Rattle.bw_device.specs.Sink.{GoesOut};
 
-use crate::output::write_whole;
-use crate::served::{By, Served};
-use bw_device::Sink;
+use bw_check::Accepted;
+use bw_device::{Sink, write_whole};
 use bw_model::Fault;
+use bw_query::{By, Served};
 use std::fmt::InlineText;
 
 /// How many bytes a line has room for.
 const LINE: usize = 128;
+
+/// How many bytes the line of an accepted file has room for, and the words in it may take.
+const LONG_LINE: usize = 192;
+
+const LONG_WORDS: usize = 170;
 
 /// How many bytes of a line a fault may take: no fault is shown in as many.
 const WORDS: usize = 100;
@@ -105,6 +110,39 @@ pub fn stats_line<K: Sink>(served: &Served, sink: &mut K) -> Result<(), Fault>
     write_whole(sink, line.as_str().as_bytes())
 }
 
+/// Gives the line of an accepted program file, as `accepted: 4 instructions, 1 skips, 6 nodes, 9 chains, 17 rows`, with
+/// its end.
+fn line_of_accepted(accepted: &Accepted) -> InlineText<LONG_LINE>
+    ensures { IsAcceptedLine (inline_text result) }
+{
+    let counts = InlineText::<LONG_WORDS>::new()
+        .and(accepted.instructions, 20)
+        .and_str(" instructions, ", 15)
+        .and(accepted.skips, 20)
+        .and_str(" skips, ", 8)
+        .and(accepted.nodes, 20)
+        .and_str(" nodes, ", 8)
+        .and(accepted.chains, 20)
+        .and_str(" chains, ", 9)
+        .and(accepted.rows, 20)
+        .and_str(" rows", 5);
+    InlineText::new()
+        .and_str("accepted: ", 10)
+        .and_str(on_one_line(counts.as_str()), LONG_WORDS)
+        .and_str("\n", 1)
+}
+
+/// Writes the line of an accepted program file. Refuses as 702 alone. That the sink's count of failures can rise is the
+/// caller's condition.
+pub fn accepted_line<K: Sink>(accepted: &Accepted, sink: &mut K) -> Result<(), Fault>
+    requires { K.failures sink.old < 2 ^ 64 - 1 }
+    ensures { (line : List ℕ) × IsAcceptedLine line
+        × GoesOut (K.taken sink.old) (K.taken sink.new) (K.failures sink.old) (K.failures sink.new) line result }
+{
+    let line = line_of_accepted(accepted);
+    write_whole(sink, line.as_str().as_bytes())
+}
+
 #[cfg(test)]
 mod tests {
     use super::*;
@@ -176,6 +214,39 @@ mod tests {
             };
             let mut sink = ToWrite::new(Vec::new(rt.alloc()));
             stats_line(&served, &mut sink)?;
+            assert_eq!(rt; sink.into_inner().as_slice(), line.as_bytes());
+        }
+        Ok(())
+    }
+
+    #[test]
+    fn accepted_files_are_told(rt: HostRuntime) -> Result<(), Fail> {
+        let most = usize::MAX;
+        let table = [
+            (
+                [4, 1, 6, 9, 17],
+                "accepted: 4 instructions, 1 skips, 6 nodes, 9 chains, 17 rows\n",
+            ),
+            (
+                [0, 0, 0, 0, 1],
+                "accepted: 0 instructions, 0 skips, 0 nodes, 0 chains, 1 rows\n",
+            ),
+            (
+                [most, most, most, most, most],
+                "accepted: 18446744073709551615 instructions, 18446744073709551615 skips, \
+                 18446744073709551615 nodes, 18446744073709551615 chains, 18446744073709551615 rows\n",
+            ),
+        ];
+        for ([instructions, skips, nodes, chains, rows], line) in table {
+            let accepted = Accepted {
+                instructions,
+                skips,
+                nodes,
+                chains,
+                rows,
+            };
+            let mut sink = ToWrite::new(Vec::new(rt.alloc()));
+            accepted_line(&accepted, &mut sink)?;
             assert_eq!(rt; sink.into_inner().as_slice(), line.as_bytes());
         }
         Ok(())

@@ -1,0 +1,5 @@
+pub mod ColumnLemmas
+pub mod ExactLemmas
+pub mod HeadingLemmas
+pub mod NarrowLemmas
+pub mod SeenLemmas

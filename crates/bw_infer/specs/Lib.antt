@@ -1,0 +1,4 @@
+pub mod Heading
+pub mod Infer
+pub mod Inferred
+pub mod Seen

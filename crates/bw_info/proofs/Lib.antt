@@ -1,0 +1,3 @@
+pub mod FactLemmas
+pub mod InfoExits
+pub mod SizeLemmas

@@ -1,0 +1,4 @@
+pub mod ItemLemmas
+pub mod ScanLemmas
+pub mod TableExits
+pub mod TableLemmas

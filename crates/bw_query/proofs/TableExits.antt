@@ -1,0 +1,208 @@
+-- Where a call over a table file ends: at the header, at what is asked, at a segment, or when the text goes out.
+use Rattle.std.proofs.Common.{◌≡◌, ◌∙◌, ℕ, ◌+◌, List, [], ◌++◌, Bool, true, false, ◌||◌, ◌==◌, inl, inr, Option, Some, None, Result, Ok, Err, refl, sym, ap, subst, arith}
+use Rattle.std.specs.Prelude.{OnOk}
+use Rattle.std.specs.Io.KnownBytes.{Appends, Consumes, IsAtEnd, Keeps}
+use Rattle.std.proofs.lemmas.Bool.{eqb-true}
+use Rattle.std.proofs.lemmas.List.{append-nil}
+use Rattle.bw_model.specs.declared.fault.Fault.{Fault}
+use Rattle.bw_model.specs.declared.query.Query.{Query}
+use Rattle.bw_model.specs.declared.schema.Schema.{Schema}
+use Rattle.bw_model.specs.Fault.{is_memory}
+use Rattle.bw_model.specs.Groups.{groups_of, together}
+use Rattle.bw_model.specs.Row.{Value}
+use Rattle.bw_device.specs.Sink.{GoesOut, is_write_fault}
+use Rattle.bw_device.specs.Source.{is_input_fault, is_read_fault}
+use Rattle.bw_file.specs.FileText.{IsFileText}
+use Rattle.bw_file.specs.Reading.{State, Fails, failed_reads}
+use Rattle.bw_file.specs.TableReading.{header}
+use Rattle.bw_file.specs.TableReader.{AnswersFault, SoFar, schema_in, header_told}
+use Rattle.bw_file.specs.declared.table_reader.TableReader.{TableReader}
+use Rattle.bw_file.proofs.FileSpelling.{read_is_spelled_by}
+use Rattle.bw_query.specs.TableAnswer.{AnswersFile, HeaderRead, TableGave, TableText, Wrote, is_no_verdict}
+use Rattle.bw_query.specs.declared.scan.Scan.{Scan}
+use Rattle.bw_query.specs.declared.table_text.Scanned.{Scanned}
+use Rattle.bw_query.specs.TableText.{IsScanOf, TextOver}
+
+abbrev pub Given : Type 0
+Given = Result (List ℕ) Fault
+
+-- a source gave this, and what is given for it went W
+abbrev pub Ends : (Schema → Result Query Fault → Type 0) → State → (ℕ → State) → (Given → Type 0) → Type 0
+Ends asks start now W = (offset : ℕ) × (given : Given) × TableGave asks start (now offset) given × W given
+
+-- the header that a reader told
+head_of : (start now : State) (reader : TableReader) → SoFar start now reader [] → (behind : State) × HeaderRead start behind (schema_in reader)
+head_of start now reader read = (read.behind, record { told = header_told read.version reader; read = read.head; shape = refl })
+
+-- the header was refused
+pub header_exit : (asks : Schema → Result Query Fault → Type 0) (start : State) (now : ℕ → State) (W : Given → Type 0) (fault : Fault)
+    → ((offset : ℕ) × Fails header start (now offset) fault) → W (Err fault) → Ends asks start now W
+header_exit asks start now W fault fails w =
+    let given : Given = Err fault in
+    (fails.0, given, record { failures = fails.1.failures; answer = λ own. inl fails.1 }, w)
+
+-- what is asked was refused
+pub asked_exit : (asks : Schema → Result Query Fault → Type 0) (start : State) (now : ℕ → State) (offset : ℕ) (W : Given → Type 0) (reader : TableReader) (fault : Fault)
+    → SoFar start (now offset) reader [] → (now offset).failures ≡ start.failures → failed_reads fault ≡ 0
+    → (is_input_fault fault ≡ false → asks (schema_in reader) (Err fault)) → W (Err fault) → Ends asks start now W
+asked_exit asks start now offset W reader fault read failures none asked w =
+    let given : Given = Err fault in
+    let head = head_of start (now offset) reader read in (
+      offset,
+      given,
+      record {
+        failures = omega (arith, failures, none);
+        answer = λ own. inr (inl (record { schema = schema_in reader; behind = head.0; head = head.1; asked = asked own }));
+      },
+      w,
+    )
+
+-- a segment was refused
+pub segment_exit : (asks : Schema → Result Query Fault → Type 0) (start : State) (now : ℕ → State) (old : State) (offset : ℕ) (W : Given → Type 0) (reader : TableReader) (query : Query) (fault : Fault)
+    → SoFar start old reader [] → old.failures ≡ start.failures → asks (schema_in reader) (Ok query) → AnswersFault start old (now offset) fault
+    → W (Err fault) → Ends asks start now W
+segment_exit asks start now old offset W reader query fault read failures asked answers w =
+    let given : Given = Err fault in
+    let head = head_of start old reader read in (
+      offset,
+      given,
+      record {
+        failures = answers.failures ∙ ap (λ (n : ℕ). n + failed_reads fault) failures;
+        answer = λ own. inr (inr (record {
+          schema = schema_in reader;
+          query = query;
+          behind = head.0;
+          head = head.1;
+          asked = asked;
+          bytes = answers.bytes;
+          took = answers.took;
+          first = answers.first own;
+        }));
+      },
+      w,
+    )
+
+-- the text of the meaning, over a table's rows, and what is told of the scan over their groups
+pub text_over : (asks : Schema → Result Query Fault → Type 0) (start now : State) (schema : Schema) (query : Query) (scan : Scan) (text : List ℕ) (scanned : Scanned)
+    (Told : Schema → Query → List (List Value) → Type 0)
+    → ((rows : List (List Value)) → IsScanOf schema.columns.items scan (groups_of rows) scanned → Told schema query rows)
+    → asks schema (Ok query) → TextOver start now schema query scan text scanned
+    → (found : TableText asks start now text) × Told found.schema found.query found.rows
+text_over asks start now schema query scan text scanned Told told asked over = (
+  record {
+    schema = schema;
+    rows = together over.groups;
+    query = query;
+    table = record {
+      found = over.found;
+      read = over.read;
+      shape = over.shape;
+      same = over.rows;
+      text = let L : List (List Value) → Type 0 = λ rows. IsFileText over.read.bytes over.found.layout schema rows in
+          subst L over.rows (read_is_spelled_by over.read.bytes over.found schema over.read.took.each (sym over.shape) over.read.read);
+    };
+    asked = asked;
+    is = over.is;
+  },
+  let S : List (List (List Value)) → Type 0 = λ groups. IsScanOf schema.columns.items scan groups scanned in
+      told (together over.groups) (subst S over.cut over.counts),
+)
+
+-- all bytes to come were taken
+all_came : (bytes taken : List ℕ) (old new : Option (List ℕ)) → old ≡ Some bytes → Consumes old new taken → IsAtEnd new → taken ≡ bytes
+all_came bytes taken None new e consumes ends = absurd (cc e)
+all_came bytes taken (Some xs) None e consumes ends = absurd consumes
+all_came bytes taken (Some xs) (Some ys) e consumes ends =
+    let same : xs ≡ bytes = cc e in
+    sym (append-nil taken) ∙ ap (λ (l : List ℕ). taken ++ l) (sym ends) ∙ sym consumes ∙ same
+
+-- so the text went out for known bytes, which are a table file's text
+pub file_answered : (asks : Schema → Result Query Fault → Type 0) (start now : State) (schema : Schema) (query : Query) (scan : Scan) (text : List ℕ) (scanned : Scanned)
+    (Told : Schema → Query → List (List Value) → Type 0)
+    → ((rows : List (List Value)) → IsScanOf schema.columns.items scan (groups_of rows) scanned → Told schema query rows)
+    → asks schema (Ok query) → TextOver start now schema query scan text scanned → (bytes : List ℕ) → start.known ≡ Some bytes
+    → (old new : Option (List ℕ)) → Appends old new text
+    → (file : AnswersFile asks bytes old new) × Told file.schema file.query file.rows
+unfolding text_over
+file_answered asks start now schema query scan text scanned Told told asked over bytes known old new appends =
+    let found = text_over asks start now schema query scan text scanned Told told asked over in
+    let table = found.0.table in
+    let same = all_came bytes table.read.bytes start.known now.known known table.read.took.consumed table.read.ended in (
+      record {
+        layout = table.found.layout;
+        schema = schema;
+        rows = found.0.rows;
+        query = query;
+        file = let F : List ℕ → Type 0 = λ taken. IsFileText taken table.found.layout schema found.0.rows in
+            subst F same table.text;
+        asked = asked;
+        text = subst (λ (those : List ℕ). Appends old new those) found.0.is appends;
+      },
+      found.1,
+    )
+
+-- and so where it went out at all
+pub answered_or_not : (asks : Schema → Result Query Fault → Type 0) (start now : State) (schema : Schema) (query : Query) (scan : Scan) (text : List ℕ) (scanned : Scanned)
+    → asks schema (Ok query) → TextOver start now schema query scan text scanned → (bytes : List ℕ) → start.known ≡ Some bytes
+    → (old new : Option (List ℕ)) (before after : ℕ) (result : Result (Unit {0}) Fault) → GoesOut old new before after text result
+    → OnOk result (AnswersFile asks bytes old new)
+answered_or_not asks start now schema query scan text scanned asked over bytes known old new before after (Ok x) goes =
+    (file_answered asks start now schema query scan text scanned (λ s q r. Unit {0}) (λ rows counts. tt) asked over bytes known old new goes.0).0
+answered_or_not asks start now schema query scan text scanned asked over bytes known old new before after (Err fault) goes = tt
+
+-- the text went out, or not
+pub text_exit : (asks : Schema → Result Query Fault → Type 0) (start : State) (now : ℕ → State) (offset : ℕ) (W : Given → Type 0) (schema : Schema) (query : Query) (scan : Scan) (text : List ℕ) (scanned : Scanned)
+    → asks schema (Ok query) → TextOver start (now offset) schema query scan text scanned → W (Ok text) → Ends asks start now W
+text_exit asks start now offset W schema query scan text scanned asked over w =
+    let given : Given = Ok text in
+    let found = text_over asks start (now offset) schema query scan text scanned (λ s q r. Unit {0}) (λ rows counts. tt) asked over in
+    (offset, given, record { failures = omega (arith, over.read.failures); answer = found.0 }, w)
+
+-- a call that wrote nothing
+keeps_itself : (old : Option (List ℕ)) → Keeps old old
+keeps_itself None = tt
+keeps_itself (Some xs) = refl
+
+pub wrote_nothing : (T : Type 0) (old : Option (List ℕ)) (count : ℕ) (fault : Fault) → Wrote {T = T} old old count count (Err fault) (Err fault)
+wrote_nothing T old count fault = inr (record { kept = keeps_itself old; count = refl; is = λ other. refl })
+
+-- the text went out whole, or up to a failed write
+pub wrote_text : (T : Type 0) (old new : Option (List ℕ)) (before after : ℕ) (text : List ℕ) (fault : Fault) → GoesOut {T = T} old new before after text (Err fault)
+    → Wrote {T = T} old new before after (Ok text) (Err fault)
+wrote_text T old new before after text fault goes = inl (record { is = goes.0; part = goes.1; count = goes.2 })
+
+pub wrote_either : (T : Type 0) (old new : Option (List ℕ)) (before after : ℕ) (text : List ℕ) (result : Result T Fault) → GoesOut {T = T} old new before after text result
+    → Wrote {T = T} old new before after (Ok text) result
+wrote_either T old new before after text (Ok x) goes = goes
+wrote_either T old new before after text (Err fault) goes = wrote_text T old new before after text fault goes
+
+-- a fault that isn't a failed read
+pub no_failed_read : (allowed : Fault → Bool) (fault : Fault) → allowed fault ≡ true → allowed (record { code = 701; place = fault.place }) ≡ false → failed_reads fault ≡ 0
+no_failed_read allowed fault is none = by_code (fault.code == 701) refl
+  where
+    by_code : (b : Bool) → (fault.code == 701) ≡ b → failed_reads fault ≡ 0
+    by_code true e = absurd (cc (sym is ∙ ap (λ code. allowed (record { code = code; place = fault.place })) (eqb-true fault.code 701 e) ∙ none))
+    by_code false e = rw e refl
+
+-- a fault that is neither a failed read nor want of memory is no want of memory
+pub own_fault : (fault : Fault) → is_input_fault fault ≡ false → is_memory fault ≡ false
+own_fault fault own = either (is_memory fault) (is_read_fault fault) own
+  where
+    either : (a b : Bool) → (a || b) ≡ false → a ≡ false
+    either true b e = absurd (cc e)
+    either false b e = refl
+
+-- a failed read and want of memory are no verdicts
+pub input_verdict : (fault : Fault) → is_input_fault fault ≡ true → is_no_verdict fault ≡ true
+input_verdict fault is = either (is_input_fault fault) (is_write_fault fault) is
+  where
+    either : (a b : Bool) → a ≡ true → (a || b) ≡ true
+    either true b e = refl
+    either false b e = absurd (cc e)
+
+pub memory_verdict : (fault : Fault) → is_memory fault ≡ true → is_no_verdict fault ≡ true
+memory_verdict fault is = input_verdict fault (either (is_memory fault) (is_read_fault fault) is)
+  where
+    either : (a b : Bool) → a ≡ true → (a || b) ≡ true
+    either true b e = refl
+    either false b e = absurd (cc e)

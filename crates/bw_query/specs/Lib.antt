@@ -1,0 +1,5 @@
+pub mod Plan
+pub mod Scan
+pub mod Served
+pub mod TableAnswer
+pub mod TableText

@@ -1,0 +1,46 @@
+-- What a plan for a statement is: a program file that is accepted for it.
+use Rattle.std.specs.Prelude.{◌≡◌, ℕ, List, ◌++◌, codes, false, Result, Ok, Err}
+use Rattle.bw_model.specs.declared.column.Column.{Column}
+use Rattle.bw_model.specs.declared.fault.Fault.{Fault}
+use Rattle.bw_model.specs.declared.query.Query.{Query}
+use Rattle.bw_model.specs.declared.schema.Schema.{Schema}
+use Rattle.bw_model.specs.Fault.{is_memory, nowhere}
+use Rattle.bw_model.specs.SchemaText.{schema_of, schema_shape, IsSchemaText}
+use Rattle.bw_program.specs.PrintText as program_text
+use Rattle.bw_program.specs.Program.{ProgramShape}
+use Rattle.bw_cert_text.specs.CertificateFields.{CertificateFields}
+use Rattle.bw_cert_text.specs.CertificateShape.{CertificateShape}
+use Rattle.bw_cert_text.specs.PrintText as certificate_text
+use Rattle.bw_check.specs.Judged.{Certifies}
+use Rattle.bw_sql.specs.Statement.{IsReadAs}
+
+-- the printed text of a program, the line CERTIFICATE, and the printed text of a certificate
+pub record IsPrinted (columns : List Column) (file : List ℕ) : Type 0 where
+  pub shown : ProgramShape
+  pub stated : CertificateFields
+  pub is : file ≡ program_text.print_text columns shown ++ codes "CERTIFICATE\n" ++ certificate_text.print_text columns stated
+
+-- A text spells a schema, a statement a query under it, and the file, which is printed so, a program and a certificate
+-- that is valid for it and the query's condition.
+pub record IsPlan (text sql file : List ℕ) : Type 0 where
+  pub schema : Schema
+  pub query : Query
+  pub program : ProgramShape
+  pub certificate : CertificateShape
+  pub spelled : IsSchemaText text (schema_shape schema)
+  pub asked : IsReadAs schema sql (Ok query)
+  pub printed : IsPrinted schema.columns.items file
+  pub certifies : Certifies schema.columns.items query.cond file program certificate
+
+-- the schema text's fault; else the statement's under the schema; else that there is no plan
+pub data IsPlanFault (text sql : List ℕ) : Fault → Type 0 where
+  schema_refused : {fault : Fault} → schema_of text ≡ Err fault → IsPlanFault text sql fault
+  statement_refused : {schema : Schema} {fault : Fault} → IsSchemaText text (schema_shape schema) →
+      IsReadAs schema sql (Err fault) → IsPlanFault text sql fault
+  unplanned : {schema : Schema} (query : Query) → IsSchemaText text (schema_shape schema) →
+      IsReadAs schema sql (Ok query) → IsPlanFault text sql (nowhere 651)
+
+-- a plan, or the first fault, want of memory aside
+abbrev pub IsPlanned : List ℕ → List ℕ → Result (List ℕ) Fault → Type 0
+IsPlanned text sql (Ok file) = IsPlan text sql file
+IsPlanned text sql (Err fault) = is_memory fault ≡ false → IsPlanFault text sql fault

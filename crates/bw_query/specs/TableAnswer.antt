@@ -1,0 +1,134 @@
+-- What an answer from a table file is to be, by the bytes that came of it.
+use Rattle.std.specs.Prelude.{◌≡◌, ◌⊎◌, ℕ, ◌+◌, ◌||◌, Bool, false, IsTrue, List, length, map, Option, Result, Ok, Err, IsOkAnd}
+use Rattle.std.specs.Io.KnownBytes.{Appends, Keeps}
+use Rattle.std.specs.List.{range_with_len}
+use Rattle.bw_model.specs.declared.fault.Fault.{Fault}
+use Rattle.bw_model.specs.declared.query.Item.TheVariants.{Plain}
+use Rattle.bw_model.specs.declared.query.Query.{Query}
+use Rattle.bw_model.specs.declared.schema.Schema.{Schema}
+use Rattle.bw_model.specs.Fault.{is_memory, nowhere}
+use Rattle.bw_model.specs.Column.{names_of}
+use Rattle.bw_model.specs.Cond.{is_kept}
+use Rattle.bw_model.specs.Groups.{groups_of}
+use Rattle.bw_model.specs.Row.{Value}
+use Rattle.bw_model.specs.SchemaText.{schema_shape}
+use Rattle.bw_sql.specs.Statement.{IsReadAs}
+use Rattle.bw_answer.specs.Answer.{csv_text, meaning}
+use Rattle.bw_device.specs.Sink.{TookPart, is_write_fault}
+use Rattle.bw_device.specs.Source.{is_input_fault}
+use Rattle.bw_file.specs.declared.layout.Layout.{Layout}
+use Rattle.bw_file.specs.FileText.{IsFileText}
+use Rattle.bw_file.specs.Reading.{State, Took, GoesOn, Fails, give}
+use Rattle.bw_file.specs.TableReading.{HeaderShape, Found, header}
+use Rattle.bw_file.specs.TableReader.{HasFirstFault, ReadWhole, failed_by}
+use Rattle.bw_query.specs.Scan.{IsScanFault, IsUsable}
+
+-- the header of the file was read, and tells of this schema
+pub record HeaderRead (start behind : State) (schema : Schema) : Type 0 where
+  pub told : HeaderShape
+  pub read : GoesOn header start (give told) behind
+  pub shape : schema_shape schema ≡ told.schema
+
+-- all bytes of the file were taken, and they are the text of the table file of these rows under this schema
+pub record WholeTable (start now : State) (schema : Schema) (rows : List (List Value)) : Type 0 where
+  pub found : Found
+  pub read : ReadWhole start now found
+  pub shape : found.schema ≡ schema_shape schema
+  pub same : found.rows ≡ rows
+  pub text : IsFileText read.bytes found.layout schema rows
+
+-- the text of the meaning of what is asked, over the rows of the table
+pub record TableText (asks : Schema → Result Query Fault → Type 0) (start now : State) (text : List ℕ) : Type 0 where
+  pub schema : Schema
+  pub rows : List (List Value)
+  pub query : Query
+  pub table : WholeTable start now schema rows
+  pub asked : asks schema (Ok query)
+  pub is : text ≡ csv_text (meaning (names_of schema.columns.items) query rows)
+
+-- the bytes are the text of the table file of these rows, and a sink took the text of the meaning of what is asked, over
+-- the rows
+pub record AnswersFile (asks : Schema → Result Query Fault → Type 0) (bytes : List ℕ) (old new : Option (List ℕ)) : Type 0 where
+  pub layout : Layout
+  pub schema : Schema
+  pub rows : List (List Value)
+  pub query : Query
+  pub file : IsFileText bytes layout schema rows
+  pub asked : asks schema (Ok query)
+  pub text : Appends old new (csv_text (meaning (names_of schema.columns.items) query rows))
+
+-- a table's rows are cut into so many groups
+abbrev pub group_count : List (List Value) → ℕ
+group_count rows = length (groups_of rows)
+
+-- what is asked was refused, once the header was read
+pub record AskedRefused (asks : Schema → Result Query Fault → Type 0) (start : State) (fault : Fault) : Type 0 where
+  pub schema : Schema
+  pub behind : State
+  pub head : HeaderRead start behind schema
+  pub asked : asks schema (Err fault)
+
+-- the header was read and what is asked is a query, and then the file has its first fault behind the header
+pub record SegmentRefused (asks : Schema → Result Query Fault → Type 0) (start now : State) (fault : Fault) : Type 0 where
+  pub schema : Schema
+  pub query : Query
+  pub behind : State
+  pub head : HeaderRead start behind schema
+  pub asked : asks schema (Ok query)
+  pub bytes : List ℕ
+  pub took : Took start now bytes
+  pub first : HasFirstFault now bytes fault
+
+-- What is asked of a table file is answered by this text, or by the first fault in the order of the header, what is
+-- asked, and the segments; failed reads and want of memory aside.
+abbrev pub IsTableAnswer : (Schema → Result Query Fault → Type 0) → State → State → Result (List ℕ) Fault → Type 0
+IsTableAnswer asks start now (Ok text) = TableText asks start now text
+IsTableAnswer asks start now (Err fault) =
+    is_input_fault fault ≡ false → Fails header start now fault ⊎ AskedRefused asks start fault ⊎ SegmentRefused asks start now fault
+
+-- so it is by what a source gave, whose failures rose where a failed read is answered
+pub record TableGave (asks : Schema → Result Query Fault → Type 0) (start now : State) (given : Result (List ℕ) Fault) : Type 0 where
+  pub failures : now.failures ≡ start.failures + failed_by given
+  pub answer : IsTableAnswer asks start now given
+
+-- a statement spells a query, and then a program file has a fault
+pub record ProgramRefused (file : Option (List ℕ)) (sql : List ℕ) (schema : Schema) (fault : Fault) : Type 0 where
+  pub query : Query
+  pub asked : IsReadAs schema sql (Ok query)
+  pub refused : IsScanFault file schema.columns.items query.cond fault
+
+-- A statement is asked, with a program file or without one: it spells a query, for whose condition the file is accepted; or
+-- the statement is refused, or else the file.
+abbrev pub by_statement : Option (List ℕ) → List ℕ → Schema → Result Query Fault → Type 0
+by_statement file sql schema (Ok query) = IsReadAs schema sql (Ok query) × IsUsable file schema.columns.items query.cond
+by_statement file sql schema (Err fault) = IsReadAs schema sql (Err fault) ⊎ ProgramRefused file sql schema fault
+
+-- every row in every column is asked for
+
+pub record IsEveryRow (schema : Schema) (query : Query) : Type 0 where
+  pub columns : query.items.items ≡ map Plain (range_with_len 0 (length schema.columns.items))
+  pub rows : (row : List Value) → IsTrue (is_kept query.cond row)
+
+abbrev pub by_dump : Schema → Result Query Fault → Type 0
+by_dump schema (Ok query) = IsEveryRow schema query
+by_dump schema (Err fault) = ⊥
+
+-- a refusal that no bytes and no statement call for: a failed read, a failed write, or want of memory
+abbrev pub is_no_verdict : Fault → Bool
+is_no_verdict fault = is_input_fault fault || is_write_fault fault
+
+-- A call that is to write a text, or to refuse: the text went out; or up to a failed write; or the call wrote nothing and
+-- refused as it was to, want of memory aside.
+pub record WriteFailed (old new : Option (List ℕ)) (before after : ℕ) (given : Result (List ℕ) Fault) (fault : Fault) : Type 0 where
+  pub is : fault ≡ nowhere 702
+  pub part : IsOkAnd given (TookPart old new)
+  pub count : after ≡ before + 1
+
+pub record WroteNothing (old new : Option (List ℕ)) (before after : ℕ) (given : Result (List ℕ) Fault) (fault : Fault) : Type 0 where
+  pub kept : Keeps old new
+  pub count : after ≡ before
+  pub is : is_memory fault ≡ false → given ≡ Err fault
+
+abbrev pub Wrote : {T : Type 0} → Option (List ℕ) → Option (List ℕ) → ℕ → ℕ → Result (List ℕ) Fault → Result T Fault → Type 0
+Wrote old new before after given (Ok x) = IsOkAnd given (λ text. Appends old new text) × (after ≡ before)
+Wrote old new before after given (Err fault) = WriteFailed old new before after given fault ⊎ WroteNothing old new before after given fault

@@ -1,0 +1,78 @@
+//! Plans: program files that the planner writes.
+ghost use Rattle.std.specs.Prelude.{◌≡◌, ◌-◌, ◌^◌, ◌<◌, ℕ, List, Result, false, length, IfOk, IfErr, IsTrue, OnOk};
+ghost use Rattle.bw_model.specs.declared.fault.Fault.{Fault};
+ghost use Rattle.bw_model.specs.Cond.{names_within};
+ghost use Rattle.bw_model.specs.Fault.{is_memory, nowhere};
+ghost use Rattle.bw_program.specs.Program.{ProgramShape};
+ghost use Rattle.bw_cert_text.specs.CertificateShape.{CertificateShape};
+ghost use Rattle.bw_check.specs.Judged.{Certifies};
+ghost use Rattle.bw_device.specs.Sink.{is_write_fault};
+ghost use Rattle.bw_device.specs.Source.{EndsWith};
+ghost use Rattle.bw_query.specs.Plan.{IsPlanned, IsPrinted};
+ghost use Rattle.bw_query.specs.TableAnswer.{Wrote};
+
+use bw_check::certify;
+use bw_device::{Sink, write_whole};
+use bw_model::{Cond, Fault, Place, Schema, code};
+use bw_plan::propose;
+use bw_sql::parse;
+use std::alloc::Global;
+
+/// Plans a statement under the schema of a schema text, and writes the plan: the text of a scan program, the line
+/// CERTIFICATE, and the text of a certificate. It's a program file that a check accepts for the same schema and
+/// statement.
+///
+/// Refuses in this order: the schema text (106, 101 to 105), the statement (401 to 408), a condition for which the
+/// planner has no program that the checker accepts (651), and the sink (702); want of memory (801) wherever it comes.
+/// That the sink's count of failures can rise is the caller's condition.
+#[tactic(auto, using(crate::specs::Plan::schema_refused, crate::specs::Plan::statement_refused, crate::specs::Plan::unplanned))]
+pub fn plan_text<K: Sink>(
+    alloc: Global,
+    schema: &[u8],
+    sql: &[u8],
+    sink: &mut K,
+) -> Result<(), Fault>
+    requires { K.failures sink.old < 2 ^ 64 - 1 }
+    ensures planned { (given : Result (List ℕ) Fault) × IsPlanned schema.now sql.now given
+        × Wrote (K.taken sink.old) (K.taken sink.new) (K.failures sink.old) (K.failures sink.new) given result }
+    ensures sink_failed { EndsWith (nowhere 702) (K.failures sink.old) (K.failures sink.new) result }
+    ensures unwritten { IfErr result (λ fault. is_write_fault fault ≡ false
+        → (K.taken sink.new ≡ K.taken sink.old) × (K.failures sink.new ≡ K.failures sink.old)) }
+    ensures done { OnOk result (K.failures sink.new ≡ K.failures sink.old) }
+{
+    let schema = Schema::parse(alloc, schema)?;
+    let query = parse(alloc, &schema, sql)?;
+    let file = plan_of(alloc, &schema, &query.cond)?;
+    write_whole(sink, &file)
+}
+
+/// The program file of a proposal for a condition, once the checker has accepted it as it stands.
+fn plan_of(alloc: Global, schema: &Schema, cond: &Cond) -> Result<Vec<u8>, Fault>
+    requires { IsTrue (names_within (length schema.now.columns.items) cond.now) }
+    ensures printed { IfOk result (λ file. IsPrinted schema.now.columns.items file.items) }
+    ensures certifies { IfOk result (λ file. (program : ProgramShape) × (certificate : CertificateShape)
+        × Certifies schema.now.columns.items cond.now file.items program certificate) }
+    ensures fault { IfErr result (λ fault. is_memory fault ≡ false → fault ≡ nowhere 651) }
+{
+    let proposal = propose(alloc, schema, cond)?;
+    let mut file = proposal.program.print(alloc, schema)?;
+    file.extend_from_slice(b"CERTIFICATE\n")?;
+    file.extend_from_slice(&proposal.certificate.print(alloc, schema)?)?;
+    match certify(alloc, schema, cond, &file) {
+        Ok(_) => Ok(file),
+        Err(fault) => Err(unplanned_unless_memory(fault)),
+    }
+}
+
+/// Want of memory, or else that there is no plan.
+fn unplanned_unless_memory(fault: Fault) -> Fault
+    ensures { is_memory result ≡ false → result ≡ nowhere 651 }
+{
+    match fault {
+        Fault {
+            code: code::OUT_OF_MEMORY,
+            place: Place::Nowhere,
+        } => fault,
+        _ => Fault::new(code::NO_PROGRAM),
+    }
+}

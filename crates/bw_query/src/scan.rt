@@ -1,0 +1,82 @@
+//! Who finds the rows that a query keeps.
+ghost use Rattle.std.specs.Prelude.{◌≡◌, false, IfOk, IfErr, IsTrue, None, length};
+ghost use Rattle.bw_model.specs.declared.cond.Cond.{Cond};
+ghost use Rattle.bw_model.specs.Cond.{names_within};
+ghost use Rattle.bw_model.specs.CondTree.{tree_of};
+ghost use Rattle.bw_model.specs.Fault.{is_memory};
+ghost use Rattle.bw_check.specs.Judged.{is_file_fault};
+ghost use Rattle.bw_query.specs.declared.scan.Scan.TheVariants.{Rows};
+ghost use Rattle.bw_query.specs.Scan.{IsFor, IsChosen, IsScanFault, IsUsable, given_file};
+
+use bw_cert::{Certified, check};
+use bw_check::certify;
+use bw_model::{Cond, Fault, Place, Schema, code};
+use bw_plan::propose;
+use std::alloc::Global;
+
+/// Who finds the rows that a query keeps: a scan program that was certified for its condition, or the condition itself,
+/// row by row.
+#[derive(Drop)]
+pub(crate) enum Scan {
+    Program(Certified),
+    Rows,
+}
+
+/// How a query is to be scanned: by the program of a program file, where there is one; else by the planner's, where it
+/// proposes one that the checker accepts; else row by row.
+///
+/// Refuses a program file as [`certify`] does (501 to 508, 601 to 610). A proposal that isn't accepted is no fault of
+/// the statement's: it isn't used. Want of memory is 801, in the planner too.
+pub(crate) fn scan_for(
+    alloc: Global,
+    schema: &Schema,
+    cond: &Cond,
+    program: Option<&[u8]>,
+) -> Result<Scan, Fault>
+    requires { IsTrue (names_within (length schema.now.columns.items) cond.now) }
+    ensures certified { IfOk result (IsFor schema.now.columns.items cond.now) }
+    ensures chosen { IfOk result (IsChosen (given_file program.entry) schema.now.columns.items cond.now) }
+    ensures fault { IfErr result (λ fault. is_memory fault ≡ false
+        → IsScanFault (given_file program.entry) schema.now.columns.items cond.now fault) }
+    ensures code { IfErr result (λ fault. IsTrue (is_file_fault fault)) }
+    // A program file that is accepted for a condition of the same tree is refused for want of memory alone.
+    ensures accepted { (same : Cond) → tree_of same ≡ tree_of cond.now
+        → IsUsable (given_file program.entry) schema.now.columns.items same
+        → IfErr result (λ fault. IsTrue (is_memory fault)) }
+{
+    match program {
+        Some(file) => Ok(Scan::Program(certify(alloc, schema, cond, file)?.certified)),
+        None => planned(alloc, schema, cond),
+    }
+}
+
+/// The planner's program, where it proposes one that the checker accepts; else row by row. Refuses as 801 alone.
+fn planned(alloc: Global, schema: &Schema, cond: &Cond) -> Result<Scan, Fault>
+    requires { IsTrue (names_within (length schema.now.columns.items) cond.now) }
+    ensures certified { IfOk result (IsFor schema.now.columns.items cond.now) }
+    ensures chosen { IfOk result (IsChosen None schema.now.columns.items cond.now) }
+    ensures only_memory { IfErr result (λ fault. IsTrue (is_memory fault)) }
+{
+    let proposal = match propose(alloc, schema, cond) {
+        Ok(proposal) => proposal,
+        Err(fault) => return rows_unless_memory(fault),
+    };
+    match check(alloc, schema, cond, proposal.program, &proposal.certificate) {
+        Ok(certified) => Ok(Scan::Program(certified)),
+        Err((_, fault)) => rows_unless_memory(fault),
+    }
+}
+
+/// Row by row, where there is no program by a fault other than want of memory.
+fn rows_unless_memory(fault: Fault) -> Result<Scan, Fault>
+    ensures rows { IfOk result (λ scan. (scan ≡ Rows) × (is_memory fault ≡ false)) }
+    ensures only_memory { IfErr result (λ found. (found ≡ fault) × IsTrue (is_memory fault)) }
+{
+    match fault {
+        Fault {
+            code: code::OUT_OF_MEMORY,
+            place: Place::Nowhere,
+        } => Err(fault),
+        _ => Ok(Scan::Rows),
+    }
+}

@@ -1,0 +1,141 @@
+//! Queries answered from a table file.
+ghost use Rattle.std.specs.Prelude.{◌≡◌, ◌-◌, ◌^◌, ◌<◌, ◌≤◌, ℕ, List, Result, Some, false, length, vec_len, IsTrue, IfOk, IfErr, OnOk};
+ghost use Rattle.std.specs.Io.KnownBytes.{Appends};
+ghost use Rattle.std.specs.List.{list_all};
+ghost use Rattle.bw_model.specs.declared.fault.Fault.{Fault};
+ghost use Rattle.bw_model.specs.declared.query.Query.{Query};
+ghost use Rattle.bw_model.specs.declared.schema.Schema.{Schema};
+ghost use Rattle.bw_model.specs.Cond.{names_within};
+ghost use Rattle.bw_model.specs.Total.{item_within};
+ghost use Rattle.bw_sql.specs.Asked.{Asked};
+ghost use Rattle.bw_sql.specs.Items.{AreOfOneKind};
+ghost use Rattle.bw_sql.specs.Statement.{Spells};
+ghost use Rattle.bw_model.specs.Fault.{nowhere, no_memory};
+ghost use Rattle.bw_model.specs.Row.{Value};
+ghost use Rattle.bw_file.specs.declared.layout.Layout.{Layout};
+ghost use Rattle.bw_file.specs.FileText.{IsFileText};
+ghost use Rattle.bw_file.specs.Reading.{state};
+ghost use Rattle.bw_device.specs.Sink.{is_write_fault};
+ghost use Rattle.bw_device.specs.Source.{EndsWith};
+ghost use Rattle.bw_query.specs.Scan.{given_file};
+ghost use Rattle.bw_query.specs.Served.{IsServed};
+ghost use Rattle.bw_query.specs.TableAnswer.{AnswersFile, IsEveryRow, TableGave, TableText, Wrote, by_dump, by_statement, is_no_verdict};
+
+use crate::scan::{Scan, scan_for};
+use crate::served::{Served, served_by};
+use crate::table_text::table_text;
+use bw_device::{Sink, Source, write_whole};
+use bw_file::{TableReader, a_file_text_is_read_whole, bytes_were_taken};
+use bw_model::{Cond, Fault, Item, Query, Schema};
+use bw_sql::{one_query_of_a_text, parse, schemas_of_one_shape};
+use std::alloc::Global;
+
+/// Answers a statement over the rows of a table file, and writes the answer as CSV text: a heading record and then the
+/// records, fields joined by commas and each record ended by a line feed. The rows are found by the program of a program
+/// file, where one is given; else by a program of the planner's, where it has one that the checker accepts; else row by
+/// row. Tells how the query was served, with the loads and skips of the program's runs.
+///
+/// Refuses in this order: the file's header (301 to 305, 310), the statement (401 to 408), the program file (508, 501 to
+/// 507, 605, 601 to 604 and 606 to 610), the file's segments (305 to 309) and the sink (702); 701 where a read fails, and
+/// want of memory (801) wherever it comes. Nothing is written before the last segment was found good and the file has
+/// ended. One segment is in memory, and the answer's text. That each device's count of failures can rise is the caller's
+/// condition.
+pub fn answer<S: Source, K: Sink>(
+    alloc: Global,
+    table: &mut S,
+    sql: &[u8],
+    program: Option<&[u8]>,
+    sink: &mut K,
+) -> Result<Served, Fault>
+    requires table { S.failures table.old < 2 ^ 64 - 1 }
+    requires sink { K.failures sink.old < 2 ^ 64 - 1 }
+    ensures answer { (offset : ℕ) × (given : Result (List ℕ) Fault)
+        × TableGave (by_statement (given_file program.entry) sql.now) (state (S.to_come table.old) 0 (S.failures table.old))
+        (state (S.to_come table.new) offset (S.failures table.new)) given
+        × Wrote (K.taken sink.old) (K.taken sink.new) (K.failures sink.old) (K.failures sink.new) given result }
+    ensures served { IfOk result (λ served. (offset : ℕ) × (text : List ℕ)
+        × (found : TableText (by_statement (given_file program.entry) sql.now) (state (S.to_come table.old) 0 (S.failures table.old))
+        (state (S.to_come table.new) offset (S.failures table.new)) text)
+        × Appends (K.taken sink.old) (K.taken sink.new) text
+        × IsServed (given_file program.entry) found.schema found.query found.rows served) }
+
+    // Where the bytes to come are known: they were a table file's, and the answer is over its rows; and where they are,
+    // the statement spells a query, and the program file is accepted for its condition, it's only a device or memory
+    // that can fail.
+    ensures file { (bytes : List ℕ) → S.to_come table.old ≡ Some bytes → IfOk result (λ served.
+        (file : AnswersFile (by_statement (given_file program.entry) sql.now) bytes (K.taken sink.old) (K.taken sink.new))
+        × IsServed (given_file program.entry) file.schema file.query file.rows served) }
+    ensures accepted { (bytes : List ℕ) (layout : Layout) (schema : Schema) (rows : List (List Value)) (query : Query)
+        → S.to_come table.old ≡ Some bytes → IsFileText bytes layout schema rows
+        → by_statement (given_file program.entry) sql.now schema (Ok query)
+        → IfErr result (λ fault. IsTrue (is_no_verdict fault)) }
+    ensures table_failed { EndsWith (nowhere 701) (S.failures table.old) (S.failures table.new) result }
+    ensures sink_failed { EndsWith (nowhere 702) (K.failures sink.old) (K.failures sink.new) result }
+    ensures unwritten { IfErr result (λ fault. is_write_fault fault ≡ false
+        → (K.taken sink.new ≡ K.taken sink.old) × (K.failures sink.new ≡ K.failures sink.old)) }
+    ensures done { OnOk result (K.failures sink.new ≡ K.failures sink.old) }
+{
+    bytes_were_taken();
+    a_file_text_is_read_whole();
+    schemas_of_one_shape();
+    one_query_of_a_text();
+    let mut reader = TableReader::begin(alloc, table)?;
+    let query = parse(alloc, reader.schema(), sql)?;
+    let scan = scan_for(alloc, reader.schema(), &query.cond, program)?;
+    let found = table_text(alloc, &mut reader, table, &query, &scan)?;
+    write_whole(sink, &found.text)?;
+    Ok(served_by(&scan, found.scanned))
+}
+
+/// Writes every row of a table file in every column, as CSV text.
+///
+/// Refuses in this order: the file's header (301 to 305, 310), its segments (305 to 309) and the sink (702); 701 where a
+/// read fails, and want of memory (801) wherever it comes. Nothing is written before the last segment was found good
+/// and the file has ended.
+pub fn dump<S: Source, K: Sink>(alloc: Global, table: &mut S, sink: &mut K) -> Result<(), Fault>
+    requires table { S.failures table.old < 2 ^ 64 - 1 }
+    requires sink { K.failures sink.old < 2 ^ 64 - 1 }
+    ensures answer { (offset : ℕ) × (given : Result (List ℕ) Fault)
+        × TableGave by_dump (state (S.to_come table.old) 0 (S.failures table.old))
+        (state (S.to_come table.new) offset (S.failures table.new)) given
+        × Wrote (K.taken sink.old) (K.taken sink.new) (K.failures sink.old) (K.failures sink.new) given result }
+
+    // Where the bytes to come are known, as of [`answer`].
+    ensures file { (bytes : List ℕ) → S.to_come table.old ≡ Some bytes
+        → OnOk result (AnswersFile by_dump bytes (K.taken sink.old) (K.taken sink.new)) }
+    ensures accepted { (bytes : List ℕ) (layout : Layout) (schema : Schema) (rows : List (List Value))
+        → S.to_come table.old ≡ Some bytes → IsFileText bytes layout schema rows
+        → IfErr result (λ fault. IsTrue (is_no_verdict fault)) }
+    ensures table_failed { EndsWith (nowhere 701) (S.failures table.old) (S.failures table.new) result }
+    ensures sink_failed { EndsWith (nowhere 702) (K.failures sink.old) (K.failures sink.new) result }
+    ensures unwritten { IfErr result (λ fault. is_write_fault fault ≡ false
+        → (K.taken sink.new ≡ K.taken sink.old) × (K.failures sink.new ≡ K.failures sink.old)) }
+    ensures done { OnOk result (K.failures sink.new ≡ K.failures sink.old) }
+{
+    bytes_were_taken();
+    a_file_text_is_read_whole();
+    let mut reader = TableReader::begin(alloc, table)?;
+    let query = every_row(alloc, reader.schema())?;
+    let found = table_text(alloc, &mut reader, table, &query, &Scan::Rows)?;
+    write_whole(sink, &found.text)
+}
+
+/// The query for every row in every column.
+#[tactic(auto, using(bw_model::proofs::CondLemmas::truths, bw_model::proofs::CondLemmas::names))]
+fn every_row(alloc: Global, schema: &Schema) -> Result<Query, Fault>
+    ensures every { IfOk result (IsEveryRow schema.now) }
+    ensures names { IfOk result (λ query. IsTrue (names_within (vec_len schema.now.columns) query.cond)) }
+    ensures items { IfOk result (λ query. IsTrue (list_all (item_within (vec_len schema.now.columns)) query.items.items)) }
+    ensures some { IfOk result (λ query. 1 ≤ length query.items.items) }
+    ensures kinds { IfOk result (λ query. AreOfOneKind query.items.items) }
+    ensures only_memory { IfErr result (λ fault. fault ≡ no_memory) }
+{
+    let mut items = Vec::with_capacity(alloc, schema.columns.len())?;
+    for column in 0..schema.columns.len() {
+        items.push(Item::Plain(column))?;
+    }
+    Ok(Query {
+        items,
+        cond: Cond::Always,
+    })
+}

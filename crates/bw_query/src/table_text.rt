@@ -1,0 +1,209 @@
+//! The text of an answer over the rows of a table file, one segment at a time.
+ghost use Rattle.std.specs.Prelude.{◌≡◌, ◌+◌, ◌-◌, ◌^◌, ◌<◌, ◌≤◌, ◌++◌, ℕ, List, [], None, true, IsTrue, IfOk, IfErr, OnOk, length, vec_len};
+ghost use Rattle.std.specs.List.{list_all};
+ghost use Rattle.bw_model.specs.Column.{names_of};
+ghost use Rattle.bw_model.specs.Cond.{names_within};
+ghost use Rattle.bw_model.specs.Fault.{no_memory};
+ghost use Rattle.bw_model.specs.Limits.{most_rows};
+ghost use Rattle.bw_model.specs.Total.{item_within};
+ghost use Rattle.bw_model.specs.declared.query.Query.{Query};
+ghost use Rattle.bw_sql.specs.Items.{AreOfOneKind};
+ghost use Rattle.bw_answer.specs.AreOver.{CountsRows};
+ghost use Rattle.bw_answer.specs.Over.{GoesOver, asked_by};
+ghost use Rattle.bw_answer.specs.declared.answer.Answer.{Answer};
+ghost use Rattle.bw_file.specs.AnySegment.{any_meaning};
+ghost use Rattle.bw_file.specs.Reading.{State, state};
+ghost use Rattle.bw_file.specs.TableReader.{schema_in, bytes_taken, rows_given, settled, SoFar, AnswersFault};
+ghost use Rattle.bw_query.specs.Scan.{IsFor, loads_in, skips_in};
+ghost use Rattle.bw_query.specs.TableText.{TextOver, TookAll};
+
+use crate::scan::Scan;
+use crate::table_rows::hand_segment;
+use bw_answer::Answer;
+use bw_device::Source;
+use bw_file::{AnySegment, TableReader, bytes_were_taken};
+use bw_model::{Fault, Query, Row, admitted_rows_have_each_value};
+use bw_run::Counts;
+use bw_segment::Segment;
+use std::alloc::Global;
+
+/// How many segments were scanned, with how many loads of planes or bytes and how many skips that were taken.
+#[derive(Clone, Copy)]
+pub(crate) struct Scanned {
+    pub(crate) segments: u32,
+    pub(crate) loads: u64,
+    pub(crate) skips: u64,
+}
+
+/// The text of an answer, and what was scanned for it.
+#[derive(Drop)]
+pub(crate) struct TableText {
+    pub(crate) text: Vec<u8>,
+    pub(crate) scanned: Scanned,
+}
+
+/// The text of the answer to a query over the rows of a table file, whose header was read, and no segment. It's whole
+/// once the last segment was found good and the file has ended.
+pub(crate) fn table_text<S: Source>(
+    alloc: Global,
+    reader: &mut TableReader,
+    source: &mut S,
+    query: &Query,
+    scan: &Scan,
+) -> Result<TableText, Fault>
+    requires countable { S.failures source.old < 2 ^ 64 - 1 }
+    requires fresh { (rows_given reader.old ≡ 0) × (settled reader.old ≡ None) }
+    requires names { IsTrue (names_within (vec_len (schema_in reader.old).columns) query.now.cond) }
+    requires items { IsTrue (list_all (item_within (vec_len (schema_in reader.old).columns)) query.now.items.items) }
+    requires some { 1 ≤ length query.now.items.items }
+    requires kinds { AreOfOneKind query.now.items.items }
+    requires scan { IsFor (schema_in reader.old).columns.items query.now.cond scan.now }
+    ensures text { IfOk result (λ found. (start : State)
+        → SoFar start (state (S.to_come source.old) (bytes_taken reader.old) (S.failures source.old)) reader.old []
+        → TextOver start (state (S.to_come source.new) (bytes_taken reader.new) (S.failures source.new))
+        (schema_in reader.old) query.now scan.now found.text.items found.scanned) }
+    ensures refused { IfErr result (λ fault. (start : State)
+        → SoFar start (state (S.to_come source.old) (bytes_taken reader.old) (S.failures source.old)) reader.old []
+        → AnswersFault start (state (S.to_come source.old) (bytes_taken reader.old) (S.failures source.old))
+        (state (S.to_come source.new) (bytes_taken reader.new) (S.failures source.new)) fault) }
+{
+    bytes_were_taken();
+    let mut answer = Answer::new(alloc, reader.schema(), query)?;
+    let mut row = Row {
+        values: Vec::with_capacity(alloc, reader.schema().columns.len())?,
+    };
+    let scanned = take_rows(reader, source, scan, &mut row, &mut answer)?;
+    Ok(TableText {
+        text: answer.into_text()?,
+        scanned,
+    })
+}
+
+/// Takes the rows of all segments, and gives what was scanned.
+fn take_rows<S: Source>(
+    reader: &mut TableReader,
+    source: &mut S,
+    scan: &Scan,
+    row: &mut Row,
+    answer: &mut Answer<'_>,
+) -> Result<Scanned, Fault>
+    requires countable { S.failures source.old < 2 ^ 64 - 1 }
+    requires fresh { (rows_given reader.old ≡ 0) × (settled reader.old ≡ None) }
+    requires none { answer.old.rows ≡ 0 }
+    requires width { answer.old.width ≡ length (schema_in reader.old).columns.items }
+    requires scan { IsFor (schema_in reader.old).columns.items (asked_by answer.old).cond scan.now }
+    ensures took { IfOk result (λ scanned. TookAll
+        (state (S.to_come source.old) (bytes_taken reader.old) (S.failures source.old))
+        (state (S.to_come source.new) (bytes_taken reader.new) (S.failures source.new))
+        reader.old scan.now answer.old answer.new scanned) }
+    ensures refused { IfErr result (λ fault. (start : State)
+        → SoFar start (state (S.to_come source.old) (bytes_taken reader.old) (S.failures source.old)) reader.old []
+        → AnswersFault start (state (S.to_come source.old) (bytes_taken reader.old) (S.failures source.old))
+        (state (S.to_come source.new) (bytes_taken reader.new) (S.failures source.new)) fault) }
+{
+    bytes_were_taken();
+    let counts = answer.counts_rows();
+    let mut scanned = Scanned {
+        segments: 0,
+        loads: 0,
+        skips: 0,
+    };
+    let mut spare = None;
+    while let Some(segment) = reader.refill(source, spare)? {
+        let more = take_either(&segment, scan, counts, row, answer)?;
+        scanned.segments += 1;
+        scanned.loads += more.loads as u64;
+        scanned.skips += more.skips as u64;
+        spare = Some(segment);
+    }
+    Ok(scanned)
+}
+
+/// Takes the rows of a segment in either layout: the layout is looked at once a segment.
+#[tactic(auto, unfolding(bw_file::specs::AnySegment::any_meaning))]
+fn take_either(
+    segment: &AnySegment,
+    scan: &Scan,
+    counts: bool,
+    row: &mut Row,
+    answer: &mut Answer<'_>,
+) -> Result<Counts, Fault>
+    requires scan { IsFor (any_meaning segment.now).columns (asked_by answer.old).cond scan.now }
+    requires counts { counts ≡ true → CountsRows (asked_by answer.old) }
+    requires width { answer.old.width ≡ length (any_meaning segment.now).columns }
+    requires room { answer.old.rows + length (any_meaning segment.now).rows ≤ most_rows }
+    ensures over { OnOk result (GoesOver answer.old (any_meaning segment.now).rows answer.new) }
+    ensures width { OnOk result (answer.new.width ≡ answer.old.width) }
+    ensures rows { OnOk result (answer.new.rows ≡ answer.old.rows + length (any_meaning segment.now).rows) }
+    ensures loads { IfOk result (λ counts. counts.loads
+        ≡ loads_in (any_meaning segment.now).columns scan.now (any_meaning segment.now).rows) }
+    ensures skips { IfOk result (λ counts. counts.skips
+        ≡ skips_in (any_meaning segment.now).columns scan.now (any_meaning segment.now).rows) }
+    ensures bounded { IfOk result (λ counts. counts.loads + counts.skips ≤ 4096) }
+    ensures only_memory { IfErr result (λ fault. fault ≡ no_memory) }
+{
+    match segment {
+        AnySegment::Planes(segment) => take_segment(segment, scan, counts, row, answer),
+        AnySegment::Slices(segment) => take_segment(segment, scan, counts, row, answer),
+    }
+}
+
+/// Takes the rows of a segment: those that a program picks, or each.
+fn take_segment<S: Segment>(
+    segment: &S,
+    scan: &Scan,
+    counts: bool,
+    row: &mut Row,
+    answer: &mut Answer<'_>,
+) -> Result<Counts, Fault>
+    requires scan { IsFor (S.meaning segment.now).columns (asked_by answer.old).cond scan.now }
+    requires counts { counts ≡ true → CountsRows (asked_by answer.old) }
+    requires width { answer.old.width ≡ length (S.meaning segment.now).columns }
+    requires room { answer.old.rows + length (S.meaning segment.now).rows ≤ most_rows }
+    ensures over { OnOk result (GoesOver answer.old (S.meaning segment.now).rows answer.new) }
+    ensures width { OnOk result (answer.new.width ≡ answer.old.width) }
+    ensures rows { OnOk result (answer.new.rows ≡ answer.old.rows + length (S.meaning segment.now).rows) }
+    ensures loads { IfOk result (λ counts. counts.loads
+        ≡ loads_in (S.meaning segment.now).columns scan.now (S.meaning segment.now).rows) }
+    ensures skips { IfOk result (λ counts. counts.skips
+        ≡ skips_in (S.meaning segment.now).columns scan.now (S.meaning segment.now).rows) }
+    ensures bounded { IfOk result (λ counts. counts.loads + counts.skips ≤ 4096) }
+    ensures only_memory { IfErr result (λ fault. fault ≡ no_memory) }
+{
+    match scan {
+        Scan::Program(certified) => {
+            let (picked, counts) = certified.run_segment(segment);
+            certified.condition().same_meaning(&answer.query().cond);
+            answer.take_picked(segment, &picked, row)?;
+            Ok(counts)
+        }
+        Scan::Rows => {
+            take_by_rows(segment, counts, row, answer)?;
+            Ok(Counts { loads: 0, skips: 0 })
+        }
+    }
+}
+
+/// Takes each row of a segment, or their number where nothing else is asked for.
+fn take_by_rows<S: Segment>(
+    segment: &S,
+    counts: bool,
+    row: &mut Row,
+    answer: &mut Answer<'_>,
+) -> Result<(), Fault>
+    requires counts { counts ≡ true → CountsRows (asked_by answer.old) }
+    requires width { answer.old.width ≡ length (S.meaning segment.now).columns }
+    requires room { answer.old.rows + length (S.meaning segment.now).rows ≤ most_rows }
+    ensures over { OnOk result (GoesOver answer.old (S.meaning segment.now).rows answer.new) }
+    ensures width { OnOk result (answer.new.width ≡ answer.old.width) }
+    ensures rows { OnOk result (answer.new.rows ≡ answer.old.rows + length (S.meaning segment.now).rows) }
+    ensures only_memory { IfErr result (λ fault. fault ≡ no_memory) }
+{
+    admitted_rows_have_each_value();
+    if counts {
+        answer.take_count(segment.rows_in());
+        Ok(())
+    } else {
+        hand_segment(segment, row, answer)
+    }
+}
