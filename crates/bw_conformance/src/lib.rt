@@ -5,18 +5,14 @@
 #![tactic(auto)]
 
 #[cfg(test)]
-mod device_calls;
-#[cfg(test)]
-mod devices;
-#[cfg(test)]
 mod direct;
 #[cfg(test)]
 mod faults;
 #[cfg(test)]
+mod inferred;
+#[cfg(test)]
 mod outcome;
 #[cfg(test)]
 mod rows_in_memory;
-#[cfg(test)]
-mod scarcity;
 #[cfg(test)]
 mod tables;

@@ -51,7 +51,7 @@ pub fn load_outcome(alloc: Global, schema: &[u8], csv: &[u8], layout: Layout) ->
 pub fn answer_outcome(alloc: Global, table: &[u8], sql: &[u8]) -> Outcome {
     let mut table = FromRead::new(table);
     let mut sink = ToWrite::new(Vec::new(alloc));
-    let result = answer(alloc, &mut table, sql, &mut sink);
+    let result = answer(alloc, &mut table, sql, None, &mut sink);
     Outcome::of(alloc, sink, result)
 }
 

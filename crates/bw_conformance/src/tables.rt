@@ -1,10 +1,8 @@
-//! Tables loaded, queried and dumped, and table files that are damaged or fail.
-use crate::devices::{Calls, Pieces, Taker, Zeros};
+//! Tables loaded, queried and dumped, and table files that are damaged.
 use crate::outcome::{Outcome, answer_outcome, dump_outcome, load_outcome};
 use bw_device::{FromRead, ToWrite};
 use bw_file::Layout;
-use bw_model::{Fault, code};
-use bw_shell::{By, Served, answer, dump, load};
+use bw_shell::{By, answer};
 use std::alloc::Global;
 use std::process::Abort;
 use std::test::Fail;
@@ -170,7 +168,7 @@ fn damage_in_the_last_segment_writes_nothing(rt: HostRuntime) -> Result<(), Fail
 
 #[test]
 fn queries_tell_how_they_were_served(rt: HostRuntime) -> Result<(), Fail> {
-    for (sql, count) in [(COUNT, 5), (b"SELECT a FROM t WHERE b > 0".as_slice(), 5)] {
+    for sql in [COUNT, b"SELECT a FROM t WHERE b > 0".as_slice()] {
         for layout in [Layout::Planes, Layout::Slices] {
             let file = file_of(rt.alloc(), layout)?;
             let mut sink = ToWrite::new(Vec::new(rt.alloc()));
@@ -178,120 +176,12 @@ fn queries_tell_how_they_were_served(rt: HostRuntime) -> Result<(), Fail> {
                 rt.alloc(),
                 &mut FromRead::new(file.as_slice()),
                 sql,
+                None,
                 &mut sink,
             )?;
-            let rows = Served {
-                by: By::Rows,
-                segments: 1,
-                loads: 0,
-                skips: 0,
-            };
-            assert_eq!(rt; served, rows, "{count} rows in {layout:?}");
+            assert_eq!(rt; served.by, By::Program, "{layout:?}");
+            assert_eq!(rt; served.segments, 1, "{layout:?}");
         }
-    }
-    Ok(())
-}
-
-#[test]
-fn a_file_may_come_in_single_bytes(rt: HostRuntime) -> Result<(), Fail> {
-    for layout in [Layout::Planes, Layout::Slices] {
-        let file = file_of(rt.alloc(), layout)?;
-        let mut source = Pieces {
-            left: &file,
-            calls: Calls::new(1, 0),
-        };
-        let mut sink = ToWrite::new(Vec::new(rt.alloc()));
-        dump(rt.alloc(), &mut source, &mut sink)?;
-        assert_eq!(rt; sink.into_inner().as_slice(), DUMP);
-    }
-    Ok(())
-}
-
-#[test]
-fn a_file_that_never_ends_is_refused(rt: HostRuntime) -> Result<(), Fail> {
-    let file = file_of(rt.alloc(), Layout::Planes)?;
-    let mut source = Zeros { left: &file };
-    let mut sink = ToWrite::new(Vec::new(rt.alloc()));
-    let result = answer(rt.alloc(), &mut source, COUNT, &mut sink);
-    let outcome = Outcome::of(rt.alloc(), sink, result);
-    check_refused(
-        &rt,
-        &outcome,
-        "bw: 309 bytes after the end at byte 952\n",
-        3,
-    );
-    Ok(())
-}
-
-/// The fault of a statement over a file of which a read fails, where it is refused.
-fn fault_of(alloc: Global, file: &[u8], fail_at: u64, sql: &[u8]) -> Option<Fault> {
-    let mut source = Pieces {
-        left: file,
-        calls: Calls::new(1 << 20, fail_at),
-    };
-    let mut sink = ToWrite::new(Vec::new(alloc));
-    answer(alloc, &mut source, sql, &mut sink).err()
-}
-
-#[test]
-fn a_failed_read_stands_where_it_comes(rt: HostRuntime) -> Result<(), Fail> {
-    let file = file_of(rt.alloc(), Layout::Planes)?;
-    let failed = Some(Fault::new(code::READ_FAILED));
-    let unknown = Some(Fault::at_byte(code::UNKNOWN_COLUMN, 7));
-    let mut read_header = false;
-    let mut read_whole = false;
-    for fail_at in 1..100 {
-        let named = fault_of(rt.alloc(), &file, fail_at, b"SELECT zz FROM t");
-        let counted = fault_of(rt.alloc(), &file, fail_at, COUNT);
-        read_header = read_header || named == unknown;
-        read_whole = read_whole || counted.is_none();
-        assert_eq!(rt;
-            named,
-            if read_header { unknown } else { failed },
-            "at {fail_at}"
-        );
-        assert_eq!(rt;
-            counted,
-            if read_whole { None } else { failed },
-            "at {fail_at}"
-        );
-        assert!(rt; read_header || !read_whole, "at {fail_at}");
-    }
-    assert!(rt; read_whole);
-    Ok(())
-}
-
-#[test]
-fn a_failed_write_ends_load_and_dump(rt: HostRuntime) -> Result<(), Fail> {
-    let file = file_of(rt.alloc(), Layout::Planes)?;
-    let failed = Err(Fault::new(code::WRITE_FAILED));
-    for fail_at in 1..40 {
-        let mut sink = Taker {
-            taken: Vec::new(rt.alloc()),
-            calls: Calls::new(30, fail_at),
-        };
-        let mut schema = FromRead::new(SCHEMA);
-        let mut csv = FromRead::new(CSV);
-        let result = load(rt.alloc(), &mut schema, &mut csv, Layout::Planes, &mut sink);
-        let taken = (30 * (fail_at as usize - 1)).min(952);
-        assert_eq!(rt;
-            result,
-            if fail_at <= 32 { failed } else { Ok(()) },
-            "at {fail_at}"
-        );
-        assert!(rt;
-            sink.taken.as_slice() == front(&file, taken),
-            "at {fail_at}"
-        );
-        let mut sink = Taker {
-            taken: Vec::new(rt.alloc()),
-            calls: Calls::new(1, fail_at),
-        };
-        let result = dump(rt.alloc(), &mut FromRead::new(file.as_slice()), &mut sink);
-        let taken = (fail_at as usize - 1).min(DUMP.len());
-        let whole = taken == DUMP.len();
-        assert_eq!(rt; result, if whole { Ok(()) } else { failed }, "at {fail_at}");
-        assert_eq!(rt; sink.taken.as_slice(), front(DUMP, taken), "at {fail_at}");
     }
     Ok(())
 }

@@ -17,7 +17,7 @@ pub(crate) const TABLE: &str = "TABLE t\nCOLUMN a 0 255 NOT NULL\nCOLUMN b -10 1
 const NULLABLE: &str = "TABLE t\nCOLUMN a 0 255\nCOLUMN b -10 10\n";
 
 /// Two columns of a bit each.
-const BITS: &str = "TABLE q\nCOLUMN x 0 1 NOT NULL\nCOLUMN y 0 1 NOT NULL\n";
+pub(crate) const BITS: &str = "TABLE q\nCOLUMN x 0 1 NOT NULL\nCOLUMN y 0 1 NOT NULL\n";
 
 /// Two columns whose least values differ.
 const APART: &str = "TABLE q\nCOLUMN x 0 1 NOT NULL\nCOLUMN y 1 2 NOT NULL\n";

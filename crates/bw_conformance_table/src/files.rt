@@ -75,6 +75,29 @@ pub(crate) fn slices_file(alloc: Global) -> Result<Vec<u8>, Fail> {
     file(alloc, 1, 1144, &parts)
 }
 
+/// The file of a nullable column of 63 bits, with its greatest value twice and a null.
+pub(crate) fn wide_file(rt: &impl Abort, alloc: Global, layout: Layout) -> Result<Vec<u8>, Fail> {
+    let schema = Schema::parse(alloc, b"TABLE g\nCOLUMN x 0 9223372036854775807\n")?;
+    let mut rows = Vec::new(alloc);
+    for value in [Some(i64::MAX), Some(i64::MAX), None] {
+        rows.push(Row {
+            values: vec![in alloc; value]?,
+        })?;
+    }
+    Ok(file_of(rt, alloc, layout, &schema, &rows)?)
+}
+
+/// The five rows' files and the wide column's, in planes and in slices.
+pub(crate) fn worked_files(rt: &impl Abort, alloc: Global) -> Result<Vec<Vec<u8>>, Fail> {
+    let files = vec![in alloc;
+        planes_file(alloc)?,
+        slices_file(alloc)?,
+        wide_file(rt, alloc, Layout::Planes)?,
+        wide_file(rt, alloc, Layout::Slices)?,
+    ]?;
+    Ok(files)
+}
+
 /// Rows of these values.
 pub(crate) fn rows_of(alloc: Global, table: &[[Value; 2]]) -> Result<Vec<Row>, Fail> {
     let mut rows = Vec::new(alloc);
@@ -175,15 +198,8 @@ fn a_second_segment_has_one_row(rt: HostRuntime) -> Result<(), Fail> {
 #[test]
 fn wide_columns_need_version_2(rt: HostRuntime) -> Result<(), Fail> {
     let alloc = rt.alloc();
-    let schema = Schema::parse(alloc, b"TABLE g\nCOLUMN x 0 9223372036854775807\n")?;
     for (layout, len) in [(Layout::Planes, 4133), (Layout::Slices, 4197)] {
-        let mut rows = Vec::new(alloc);
-        for value in [Some(i64::MAX), Some(i64::MAX), None] {
-            rows.push(Row {
-                values: vec![in alloc; value]?,
-            })?;
-        }
-        let mut file = file_of(&rt, alloc, layout, &schema, &rows)?;
+        let mut file = wide_file(&rt, alloc, layout)?;
         assert_eq!(rt; file.len(), len);
         assert_eq!(rt; file.get(8).copied(), Some(2));
         assert_eq!(rt; decode(alloc, &file)?.rows.len(), 3);

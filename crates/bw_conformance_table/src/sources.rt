@@ -1,7 +1,7 @@
 //! Table files from sources that give little, or fail.
 ghost use Rattle.std.specs.Prelude.{None};
 
-use crate::files::planes_file;
+use crate::files::worked_files;
 use bw_device::{Failed, Source};
 use bw_file::TableReader;
 use bw_model::{Fault, code};
@@ -42,7 +42,7 @@ impl Source for Drops<'_> {
     }
 }
 
-/// How many rows a file has, by a source that fails behind so many reads.
+/// How many rows a file has, by a source that fails behind so many reads: each is one byte's, and one is the end's.
 fn rows_behind(alloc: Global, file: &[u8], reads: usize) -> Result<u32, Fault> {
     let mut source = Drops {
         rest: file,
@@ -62,15 +62,60 @@ fn rows_behind(alloc: Global, file: &[u8], reads: usize) -> Result<u32, Fault> {
 #[test]
 fn a_read_that_fails_is_told(rt: HostRuntime) -> Result<(), Fail> {
     let alloc = rt.alloc();
-    let file = planes_file(alloc)?;
-    for reads in 0..953 {
-        let failed = rows_behind(alloc, &file, reads).err();
-        assert_eq!(rt;
-            failed,
-            Some(Fault::new(code::READ_FAILED)),
-            "behind {reads} reads"
-        );
+    for (file, rows) in worked_files(&rt, alloc)?.iter().zip([5, 5, 3, 3]) {
+        for reads in 0..=file.len() {
+            let failed = rows_behind(alloc, file, reads).err();
+            assert_eq!(rt;
+                failed,
+                Some(Fault::new(code::READ_FAILED)),
+                "behind {reads} reads"
+            );
+        }
+        assert_eq!(rt; rows_behind(alloc, file, file.len() + 1), Ok(rows));
     }
-    assert_eq!(rt; rows_behind(alloc, &file, 953), Ok(5));
+    Ok(())
+}
+
+/// Gives its bytes, and then zeros without end.
+#[derive(Drop)]
+struct Endless<'a> {
+    rest: &'a [u8],
+}
+
+impl Source for Endless<'_> {
+    ghost to_come = { λ _. None };
+
+    ghost failures = { λ _. 0 };
+
+    fn read(&mut self, buffer: &mut [u8]) -> Result<usize, Failed> {
+        let n = buffer.len().min(self.rest.len());
+        buffer[..n].copy_from_slice(&self.rest[..n]);
+        self.rest = &self.rest[n..];
+        for byte in buffer[n..].iter_mut() {
+            *byte = 0;
+        }
+        Ok(buffer.len())
+    }
+
+    fn failures(&self) -> u64 {
+        0
+    }
+}
+
+#[test]
+fn what_never_ends_is_refused_behind_the_last_block(rt: HostRuntime) -> Result<(), Fail> {
+    let alloc = rt.alloc();
+    for file in &worked_files(&rt, alloc)? {
+        let mut source = Endless { rest: file };
+        let mut reader = TableReader::begin(alloc, &mut source)?;
+        assert!(rt; reader.next_segment(&mut source)?.is_some());
+        let end = Fault::at_byte(309, file.len() as u64);
+        for _ in 0..2 {
+            assert_eq!(rt; reader.next_segment(&mut source).err(), Some(end));
+        }
+    }
+    let mut source = Endless { rest: &[] };
+    let magic = TableReader::begin(alloc, &mut source).err();
+    assert_eq!(rt; magic, Some(Fault::at_byte(301, 0)));
     Ok(())
 }

@@ -68,8 +68,8 @@ fn added<S: Segment>(
     segment: &S,
     plane: &Plane,
 ) -> Totals
-    requires { totals.item ≡ item.now }
-    ensures { result.item ≡ item.now }
+    requires { totals.picked.item ≡ item.now }
+    ensures { result.picked.item ≡ item.now }
 {
     let before = totals.rows();
     let rows = segment.rows_in();

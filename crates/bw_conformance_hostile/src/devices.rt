@@ -54,25 +54,30 @@ impl Source for Pieces<'_> {
     }
 }
 
-/// Gives `#` without end, and counts what it gave.
+/// Gives the bytes that are left, and then one byte without end, and counts what it gave.
 #[derive(Drop)]
-pub struct Endless {
+pub struct Endless<'a> {
+    pub left: &'a [u8],
+    pub then: u8,
     pub piece: usize,
     pub given: usize,
 }
 
-impl Source for Endless {
+impl Source for Endless<'_> {
     ghost to_come = { λ _. None };
 
     ghost failures = { λ _. 0 };
 
     fn read(&mut self, buffer: &mut [u8]) -> Result<usize, Failed> {
-        let n = self.piece.min(buffer.len());
-        for byte in buffer.iter_mut() {
-            *byte = b'#';
+        let all = self.piece.min(buffer.len());
+        let n = all.min(self.left.len());
+        buffer[..n].copy_from_slice(&self.left[..n]);
+        self.left = &self.left[n..];
+        for byte in buffer[n..all].iter_mut() {
+            *byte = self.then;
         }
-        self.given = self.given.saturating_add(n);
-        Ok(n)
+        self.given = self.given.saturating_add(all);
+        Ok(all)
     }
 
     fn failures(&self) -> u64 {
@@ -106,31 +111,5 @@ impl Sink for Taker {
 
     fn failures(&self) -> u64 {
         self.calls.failures
-    }
-}
-
-/// Gives the bytes that are left, and then zeros without end.
-#[derive(Drop)]
-pub struct Zeros<'a> {
-    pub left: &'a [u8],
-}
-
-impl Source for Zeros<'_> {
-    ghost to_come = { λ _. None };
-
-    ghost failures = { λ _. 0 };
-
-    fn read(&mut self, buffer: &mut [u8]) -> Result<usize, Failed> {
-        let n = buffer.len().min(self.left.len());
-        buffer[..n].copy_from_slice(&self.left[..n]);
-        self.left = &self.left[n..];
-        for byte in buffer[n..].iter_mut() {
-            *byte = 0;
-        }
-        Ok(buffer.len())
-    }
-
-    fn failures(&self) -> u64 {
-        0
     }
 }

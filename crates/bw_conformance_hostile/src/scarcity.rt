@@ -1,18 +1,16 @@
 //! Memory that is refused: a call is made again and again with a little more memory, until it has all that it needs.
-use crate::outcome::load_outcome;
-use bw_device::{FromRead, ToWrite};
-use bw_file::Layout;
+use crate::calls::{
+    COUNT, COUNTED, Call, DUMP, INFO, LAYOUTS, Reads, SCHEMA, plan_file, table_file,
+};
+use crate::devices::{Calls, Taker};
 use bw_model::{Fault, code};
-use bw_shell::{answer, direct, dump, load};
 use std::alloc::Global;
+use std::process::Abort;
 use std::test::Fail;
 
-const SCHEMA: &str = "TABLE t\nCOLUMN a 0 255 NOT NULL\nCOLUMN b -10 10\n";
-
-const CSV: &str = "a,b\n0,-10\n255,10\n7,\n7,NULL\n8,0\n";
-
-/// How much memory is left in all, in bytes.
-const LEFT: usize = 64 * 1024;
+/// How much memory is left in all, in bytes: several times what a call takes, since pieces of it that are given back are
+/// not all joined again.
+const LEFT: usize = 512 * 1024;
 
 /// How much more of it a call may use than the one before.
 const STEP: usize = 16;
@@ -23,6 +21,10 @@ const MAX_BLOCKS: usize = 32_768;
 /// Takes blocks of memory, the largest first, until none is left but for a hole.
 fn take_all(alloc: Global) -> Result<Vec<Vec<u8>>, Fail> {
     let mut blocks = Vec::with_capacity(alloc, MAX_BLOCKS)?;
+    // The C library has blocks of the hole's size from the system, one by one, until the first is given back; the next
+    // is of its own heap, and stays there for the calls.
+    let given_back: Vec<u8> = Vec::with_capacity(alloc, LEFT)?;
+    drop(given_back);
     let hole: Vec<u8> = Vec::with_capacity(alloc, LEFT)?;
     let mut size = 8 << 30;
     for _ in 0..MAX_BLOCKS {
@@ -36,50 +38,26 @@ fn take_all(alloc: Global) -> Result<Vec<Vec<u8>>, Fail> {
     Ok(blocks)
 }
 
-/// A call over the table's texts, or over its file.
-#[derive(Clone, Copy, Debug)]
-enum Call<'a> {
-    Direct(&'a str),
-    Load(Layout),
-    Query(&'a str),
-    Dump,
-}
-
-impl Call<'_> {
-    /// Makes the call, and gives what it wrote into this memory and what it answered.
-    fn make(self, alloc: Global, file: &[u8], output: Vec<u8>) -> (Vec<u8>, Result<(), Fault>) {
-        let mut schema = FromRead::new(SCHEMA.as_bytes());
-        let mut csv = FromRead::new(CSV.as_bytes());
-        let mut table = FromRead::new(file);
-        let mut sink = ToWrite::new(output);
-        let outcome = match self {
-            Call::Direct(sql) => { direct(alloc, &mut schema, &mut csv, sql.as_bytes(), &mut sink) }
-            Call::Load(layout) => load(alloc, &mut schema, &mut csv, layout, &mut sink),
-            Call::Query(sql) => match answer(alloc, &mut table, sql.as_bytes(), &mut sink) {
-                Ok(_) => Ok(()),
-                Err(fault) => Err(fault),
-            },
-            Call::Dump => dump(alloc, &mut table, &mut sink),
-        };
-        (sink.into_inner(), outcome)
-    }
-}
-
 /// A call whose memory is refused answers so, and has written nothing, whichever of its growths it was; with enough
-/// memory it gives the answer.
+/// memory it gives the answer, by a program where it is told by whom.
 fn check_with_all_memory_taken(
-    rt: &(impl std::process::Abort + AllocGlobal),
+    rt: &(impl Abort + AllocGlobal),
     call: Call<'_>,
     file: &[u8],
     answer: &[u8],
 ) -> Result<(), Fail> {
-    let mut output = Vec::with_capacity(rt.alloc(), 4096)?;
+    let mut output = Vec::with_capacity(rt.alloc(), 16_384)?;
     let blocks = take_all(rt.alloc())?;
     let mut refused = 0;
     let mut outcome = Err(Fault::new(code::OUT_OF_MEMORY));
     for step in 1..LEFT / STEP {
         let plug: Result<Vec<u8>, _> = Vec::with_capacity(rt.alloc(), LEFT - step * STEP);
-        (output, outcome) = call.make(rt.alloc(), file, output);
+        let mut sink = Taker {
+            taken: output,
+            calls: Calls::new(usize::MAX, 0),
+        };
+        outcome = call.make(rt.alloc(), Reads::WHOLE, file, &mut sink);
+        output = sink.taken;
         drop(plug);
         if outcome.is_ok() {
             break;
@@ -93,15 +71,15 @@ fn check_with_all_memory_taken(
         assert!(rt; output.is_empty(), "at step {step}");
     }
     drop(blocks);
-    assert_eq!(rt; outcome, Ok(()));
+    assert_eq!(rt; outcome, Ok(call.served_by()));
     assert!(rt; refused > 8, "{refused} calls were refused");
-    assert!(rt; output.as_slice() == answer, "{call:?}");
+    assert!(rt; output.as_slice() == answer, "{answer:?}");
     Ok(())
 }
 
 /// Statements and what they answer.
 const STATEMENTS: [(&str, &str); 3] = [
-    ("SELECT COUNT(*) FROM t WHERE a < 8", "COUNT(*)\n3\n"),
+    (COUNT, COUNTED),
     (
         "SELECT COUNT(*), COUNT(b), SUM(b), MIN(b) FROM t WHERE a = 7",
         "COUNT(*),COUNT(b),SUM(b),MIN(b)\n2,0,NULL,NULL\n",
@@ -121,15 +99,35 @@ fn each_growth_of_an_answer_is_refused_in_turn(rt: HostRuntime) -> Result<(), Fa
 }
 
 #[test]
+fn each_growth_around_a_table_file_is_refused_in_turn(rt: HostRuntime) -> Result<(), Fail> {
+    let file = table_file(rt.alloc(), LAYOUTS[0])?;
+    check_with_all_memory_taken(&rt, Call::Infer, b"", SCHEMA.as_bytes())?;
+    check_with_all_memory_taken(&rt, Call::Info, &file, INFO.as_bytes())
+}
+
+#[test]
 fn each_growth_over_a_table_file_is_refused_in_turn(rt: HostRuntime) -> Result<(), Fail> {
-    for layout in [Layout::Planes, Layout::Slices] {
-        let file = load_outcome(rt.alloc(), SCHEMA.as_bytes(), CSV.as_bytes(), layout).output;
+    for layout in LAYOUTS {
+        let file = table_file(rt.alloc(), layout)?;
         check_with_all_memory_taken(&rt, Call::Load(layout), b"", &file)?;
+        check_with_all_memory_taken(&rt, Call::Dump, &file, DUMP.as_bytes())?;
         for (sql, answer) in STATEMENTS {
-            check_with_all_memory_taken(&rt, Call::Query(sql), &file, answer.as_bytes())?;
+            let plan = plan_file(rt.alloc(), sql)?;
+            let given = Call::Answer(sql, Some(&plan));
+            check_with_all_memory_taken(&rt, given, &file, answer.as_bytes())?;
         }
-        let rows = b"a,b\n0,-10\n255,10\n7,NULL\n7,NULL\n8,0\n";
-        check_with_all_memory_taken(&rt, Call::Dump, &file, rows)?;
+    }
+    Ok(())
+}
+
+#[test]
+fn each_growth_of_the_planner_is_refused_in_turn(rt: HostRuntime) -> Result<(), Fail> {
+    let file = table_file(rt.alloc(), LAYOUTS[0])?;
+    for (sql, answer) in STATEMENTS {
+        let plan = plan_file(rt.alloc(), sql)?;
+        check_with_all_memory_taken(&rt, Call::Answer(sql, None), &file, answer.as_bytes())?;
+        check_with_all_memory_taken(&rt, Call::Plan(sql), b"", &plan)?;
+        check_with_all_memory_taken(&rt, Call::Check(sql, &plan), b"", b"")?;
     }
     Ok(())
 }

@@ -1,0 +1,261 @@
+//! Program files, whole.
+
+/// A table with a column from 0 to 255 and a nullable one from -10 to 10.
+pub(crate) const SCHEMA: &str = "TABLE t\nCOLUMN a 0 255 NOT NULL\nCOLUMN b -10 10\n";
+
+/// `a >= 192` by its two top bits, with a skip between them: 46 lines.
+pub(crate) const TOP_BITS: &str = "\
+    LOAD r0 a 7\n\
+    SKIP r0 4\n\
+    LOAD r1 a 6\n\
+    AND r0 r0 r1\n\
+    RESULT r0\n\
+    CERTIFICATE\n\
+    NODE 2 1 1 0\n\
+    NODE 3 0 1 2\n\
+    NODE 4 1 0 1\n\
+    NODE 5 0 0 1\n\
+    NODE 6 0 0 4\n\
+    NODE 7 0 0 2\n\
+    CHAIN 0 LT a 0 0 0 0 -\n\
+    CHAIN 1 LT a 0 1 0 0 0\n\
+    CHAIN 2 LT a 0 2 0 0 1\n\
+    CHAIN 3 LT a 0 3 0 0 2\n\
+    CHAIN 4 LT a 0 4 0 0 3\n\
+    CHAIN 5 LT a 0 5 0 0 4\n\
+    CHAIN 6 LT a 0 6 0 0 5\n\
+    CHAIN 7 LT a 0 7 64 2 6\n\
+    CHAIN 8 LT a 0 8 192 3 7\n\
+    ROW 0 DIFF 1 1 0 S\n\
+    ROW 1 DIFF 1 0 1 S\n\
+    ROW 2 DIFF 1 2 4 V 1 0 1\n\
+    ROW 3 DIFF 1 3 6 V 0 0 2\n\
+    ROW 4 AND 1 3 3 S\n\
+    ROW 5 AND 0 4 0 S\n\
+    ROW 6 AND 1 4 4 S\n\
+    ROW 7 AND 5 4 6 V 0 5 6\n\
+    ROW 8 XOR 6 6 0 S\n\
+    ROW 9 XOR 0 0 0 S\n\
+    ROW 10 XOR 1 0 1 S\n\
+    ROW 11 XOR 1 1 0 S\n\
+    ROW 12 XOR 1 4 2 V 1 10 11\n\
+    ROW 13 XOR 5 6 7 V 0 9 12\n\
+    ROW 14 DIFF 0 0 0 S\n\
+    ROW 15 DIFF 2 1 0 S\n\
+    ROW 16 DIFF 7 5 0 V 0 14 15\n\
+    CMP 8 - 4 3\n\
+    LOAD 5\n\
+    SKIP\n\
+    LOAD 4\n\
+    OP 7\n\
+    JOIN 4\n\
+    KEEP r0 6 8 13 16\n\
+    END 8\n\
+    ";
+
+/// The same with the skip twice, one behind the other.
+pub(crate) const SAME_SKIP_TWICE: &str = "\
+    LOAD r0 a 7\n\
+    SKIP r0 5\n\
+    SKIP r0 5\n\
+    LOAD r1 a 6\n\
+    AND r0 r0 r1\n\
+    RESULT r0\n\
+    CERTIFICATE\n\
+    NODE 2 1 1 0\n\
+    NODE 3 0 1 2\n\
+    NODE 4 1 0 1\n\
+    NODE 5 0 0 1\n\
+    NODE 6 0 0 4\n\
+    NODE 7 0 0 2\n\
+    CHAIN 0 LT a 0 0 0 0 -\n\
+    CHAIN 1 LT a 0 1 0 0 0\n\
+    CHAIN 2 LT a 0 2 0 0 1\n\
+    CHAIN 3 LT a 0 3 0 0 2\n\
+    CHAIN 4 LT a 0 4 0 0 3\n\
+    CHAIN 5 LT a 0 5 0 0 4\n\
+    CHAIN 6 LT a 0 6 0 0 5\n\
+    CHAIN 7 LT a 0 7 64 2 6\n\
+    CHAIN 8 LT a 0 8 192 3 7\n\
+    ROW 0 DIFF 1 1 0 S\n\
+    ROW 1 DIFF 1 0 1 S\n\
+    ROW 2 DIFF 1 2 4 V 1 0 1\n\
+    ROW 3 DIFF 1 3 6 V 0 0 2\n\
+    ROW 4 AND 1 3 3 S\n\
+    ROW 5 AND 0 4 0 S\n\
+    ROW 6 AND 1 4 4 S\n\
+    ROW 7 AND 5 4 6 V 0 5 6\n\
+    ROW 8 XOR 6 6 0 S\n\
+    ROW 9 XOR 0 0 0 S\n\
+    ROW 10 XOR 1 0 1 S\n\
+    ROW 11 XOR 1 1 0 S\n\
+    ROW 12 XOR 1 4 2 V 1 10 11\n\
+    ROW 13 XOR 5 6 7 V 0 9 12\n\
+    ROW 14 DIFF 0 0 0 S\n\
+    ROW 15 DIFF 2 1 0 S\n\
+    ROW 16 DIFF 7 5 0 V 0 14 15\n\
+    CMP 8 - 4 3\n\
+    LOAD 5\n\
+    SKIP\n\
+    SKIP\n\
+    LOAD 4\n\
+    OP 7\n\
+    JOIN 5\n\
+    KEEP r0 6 8 13 16 13 16\n\
+    END 8\n\
+    ";
+
+/// `a >= 224` by its three top bits, with a skip behind the first and one behind the second, which go to one place.
+pub(crate) const TWO_SKIPS: &str = "\
+    LOAD r0 a 7\n\
+    SKIP r0 7\n\
+    LOAD r1 a 6\n\
+    AND r0 r0 r1\n\
+    SKIP r0 7\n\
+    LOAD r1 a 5\n\
+    AND r0 r0 r1\n\
+    RESULT r0\n\
+    CERTIFICATE\n\
+    NODE 2 2 1 0\n\
+    NODE 3 1 1 2\n\
+    NODE 4 0 1 3\n\
+    NODE 5 2 0 1\n\
+    NODE 6 1 0 5\n\
+    NODE 7 0 0 6\n\
+    NODE 8 0 0 1\n\
+    NODE 9 1 0 1\n\
+    NODE 10 0 0 9\n\
+    NODE 11 0 0 3\n\
+    NODE 12 1 0 2\n\
+    NODE 13 0 0 12\n\
+    CHAIN 0 LT a 0 0 0 0 -\n\
+    CHAIN 1 LT a 0 1 0 0 0\n\
+    CHAIN 2 LT a 0 2 0 0 1\n\
+    CHAIN 3 LT a 0 3 0 0 2\n\
+    CHAIN 4 LT a 0 4 0 0 3\n\
+    CHAIN 5 LT a 0 5 0 0 4\n\
+    CHAIN 6 LT a 0 6 32 2 5\n\
+    CHAIN 7 LT a 0 7 96 3 6\n\
+    CHAIN 8 LT a 0 8 224 4 7\n\
+    ROW 0 DIFF 1 1 0 S\n\
+    ROW 1 DIFF 1 0 1 S\n\
+    ROW 2 DIFF 1 2 5 V 2 0 1\n\
+    ROW 3 DIFF 1 3 6 V 1 0 2\n\
+    ROW 4 DIFF 1 4 7 V 0 0 3\n\
+    ROW 5 AND 1 4 4 S\n\
+    ROW 6 AND 0 9 0 S\n\
+    ROW 7 AND 1 9 9 S\n\
+    ROW 8 AND 8 9 10 V 0 6 7\n\
+    ROW 9 AND 0 5 0 S\n\
+    ROW 10 AND 1 5 5 S\n\
+    ROW 11 AND 9 5 6 V 1 9 10\n\
+    ROW 12 AND 10 5 7 V 0 9 11\n\
+    ROW 13 XOR 7 7 0 S\n\
+    ROW 14 XOR 0 0 0 S\n\
+    ROW 15 XOR 1 0 1 S\n\
+    ROW 16 XOR 1 1 0 S\n\
+    ROW 17 XOR 1 5 2 V 2 15 16\n\
+    ROW 18 XOR 1 6 3 V 1 15 17\n\
+    ROW 19 XOR 8 7 11 V 0 14 18\n\
+    ROW 20 DIFF 0 0 0 S\n\
+    ROW 21 DIFF 3 1 0 S\n\
+    ROW 22 DIFF 11 8 0 V 0 20 21\n\
+    ROW 23 XOR 9 6 12 V 1 14 17\n\
+    ROW 24 XOR 10 7 13 V 0 14 23\n\
+    ROW 25 DIFF 2 1 0 S\n\
+    ROW 26 DIFF 12 9 0 V 1 20 25\n\
+    ROW 27 DIFF 13 10 0 V 0 20 26\n\
+    CMP 8 - 5 4\n\
+    LOAD 8\n\
+    SKIP\n\
+    LOAD 9\n\
+    OP 8\n\
+    SKIP\n\
+    LOAD 5\n\
+    OP 12\n\
+    JOIN 7\n\
+    KEEP r0 7 13 19 22 24 27\n\
+    END 13\n\
+    ";
+
+/// `a < 8` by a comparison of bytes.
+pub(crate) const BELOW_EIGHT: &str = "\
+    BYTELT r0 a 0 8\n\
+    RESULT r0\n\
+    CERTIFICATE\n\
+    NODE 2 4 1 0\n\
+    NODE 3 3 2 0\n\
+    NODE 4 2 3 0\n\
+    NODE 5 1 4 0\n\
+    NODE 6 0 5 0\n\
+    NODE 7 4 0 1\n\
+    NODE 8 3 7 1\n\
+    NODE 9 2 8 1\n\
+    NODE 10 1 9 1\n\
+    NODE 11 0 10 1\n\
+    CHAIN 0 LT a 0 0 0 0 -\n\
+    CHAIN 1 LT a 0 1 0 0 0\n\
+    CHAIN 2 LT a 0 2 0 0 1\n\
+    CHAIN 3 LT a 0 3 0 0 2\n\
+    CHAIN 4 LT a 0 4 8 2 3\n\
+    CHAIN 5 LT a 0 5 8 3 4\n\
+    CHAIN 6 LT a 0 6 8 4 5\n\
+    CHAIN 7 LT a 0 7 8 5 6\n\
+    CHAIN 8 LT a 0 8 8 6 7\n\
+    ROW 0 DIFF 1 1 0 S\n\
+    ROW 1 DIFF 1 0 1 S\n\
+    ROW 2 DIFF 1 2 7 V 4 0 1\n\
+    ROW 3 DIFF 1 3 8 V 3 2 1\n\
+    ROW 4 DIFF 1 4 9 V 2 3 1\n\
+    ROW 5 DIFF 1 5 10 V 1 4 1\n\
+    ROW 6 DIFF 1 6 11 V 0 5 1\n\
+    ROW 7 AND 1 6 6 S\n\
+    ROW 8 XOR 6 6 0 S\n\
+    CMP 8 - 7 6\n\
+    BYTE 8\n\
+    END 8\n\
+    ";
+
+/// Every row, by a fill, for a statement without condition.
+pub(crate) const ALL_ROWS: &str = "\
+    FILL r0 1\n\
+    RESULT r0\n\
+    CERTIFICATE\n\
+    ROW 0 XOR 1 1 0 S\n\
+    FIXED\n\
+    FILL\n\
+    END 0\n\
+    ";
+
+/// For `a >= 128`, a program whose skip leaves another register than the fill behind it: its join doesn't hold, at line 28.
+pub(crate) const TOP_BIT_LOST: &str = "\
+    LOAD r0 a 7\n\
+    SKIP r0 3\n\
+    FILL r0 1\n\
+    RESULT r0\n\
+    CERTIFICATE\n\
+    NODE 2 0 1 0\n\
+    NODE 3 0 0 1\n\
+    CHAIN 0 LT a 0 0 0 0 -\n\
+    CHAIN 1 LT a 0 1 0 0 0\n\
+    CHAIN 2 LT a 0 2 0 0 1\n\
+    CHAIN 3 LT a 0 3 0 0 2\n\
+    CHAIN 4 LT a 0 4 0 0 3\n\
+    CHAIN 5 LT a 0 5 0 0 4\n\
+    CHAIN 6 LT a 0 6 0 0 5\n\
+    CHAIN 7 LT a 0 7 0 0 6\n\
+    CHAIN 8 LT a 0 8 128 2 7\n\
+    ROW 0 DIFF 1 1 0 S\n\
+    ROW 1 DIFF 1 0 1 S\n\
+    ROW 2 DIFF 1 2 3 V 0 0 1\n\
+    ROW 3 AND 1 2 2 S\n\
+    ROW 4 XOR 3 3 0 S\n\
+    ROW 5 DIFF 0 3 0 S\n\
+    CMP 8 - 3 2\n\
+    LOAD 3\n\
+    SKIP\n\
+    FILL\n\
+    JOIN 3\n\
+    KEEP r0 3 4 4 5\n\
+    END 4\n\
+    ";
