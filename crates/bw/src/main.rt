@@ -6,6 +6,7 @@
 #![tactic(auto)]
 
 mod command_line;
+mod explain;
 mod out_file;
 mod run;
 

@@ -1,0 +1,131 @@
+//! What the place of a fault means, shown to a person at a terminal below the fault's own line.
+use crate::command_line::Words;
+use bw_model::{Fault, Place, code};
+use std::fmt;
+
+/// How many bytes of a statement are shown on each side of a fault.
+const SIDE: usize = 60;
+
+/// What ended a command: its fault, and the file that couldn't be opened or read where that is the fault.
+#[derive(Clone, Copy, Debug)]
+pub struct Ended<'a> {
+    pub fault: Fault,
+    unread: Option<&'a str>,
+}
+
+impl<'a> Ended<'a> {
+    /// A command that one of its files ended, which couldn't be opened or read.
+    pub fn unread(path: &'a str) -> Self {
+        Ended {
+            fault: Fault::new(code::READ_FAILED),
+            unread: Some(path),
+        }
+    }
+
+    /// A command that a fault ended, and the files that it had opened, each with its number of failed reads.
+    pub fn of(fault: Fault, files: &[(&'a str, u64)]) -> Self {
+        let failed = files.iter().find(|(_, failures)| *failures > 0);
+        Ended {
+            fault,
+            unread: failed.map(|(path, _)| *path),
+        }
+    }
+}
+
+/// Shows on standard error what the place of a fault means, where there is something to say of it: the file that it is
+/// of, or the statement's part with a caret under the byte.
+pub fn explain(rt: &HostRuntime, words: &Words<'_>, ended: &Ended<'_>) {
+    if let (400..500, Some(sql), Place::Byte(byte)) = (
+        ended.fault.code,
+        words.sql(),
+        ended.fault.place,
+    ) {
+        if let Some(part) = usize::try_from(byte).ok().and_then(|at| Part::of(sql, at)) {
+            let _ = eprintln!(rt;
+                "    {}{}\n    {}^",
+                part.before,
+                part.after,
+                Blank(part.before)
+            );
+        }
+        return;
+    }
+    let Some(file) = file_of(words, ended) else {
+        return;
+    };
+    let _ = match (ended.fault.code, ended.fault.place) {
+        (code::READ_FAILED, _) => eprintln!(rt; "    {} can't be opened or read", file),
+        (code::WRITE_FAILED, _) => eprintln!(rt; "    {} can't be written", file),
+        (_, Place::Byte(byte)) => eprintln!(rt; "    byte {} of {}, from 0", byte, file),
+        (_, Place::Line(line)) => eprintln!(rt; "    line {} of {}", line, file),
+        (_, Place::Rec(0)) => eprintln!(rt; "    the heading of {}", file),
+        (_, Place::Rec(record)) => {
+            eprintln!(rt;
+                "    record {} of {}: the heading is record 0, and empty lines are none",
+                record, file
+            )
+        }
+        (_, Place::Nowhere) => eprintln!(rt; "    in {}", file),
+    };
+}
+
+/// The file that a fault is of, among those that the command line names.
+fn file_of<'a>(words: &Words<'a>, ended: &Ended<'a>) -> Option<&'a str> {
+    match ended.fault.code {
+        // of `bw infer`: a name that the command line gave, or one of the heading
+        100..200 if words.schema().is_none() => match ended.fault.place {
+            Place::Nowhere => None,
+            _ => words.csv(),
+        },
+        100..200 => words.schema(),
+        200..300 => words.csv(),
+        300..400 => words.table(),
+        500..600 => words.program(),
+        code::NO_PROGRAM => None,
+        600..700 => words.program(),
+        code::READ_FAILED => ended.unread,
+        code::WRITE_FAILED => Some(words.out().unwrap_or("standard output")),
+        _ => None,
+    }
+}
+
+/// The part of a statement's line about a byte, cut there.
+#[derive(Clone, Copy)]
+struct Part<'a> {
+    before: &'a str,
+    after: &'a str,
+}
+
+impl<'a> Part<'a> {
+    /// The part about this byte, where a character begins there or the statement ends.
+    fn of(sql: &'a str, at: usize) -> Option<Self> {
+        let before = sql.get(..at)?;
+        let after = sql.get(at..)?;
+        let begin = before.rfind('\n').map_or(0, |feed| feed + 1);
+        let end = after.find('\n').unwrap_or(after.len());
+        let near = (begin.max(at.saturating_sub(SIDE))..=at).find(|from| sql.is_char_boundary(
+            *from,
+        ))?;
+        let far = (0..=end.min(SIDE))
+            .rev()
+            .find(|to| after.is_char_boundary(*to))?;
+        Some(Part {
+            before: before.get(near..)?,
+            after: after.get(..far)?,
+        })
+    }
+}
+
+/// As many blanks as a text has characters.
+#[derive(Clone, Copy)]
+struct Blank<'a>(&'a str);
+
+impl fmt::Display for Blank<'_> {
+    fn fmt<W: fmt::Write>(&self, f: &mut fmt::Formatter<W>) -> fmt::Result {
+        for character in self.0.chars() {
+            // a tab moves as far in both lines
+            f.write_str(if character == '\t' { "\t" } else { " " })?;
+        }
+        Ok(())
+    }
+}
