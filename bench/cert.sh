@@ -3,9 +3,9 @@
 # line is the least time of five runs, in microseconds, and the most memory of one, in KiB.
 set -euo pipefail
 top=$(cd "$(dirname "$0")/.." && pwd)
+. "$top/bench/common.sh"
 
-# the program is built, and proved, by its first run
-[ -x "$top/crates/bench_cert/out/bench_cert" ] || (cd "$top/crates/bench_cert" && rt run < /dev/null > /dev/null 2>&1)
+built bench_cert
 
 for _ in 1 2 3 4 5; do
     "$top/crates/bench_cert/out/bench_cert" 2>&1 > /dev/null

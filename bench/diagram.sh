@@ -3,9 +3,9 @@
 # cofactors. Run by hand on an idle machine: bench/diagram.sh. Each line is the least time of five runs, in microseconds.
 set -euo pipefail
 top=$(cd "$(dirname "$0")/.." && pwd)
+. "$top/bench/common.sh"
 
-# the program is built, and proved, by its first run
-[ -x "$top/crates/bench_diagram/out/bench_diagram" ] || (cd "$top/crates/bench_diagram" && rt run < /dev/null > /dev/null 2>&1)
+built bench_diagram
 
 for _ in 1 2 3 4 5; do
     "$top/crates/bench_diagram/out/bench_diagram" 2>&1 > /dev/null

@@ -4,24 +4,26 @@
 # Each line has the seconds of wall time, those of the processor, and the most memory in KB, of the best of five runs.
 set -euo pipefail
 top=$(cd "$(dirname "$0")/.." && pwd)
+. "$top/bench/common.sh"
 folder=${1:-$(mktemp -d)}
 mkdir -p "$folder"
 schema=$folder/million.schema
 csv=$folder/million.csv
 
 printf 'TABLE m\nCOLUMN a 0 255 NOT NULL\nCOLUMN b -10 10\nCOLUMN c 0 99999 NOT NULL\nCOLUMN d 0 999 NOT NULL\n' > "$schema"
-if [ ! -s "$csv" ]; then
+million() {
     awk 'BEGIN {
         srand(7)
         print "a,b,c,d"
         for (i = 0; i < 1000000; i++)
             printf "%d,%s,%d,%d\n", rand() * 256, rand() < 0.05 ? "NULL" : int(rand() * 21) - 10, rand() * 100000, rand() * 1000
-    }' > "$csv"
-fi
+    }'
+}
+[ -s "$csv" ] || kept "$csv" million
 
 # both programs are built, and proved, by their first runs
 "$top/bw" direct "$schema" <(printf 'a,b,c,d\n') 'SELECT COUNT(*) FROM m' > /dev/null
-[ -x "$top/crates/bench_reader/out/bench_reader" ] || (cd "$top/crates/bench_reader" && rt run < /dev/null > /dev/null 2>&1)
+built bench_reader
 
 best() {
     local name=$1

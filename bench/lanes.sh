@@ -4,11 +4,12 @@
 # to which each call added.
 set -euo pipefail
 top=$(cd "$(dirname "$0")/.." && pwd)
+. "$top/bench/common.sh"
 calls=${1:-5000000}
 folder=$(mktemp -d)
 trap 'rm -r "$folder"' EXIT
 
-[ -x "$top/crates/bench_lanes/out/bench_lanes" ] || (cd "$top/crates/bench_lanes" && rt run < /dev/null > /dev/null)
+built bench_lanes
 gcc -O2 -o "$folder/lanes" "$top/bench/lanes.c"
 echo 'this repository'
 "$top/crates/bench_lanes/out/bench_lanes" "$calls" | sed 's/^/    /'

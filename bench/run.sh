@@ -6,9 +6,9 @@
 # rounds: nanoseconds a segment, and for the text microseconds.
 set -euo pipefail
 top=$(cd "$(dirname "$0")/.." && pwd)
+. "$top/bench/common.sh"
 
-# the program is built, and proved, by its first run
-[ -x "$top/crates/bench_run/out/bench_run" ] || (cd "$top/crates/bench_run" && rt run < /dev/null > /dev/null 2>&1)
+built bench_run
 
 for _ in 1 2 3 4 5; do
     "$top/crates/bench_run/out/bench_run" 2>&1 > /dev/null | awk '{ print NR, $0 }'

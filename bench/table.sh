@@ -9,6 +9,7 @@
 # or the table file that is read, or of the text that a dump writes; and the most memory.
 set -euo pipefail
 top=$(cd "$(dirname "$0")/.." && pwd)
+. "$top/bench/common.sh"
 rows=${1:-10000000}
 folder=${2:-$(mktemp -d)}
 mkdir -p "$folder"
@@ -16,22 +17,13 @@ schema=$folder/rows.schema
 csv=$folder/rows-$rows.csv
 
 printf 'TABLE m\nCOLUMN a 0 255 NOT NULL\nCOLUMN b -10 10\nCOLUMN c 0 1000000 NOT NULL\nCOLUMN d 0 4294967295\n' > "$schema"
-if [ ! -s "$csv" ]; then
-    awk -v rows="$rows" 'BEGIN {
-        srand(7)
-        print "a,b,c,d"
-        for (i = 0; i < rows; i++)
-            printf "%d,%s,%d,%s\n", rand() * 256, rand() < 0.05 ? "NULL" : int(rand() * 21) - 10, rand() * 1000001,
-                rand() < 0.05 ? "" : sprintf("%.0f", int(rand() * 65536) * 65536 + int(rand() * 65536))
-    }' > "$csv"
-fi
+[ -s "$csv" ] || kept "$csv" four_columns "$rows"
 
 # the programs are built, and proved, by their first runs
 "$top/bw" direct "$schema" <(printf 'a,b,c,d\n') 'SELECT COUNT(*) FROM m' > /dev/null
 bw=$top/crates/bw/out/bw
 reader=$top/crates/bench_reader/out/bench_reader
-[ -x "$reader" ] || (cd "$top/crates/bench_reader" && rt run < /dev/null > /dev/null 2>&1)
-[ -x "$reader" ]
+built bench_reader
 gcc -O2 -o "$folder/table" "$top/bench/table.c"
 
 declare -A least most size

@@ -1,0 +1,24 @@
+#!/usr/bin/env bash
+# Times SUM, MIN and MAX of a column of 32 bits that takes nulls, over the picked rows of segments in planes and in slices,
+# beside plain C (gcc -O2): a loop over the rows' codes, and SUM by planes, word by word.
+# Run by hand on an idle machine: bench/totals.sh. Each line is the least time of five runs, each the least of thirty
+# rounds: nanoseconds a segment.
+set -euo pipefail
+top=$(cd "$(dirname "$0")/.." && pwd)
+. "$top/bench/common.sh"
+folder=$(mktemp -d)
+trap 'rm -r "$folder"' EXIT
+
+built bench_totals
+gcc -O2 -mpopcnt -o "$folder/totals" "$top/bench/totals.c"
+
+least() {
+    for _ in 1 2 3 4 5; do "$@" | awk '{ print NR, $0 }'; done | sort -k 1,1n -k 2,2n | awk '!seen[$1]++' | cut -d ' ' -f 2-
+}
+ours() {
+    "$top/crates/bench_totals/out/bench_totals" 2>&1 > /dev/null
+}
+echo 'this repository'
+least ours | sed 's/^/    /'
+echo 'plain C, gcc -O2 -mpopcnt'
+least "$folder/totals" | sed 's/ (.*//; s/^/    /'
