@@ -1,26 +1,28 @@
 -- Reading segments block by block.
-use Rattle.std.proofs.Common.{◌≡◌, true, false, ℕ, zero, suc, ◌+◌, ◌-◌, ◌<◌, ◌≤◌, List, [], ◌∷◌, ◌++◌, length, take, Option, Some, None, Err, refl, sym, ap, subst, ◌∙◌, arith}
+use Rattle.std.proofs.Common.{◌≡◌, true, false, ℕ, zero, suc, ◌+◌, ◌-◌, ◌*◌, ◌<◌, ◌≤◌, Bool, ◌&&◌, ◌||◌, ◌==◌, nat_le, List, [], ◌++◌, length, take, Option, Some, None, refl, subst, ◌∙◌, arith}
+use Rattle.std.specs.Int.{bit_at}
+use Rattle.std.specs.List.{list_any, range_with_len}
 use Rattle.bw_model.specs.declared.column.Column.{Column}
 use Rattle.bw_model.specs.declared.fault.Fault.{Fault}
 use Rattle.bw_model.specs.Fault.{at_byte}
 use Rattle.bw_file.specs.declared.layout.Layout.{Layout}
-use Rattle.std.proofs.Common.{inl, inr, replicate, set, get_or, append_assoc}
-use Rattle.std.proofs.lemmas.List.{take_at, take_more, set_at, length-take-le, length-replicate, replicate-append-replicate}
+use Rattle.std.proofs.Common.{inl, inr, drop, get_or}
+use Rattle.std.proofs.lemmas.List.{drop_all, drop_more}
 use Rattle.std.proofs.lemmas.Bool.{cases_lt}
 use Rattle.std.proofs.lemmas.Slice.{take-put_mid}
 use borrow.Rule.Slice.PartMut.{put_mid}
 use Rattle.bw_segment.proofs.LayoutLemmas.{block_added}
 use Rattle.bw_file.specs.Blocks.{form_of, bytes_before, block_size, block_fault, AreSound, rows_spelled}
-use Rattle.bw_file.specs.Reading.{tail, ◌>>=◌, give, field, State, Took, GoesOn, Fails}
-use Rattle.bw_file.specs.TableReading.{front_of_block, is_padding, padding_from, fault_place, sound_at, one_block, blocks, segment, end}
-use Rattle.bw_file.proofs.ReadingLemmas.{took_nothing, begins, passes, stops, refuses, refuses_behind}
+use Rattle.bw_file.specs.Reading.{◌>>=◌, give, field, State, Took, GoesOn, Fails, HasByteMore}
+use Rattle.bw_file.specs.TableReading.{plane_has_padding, has_padding, padding_from, fault_place, sound_at, one_block, blocks, segment}
+use Rattle.bw_file.proofs.ReadingLemmas.{took_nothing, needs_none, begins, passes, stops, refuses}
 
 -- a block is taken, and then judged
 block_begins : (layout : Layout) (schema : List Column) (rows number : ℕ) (old : State)
     → GoesOn (one_block layout schema rows number) old
     (field (block_size layout schema number) >>= λ bytes. sound_at old.offset layout schema rows number bytes (block_fault layout schema number rows bytes)) old
 unfolding one_block
-block_begins layout schema rows number old = record { bytes = []; took = took_nothing old.known old.offset old.failures; failures = refl; on = λ rest. refl }
+block_begins layout schema rows number old = record { bytes = []; took = took_nothing old.known old.offset old.failures; needed = needs_none (one_block layout schema rows number) old.offset; failures = refl; on = λ rest. refl }
 
 block_taken : (layout : Layout) (schema : List Column) (rows number : ℕ) (bytes : List ℕ) (fault : Option ℕ) (old new : State)
     → GoesOn (field (block_size layout schema number)) old (give bytes) new → block_fault layout schema number rows bytes ≡ fault
@@ -47,24 +49,47 @@ block_stops layout schema rows number old new fault p =
     stops (one_block layout schema rows number) (field (block_size layout schema number))
     (λ bytes. sound_at old.offset layout schema rows number bytes (block_fault layout schema number rows bytes)) old old new fault (block_begins layout schema rows number old) p
 
--- the search for a padding bit
-pub padding_here : (layout : Layout) (schema : List Column) (rows number : ℕ) (bytes : List ℕ) (at size : ℕ) → at < size
-    → is_padding (block_fault layout schema number rows (front_of_block bytes (at + 1))) ≡ true → padding_from layout schema rows number bytes at (size - at) ≡ at
+-- the search for a byte with a bit of a padding row
+pub padding_here : (layout : Layout) (schema : List Column) (rows number : ℕ) (bytes : List ℕ) (at : ℕ) → at < length bytes
+    → has_padding layout schema rows number at (get_or bytes at 0) ≡ true → padding_from layout schema rows number (drop at bytes) at ≡ at
 unfolding padding_from
-padding_here layout schema rows number bytes at size lt e =
-    let more : size - at ≡ suc (size - (at + 1)) = omega arith in rw (more, e) refl
+padding_here layout schema rows number bytes at lt e = rw (drop_more bytes at 0 lt, e) refl
 
-pub padding_next : (layout : Layout) (schema : List Column) (rows number : ℕ) (bytes : List ℕ) (at size : ℕ) → at < size
-    → is_padding (block_fault layout schema number rows (front_of_block bytes (at + 1))) ≡ false
-    → padding_from layout schema rows number bytes at (size - at) ≡ padding_from layout schema rows number bytes (at + 1) (size - (at + 1))
+pub padding_next : (layout : Layout) (schema : List Column) (rows number : ℕ) (bytes : List ℕ) (at : ℕ) → at < length bytes
+    → has_padding layout schema rows number at (get_or bytes at 0) ≡ false
+    → padding_from layout schema rows number (drop at bytes) at ≡ padding_from layout schema rows number (drop (at + 1) bytes) (at + 1)
 unfolding padding_from
-padding_next layout schema rows number bytes at size lt e =
-    let more : size - at ≡ suc (size - (at + 1)) = omega arith in rw (more, e) refl
+padding_next layout schema rows number bytes at lt e = rw (drop_more bytes at 0 lt, e) refl
 
-pub padding_past : (layout : Layout) (schema : List Column) (rows number : ℕ) (bytes : List ℕ) (at size : ℕ) → size ≤ at
-    → padding_from layout schema rows number bytes at (size - at) ≡ at
+pub padding_past : (layout : Layout) (schema : List Column) (rows number : ℕ) (bytes : List ℕ) (at : ℕ) → length bytes ≤ at
+    → padding_from layout schema rows number (drop at bytes) at ≡ at
 unfolding padding_from
-padding_past layout schema rows number bytes at size le = let none : size - at ≡ 0 = omega arith in rw none refl
+padding_past layout schema rows number bytes at le = rw (drop_all at bytes le) refl
+
+-- the bits of a byte, from one on
+abbrev pub bits_from : ℕ → ℕ → ℕ → ℕ → Bool
+bits_from rows place byte bit = list_any (λ bit. nat_le rows (8 * place + bit) && (bit_at byte bit == 1)) (range_with_len bit (8 - bit))
+
+pub bits_begin : (rows place byte : ℕ) → plane_has_padding rows place byte ≡ bits_from rows place byte 0
+unfolding plane_has_padding
+bits_begin rows place byte = refl
+
+bits_next : (rows place byte bit : ℕ) → bit < 8 → bits_from rows place byte bit
+    ≡ (nat_le rows (8 * place + bit) && (bit_at byte bit == 1)) || bits_from rows place byte (bit + 1)
+bits_next rows place byte bit lt =
+    let more : 8 - bit ≡ suc (8 - (bit + 1)) = omega arith in
+    let next : bit + 1 ≡ suc bit = omega arith in
+    rw (more, next) refl
+
+pub bits_clear : (rows place byte bit : ℕ) → bit < 8 → (bit_at byte bit == 1) ≡ false → bits_from rows place byte bit ≡ bits_from rows place byte (bit + 1)
+bits_clear rows place byte bit lt e = bits_next rows place byte bit lt ∙ go (nat_le rows (8 * place + bit))
+  where
+    go : (late : Bool) → (late && (bit_at byte bit == 1)) || bits_from rows place byte (bit + 1) ≡ bits_from rows place byte (bit + 1)
+    go true = rw e refl
+    go false = refl
+
+pub bits_early : (rows place byte bit : ℕ) → bit < 8 → nat_le rows (8 * place + bit) ≡ false → bits_from rows place byte bit ≡ bits_from rows place byte (bit + 1)
+bits_early rows place byte bit lt e = bits_next rows place byte bit lt ∙ rw e refl
 
 -- blocks one after another
 pub blocks_more : (layout : Layout) (schema : List Column) (rows count i : ℕ) (before bytes : List ℕ) (old mid new : State) → i < count
@@ -115,14 +140,10 @@ segment_stops layout schema rows old new fault p =
     stops (segment layout schema rows) (blocks layout schema rows 0 (length schema) []) (λ bytes. give (rows_spelled layout schema rows bytes)) old old new fault
     (begins (segment layout schema rows) old) p
 
-end_seen : (old : State) (byte : ℕ) (bytes rest : List ℕ) → end (tail old.offset ((byte ∷ bytes) ++ rest)) ≡ Err (at_byte 309 old.offset)
-unfolding end
-end_seen old byte bytes rest = refl
-
 -- a byte where the end is wanted
-pub end_refused : (old new : State) (bytes : List ℕ) → Took old new bytes → new.failures ≡ old.failures → 0 < length bytes → Fails end old new (at_byte 309 old.offset)
-end_refused old new [] took same some = absurd (omega (arith, some))
-end_refused old new (byte ∷ bytes) took same some = refuses_behind end old new (byte ∷ bytes) 309 old.offset took same (end_seen old byte bytes)
+pub end_refused : (old new : State) (bytes : List ℕ) → Took old new bytes → new.failures ≡ old.failures → length bytes ≡ 1 → HasByteMore old new (at_byte 309 old.offset)
+end_refused old new bytes took same one =
+    record { bytes = bytes; took = took; failures = omega (arith, same); refused = λ _. (one, refl) }
 
 -- the block of a column ends within the segment
 pub before_within : (layout : Layout) (schema : List Column) (column count : ℕ) → column < count → bytes_before layout schema (suc column) ≤ bytes_before layout schema count
@@ -147,19 +168,3 @@ pub before_more : (layout : Layout) (schema : List Column) (column start size : 
 before_more layout schema column start size at sized =
     let next : suc column ≡ column + 1 = omega arith in
     subst (λ (k : ℕ). start + size ≡ bytes_before layout schema k) next (omega (arith, at, sized))
-
--- the front of a buffer of zeros into which a block is copied
-pub zeros_front : (block : List ℕ) (n m : ℕ) → n ≡ length block → n ≤ m → take n (replicate m 0) ≡ front_of_block block 0
-zeros_front block n m size le =
-    let none : length block - 0 ≡ n = omega arith in
-    let more : m ≡ n + (m - n) = omega arith in
-    let split : replicate {A = ℕ} m 0 ≡ replicate n 0 ++ replicate (m - n) 0 = ap (λ (k : ℕ). replicate {A = ℕ} k 0) more ∙ sym (replicate-append-replicate {A = ℕ} n (m - n) 0) in
-    rw (split, none) (take_at (replicate {A = ℕ} n 0) (replicate (m - n) 0) n (length-replicate {A = ℕ} n 0))
-
-pub front_more : (block front : List ℕ) (at : ℕ) → at < length block → front ≡ front_of_block block at → set front at (get_or block at 0) ≡ front_of_block block (at + 1)
-front_more block front at lt e =
-    let more : length block - at ≡ suc (length block - (at + 1)) = omega arith in
-    let zeros : front ≡ take at block ++ 0 ∷ replicate (length block - (at + 1)) 0 = rw more at e in
-    rw (zeros, take_more block at 0 lt)
-    (set_at (take at block) 0 (replicate (length block - (at + 1)) 0) (get_or block at 0) at (length-take-le at block (omega arith))
-    ∙ sym (append_assoc (take at block) (get_or block at 0 ∷ []) (replicate (length block - (at + 1)) 0)))

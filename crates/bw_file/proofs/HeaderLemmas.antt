@@ -11,13 +11,13 @@ use Rattle.bw_file.specs.declared.fields.Bounds.{Bounds}
 use Rattle.bw_file.specs.declared.layout.Layout.{Layout}
 use Rattle.bw_file.specs.Reading.{◌>>=◌, give, field, said_at, judged, State, GoesOn, Fails}
 use Rattle.bw_file.specs.TableReading.{name, name_says, column, columns, magic_says, version_says, layout_says, count_says, rows_say, bounds_say, nullable_says, FrontShape, front_of, front, header_of, header}
-use Rattle.bw_file.proofs.ReadingLemmas.{took_nothing, begins, passes, stops, refuses}
+use Rattle.bw_file.proofs.ReadingLemmas.{took_nothing, needs_none, begins, passes, stops, refuses}
 
 -- a name begins with the byte for its length
 pub name_begins : (before : List (List ℕ)) (old : State)
     → GoesOn (name before) old (field 1 >>= λ size. field (slice_index size 0) >>= λ text. said_at old.offset (name_says before text)) old
 unfolding name
-name_begins before old = record { bytes = []; took = took_nothing old.known old.offset old.failures; failures = refl; on = λ rest. refl }
+name_begins before old = record { bytes = []; took = took_nothing old.known old.offset old.failures; needed = needs_none (name before) old.offset; failures = refl; on = λ rest. refl }
 
 -- which is read, and then its text
 pub name_sized : (before : List (List ℕ)) (size : List ℕ) (old new : State) → GoesOn (field 1) old (give size) new

@@ -7,7 +7,7 @@ use Rattle.bw_model.specs.Row.{Value}
 use Rattle.bw_file.specs.declared.segments.AnySegment.{AnySegment}
 use Rattle.bw_file.specs.declared.table_reader.TableReader.{TableReader}
 use Rattle.bw_file.specs.AnySegment.{any_meaning}
-use Rattle.bw_file.specs.Reading.{tail, State, Took, GoesOn, Fails, give}
+use Rattle.bw_file.specs.Reading.{tail, State, Took, GoesOn, Fails, HasByteMore, give}
 use Rattle.bw_file.specs.TableReading.{segment, end, group_sizes}
 use Rattle.bw_file.specs.TableReader.{settled, SoFar, SameTable, GivesNext}
 use Rattle.bw_file.proofs.BodySpelling.{groups_found}
@@ -18,8 +18,7 @@ pub all_groups : (start now : State) (reader : TableReader) (groups : List (List
     → groups ≡ groups_of (together groups)
 unfolding end
 all_groups start now reader groups all so_far =
-    let on = at_end start now reader groups all so_far in
-    let found = groups_found reader.layout reader.shape.value.schema.columns.items (group_sizes reader.rows) reader.rows [] (tail so_far.behind.offset (on.bytes ++ [])) (groups, tail now.offset []) refl (on.on []) in
+    let found = groups_found reader.layout reader.shape.value.schema.columns.items (group_sizes reader.rows) reader.rows [] (tail so_far.behind.offset (so_far.on.bytes ++ [])) (groups, tail now.offset []) refl (at_end start now reader groups all so_far []) in
     let same : groups ≡ found.groups = found.behind in
     sym (subst (λ (l : List (List (List Value))). groups_of (together l) ≡ l) (sym same) found.cut)
 
@@ -29,11 +28,12 @@ module _ {S : Type 0} (source next_source : S) (old now : State) (reader next : 
       → length (any_meaning given).rows ≡ size → GoesOn (segment reader.layout reader.shape.value.schema.columns.items size) old (give (any_meaning given).rows) now
       → GivesNext source next_source old now reader next (Ok (Some given))
   segment_given given size reading left unsettled sized counted name columns count read = record {
-    given = λ start groups so_far. so_far_more start old now reader next groups (any_meaning given).rows size same.layout same.schema same.rows counted left sized so_far read;
+    given = λ start groups so_far. so_far_more start old now reader next groups (any_meaning given).rows size same.version same.layout same.schema same.rows counted left sized so_far read;
     segment = (record { name = name; columns = columns; count = count ∙ sized }, counted ∙ ap (λ (n : ℕ). reader.given + n) (sym count), reading);
     ended = λ none. absurd cc;
     groups = λ none. absurd cc;
     refused = tt;
+    counted = counted ∙ ap (λ (n : ℕ). reader.given + n) (sym count);
     read = λ _. record { bytes = read.bytes; took = read.took; failures = omega (arith, read.failures) };
     settles = reading;
     repeats = λ answer set. absurd (cc (unsettled, set));
@@ -41,13 +41,14 @@ module _ {S : Type 0} (source next_source : S) (old now : State) (reader next : 
   }
 
   pub segment_missed : (size : ℕ) (fault : Fault) → settled next ≡ Some (Err fault) → reader.given < reader.rows → settled reader ≡ None → size ≡ min group_size (reader.rows - reader.given)
-      → Fails (segment reader.layout reader.shape.value.schema.columns.items size) old now fault → GivesNext source next_source old now reader next (Err fault)
-  segment_missed size fault stopped left unsettled sized fails = record {
+      → Fails (segment reader.layout reader.shape.value.schema.columns.items size) old now fault → next.given ≡ reader.given → GivesNext source next_source old now reader next (Err fault)
+  segment_missed size fault stopped left unsettled sized fails kept = record {
     given = tt;
     segment = tt;
     ended = tt;
     groups = tt;
     refused = λ _ start groups so_far. segment_refused start old now reader groups size fault left sized so_far fails;
+    counted = omega (arith, kept);
     read = λ _. record { bytes = fails.bytes; took = fails.took; failures = fails.failures };
     settles = stopped;
     repeats = λ answer set. absurd (cc (unsettled, set));
@@ -55,27 +56,29 @@ module _ {S : Type 0} (source next_source : S) (old now : State) (reader next : 
   }
 
   pub end_given : settled next ≡ Some (Ok tt) → reader.given ≡ reader.rows → settled reader ≡ None → Took old now [] → now.failures ≡ old.failures → IsAtEnd now.known
-      → GivesNext source next_source old now reader next (Ok None)
-  end_given stopped all unsettled took failures ended = record {
+      → next.given ≡ reader.given → GivesNext source next_source old now reader next (Ok None)
+  end_given stopped all unsettled took failures ended kept = record {
     given = tt;
     segment = tt;
     ended = λ _ _ start groups so_far. end_seen start old now reader groups all so_far took failures ended;
     groups = λ _ _ start groups so_far. all_groups start old reader groups all so_far;
     refused = tt;
+    counted = omega (arith, kept);
     read = λ _. record { bytes = []; took = took; failures = omega (arith, failures) };
     settles = stopped;
     repeats = λ answer set. absurd (cc (unsettled, set));
     same = same;
   }
 
-  pub byte_given : (fault : Fault) → settled next ≡ Some (Err fault) → reader.given ≡ reader.rows → settled reader ≡ None → Fails end old now fault
-      → GivesNext source next_source old now reader next (Err fault)
-  byte_given fault stopped all unsettled fails = record {
+  pub byte_given : (fault : Fault) → settled next ≡ Some (Err fault) → reader.given ≡ reader.rows → settled reader ≡ None → HasByteMore old now fault
+      → next.given ≡ reader.given → GivesNext source next_source old now reader next (Err fault)
+  byte_given fault stopped all unsettled fails kept = record {
     given = tt;
     segment = tt;
     ended = tt;
     groups = tt;
     refused = λ _ start groups so_far. end_missed start old now reader groups fault all so_far fails;
+    counted = omega (arith, kept);
     read = λ _. record { bytes = fails.bytes; took = fails.took; failures = fails.failures };
     settles = stopped;
     repeats = λ answer set. absurd (cc (unsettled, set));

@@ -1,18 +1,21 @@
 -- What the bytes of a file say, segment by segment.
-use Rattle.std.proofs.Common.{◌≡◌, ℕ, zero, suc, min, ◌+◌, ◌-◌, ◌<◌, ◌≤◌, List, [], ◌∷◌, ◌++◌, Ok, Err, refl, sym, ap, append_assoc, arith}
+use Rattle.std.proofs.Common.{◌≡◌, ℕ, zero, suc, min, ◌+◌, ◌-◌, ◌<◌, ◌≤◌, inl, inr, List, [], ◌∷◌, ◌++◌, length, length-append, take, Ok, Err, refl, sym, ap, ◌∙◌, append_assoc, arith}
 use Rattle.std.specs.Io.KnownBytes.{IsAtEnd}
-use Rattle.std.proofs.lemmas.List.{append-nil}
+use Rattle.std.proofs.Math.Seq.{take-append-add}
+use Rattle.std.proofs.lemmas.Bool.{cases_lt}
+use Rattle.std.proofs.lemmas.List.{append-nil, take-append-le, take_at}
 use Rattle.bw_model.specs.declared.column.Column.{Column}
 use Rattle.bw_model.specs.declared.fault.Fault.{Fault}
+use Rattle.bw_model.specs.Fault.{at_byte}
 use Rattle.bw_model.specs.Groups.{group_size}
 use Rattle.bw_model.specs.Row.{Value}
 use Rattle.bw_model.specs.SchemaText.{schema_shape}
 use Rattle.bw_file.specs.declared.layout.Layout.{Layout}
 use Rattle.bw_file.specs.declared.table_reader.TableReader.{TableReader}
-use Rattle.bw_file.specs.Reading.{tail, ◌>>=◌, give, State, Took, GoesOn, Fails}
-use Rattle.bw_file.specs.TableReading.{HeaderShape, header, body, segment, end, sizes_within, group_sizes, found_in}
-use Rattle.bw_file.specs.TableReader.{header_told, SoFar, found_so_far, ReadWhole, HasFirstFault, AnswersFault}
-use Rattle.bw_file.proofs.ReadingLemmas.{passes, stops, took_more}
+use Rattle.bw_file.specs.Reading.{tail, Reading, ◌>>=◌, give, State, Took, GoesOn, NeedsEach, HasFault, Fails, HasByteMore}
+use Rattle.bw_file.specs.TableReading.{HeaderShape, header, body, segment, end, sizes_within, group_sizes, found_in, IsReadAs}
+use Rattle.bw_file.specs.TableReader.{header_told, SoFar, found_so_far, ReadWhole, LacksFault, HasFirstFault, AnswersFault}
+use Rattle.bw_file.proofs.ReadingLemmas.{passes, stops, took_more, coming_of, is_coming}
 
 -- the sizes of groups don't hang on how many groups there may be
 sizes-same : (a b rows : ℕ) → rows ≤ a → rows ≤ b → sizes_within a rows ≡ sizes_within b rows
@@ -51,17 +54,16 @@ body_more layout columns rows left groups group size behind old new some sized p
     rw rest (passes (body layout columns (group_sizes rows) []) (segment layout columns size) (λ group. body layout columns (group_sizes (left - group_size)) (groups ++ group ∷ [])) group behind old new so_far q)
 
 pub so_far_more : (start old new : State) (reader next : TableReader) (groups : List (List (List Value))) (rows : List (List Value)) (size : ℕ)
-    → next.layout ≡ reader.layout → next.shape.value.schema ≡ reader.shape.value.schema → next.rows ≡ reader.rows → next.given ≡ reader.given + size
+    → next.version ≡ reader.version → next.layout ≡ reader.layout → next.shape.value.schema ≡ reader.shape.value.schema → next.rows ≡ reader.rows → next.given ≡ reader.given + size
     → reader.given < reader.rows → size ≡ min group_size (reader.rows - reader.given)
     → SoFar start old reader groups → GoesOn (segment reader.layout reader.shape.value.schema.columns.items size) old (give rows) new
     → SoFar start new next (groups ++ rows ∷ [])
-so_far_more start old new reader next groups rows size same_layout same_schema same_rows same_given left sized so_far more =
+so_far_more start old new reader next groups rows size same_version same_layout same_schema same_rows same_given left sized so_far more =
     let left_now : reader.rows - (reader.given + size) ≡ reader.rows - reader.given - size = omega arith in
     record {
-      version = so_far.version;
       behind = so_far.behind;
       first = so_far.first;
-      head = rw (same_layout, same_schema, same_rows) so_far.head;
+      head = rw (same_version, same_layout, same_schema, same_rows) so_far.head;
       on = rw (same_layout, same_schema, same_rows, same_given, left_now)
           (body_more reader.layout reader.shape.value.schema.columns.items reader.rows (reader.rows - reader.given) groups rows size so_far.behind old new (omega arith) sized so_far.on more);
     }
@@ -75,26 +77,68 @@ header_refused start new fault first p = record {
   first = λ own.
       let has = p.refused own in
       let e : header (tail 0 (p.bytes ++ has.rest)) ≡ Err fault = rw first at has.gives in
-      let found : HasFirstFault new p.bytes fault = record { rest = has.rest; coming = has.coming; read = rw e refl } in
+      let short : NeedsEach header 0 p.bytes = rw first at p.needed in
+      let found : HasFirstFault new p.bytes fault = record {
+        needed = λ n lt.
+            let place : 0 + n ≡ n = omega arith in
+            let early : header (tail 0 (take n p.bytes)) ≡ Err (at_byte 305 n) = rw place at (short n lt) in
+            inl (rw early refl);
+        rest = has.rest;
+        coming = has.coming;
+        read = rw e refl;
+      } in
       found;
 }
 
--- and so is what is refused behind it
-behind_refused : (start old new : State) (reader : TableReader) (groups : List (List (List Value))) (fault : Fault) → (so_far : SoFar start old reader groups)
-    → Fails (body reader.layout reader.shape.value.schema.columns.items (group_sizes reader.rows) []) so_far.behind new fault → AnswersFault start old new fault
-behind_refused start old new reader groups fault so_far p = record {
-  bytes = so_far.head.bytes ++ p.bytes;
-  took = took_more start so_far.behind new so_far.head.bytes p.bytes so_far.head.took p.took;
-  failures = omega (arith, p.failures, so_far.on.failures);
-  first = λ own.
-      let has = p.refused own in
-      let h = header_told so_far.version reader in
-      let e : header (tail 0 ((so_far.head.bytes ++ p.bytes) ++ has.rest)) ≡ Ok (h, tail so_far.behind.offset (p.bytes ++ has.rest)) =
-      rw append_assoc (rw so_far.first at (so_far.head.on (p.bytes ++ has.rest))) in
+-- the header of a file, from its first byte on
+pub head_at : (start behind : State) (h : HeaderShape) (rest : List ℕ) → start.offset ≡ 0 → (p : GoesOn header start (give h) behind)
+    → header (tail 0 (p.bytes ++ rest)) ≡ Ok (h, tail behind.offset rest)
+head_at start behind h rest first p = rw first at (p.on rest)
+
+module _ (start old : State) (reader : TableReader) (groups : List (List (List Value))) (so_far : SoFar start old reader groups) where
+  abbrev whole_body : Reading (List (List (List Value)))
+  whole_body = body reader.layout reader.shape.value.schema.columns.items (group_sizes reader.rows) []
+
+  header_on : (rest : List ℕ) → header (tail 0 (so_far.head.bytes ++ rest)) ≡ Ok (header_told reader.version reader, tail so_far.behind.offset rest)
+  header_on rest = head_at start so_far.behind (header_told reader.version reader) rest so_far.first so_far.head
+
+  -- a file that ends within its header, or where what stands behind it needs more, ends too early
+  ends_early : (more : List ℕ) → NeedsEach whole_body so_far.behind.offset more → (n : ℕ) → n < length (so_far.head.bytes ++ more)
+      → IsReadAs (take n (so_far.head.bytes ++ more)) (Err (at_byte 305 n))
+  ends_early more needed n lt =
+      elim (cases_lt n (length so_far.head.bytes)) [
+        | inl less ↦
+            let place : 0 + n ≡ n = omega arith in
+            let early : header (tail 0 (take n so_far.head.bytes)) ≡ Err (at_byte 305 n) = rw (so_far.first, place) at (so_far.head.needed n less) in
+            rw (take-append-le n so_far.head.bytes more (omega (arith, less)), early) refl
+        | inr same ↦
+            let m = n - length so_far.head.bytes in
+            let more_than : n ≡ length so_far.head.bytes + m = omega (arith, same) in
+            let split : take n (so_far.head.bytes ++ more) ≡ so_far.head.bytes ++ take m more =
+            ap (λ (k : ℕ). take k (so_far.head.bytes ++ more)) more_than ∙ take-append-add so_far.head.bytes more m in
+            let place : so_far.behind.offset + m ≡ n = omega (arith, same, so_far.first, so_far.head.took.counted) in
+            let early : whole_body (tail so_far.behind.offset (take m more)) ≡ Err (at_byte 305 n) =
+            rw place at (needed m (omega (arith, lt, same, length-append so_far.head.bytes more))) in
+            rw (split, header_on (take m more))
+            (reader.shape.value.schema, refl, sym (ap (found_in reader.layout (schema_shape reader.shape.value.schema)) early))
+      ]
+
+  -- the fault behind the header is the file's
+  behind_fault : (new : State) (more : List ℕ) (fault : Fault) → ((n : ℕ) → n < length (so_far.head.bytes ++ more) → LacksFault (so_far.head.bytes ++ more) n fault)
+      → HasFault whole_body so_far.behind new more fault → HasFirstFault new (so_far.head.bytes ++ more) fault
+  behind_fault new more fault needed has =
+      let e : header (tail 0 ((so_far.head.bytes ++ more) ++ has.rest)) ≡ Ok (header_told reader.version reader, tail so_far.behind.offset (more ++ has.rest)) =
+      rw append_assoc (header_on (more ++ has.rest)) in
       let own_fault = sym (ap (found_in reader.layout (schema_shape reader.shape.value.schema)) has.gives) in
-      let found : HasFirstFault new (so_far.head.bytes ++ p.bytes) fault = record { rest = has.rest; coming = has.coming; read = rw e (reader.shape.value.schema, refl, own_fault) } in
-      found;
-}
+      record { needed = needed; rest = has.rest; coming = has.coming; read = rw e (reader.shape.value.schema, refl, own_fault) }
+
+  behind_refused : (new : State) (fault : Fault) → Fails whole_body so_far.behind new fault → AnswersFault start old new fault
+  behind_refused new fault p = record {
+    bytes = so_far.head.bytes ++ p.bytes;
+    took = took_more start so_far.behind new so_far.head.bytes p.bytes so_far.head.took p.took;
+    failures = omega (arith, p.failures, so_far.on.failures);
+    first = λ own. behind_fault new p.bytes fault (λ n lt. inl (ends_early p.bytes p.needed n lt)) (p.refused own);
+  }
 
 pub segment_refused : (start old new : State) (reader : TableReader) (groups : List (List (List Value))) (size : ℕ) (fault : Fault)
     → reader.given < reader.rows → size ≡ min group_size (reader.rows - reader.given) → SoFar start old reader groups
@@ -106,44 +150,80 @@ segment_refused start old new reader groups size fault left sized so_far p =
     let rest = reader.rows - reader.given in
     let sizes : group_sizes rest ≡ size ∷ group_sizes (rest - group_size) = rw sized (group_sizes-some rest (omega arith)) in
     let on : GoesOn (body layout columns (group_sizes reader.rows) []) so_far.behind (body layout columns (size ∷ group_sizes (rest - group_size)) groups) old = rw sizes at so_far.on in
-    behind_refused start old new reader groups fault so_far
+    behind_refused start old reader groups so_far new fault
     (stops (body layout columns (group_sizes reader.rows) []) (segment layout columns size) (λ group. body layout columns (group_sizes (rest - group_size)) (groups ++ group ∷ [])) so_far.behind old new fault on p)
 
--- the header of a file, from its first byte on
-pub head_at : (start behind : State) (h : HeaderShape) (rest : List ℕ) → start.offset ≡ 0 → (p : GoesOn header start (give h) behind)
-    → header (tail 0 (p.bytes ++ rest)) ≡ Ok (h, tail behind.offset rest)
-head_at start behind h rest first p = rw first at (p.on rest)
-
 -- where all groups were read, the end is wanted
-pub at_end : (start old : State) (reader : TableReader) (groups : List (List (List Value))) → reader.given ≡ reader.rows → (so_far : SoFar start old reader groups)
-    → GoesOn (body reader.layout reader.shape.value.schema.columns.items (group_sizes reader.rows) []) so_far.behind (end >>= λ _. give groups) old
+pub at_end : (start old : State) (reader : TableReader) (groups : List (List (List Value))) → reader.given ≡ reader.rows → (so_far : SoFar start old reader groups) → (rest : List ℕ)
+    → body reader.layout reader.shape.value.schema.columns.items (group_sizes reader.rows) [] (tail so_far.behind.offset (so_far.on.bytes ++ rest))
+    ≡ (end >>= λ _. give groups) (tail old.offset rest)
 unfolding body
-at_end start old reader groups all so_far =
+at_end start old reader groups all so_far rest =
     let none : reader.rows - reader.given ≡ 0 = omega arith in
     let sizes : group_sizes (reader.rows - reader.given) ≡ [] = rw none group_sizes-none in
-    rw sizes at so_far.on
+    rw sizes at (so_far.on.on rest)
+
+-- and then, if the file ends there, it was read whole
+read_so_far : (start old : State) (reader : TableReader) (groups : List (List (List Value))) → reader.given ≡ reader.rows → (so_far : SoFar start old reader groups)
+    → IsReadAs (so_far.head.bytes ++ so_far.on.bytes) (Ok (found_so_far reader groups))
+unfolding end
+read_so_far start old reader groups all so_far =
+    let read : body reader.layout reader.shape.value.schema.columns.items (group_sizes reader.rows) [] (tail so_far.behind.offset so_far.on.bytes) ≡ Ok (groups, tail old.offset []) =
+    rw append-nil at (at_end start old reader groups all so_far []) in
+    rw (header_on start old reader groups so_far so_far.on.bytes)
+    (reader.shape.value.schema, refl, sym (ap (found_in reader.layout (schema_shape reader.shape.value.schema)) read))
+
+-- a byte more is a fault
+byte_more : (groups : List (List (List Value))) (at : ℕ) (bytes rest : List ℕ) → length bytes ≡ 1 → (end >>= λ _. give groups) (tail at (bytes ++ rest)) ≡ Err (at_byte 309 at)
+unfolding end
+byte_more groups at [] rest one = absurd (omega (arith, one))
+byte_more groups at (byte ∷ bytes) rest one = refl
+
+-- and no fewer bytes have it
+byte_needed : (start old : State) (reader : TableReader) (groups : List (List (List Value))) → reader.given ≡ reader.rows → (so_far : SoFar start old reader groups)
+    → (byte : List ℕ) → length byte ≡ 1 → (n : ℕ) → n < length (so_far.head.bytes ++ (so_far.on.bytes ++ byte))
+    → LacksFault (so_far.head.bytes ++ (so_far.on.bytes ++ byte)) n (at_byte 309 old.offset)
+byte_needed start old reader groups all so_far byte one n lt =
+    let front = so_far.head.bytes ++ so_far.on.bytes in
+    let whole : front ++ byte ≡ so_far.head.bytes ++ (so_far.on.bytes ++ byte) = append_assoc so_far.head.bytes so_far.on.bytes byte in
+    let long = length-append so_far.head.bytes so_far.on.bytes in
+    rw (← whole) (elim (cases_lt n (length front)) [
+      | inl less ↦
+          rw (take-append-le n front byte (omega (arith, less))) (inl (ends_early start old reader groups so_far so_far.on.bytes so_far.on.needed n less))
+      | inr same ↦
+          let size : length front ≡ n = omega (arith, same, lt, one, length-append so_far.head.bytes (so_far.on.bytes ++ byte), length-append so_far.on.bytes byte, long) in
+          let place : old.offset ≡ n = omega (arith, size, long, so_far.first, so_far.head.took.counted, so_far.on.took.counted) in
+          rw (take_at front byte n size) (inr (found_so_far reader groups, read_so_far start old reader groups all so_far, ap (λ (k : ℕ). at_byte 309 k) place))
+    ])
 
 pub end_missed : (start old new : State) (reader : TableReader) (groups : List (List (List Value))) (fault : Fault) → reader.given ≡ reader.rows → SoFar start old reader groups
-    → Fails end old new fault → AnswersFault start old new fault
-end_missed start old new reader groups fault all so_far p =
-    behind_refused start old new reader groups fault so_far
-    (stops (body reader.layout reader.shape.value.schema.columns.items (group_sizes reader.rows) []) end (λ _. give groups) so_far.behind old new fault (at_end start old reader groups all so_far) p)
+    → HasByteMore old new fault → AnswersFault start old new fault
+end_missed start old new reader groups fault all so_far p = record {
+  bytes = so_far.head.bytes ++ (so_far.on.bytes ++ p.bytes);
+  took = took_more start so_far.behind new so_far.head.bytes (so_far.on.bytes ++ p.bytes) so_far.head.took (took_more so_far.behind old new so_far.on.bytes p.bytes so_far.on.took p.took);
+  failures = p.failures;
+  first = λ own.
+      let has = p.refused own in
+      let whole = body reader.layout reader.shape.value.schema.columns.items (group_sizes reader.rows) [] in
+      let rest = coming_of new.known in
+      let found : HasFault whole so_far.behind new (so_far.on.bytes ++ p.bytes) (at_byte 309 old.offset) = record {
+        rest = rest;
+        coming = is_coming new.known;
+        gives =
+            ap (λ (bytes : List ℕ). whole (tail so_far.behind.offset bytes)) (append_assoc so_far.on.bytes p.bytes rest)
+            ∙ at_end start old reader groups all so_far (p.bytes ++ rest)
+            ∙ byte_more groups old.offset p.bytes rest has.0;
+      } in
+      rw has.1 (behind_fault start old reader groups so_far new (so_far.on.bytes ++ p.bytes) (at_byte 309 old.offset) (byte_needed start old reader groups all so_far p.bytes has.0) found);
+}
 
 pub end_seen : (start old new : State) (reader : TableReader) (groups : List (List (List Value))) → reader.given ≡ reader.rows → SoFar start old reader groups
     → Took old new [] → new.failures ≡ old.failures → IsAtEnd new.known → ReadWhole start new (found_so_far reader groups)
-unfolding end
-end_seen start old new reader groups all so_far took same ended =
-    let on = at_end start old reader groups all so_far in
-    let bytes = so_far.head.bytes ++ on.bytes in
-    let h = header_told so_far.version reader in
-    let e : header (tail 0 bytes) ≡ Ok (h, tail so_far.behind.offset on.bytes) = head_at start so_far.behind h on.bytes so_far.first so_far.head in
-    let read : body reader.layout reader.shape.value.schema.columns.items (group_sizes reader.rows) [] (tail so_far.behind.offset on.bytes) ≡ Ok (groups, tail old.offset []) =
-    rw append-nil at (on.on []) in
-    let whole = sym (ap (found_in reader.layout (schema_shape reader.shape.value.schema)) read) in
-    record {
-      bytes = bytes;
-      took = rw append-nil at (took_more start old new bytes [] (took_more start so_far.behind old so_far.head.bytes on.bytes so_far.head.took on.took) took);
-      failures = omega (arith, same, on.failures, so_far.head.failures);
-      ended = ended;
-      read = rw e (reader.shape.value.schema, refl, whole);
-    }
+end_seen start old new reader groups all so_far took same ended = record {
+  bytes = so_far.head.bytes ++ so_far.on.bytes;
+  took = rw append-nil at (took_more start old new (so_far.head.bytes ++ so_far.on.bytes) []
+      (took_more start so_far.behind old so_far.head.bytes so_far.on.bytes so_far.head.took so_far.on.took) took);
+  failures = omega (arith, same, so_far.on.failures, so_far.head.failures);
+  ended = ended;
+  read = read_so_far start old reader groups all so_far;
+}

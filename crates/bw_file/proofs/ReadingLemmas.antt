@@ -1,17 +1,17 @@
 -- Reading bytes step by step, as calls take them of a source.
-use Rattle.std.proofs.Common.{◌≡◌, ℕ, ◌+◌, ◌-◌, ◌≤◌, ◌<◌, Bool, true, false, zero, suc, List, [], ◌∷◌, ◌++◌, length, take, lit<, Option, Some, None, Result, Ok, Err, refl, sym, ap, ◌∙◌, append_assoc, length-append, arith, nat_lt, ◌&&◌, ◌==◌}
+use Rattle.std.proofs.Common.{◌≡◌, ℕ, ◌+◌, ◌-◌, ◌≤◌, ◌<◌, Bool, true, false, zero, suc, List, [], ◌∷◌, ◌++◌, length, take, lit<, Option, Some, None, Result, Ok, Err, refl, sym, ap, ◌∙◌, append_assoc, length-append, arith, inl, inr, nat_lt, ◌&&◌, ◌==◌}
 use Rattle.std.specs.Prelude.{IfSome}
 use Rattle.std.proofs.lemmas.Bool.{true≢false}
 use Rattle.std.proofs.lemmas.List.{take_at, drop_at, length-take-le, take-append-le}
 use Rattle.std.proofs.Math.Seq.{take-append-add}
 use borrow.Rule.Slice.PartMut.{put_mid, post_of}
-use Rattle.std.proofs.lemmas.Bool.{lt-ltb, le-ltb}
+use Rattle.std.proofs.lemmas.Bool.{cases_lt, lt-ltb, le-ltb}
 use Rattle.std.specs.Io.KnownBytes.{IsAtEnd}
 use Rattle.std.proofs.KnownBytes.{Consumes-trans}
 use Rattle.bw_model.specs.declared.fault.Fault.{Fault}
-use Rattle.bw_model.specs.Fault.{at_byte, no_memory}
+use Rattle.bw_model.specs.Fault.{at_byte, no_memory, nowhere}
 use Rattle.bw_device.specs.Source.{is_read_fault}
-use Rattle.bw_file.specs.Reading.{AreBytes, Tail, tail, Reading, passed, placed, ◌>>=◌, give, field, said_at, judged, State, state, Took, GoesOn, HasFault, Fails, Reads}
+use Rattle.bw_file.specs.Reading.{AreBytes, Tail, tail, Reading, passed, placed, ◌>>=◌, give, field, said_at, judged, State, state, Took, GoesOn, NeedsEach, HasFault, Fails, Reads}
 
 -- the bytes of a buffer are bytes, and so are those in front, and those of several buffers
 no_bytes : AreBytes []
@@ -43,9 +43,35 @@ took_more a b c xs ys p q = record {
   each = both_bytes xs ys p.each q.each;
 }
 
+-- of no bytes each is needed
+pub needs_none : {A : Type 0} (reading : Reading A) (at : ℕ) → NeedsEach reading at []
+needs_none reading at n lt = absurd (omega (arith, lt))
+
+-- what one thing needs is needed by it and another
+needs_first : {A B : Type 0} (first : Reading A) (next : A → Reading B) (at : ℕ) (bytes : List ℕ) → NeedsEach first at bytes
+    → NeedsEach (first >>= next) at bytes
+needs_first {A = A} first next at bytes p n lt = ap (λ (r : Result (A × Tail) Fault). passed r next) (p n lt)
+
+-- bytes that are needed, and then more
+pub needs_more : {A : Type 0} (reading next : Reading A) (at behind : ℕ) (xs ys : List ℕ) → behind ≡ at + length xs → NeedsEach reading at xs
+    → ((rest : List ℕ) → reading (tail at (xs ++ rest)) ≡ next (tail behind rest)) → NeedsEach next behind ys → NeedsEach reading at (xs ++ ys)
+needs_more {A = A} reading next at behind xs ys e p on q n lt =
+    elim (cases_lt n (length xs)) [
+      | inl less ↦ rw (take-append-le n xs ys (omega (arith, less))) (p n less)
+      | inr same ↦
+          let more : n ≡ length xs + (n - length xs) = omega (arith, same) in
+          let split : take n (xs ++ ys) ≡ xs ++ take (n - length xs) ys = ap (λ (k : ℕ). take k (xs ++ ys)) more ∙ take-append-add xs ys (n - length xs) in
+          let place : behind + (n - length xs) ≡ at + n = omega (arith, same, e) in
+          ap (λ (l : List ℕ). reading (tail at l)) split ∙ on (take (n - length xs) ys) ∙ q (n - length xs) (omega (arith, lt, same, length-append xs ys))
+          ∙ ap (λ (k : ℕ). failed_at A k) place
+    ]
+  where
+    failed_at : (B : Type 0) → ℕ → Result (B × Tail) Fault
+    failed_at B k = Err (at_byte 305 k)
+
 -- reading begins where it begins
 pub begins : {A : Type 0} (reading : Reading A) (old : State) → GoesOn reading old reading old
-begins reading old = record { bytes = []; took = took_nothing old.known old.offset old.failures; failures = refl; on = λ rest. refl }
+begins reading old = record { bytes = []; took = took_nothing old.known old.offset old.failures; needed = needs_none reading old.offset; failures = refl; on = λ rest. refl }
 
 -- reading goes on behind one thing
 pub passes : {A B : Type 0} (reading : Reading B) (first : Reading A) (next : A → Reading B) (x : A) (old mid new : State)
@@ -53,6 +79,7 @@ pub passes : {A B : Type 0} (reading : Reading B) (first : Reading A) (next : A 
 passes {A = A} reading first next x old mid new p q = record {
   bytes = p.bytes ++ q.bytes;
   took = took_more old mid new p.bytes q.bytes p.took q.took;
+  needed = needs_more reading (first >>= next) old.offset mid.offset p.bytes q.bytes p.took.counted p.needed p.on (needs_first first next mid.offset q.bytes q.needed);
   failures = q.failures ∙ p.failures;
   on = λ rest.
       ap (λ (bytes : List ℕ). reading (tail old.offset bytes)) (append_assoc p.bytes q.bytes rest)
@@ -61,11 +88,11 @@ passes {A = A} reading first next x old mid new p q = record {
 }
 
 -- bytes to come, where they are known
-abbrev coming_of : Option (List ℕ) → List ℕ
+abbrev pub coming_of : Option (List ℕ) → List ℕ
 coming_of None = []
 coming_of (Some bytes) = bytes
 
-is_coming : (known : Option (List ℕ)) → IfSome known (λ bytes. bytes ≡ coming_of known)
+pub is_coming : (known : Option (List ℕ)) → IfSome known (λ bytes. bytes ≡ coming_of known)
 is_coming None = tt
 is_coming (Some bytes) = refl
 
@@ -80,6 +107,7 @@ pub stops : {A B : Type 0} (reading : Reading B) (first : Reading A) (next : A �
 stops {A = A} reading first next old mid new fault p q = record {
   bytes = p.bytes ++ q.bytes;
   took = took_more old mid new p.bytes q.bytes p.took q.took;
+  needed = needs_more reading (first >>= next) old.offset mid.offset p.bytes q.bytes p.took.counted p.needed p.on (needs_first first next mid.offset q.bytes q.needed);
   failures = omega (arith, p.failures, q.failures);
   refused = λ own.
       let has = q.refused own in
@@ -99,18 +127,20 @@ pub stops_memory : {A : Type 0} (reading next : Reading A) (old mid : State) →
 stops_memory reading next old mid p = record {
   bytes = p.bytes;
   took = p.took;
+  needed = p.needed;
   failures = omega (arith, p.failures);
   refused = λ own. absurd (true≢false own);
 }
 
 -- a fault of bytes, whatever stands behind them
-pub refuses_behind : {A : Type 0} (reading : Reading A) (old new : State) (bytes : List ℕ) (code place : ℕ) → Took old new bytes → new.failures ≡ old.failures
+refuses_behind : {A : Type 0} (reading : Reading A) (old new : State) (bytes : List ℕ) (code place : ℕ) → Took old new bytes → NeedsEach reading old.offset bytes → new.failures ≡ old.failures
     → ((rest : List ℕ) → reading (tail old.offset (bytes ++ rest)) ≡ Err (at_byte code place)) → Fails reading old new (at_byte code place)
-refuses_behind reading old new bytes code place took same e =
+refuses_behind reading old new bytes code place took needed same e =
     let own : is_read_fault (at_byte code place) ≡ false = refused_place (code == 701) in
     record {
       bytes = bytes;
       took = took;
+      needed = needed;
       failures = rw own (omega arith);
       refused = λ _.
           let found : HasFault reading old new bytes (at_byte code place) = record {
@@ -126,7 +156,15 @@ pub refuses : {A : Type 0} (reading next : Reading A) (old new : State) (code pl
     → ((rest : List ℕ) → next (tail new.offset rest) ≡ Err (at_byte code place))
     → Fails reading old new (at_byte code place)
 refuses reading next old new code place p e =
-    refuses_behind reading old new p.bytes code place p.took p.failures (λ rest. p.on rest ∙ e rest)
+    refuses_behind reading old new p.bytes code place p.took p.needed p.failures (λ rest. p.on rest ∙ e rest)
+
+-- a field needs each of its bytes
+pub field_needs : (size at : ℕ) (bytes : List ℕ) → length bytes ≤ size → NeedsEach (field size) at bytes
+unfolding field
+field_needs size at bytes few n lt =
+    let long : length (take n bytes) ≡ n = length-take-le n bytes (omega (arith, lt)) in
+    let short : nat_lt n size ≡ true = lt-ltb _ _ (omega (arith, lt, few)) in
+    rw (long, short) refl
 
 -- as many bytes as a field has
 pub field_taken : (size : ℕ) (old new : State) (bytes : List ℕ) → Took old new bytes → new.failures ≡ old.failures → length bytes ≡ size
@@ -135,6 +173,7 @@ unfolding field
 field_taken size old new bytes took same whole = record {
   bytes = bytes;
   took = took;
+  needed = field_needs size old.offset bytes (omega (arith, whole));
   failures = same;
   on = λ rest.
       let long : nat_lt (length (bytes ++ rest)) size ≡ false = le-ltb _ _ (omega (arith, length-append bytes rest)) in
@@ -154,6 +193,7 @@ unfolding field
 field_ended size old known offset failures bytes took same short ended = record {
   bytes = bytes;
   took = took;
+  needed = field_needs size old.offset bytes (omega (arith, short));
   failures = omega arith;
   refused = λ _.
       let few : nat_lt (length (bytes ++ [])) size ≡ true = lt-ltb _ _ (omega (arith, length-append {A = ℕ} bytes [])) in
@@ -164,6 +204,17 @@ field_ended size old known offset failures bytes took same short ended = record 
         gives = rw (few, e) refl;
       } in
       found;
+}
+
+-- a read failed before a field was whole
+pub field_failed : (size : ℕ) (old new : State) (bytes : List ℕ) → Took old new bytes → new.failures ≡ old.failures + 1 → length bytes ≤ size
+    → Fails (field size) old new (nowhere 701)
+field_failed size old new bytes took failed few = record {
+  bytes = bytes;
+  took = took;
+  needed = field_needs size old.offset bytes few;
+  failures = failed;
+  refused = λ own. absurd (true≢false own);
 }
 
 -- the front of a buffer, after a read into the rest of it
@@ -185,7 +236,7 @@ took_into a b c filled n xs ys within few p q =
 judged_begins : {A : Type 0} (size : ℕ) (says : List ℕ → Result A ℕ) (old : State)
     → GoesOn (judged size says) old (field size >>= λ bytes. said_at old.offset (says bytes)) old
 unfolding judged
-judged_begins size says old = record { bytes = []; took = took_nothing old.known old.offset old.failures; failures = refl; on = λ rest. refl }
+judged_begins size says old = record { bytes = []; took = took_nothing old.known old.offset old.failures; needed = needs_none (judged size says) old.offset; failures = refl; on = λ rest. refl }
 
 pub judged_stops : {A : Type 0} (size : ℕ) (says : List ℕ → Result A ℕ) (old new : State) (fault : Fault) → Fails (field size) old new fault
     → Fails (judged size says) old new fault

@@ -71,12 +71,19 @@ pub record Took (old new : State) (bytes : List ℕ) : Type 0 where
   pub counted : new.offset ≡ old.offset + length bytes
   pub each : AreBytes bytes
 
--- Bytes were taken of a source, with no failed read, and reading goes on behind them, whatever
--- stands there.
+-- Reading needs each of these bytes: where only some of them, the first ones, are there, they end
+-- too early.
+abbrev pub NeedsEach : {A : Type 0} → Reading A → ℕ → List ℕ → Type 0
+NeedsEach reading at bytes =
+    (n : ℕ) → n < length bytes → reading (tail at (take n bytes)) ≡ Err (at_byte 305 (at + n))
+
+-- Bytes were taken of a source, none that reading doesn't need, with no failed read, and reading
+-- goes on behind them, whatever stands there.
 pub record GoesOn {A : Type 0} (reading : Reading A) (old : State)
     (next : Reading A) (new : State) : Type 0 where
   pub bytes : List ℕ
   pub took : Took old new bytes
+  pub needed : NeedsEach reading old.offset bytes
   pub failures : new.failures ≡ old.failures
   pub on : (rest : List ℕ) → reading (tail old.offset (bytes ++ rest)) ≡ next (tail new.offset rest)
 
@@ -92,13 +99,23 @@ pub record HasFault {A : Type 0} (reading : Reading A) (old new : State)
 abbrev pub failed_reads : Fault → ℕ
 failed_reads fault = if is_read_fault fault then 1 else 0
 
--- Bytes were taken of a source, and a fault was answered: that of a failed read, want of memory, or
--- the one that reading gives.
+-- Bytes were taken of a source, none that reading doesn't need, and a fault was answered: that of a
+-- failed read, want of memory, or the one that reading gives.
 pub record Fails {A : Type 0} (reading : Reading A) (old new : State) (fault : Fault) : Type 0 where
   pub bytes : List ℕ
   pub took : Took old new bytes
+  pub needed : NeedsEach reading old.offset bytes
   pub failures : new.failures ≡ old.failures + failed_reads fault
   pub refused : is_input_fault fault ≡ false → HasFault reading old new bytes fault
+
+-- A fault was answered where the end is wanted: that of a failed read, want of memory, or 309, once
+-- one byte was taken, at that byte.
+pub record HasByteMore (old new : State) (fault : Fault) : Type 0 where
+  pub bytes : List ℕ
+  pub took : Took old new bytes
+  pub failures : new.failures ≡ old.failures + failed_reads fault
+  pub refused : is_input_fault fault ≡ false
+      → (length bytes ≡ 1) × (fault ≡ at_byte 309 old.offset)
 
 -- What a call took of a source says what the call answered, seen by view, whatever stands behind
 -- it; or it has the fault that the call answered.

@@ -1,8 +1,9 @@
 -- What a reader of a table file knows, and what the bytes that came so far say.
-use Rattle.std.specs.Prelude.{◌≡◌, ℕ, ◌-◌, false, List, [], ◌∷◌, ◌++◌, ◌+◌, length, min, Option, Some, None, IfSome, IfOk, IfErr, Result, Ok, Err}
+use Rattle.std.specs.Prelude.{◌≡◌, ℕ, ◌-◌, false, List, [], ◌∷◌, ◌++◌, ◌+◌, ◌<◌, ◌⊎◌, length, take, min, Option, Some, None, IfSome, IfOk, IfErr, Result, Ok, Err}
 use Rattle.std.specs.Io.KnownBytes.{IsAtEnd}
 use Rattle.bw_model.specs.declared.fault.Fault.{Fault}
 use Rattle.bw_model.specs.declared.schema.Schema.{Schema}
+use Rattle.bw_model.specs.Fault.{at_byte}
 use Rattle.bw_model.specs.Groups.{group_size, groups_of, together}
 use Rattle.bw_model.specs.Row.{Value}
 use Rattle.bw_model.specs.SchemaText.{schema_shape}
@@ -60,10 +61,9 @@ header_told version reader =
 -- groups of rows; reading goes on with those that are left, whatever stands there.
 pub record SoFar (start now : State) (reader : TableReader)
     (groups : List (List (List Value))) : Type 0 where
-  pub version : ℕ
   pub behind : State
   pub first : start.offset ≡ 0
-  pub head : GoesOn header start (give (header_told version reader)) behind
+  pub head : GoesOn header start (give (header_told (version_in reader) reader)) behind
   pub on : GoesOn
       (body reader.layout reader.shape.value.schema.columns.items
       (group_sizes reader.rows) []) behind
@@ -72,6 +72,7 @@ pub record SoFar (start now : State) (reader : TableReader)
 
 -- the reader tells of the same table
 pub record SameTable (old new : TableReader) : Type 0 where
+  pub version : new.version ≡ old.version
   pub layout : new.layout ≡ old.layout
   pub schema : new.shape.value.schema ≡ old.shape.value.schema
   pub rows : new.rows ≡ old.rows
@@ -89,8 +90,17 @@ pub record ReadWhole (start now : State) (found : Found) : Type 0 where
   pub ended : IsAtEnd now.known
   pub read : IsReadAs bytes (Ok found)
 
--- bytes and some behind them, which are those to come where they are known, are read as this fault
+-- so many of the bytes, the first ones, don't have this fault: they end too early; or they are a
+-- table's, and it is a byte behind them
+abbrev pub LacksFault : List ℕ → ℕ → Fault → Type 0
+LacksFault bytes n fault =
+    IsReadAs (take n bytes) (Err (at_byte 305 n))
+    ⊎ ((found : Found) × IsReadAs (take n bytes) (Ok found) × (fault ≡ at_byte 309 n))
+
+-- bytes, none of which could be spared, and some behind them, which are those to come where they
+-- are known, are read as this fault
 pub record HasFirstFault (now : State) (bytes : List ℕ) (fault : Fault) : Type 0 where
+  pub needed : (n : ℕ) → n < length bytes → LacksFault bytes n fault
   pub rest : List ℕ
   pub coming : IfSome now.known (λ known. known ≡ rest)
   pub read : IsReadAs (bytes ++ rest) (Err fault)
@@ -127,6 +137,12 @@ Settles (Ok (Some segment)) next = next ≡ None
 Settles (Ok None) next = next ≡ Some (Ok tt)
 Settles (Err fault) next = next ≡ Some (Err fault)
 
+-- how many rows a call that answered this gave
+abbrev pub rows_answered : Result (Option AnySegment) Fault → ℕ
+rows_answered (Ok (Some segment)) = length (any_meaning segment).rows
+rows_answered (Ok None) = 0
+rows_answered (Err fault) = 0
+
 -- a call answered what was settled
 abbrev pub Repeats : Result (Option AnySegment) Fault → Result (Unit {0}) Fault → Type 0
 Repeats result (Ok x) = result ≡ Ok None
@@ -156,6 +172,7 @@ pub record GivesNext {S : Type 0} (source next_source : S) (old now : State)
   pub refused : IfErr result
       (λ fault. settled reader ≡ None → (start : State) (groups : List (List (List Value)))
       → SoFar start old reader groups → AnswersFault start old now fault)
+  pub counted : rows_given next ≡ rows_given reader + rows_answered result
   pub read : settled reader ≡ None → DidRead old now result
   pub settles : Settles result (settled next)
   pub repeats : (answer : Result (Unit {0}) Fault) → settled reader ≡ Some answer

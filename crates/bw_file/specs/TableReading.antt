@@ -1,8 +1,8 @@
 -- What the bytes of a table file say, or the first fault in them: field by field, and then block by
 -- block.
-use Rattle.std.specs.Prelude.{◌≡◌, ℕ, ℤ, zero, suc, ◌+◌, ◌-◌, min, replicate, Bool, true, false, ◌||◌, not, List, [], ◌∷◌, ◌++◌, length, take, drop, slice_index, Option, Some, None, Result, Ok, Err, if◌then◌else◌, ◌==◌, nat_lt}
-use Rattle.std.specs.Int.{w16, w32, w64, from_le_bytes, cast_signed}
-use Rattle.std.specs.List.{list_any}
+use Rattle.std.specs.Prelude.{◌≡◌, ℕ, ℤ, zero, suc, ◌+◌, ◌-◌, ◌*◌, ◌%◌, min, Bool, true, false, ◌&&◌, ◌||◌, not, List, [], ◌∷◌, ◌++◌, length, take, drop, slice_index, Option, Some, None, Result, Ok, Err, if◌then◌else◌, ◌==◌, nat_lt, nat_le}
+use Rattle.std.specs.Int.{w16, w32, w64, bit_at, from_le_bytes, cast_signed}
+use Rattle.std.specs.List.{list_any, range_with_len}
 use Rattle.std.specs.Str.{bytes_eq}
 use Rattle.bw_model.specs.declared.column.Column.{Column}
 use Rattle.bw_model.specs.declared.fault.Fault.{Fault}
@@ -14,6 +14,7 @@ use Rattle.bw_model.specs.Name.{is_name}
 use Rattle.bw_model.specs.Row.{Value}
 use Rattle.bw_model.specs.SchemaText.{ColumnShape, SchemaShape, shape, shape_names, schema_shape}
 use Rattle.bw_model.specs.Text.{same_text}
+use Rattle.bw_segment.specs.Layout.{null_size}
 use Rattle.bw_file.specs.declared.fields.Bounds.{Bounds}
 use Rattle.bw_file.specs.declared.layout.Layout.{Layout}
 use Rattle.bw_file.specs.declared.layout.Layout.TheVariants.{Planes, Slices}
@@ -133,27 +134,33 @@ header =
     columns first.version [] first.columns >>= λ found.
     give (header_of first text found)
 
--- the front of a block, with zeros in the place of the bytes behind it
-abbrev pub front_of_block : List ℕ → ℕ → List ℕ
-front_of_block block size = take size block ++ replicate (length block - size) 0
+-- In the byte of a plane at this place a bit of a row from this one on is 1: the byte has the bits of
+-- eight rows, the first one's in its least bit.
+unfoldable pub plane_has_padding : ℕ → ℕ → ℕ → Bool
+plane_has_padding rows place byte =
+    list_any (λ bit. nat_le rows (8 * place + bit) && (bit_at byte bit == 1)) (range_with_len 0 8)
 
-abbrev pub is_padding : Option ℕ → Bool
-is_padding None = false
-is_padding (Some code) = code == 308
+-- So it is in the byte of a block at this place, counted from the block's start: planes have 64
+-- bytes each, and slices, behind the null plane, 512 each, one a row.
+unfoldable pub has_padding : Layout → List Column → ℕ → ℕ → ℕ → ℕ → Bool
+has_padding Planes schema rows number place byte = plane_has_padding rows (place % 64) byte
+has_padding Slices schema rows number place byte =
+    let nulls = null_size schema number in
+    if nat_lt place nulls then plane_has_padding rows place byte
+    else nat_le rows ((place - nulls) % 512) && not (byte == 0)
 
--- the first of so many bytes of a block, from this one on, with a bit of a padding row: the front
--- of the block that ends with it is the first with that fault
-unfoldable pub padding_from : Layout → List Column → ℕ → ℕ → List ℕ → ℕ → ℕ → ℕ
-padding_from layout schema rows number block at zero = at
-padding_from layout schema rows number block at (suc more) =
-    if is_padding (block_fault layout schema number rows (front_of_block block (at + 1))) then at
-    else padding_from layout schema rows number block (at + 1) more
+-- the first such byte among these, the first of which is at this place
+unfoldable pub padding_from : Layout → List Column → ℕ → ℕ → List ℕ → ℕ → ℕ
+padding_from layout schema rows number [] at = at
+padding_from layout schema rows number (byte ∷ bytes) at =
+    if has_padding layout schema rows number at byte then at
+    else padding_from layout schema rows number bytes (at + 1)
 
 -- where the fault of a block stands in it: 308 at the first byte with a bit of a padding row,
 -- another at the first byte
 unfoldable pub fault_place : Layout → List Column → ℕ → ℕ → List ℕ → ℕ → ℕ
 fault_place layout schema rows number block code =
-    if code == 308 then padding_from layout schema rows number block 0 (length block) else 0
+    if code == 308 then padding_from layout schema rows number block 0 else 0
 
 -- a block, unless it has a fault
 abbrev pub sound_at : ℕ → Layout → List Column → ℕ → ℕ → List ℕ → Option ℕ → Reading (List ℕ)

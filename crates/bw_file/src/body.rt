@@ -5,8 +5,8 @@ ghost use Rattle.std.specs.Io.KnownBytes.{IsAtEnd};
 ghost use Rattle.bw_model.specs.Groups.{group_size};
 ghost use Rattle.bw_file.specs.AnySegment.{any_meaning};
 ghost use Rattle.bw_file.specs.Blocks.{block_size, block_fault, bytes_before, segment_size, IsSound};
-ghost use Rattle.bw_file.specs.Reading.{Reads, Fails, Took, state};
-ghost use Rattle.bw_file.specs.TableReading.{is_padding, padding_from, fault_place, one_block, blocks, segment, end};
+ghost use Rattle.bw_file.specs.Reading.{Reads, HasByteMore, Took, state};
+ghost use Rattle.bw_file.specs.TableReading.{plane_has_padding, has_padding, padding_from, fault_place, one_block, blocks, segment};
 
 use crate::layout::Layout;
 use crate::segments::{AnySegment, block_size, judge, segment_size};
@@ -17,8 +17,8 @@ use bw_segment::Shape;
 use std::rc::Rc;
 
 /// Reads a segment of so many rows into memory that was used before: a block at a time, each of
-/// which is judged before the next is taken. Faults at the first byte of a block: 308, 307, 306;
-/// and 305 at the end of the file.
+/// which is judged before the next is taken. Faults: 308 at the first byte with a bit of a padding
+/// row; 307, 306 at the first byte of a block; and 305 at the end of the file.
 pub(crate) fn read_segment<S: Source>(
     source: &mut S,
     offset: &mut u64,
@@ -140,8 +140,6 @@ fn fault_place(
     code: u16,
 ) -> usize
     requires column { col < length shape.now.schema.columns.items }
-    requires rows { rows ≤ group_size }
-    requires size { length block.now ≡ block_size layout shape.now.schema.columns.items col }
     requires small { length block.now ≤ 4160 }
     ensures place { result
         ≡ fault_place layout shape.now.schema.columns.items rows col block.now code }
@@ -154,37 +152,52 @@ fn fault_place(
     }
 }
 
-/// The first byte of a block with a bit of a padding row: the front of the block that ends with it
-/// is the first with that fault, zeros standing behind it.
+/// The first byte of a block with a bit of a padding row.
 fn padding_place(layout: Layout, shape: &Shape, col: usize, rows: u32, block: &[u8]) -> usize
     requires column { col < length shape.now.schema.columns.items }
-    requires rows { rows ≤ group_size }
-    requires size { length block.now ≡ block_size layout shape.now.schema.columns.items col }
     requires small { length block.now ≤ 4160 }
     ensures place { result
-        ≡ padding_from layout shape.now.schema.columns.items rows col
-        block.now 0 (length block.now) }
+        ≡ padding_from layout shape.now.schema.columns.items rows col block.now 0 }
     ensures within { result ≤ 4160 }
 {
-    let mut room = [0; 4160];
-    let front = &mut room[..block.len()];
     for at in 0..block.len() {
-        front[at] = block[at];
-        if is_padding(judge(layout, shape, col, rows, front)) {
+        if has_padding(layout, shape, col, rows, at, block[at]) {
             return at;
         }
     }
     block.len()
 }
 
-/// Whether a block's fault is a bit of a padding row.
-fn is_padding(fault: Option<u16>) -> bool
-    ensures { result ≡ is_padding fault }
+/// Whether the byte of a block at this place has a bit of a padding row.
+#[tactic(auto, unfolding(crate::specs::TableReading::has_padding))]
+fn has_padding(layout: Layout, shape: &Shape, col: usize, rows: u32, at: usize, byte: u8) -> bool
+    requires { col < length shape.now.schema.columns.items }
+    ensures { result ≡ has_padding layout shape.now.schema.columns.items rows col at byte }
 {
-    match fault {
-        None => false,
-        Some(code) => code == code::PADDING,
+    match layout {
+        Layout::Planes => plane_has_padding(rows, at % 64, byte),
+        Layout::Slices => {
+            let nulls = shape.null_size(col);
+            if at < nulls {
+                plane_has_padding(rows, at, byte)
+            } else {
+                rows as usize <= (at - nulls) % 512 && byte != 0
+            }
+        }
     }
+}
+
+/// Whether the byte of a plane at this place has a bit of a padding row.
+fn plane_has_padding(rows: u32, at: usize, byte: u8) -> bool
+    requires { at < 64 }
+    ensures { result ≡ plane_has_padding rows at byte }
+{
+    for bit in 0..8 {
+        if rows as usize <= 8 * at + bit && (byte >> bit) % 2 == 1 {
+            return true;
+        }
+    }
+    false
 }
 
 /// Asks for one byte more, behind the last block: a byte that comes is 309.
@@ -196,7 +209,7 @@ pub(crate) fn read_end<S: Source>(source: &mut S, offset: &mut u64) -> Result<()
         (state (S.to_come source.old) offset.old (S.failures source.old))
         (state (S.to_come source.new) offset.new (S.failures source.new)) []) }
     ensures failures { OnOk result (S.failures source.new ≡ S.failures source.old) }
-    ensures refused { IfErr result (λ fault. Fails end
+    ensures refused { IfErr result (λ fault. HasByteMore
         (state (S.to_come source.old) offset.old (S.failures source.old))
         (state (S.to_come source.new) offset.new (S.failures source.new)) fault) }
 {

@@ -177,7 +177,8 @@ pub(crate) fn block_size(layout: Layout, shape: &Shape, col: usize) -> usize
 /// How many bytes a segment takes.
 #[tactic(auto, unfolding(crate::specs::Blocks::form_of))]
 pub(crate) fn segment_size(layout: Layout, shape: &Shape) -> usize
-    ensures { result ≡ segment_size layout shape.now.schema.columns.items }
+    ensures size { result ≡ segment_size layout shape.now.schema.columns.items }
+    ensures small { result ≤ 266240 }
 {
     match layout {
         Layout::Planes => PlaneSegment::segment_size(shape),

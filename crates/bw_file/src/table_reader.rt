@@ -7,7 +7,7 @@ use crate::body::{read_end, read_segment};
 use crate::header::{Header, read_header};
 use crate::layout::Layout;
 use crate::phase::Phase;
-use crate::segments::{AnySegment, block_size};
+use crate::segments::{AnySegment, segment_size};
 use bw_device::Source;
 use bw_model::{Fault, Schema};
 use bw_segment::{Segment, Shape};
@@ -81,10 +81,11 @@ impl TableReader {
     }
 
     /// The next segment, of 512 rows or, the last one, of fewer; or None behind the last one, where
-    /// the source has ended. Takes a block at a time, and judges it before the next: 308, 307, 306
-    /// at the block's first byte, 305 at the end of a file that ends before, 309 at a byte behind
-    /// the last block, or 701. From None on it answers None, and from a fault on, want of memory
-    /// too, that fault, and takes nothing.
+    /// the source has ended. Takes a block at a time, and judges it before the next: 308 at the
+    /// first byte with a bit of a padding row, 307, 306 at the block's first byte, 305 at the end of
+    /// a file that ends before, 309 at a byte behind the last block, or 701; and no byte that isn't
+    /// needed to tell. From None on it answers None, and from a fault on, want of memory too, that
+    /// fault, and takes nothing.
     pub fn next_segment<S: Source>(&mut self, source: &mut S) -> Result<Option<AnySegment>, Fault>
         requires { S.failures source.old < 2 ^ 64 - 1 }
         ensures { GivesNext source.old source.new
@@ -210,6 +211,7 @@ impl TableReader {
         self.version
     }
 
+    /// How the file keeps its segments.
     pub fn layout(&self) -> Layout
         ensures { result ≡ layout_in self.now }
     {
@@ -221,12 +223,7 @@ impl TableReader {
         ensures size { result ≡ segment_size (layout_in self.now) (schema_in self.now).columns.items }
         ensures small { result ≤ 266240 }
     {
-        let shape = &self.shape;
-        let mut size = 0;
-        for col in 0..shape.schema.columns.len() {
-            size += block_size(self.layout, shape, col);
-        }
-        size
+        segment_size(self.layout, &self.shape)
     }
 
     /// How many bytes it took.

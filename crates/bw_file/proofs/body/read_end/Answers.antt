@@ -1,4 +1,4 @@
-use Rattle.std.proofs.Common.{rules, ◌+◌, arith, take}
+use Rattle.std.proofs.Common.{◌+◌, arith, take}
 use Rattle.bw_file.specs.Reading.{state, Took}
 use Rattle.bw_file.proofs.BodyLemmas.{end_refused}
 use Rattle.bw_file.proofs.ReadingLemmas.{front_bytes}

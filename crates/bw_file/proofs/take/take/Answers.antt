@@ -1,7 +1,8 @@
-use Rattle.std.proofs.Common.{rules, ◌≡◌, ◌+◌, ◌++◌, ◌∙◌, take, arith, length-take, length-append}
-use Rattle.std.proofs.lemmas.List.{take_all}
+use Rattle.std.proofs.Common.{◌≡◌, ◌+◌, ◌++◌, ◌∙◌, take, arith, length-take, length-append}
+use Rattle.std.proofs.KnownBytes.{Consumes-kept}
+use Rattle.std.proofs.lemmas.List.{length-take-le, take_all}
 use Rattle.bw_file.specs.Reading.{state, Took}
-use Rattle.bw_file.proofs.ReadingLemmas.{front_bytes, took_more, took_into, field_taken, field_ended}
+use Rattle.bw_file.proofs.ReadingLemmas.{front_bytes, took_more, took_into, field_taken, field_ended, field_failed}
 use Rattle.bw_file.proofs.take.take.Goals as goal
 
 -- a read of nothing is the end
@@ -33,3 +34,12 @@ pub returns-clause-reads : goal.returns-clause-reads
 returns-clause-reads g c =
     let whole : take c.loop-filled.filled c.loop-filled.buffer ≡ c.loop-filled.buffer = take_all _ _ (omega arith) in
     field_taken _ _ _ c.loop-filled.buffer (rw whole at c.loop-filled.invariant.came) c.loop-filled.invariant.count (omega arith)
+
+-- a failed read takes nothing
+pub returns-in-Err-clause-reads : goal.returns-in-Err-clause-reads
+returns-in-Err-clause-reads g c =
+    let came = c.loop-filled.invariant.came in
+    let kept : Took (state (g.S.Source.to_come c.args.source.now) c.args.offset.now (g.S.Source.failures c.args.source.now))
+    (state (g.S.Source.to_come c.read.new.self) c.loop-filled.offset (g.S.Source.failures c.read.new.self))
+    (take c.loop-filled.filled c.loop-filled.buffer) = record { consumed = Consumes-kept _ _ _ _ came.consumed c.in-Err.ensures.bytes; counted = came.counted; each = came.each } in
+    rw c.new.ensures (field_failed _ _ _ (take c.loop-filled.filled c.loop-filled.buffer) kept (omega (arith, c.in-Err.ensures.count, c.loop-filled.invariant.count)) (omega (arith, length-take-le c.loop-filled.filled c.loop-filled.buffer (omega arith))))
