@@ -1,5 +1,5 @@
 -- Where a call over a table file ends: at the header, at what is asked, at a segment, or when the text goes out.
-use Rattle.std.proofs.Common.{◌≡◌, ◌∙◌, ℕ, ◌+◌, List, [], ◌++◌, Bool, true, false, ◌||◌, ◌==◌, inl, inr, Option, Some, None, Result, Ok, Err, refl, sym, ap, subst, arith}
+use Rattle.std.proofs.Common.{◌≡◌, ◌∙◌, ℕ, ◌+◌, List, ◌++◌, Bool, true, false, ◌||◌, ◌==◌, inl, inr, Option, Some, None, Result, Ok, Err, refl, sym, ap, subst, arith}
 use Rattle.std.specs.Prelude.{OnOk}
 use Rattle.std.specs.Io.KnownBytes.{Appends, Consumes, IsAtEnd, Keeps}
 use Rattle.std.proofs.lemmas.Bool.{eqb-true}
@@ -13,9 +13,9 @@ use Rattle.bw_model.specs.Row.{Value}
 use Rattle.bw_device.specs.Sink.{GoesOut, is_write_fault}
 use Rattle.bw_device.specs.Source.{is_input_fault, is_read_fault}
 use Rattle.bw_file.specs.FileText.{IsFileText}
-use Rattle.bw_file.specs.Reading.{State, Fails, failed_reads}
+use Rattle.bw_file.specs.Reading.{State, Fails, GoesOn, failed_reads, give}
 use Rattle.bw_file.specs.TableReading.{header}
-use Rattle.bw_file.specs.TableReader.{AnswersFault, SoFar, schema_in, header_told}
+use Rattle.bw_file.specs.TableReader.{AnswersFault, schema_in, version_in, header_told}
 use Rattle.bw_file.specs.declared.table_reader.TableReader.{TableReader}
 use Rattle.bw_file.proofs.FileSpelling.{read_is_spelled_by}
 use Rattle.bw_query.specs.TableAnswer.{AnswersFile, HeaderRead, TableGave, TableText, Wrote, is_no_verdict}
@@ -28,55 +28,55 @@ Given = Result (List ℕ) Fault
 
 -- a source gave this, and what is given for it went W
 abbrev pub Ends : (Schema → Result Query Fault → Type 0) → State → (ℕ → State) → (Given → Type 0) → Type 0
-Ends asks start now W = (offset : ℕ) × (given : Given) × TableGave asks start (now offset) given × W given
+Ends asks start now W = (offset : ℕ) × (given : Result (List ℕ) Fault) × TableGave asks start (now offset) given × W given
 
--- the header that a reader told
-head_of : (start now : State) (reader : TableReader) → SoFar start now reader [] → (behind : State) × HeaderRead start behind (schema_in reader)
-head_of start now reader read = (read.behind, record { told = header_told read.version reader; read = read.head; shape = refl })
+-- a reader tells of the header that it read
+abbrev pub Told : State → State → TableReader → Type 0
+Told start behind reader = GoesOn header start (give (header_told (version_in reader) reader)) behind
+
+head_of : (start behind : State) (reader : TableReader) → Told start behind reader → HeaderRead start behind (schema_in reader)
+head_of start behind reader told = record { told = header_told (version_in reader) reader; read = told; shape = refl }
 
 -- the header was refused
 pub header_exit : (asks : Schema → Result Query Fault → Type 0) (start : State) (now : ℕ → State) (W : Given → Type 0) (fault : Fault)
     → ((offset : ℕ) × Fails header start (now offset) fault) → W (Err fault) → Ends asks start now W
 header_exit asks start now W fault fails w =
     let given : Given = Err fault in
-    (fails.0, given, record { failures = fails.1.failures; answer = λ own. inl fails.1 }, w)
+    (fails.0, given, record { failures = fails.1.failures; answer = λ other. inl fails.1 }, w)
 
 -- what is asked was refused
 pub asked_exit : (asks : Schema → Result Query Fault → Type 0) (start : State) (now : ℕ → State) (offset : ℕ) (W : Given → Type 0) (reader : TableReader) (fault : Fault)
-    → SoFar start (now offset) reader [] → (now offset).failures ≡ start.failures → failed_reads fault ≡ 0
-    → (is_input_fault fault ≡ false → asks (schema_in reader) (Err fault)) → W (Err fault) → Ends asks start now W
-asked_exit asks start now offset W reader fault read failures none asked w =
-    let given : Given = Err fault in
-    let head = head_of start (now offset) reader read in (
+    → Told start (now offset) reader → failed_reads fault ≡ 0 → (is_memory fault ≡ false → asks (schema_in reader) (Err fault)) → W (Err fault)
+    → Ends asks start now W
+asked_exit asks start now offset W reader fault told none asked w =
+    let given : Given = Err fault in (
       offset,
       given,
       record {
-        failures = omega (arith, failures, none);
-        answer = λ own. inr (inl (record { schema = schema_in reader; behind = head.0; head = head.1; asked = asked own }));
+        failures = omega (arith, told.failures, none);
+        answer = λ other. inr (inl (record { schema = schema_in reader; head = head_of start (now offset) reader told; asked = asked other }));
       },
       w,
     )
 
--- a segment was refused
+-- a segment was refused, or a read of one failed
 pub segment_exit : (asks : Schema → Result Query Fault → Type 0) (start : State) (now : ℕ → State) (old : State) (offset : ℕ) (W : Given → Type 0) (reader : TableReader) (query : Query) (fault : Fault)
-    → SoFar start old reader [] → old.failures ≡ start.failures → asks (schema_in reader) (Ok query) → AnswersFault start old (now offset) fault
-    → W (Err fault) → Ends asks start now W
-segment_exit asks start now old offset W reader query fault read failures asked answers w =
-    let given : Given = Err fault in
-    let head = head_of start old reader read in (
+    → Told start old reader → asks (schema_in reader) (Ok query) → AnswersFault start old (now offset) fault → W (Err fault) → Ends asks start now W
+segment_exit asks start now old offset W reader query fault told asked answers w =
+    let given : Given = Err fault in (
       offset,
       given,
       record {
-        failures = answers.failures ∙ ap (λ (n : ℕ). n + failed_reads fault) failures;
-        answer = λ own. inr (inr (record {
+        failures = answers.failures ∙ ap (λ (n : ℕ). n + failed_reads fault) told.failures;
+        answer = λ other. inr (inr (record {
           schema = schema_in reader;
           query = query;
-          behind = head.0;
-          head = head.1;
+          behind = old;
+          head = head_of start old reader told;
           asked = asked;
           bytes = answers.bytes;
           took = answers.took;
-          first = answers.first own;
+          first = answers.first;
         }));
       },
       w,
@@ -183,14 +183,6 @@ no_failed_read allowed fault is none = by_code (fault.code == 701) refl
     by_code : (b : Bool) → (fault.code == 701) ≡ b → failed_reads fault ≡ 0
     by_code true e = absurd (cc (sym is ∙ ap (λ code. allowed (record { code = code; place = fault.place })) (eqb-true fault.code 701 e) ∙ none))
     by_code false e = rw e refl
-
--- a fault that is neither a failed read nor want of memory is no want of memory
-pub own_fault : (fault : Fault) → is_input_fault fault ≡ false → is_memory fault ≡ false
-own_fault fault own = either (is_memory fault) (is_read_fault fault) own
-  where
-    either : (a b : Bool) → (a || b) ≡ false → a ≡ false
-    either true b e = absurd (cc e)
-    either false b e = refl
 
 -- a failed read and want of memory are no verdicts
 pub input_verdict : (fault : Fault) → is_input_fault fault ≡ true → is_no_verdict fault ≡ true

@@ -59,7 +59,7 @@ later_answers start first old now fault same answers = record {
 }
 
 pub same_table : (a b c : TableReader) → SameTable a b → SameTable b c → SameTable a c
-same_table a b c p q = record { layout = q.layout ∙ p.layout; schema = q.schema ∙ p.schema; rows = q.rows ∙ p.rows }
+same_table a b c p q = record { version = q.version ∙ p.version; layout = q.layout ∙ p.layout; schema = q.schema ∙ p.schema; rows = q.rows ∙ p.rows }
 
 -- a count over the groups so far, and over one more
 pub one_more : (count : List (List Value) → ℕ) (groups : List (List (List Value))) (rows : List (List Value)) (so_far next : ℕ)

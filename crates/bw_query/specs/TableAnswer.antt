@@ -61,14 +61,14 @@ pub record AnswersFile (asks : Schema → Result Query Fault → Type 0) (bytes 
 abbrev pub group_count : List (List Value) → ℕ
 group_count rows = length (groups_of rows)
 
--- what is asked was refused, once the header was read
-pub record AskedRefused (asks : Schema → Result Query Fault → Type 0) (start : State) (fault : Fault) : Type 0 where
+-- the header was read and nothing behind it, and what is asked was refused
+pub record AskedRefused (asks : Schema → Result Query Fault → Type 0) (start now : State) (fault : Fault) : Type 0 where
   pub schema : Schema
-  pub behind : State
-  pub head : HeaderRead start behind schema
+  pub head : HeaderRead start now schema
   pub asked : asks schema (Err fault)
 
--- the header was read and what is asked is a query, and then the file has its first fault behind the header
+-- the header was read and what is asked is a query, and then a read failed, or the file has its first fault behind the
+-- header
 pub record SegmentRefused (asks : Schema → Result Query Fault → Type 0) (start now : State) (fault : Fault) : Type 0 where
   pub schema : Schema
   pub query : Query
@@ -77,14 +77,14 @@ pub record SegmentRefused (asks : Schema → Result Query Fault → Type 0) (sta
   pub asked : asks schema (Ok query)
   pub bytes : List ℕ
   pub took : Took start now bytes
-  pub first : HasFirstFault now bytes fault
+  pub first : is_input_fault fault ≡ false → HasFirstFault now bytes fault
 
 -- What is asked of a table file is answered by this text, or by the first fault in the order of the header, what is
--- asked, and the segments; failed reads and want of memory aside.
+-- asked, and the segments; a failed read is answered in its place in that order, and want of memory stands aside.
 abbrev pub IsTableAnswer : (Schema → Result Query Fault → Type 0) → State → State → Result (List ℕ) Fault → Type 0
 IsTableAnswer asks start now (Ok text) = TableText asks start now text
 IsTableAnswer asks start now (Err fault) =
-    is_input_fault fault ≡ false → Fails header start now fault ⊎ AskedRefused asks start fault ⊎ SegmentRefused asks start now fault
+    is_memory fault ≡ false → Fails header start now fault ⊎ AskedRefused asks start now fault ⊎ SegmentRefused asks start now fault
 
 -- so it is by what a source gave, whose failures rose where a failed read is answered
 pub record TableGave (asks : Schema → Result Query Fault → Type 0) (start now : State) (given : Result (List ℕ) Fault) : Type 0 where

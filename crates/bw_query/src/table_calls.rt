@@ -25,7 +25,7 @@ use crate::scan::{Scan, scan_for};
 use crate::served::{Served, served_by};
 use crate::table_text::table_text;
 use bw_device::{Sink, Source, write_whole};
-use bw_file::{TableReader, a_file_text_is_read_whole, bytes_were_taken};
+use bw_file::{TableReader, a_file_text_is_read_whole};
 use bw_model::{Cond, Fault, Item, Query, Schema};
 use bw_sql::{one_query_of_a_text, parse, schemas_of_one_shape};
 use std::alloc::Global;
@@ -36,10 +36,11 @@ use std::alloc::Global;
 /// row. Tells how the query was served, with the loads and skips of the program's runs.
 ///
 /// Refuses in this order: the file's header (301 to 305, 310), the statement (401 to 408), the program file (508, 501 to
-/// 507, 605, 601 to 604 and 606 to 610), the file's segments (305 to 309) and the sink (702); 701 where a read fails, and
-/// want of memory (801) wherever it comes. Nothing is written before the last segment was found good and the file has
-/// ended. One segment is in memory, and the answer's text. That each device's count of failures can rise is the caller's
-/// condition.
+/// 507, 605, 601 to 604 and 606 to 610), the file's segments (305 to 309) and the sink (702); a failed read (701) in the
+/// place of what was to be read, and want of memory (801) wherever it comes. Nothing behind the header is read before the
+/// statement and the program file are accepted, and nothing is written before the last segment was found good and the file
+/// has ended. One segment is in memory, and the answer's text. That each device's count of failures can rise is the
+/// caller's condition.
 pub fn answer<S: Source, K: Sink>(
     alloc: Global,
     table: &mut S,
@@ -75,7 +76,6 @@ pub fn answer<S: Source, K: Sink>(
         → (K.taken sink.new ≡ K.taken sink.old) × (K.failures sink.new ≡ K.failures sink.old)) }
     ensures done { OnOk result (K.failures sink.new ≡ K.failures sink.old) }
 {
-    bytes_were_taken();
     a_file_text_is_read_whole();
     schemas_of_one_shape();
     one_query_of_a_text();
@@ -112,7 +112,6 @@ pub fn dump<S: Source, K: Sink>(alloc: Global, table: &mut S, sink: &mut K) -> R
         → (K.taken sink.new ≡ K.taken sink.old) × (K.failures sink.new ≡ K.failures sink.old)) }
     ensures done { OnOk result (K.failures sink.new ≡ K.failures sink.old) }
 {
-    bytes_were_taken();
     a_file_text_is_read_whole();
     let mut reader = TableReader::begin(alloc, table)?;
     let query = every_row(alloc, reader.schema())?;

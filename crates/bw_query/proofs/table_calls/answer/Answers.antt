@@ -11,7 +11,7 @@ use Rattle.bw_query.specs.declared.served.Served.{Served}
 use Rattle.bw_query.specs.Scan.{IsUsable, given_file}
 use Rattle.bw_query.specs.TableAnswer.{by_statement}
 use Rattle.bw_query.proofs.ScanLemmas.{served, serves, usable}
-use Rattle.bw_query.proofs.TableExits.{asked_exit, header_exit, no_failed_read, own_fault, file_answered, input_verdict, memory_verdict, segment_exit, text_exit, text_over, wrote_nothing, wrote_text}
+use Rattle.bw_query.proofs.TableExits.{asked_exit, header_exit, no_failed_read, file_answered, input_verdict, memory_verdict, segment_exit, text_exit, text_over, wrote_nothing, wrote_text}
 use Rattle.bw_query.proofs.table_calls.answer.Goals as goal
 
 pub returns-in_err-reader-clause-answer : goal.returns-in_err-reader-clause-answer
@@ -24,39 +24,36 @@ returns-in_err-query-clause-answer g c =
     let p = err_from_is_err_and c.from_residual-in_err-query.result c.from_residual-in_err-query.ensures.1 in
     let fault = c.in_err-query.field-0.0 in
     let reader = c.in_ok-reader.reader in
-    let read = c.in_ok-reader.ensures.began in
-    let taken = c.bytes_were_taken.ensures _ _ reader [] read in
+    let told = c.in_ok-reader.ensures.told in
     let now : ℕ → State = λ offset. state (g.S.Source.to_come c.begin.new.source) offset (g.S.Source.failures c.begin.new.source) in
     let parsed = rw c.schema.ensures at c.in_err-query.ensures.read in
-    rw (p.1, p.2) (asked_exit (by_statement (given_file c.args.program) c.args.sql.now) _ now (bytes_taken reader) _ reader fault read taken.1
-    (no_failed_read is_statement_fault fault c.in_err-query.ensures.fault refl) (λ own. inl (parsed (own_fault fault own))) (wrote_nothing Served _ _ _))
+    rw (p.1, p.2) (asked_exit (by_statement (given_file c.args.program) c.args.sql.now) _ now (bytes_taken reader) _ reader fault told
+    (no_failed_read is_statement_fault fault c.in_err-query.ensures.fault refl) (λ other. inl (parsed other)) (wrote_nothing Served _ _ _))
 
 pub returns-in_err-scan-clause-answer : goal.returns-in_err-scan-clause-answer
 returns-in_err-scan-clause-answer g c =
     let p = err_from_is_err_and c.from_residual-in_err-scan.result c.from_residual-in_err-scan.ensures.1 in
     let fault = c.in_err-scan.field-0.0 in
     let reader = c.in_ok-reader.reader in
-    let read = c.in_ok-reader.ensures.began in
-    let taken = c.bytes_were_taken.ensures _ _ reader [] read in
+    let told = c.in_ok-reader.ensures.told in
     let now : ℕ → State = λ offset. state (g.S.Source.to_come c.begin.new.source) offset (g.S.Source.failures c.begin.new.source) in
     let parsed = rw c.schema.ensures at c.in_ok-query.ensures.read in
     let refused = rw c.schema-2.ensures at c.in_err-scan.ensures.fault in
-    rw (p.1, p.2) (asked_exit (by_statement (given_file c.args.program) c.args.sql.now) _ now (bytes_taken reader) _ reader fault read taken.1
+    rw (p.1, p.2) (asked_exit (by_statement (given_file c.args.program) c.args.sql.now) _ now (bytes_taken reader) _ reader fault told
     (no_failed_read is_file_fault fault c.in_err-scan.ensures.code refl)
-    (λ own. inr (record { query = c.in_ok-query.query; asked = parsed; refused = refused (own_fault fault own) })) (wrote_nothing Served _ _ _))
+    (λ other. inr (record { query = c.in_ok-query.query; asked = parsed; refused = refused other })) (wrote_nothing Served _ _ _))
 
 pub returns-in_err-found-clause-answer : goal.returns-in_err-found-clause-answer
 returns-in_err-found-clause-answer g c =
     let p = err_from_is_err_and c.from_residual-in_err-found.result c.from_residual-in_err-found.ensures.1 in
     let fault = c.in_err-found.field-0.0 in
     let reader = c.in_ok-reader.reader in
-    let read = c.in_ok-reader.ensures.began in
-    let taken = c.bytes_were_taken.ensures _ _ reader [] read in
+    let told = c.in_ok-reader.ensures.told in
     let now : ℕ → State = λ offset. state (g.S.Source.to_come c.table_text.new.source) offset (g.S.Source.failures c.table_text.new.source) in
     let parsed = rw c.schema.ensures at c.in_ok-query.ensures.read in
     let chosen = rw c.schema-2.ensures at c.in_ok-scan.ensures.chosen in
-    rw (p.1, p.2) (segment_exit (by_statement (given_file c.args.program) c.args.sql.now) _ now _ (bytes_taken c.table_text.new.reader) _ reader c.in_ok-query.query fault read taken.1
-    (parsed, usable _ _ _ c.in_ok-scan.scan chosen) (c.in_err-found.ensures.refused _ read) (wrote_nothing Served _ _ _))
+    rw (p.1, p.2) (segment_exit (by_statement (given_file c.args.program) c.args.sql.now) _ now _ (bytes_taken c.table_text.new.reader) _ reader c.in_ok-query.query fault told
+    (parsed, usable _ _ _ c.in_ok-scan.scan chosen) (c.in_err-found.ensures.refused _ c.in_ok-reader.ensures.began) (wrote_nothing Served _ _ _))
 
 pub returns-in_err-write_whole-clause-answer : goal.returns-in_err-write_whole-clause-answer
 returns-in_err-write_whole-clause-answer g c =

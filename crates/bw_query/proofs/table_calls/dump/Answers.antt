@@ -1,9 +1,9 @@
 -- Each exit, by what its calls told.
-use Rattle.std.proofs.Common.{◌≡◌, ◌∙◌, [], sym, ap, true, false, ℕ}
+use Rattle.std.proofs.Common.{◌≡◌, ◌∙◌, sym, ap, true, false, ℕ}
 use Rattle.std.proofs.lemmas.Result.{err_from_is_err_and}
 use Rattle.bw_file.specs.Reading.{State, failed_reads, state}
-use Rattle.bw_device.specs.Source.{is_input_fault}
 use Rattle.bw_file.specs.TableReader.{bytes_taken, schema_in}
+use Rattle.bw_model.specs.Fault.{is_memory}
 use Rattle.bw_query.specs.TableAnswer.{by_dump}
 use Rattle.bw_query.proofs.TableExits.{answered_or_not, asked_exit, header_exit, input_verdict, segment_exit, text_exit, wrote_either, wrote_nothing}
 use Rattle.bw_query.proofs.table_calls.dump.Goals as goal
@@ -19,23 +19,21 @@ returns-in_err-query-clause-answer g c =
     let fault = c.in_err-query.field-0.0 in
     let memory = c.in_err-query.ensures.only_memory in
     let reader = c.in_ok-reader.reader in
-    let read = c.in_ok-reader.ensures.began in
-    let taken = c.bytes_were_taken.ensures _ _ reader [] read in
+    let told = c.in_ok-reader.ensures.told in
     let now : ℕ → State = λ offset. state (g.S.Source.to_come c.begin.new.source) offset (g.S.Source.failures c.begin.new.source) in
-    rw (p.1, p.2) (asked_exit by_dump _ now (bytes_taken reader) _ reader fault read taken.1 (ap failed_reads memory)
-    (λ own. let e : true ≡ false = sym (ap is_input_fault memory) ∙ own in absurd (cc e)) (wrote_nothing (Unit {0}) _ _ _))
+    rw (p.1, p.2) (asked_exit by_dump _ now (bytes_taken reader) _ reader fault told (ap failed_reads memory)
+    (λ other. let e : true ≡ false = sym (ap is_memory memory) ∙ other in absurd (cc e)) (wrote_nothing (Unit {0}) _ _ _))
 
 pub returns-in_err-found-clause-answer : goal.returns-in_err-found-clause-answer
 returns-in_err-found-clause-answer g c =
     let p = err_from_is_err_and c.from_residual-in_err-found.result c.from_residual-in_err-found.ensures.1 in
     let fault = c.in_err-found.field-0.0 in
     let reader = c.in_ok-reader.reader in
-    let read = c.in_ok-reader.ensures.began in
-    let taken = c.bytes_were_taken.ensures _ _ reader [] read in
+    let told = c.in_ok-reader.ensures.told in
     let now : ℕ → State = λ offset. state (g.S.Source.to_come c.table_text.new.source) offset (g.S.Source.failures c.table_text.new.source) in
     let parsed = rw c.schema.ensures at c.in_ok-query.ensures.every in
-    rw (p.1, p.2) (segment_exit by_dump _ now _ (bytes_taken c.table_text.new.reader) _ reader c.in_ok-query.query fault read taken.1
-    parsed (c.in_err-found.ensures.refused _ read) (wrote_nothing (Unit {0}) _ _ _))
+    rw (p.1, p.2) (segment_exit by_dump _ now _ (bytes_taken c.table_text.new.reader) _ reader c.in_ok-query.query fault told
+    parsed (c.in_err-found.ensures.refused _ c.in_ok-reader.ensures.began) (wrote_nothing (Unit {0}) _ _ _))
 
 pub returns-clause-answer : goal.returns-clause-answer
 returns-clause-answer g c =

@@ -22,7 +22,7 @@ loop-segment-init g c = record {
   scanned = record { segments = refl; loads = refl; skips = refl };
   few_loads = omega arith;
   few_skips = omega arith;
-  same = record { layout = refl; schema = refl; rows = refl };
+  same = record { version = refl; layout = refl; schema = refl; rows = refl };
   reading = c.requires.fresh.1;
   failures = refl;
   rows = c.requires.none ∙ sym c.requires.fresh.0;
