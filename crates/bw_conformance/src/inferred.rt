@@ -14,14 +14,8 @@ const TEXTS: [(&str, Option<&str>); 8] = [
     ("a,b\n", None),
     ("only\n5\n", None),
     ("n\nNULL\nNULL\n", None),
-    (
-        "low,high\n-9223372036854775808,9223372036854775807\n",
-        None,
-    ),
-    (
-        "wide\n-1\n9223372036854775806\nNULL\n",
-        None,
-    ),
+    ("low,high\n-9223372036854775808,9223372036854775807\n", None),
+    ("wide\n-1\n9223372036854775806\nNULL\n", None),
     (
         "\u{FEFF} Total ,\t_x\r\n\"001\",-0\r\n\r\n+2,null\r\n",
         Some("Total,_x\n1,0\n2,NULL\n"),

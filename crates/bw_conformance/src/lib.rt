@@ -11,6 +11,8 @@ mod faults;
 #[cfg(test)]
 mod inferred;
 #[cfg(test)]
+mod lines;
+#[cfg(test)]
 mod outcome;
 #[cfg(test)]
 mod rows_in_memory;

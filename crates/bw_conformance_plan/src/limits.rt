@@ -1,8 +1,20 @@
 //! Large conditions and tables.
 use crate::rows::{Numbers, cost_of, judged, rows_of};
-use bw_model::Schema;
+use bw_model::{Cond, Schema};
+use bw_plan::propose;
 use std::alloc::Global;
 use std::test::Fail;
+
+/// The smallest proposal, for a condition that holds on every row.
+#[test]
+#[tactic(auto, unfolding(bw_model::specs::Cond::names_within))]
+fn every_row_is_picked(rt: HostRuntime) -> Result<(), Fail> {
+    let alloc = rt.alloc();
+    let schema = Schema::parse(alloc, b"TABLE t\nCOLUMN a 0 255 NOT NULL\n")?;
+    let proposal = propose(alloc, &schema, &Cond::Always)?;
+    assert_eq!(rt; proposal.certificate.chains(), 0);
+    Ok(())
+}
 
 #[test]
 fn too_many_chains(rt: HostRuntime) -> Result<(), Fail> {

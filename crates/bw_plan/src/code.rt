@@ -249,7 +249,7 @@ impl<'a> Code<'a> {
         Ok(())
     }
 
-    /// A register that is the opposite of one, or, where `any`, the OR of one and another.
+    /// A new register, which is made the opposite of one.
     pub(crate) fn opposite(&mut self, x: u8) -> Result<u8, Refusal> {
         let register = self.claim()?;
         self.oppose(register, x)?;

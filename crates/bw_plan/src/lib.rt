@@ -16,8 +16,6 @@ mod planner;
 mod room;
 mod select;
 mod sets;
-#[cfg(test)]
-mod tests;
 mod truths;
 
 pub use planner::{Proposal, propose};
