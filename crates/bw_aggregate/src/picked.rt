@@ -14,8 +14,8 @@ use bw_rowwise::Accumulator;
 use bw_segment::Segment;
 
 /// Adds the rows of a segment that a plane picks to a total: row i is picked where lane i is 1. The plane has no bit
-/// past the segment's rows, and the segment has the aggregate's column. Where no row is picked, that costs no more than
-/// to count none.
+/// past the segment's rows, the segment has the aggregate's column, and with the segment's rows the total is of at most 2^24.
+/// Where no row is picked, only the plane is looked at.
 pub fn add_picked<S: Segment>(total: &mut Accumulator, segment: &S, plane: &Plane)
     requires column { IsTrue (item_within (length (S.meaning segment.now).columns) total.old.item) }
     requires plane { IsWithin (length (S.meaning segment.now).rows) (lanes_of_words plane.now) }

@@ -36,7 +36,8 @@ impl<'a> Records<'a> {
     }
 
     /// Reads the next record, which has this number, or answers that there is none. An `Err` is want of memory,
-    /// or an error of the reader's own (209), and then nothing more is read.
+    /// or an error of the reader's own (209), and then nothing more is read. That the records are open, as they are until
+    /// then, is the caller's condition.
     #[tactic(auto, unfolding(crate::specs::Rows::is_any_record))]
     pub fn next(&mut self, number: u32) -> Result<bool, Fault>
         requires { IsOpen self.old }

@@ -51,7 +51,8 @@ fn bytes_of_word(word: u64) -> u8x64
         .select(u8x64::splat(255), u8x64::splat(0))
 }
 
-/// The sum of the bytes of some rows.
+/// The sum of the bytes of some rows, which are given as [`bytes_of_plane`] spreads a plane: 255 for a row that counts, 0 for
+/// another.
 pub fn sum_in(bytes: &[u8; 512], rows: &[u8; 512]) -> u32
     ensures sum { (lanes : List Bool) → rows.now ≡ map as_byte lanes
         → result ≡ sum (bytes_picked 0 lanes bytes.now) }
