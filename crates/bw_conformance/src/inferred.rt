@@ -1,7 +1,9 @@
 //! A CSV text under the schema that is inferred for it: it's loaded and dumped, and comes back.
 use bw_device::{FromRead, ToWrite};
 use bw_file::Layout;
+use bw_model::Fault;
 use bw_shell::{dump, infer, load};
+use std::alloc::Global;
 use std::test::Fail;
 
 /// CSV texts, each with the text in which it comes back, if that is another: nulls are spelled out, and numbers without
@@ -23,24 +25,40 @@ const TEXTS: [(&str, Option<&str>); 8] = [
     ("p,q,r\n1,2,3\n4,5,6\n", None),
 ];
 
+/// The schema text that is inferred for a CSV text.
+fn inferred(alloc: Global, csv: &str) -> Result<Vec<u8>, Fault> {
+    let mut source = FromRead::new(csv.as_bytes());
+    let mut sink = ToWrite::new(Vec::new(alloc));
+    infer(alloc, b"t", &mut source, &mut sink)?;
+    Ok(sink.into_inner())
+}
+
+/// The rows of a CSV text that come back of a table file.
+fn dumped(alloc: Global, schema: &[u8], csv: &str, layout: Layout) -> Result<Vec<u8>, Fault> {
+    let table = loaded(alloc, schema, csv, layout)?;
+    let mut source = FromRead::new(table.as_slice());
+    let mut sink = ToWrite::new(Vec::new(alloc));
+    dump(alloc, &mut source, &mut sink)?;
+    Ok(sink.into_inner())
+}
+
+/// The table file of the rows of a CSV text.
+fn loaded(alloc: Global, schema: &[u8], csv: &str, layout: Layout) -> Result<Vec<u8>, Fault> {
+    let mut schema = FromRead::new(schema);
+    let mut rows = FromRead::new(csv.as_bytes());
+    let mut sink = ToWrite::new(Vec::new(alloc));
+    load(alloc, &mut schema, &mut rows, layout, &mut sink)?;
+    Ok(sink.into_inner())
+}
+
 #[test]
 fn inferred_schemas_give_the_rows_back(rt: HostRuntime) -> Result<(), Fail> {
     for (csv, back) in TEXTS {
-        let mut source = FromRead::new(csv.as_bytes());
-        let mut schema = ToWrite::new(Vec::new(rt.alloc()));
-        infer(rt.alloc(), b"t", &mut source, &mut schema)?;
-        let schema = schema.into_inner();
+        let schema = inferred(rt.alloc(), csv)?;
         for layout in [Layout::Planes, Layout::Slices] {
-            let mut schema = FromRead::new(schema.as_slice());
-            let mut rows = FromRead::new(csv.as_bytes());
-            let mut table = ToWrite::new(Vec::new(rt.alloc()));
-            load(rt.alloc(), &mut schema, &mut rows, layout, &mut table)?;
-            let table = table.into_inner();
-            let mut table = FromRead::new(table.as_slice());
-            let mut text = ToWrite::new(Vec::new(rt.alloc()));
-            dump(rt.alloc(), &mut table, &mut text)?;
-            let text = text.into_inner();
-            assert_eq!(rt; text.as_slice(), back.unwrap_or(csv).as_bytes(), "{csv:?}");
+            let text = dumped(rt.alloc(), &schema, csv, layout)?;
+            let wanted = back.unwrap_or(csv);
+            assert_eq!(rt; text.as_slice(), wanted.as_bytes(), "{csv:?}");
         }
     }
     Ok(())
