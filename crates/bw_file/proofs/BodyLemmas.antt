@@ -143,7 +143,7 @@ segment_stops layout schema rows old new fault p =
 -- a byte where the end is wanted
 pub end_refused : (old new : State) (bytes : List ℕ) → Took old new bytes → new.failures ≡ old.failures → length bytes ≡ 1 → HasByteMore old new (at_byte 309 old.offset)
 end_refused old new bytes took same one =
-    record { bytes = bytes; took = took; failures = omega (arith, same); refused = λ _. (one, refl) }
+    record { bytes = bytes; took = took; unfinished = λ failed. absurd (cc failed); failures = omega (arith, same); refused = λ _. (one, refl) }
 
 -- the block of a column ends within the segment
 pub before_within : (layout : Layout) (schema : List Column) (column count : ℕ) → column < count → bytes_before layout schema (suc column) ≤ bytes_before layout schema count

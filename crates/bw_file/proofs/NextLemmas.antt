@@ -1,5 +1,5 @@
 -- What a reader gives next: a segment, the end, a fault, or what was settled.
-use Rattle.std.proofs.Common.{◌≡◌, ℕ, min, ◌+◌, ◌-◌, ◌<◌, List, [], ◌++◌, length, Some, None, Ok, Err, refl, sym, ap, subst, ◌∙◌, arith}
+use Rattle.std.proofs.Common.{◌≡◌, ℕ, min, ◌+◌, ◌-◌, ◌<◌, List, [], ◌++◌, length, inl, inr, Some, None, Ok, Err, refl, sym, ap, subst, ◌∙◌, arith}
 use Rattle.std.specs.Io.KnownBytes.{IsAtEnd}
 use Rattle.bw_model.specs.declared.fault.Fault.{Fault}
 use Rattle.bw_model.specs.Groups.{group_size, groups_of, together}
@@ -7,7 +7,7 @@ use Rattle.bw_model.specs.Row.{Value}
 use Rattle.bw_file.specs.declared.segments.AnySegment.{AnySegment}
 use Rattle.bw_file.specs.declared.table_reader.TableReader.{TableReader}
 use Rattle.bw_file.specs.AnySegment.{any_meaning}
-use Rattle.bw_file.specs.Reading.{tail, State, Took, GoesOn, Fails, HasByteMore, give}
+use Rattle.bw_file.specs.Reading.{tail, State, Took, GoesOn, NeedsMore, Fails, HasByteMore, give}
 use Rattle.bw_file.specs.TableReading.{segment, end, group_sizes}
 use Rattle.bw_file.specs.TableReader.{settled, SoFar, SameTable, GivesNext}
 use Rattle.bw_file.proofs.BodySpelling.{groups_found}
@@ -34,7 +34,7 @@ module _ {S : Type 0} (source next_source : S) (old now : State) (reader next : 
     groups = λ none. absurd cc;
     refused = tt;
     counted = counted ∙ ap (λ (n : ℕ). reader.given + n) (sym count);
-    read = λ _. record { bytes = read.bytes; took = read.took; failures = omega (arith, read.failures) };
+    read = λ _. record { bytes = read.bytes; took = read.took; unfinished = tt; failures = omega (arith, read.failures) };
     settles = reading;
     repeats = λ answer set. absurd (cc (unsettled, set));
     same = same;
@@ -49,7 +49,7 @@ module _ {S : Type 0} (source next_source : S) (old now : State) (reader next : 
     groups = tt;
     refused = λ _ start groups so_far. segment_refused start old now reader groups size fault left sized so_far fails;
     counted = omega (arith, kept);
-    read = λ _. record { bytes = fails.bytes; took = fails.took; failures = fails.failures };
+    read = λ _. record { bytes = fails.bytes; took = fails.took; unfinished = λ failed. inr (subst (λ (n : ℕ). NeedsMore (segment reader.layout reader.shape.value.schema.columns.items n) old.offset fails.bytes) sized (fails.unfinished failed)); failures = fails.failures };
     settles = stopped;
     repeats = λ answer set. absurd (cc (unsettled, set));
     same = same;
@@ -64,7 +64,7 @@ module _ {S : Type 0} (source next_source : S) (old now : State) (reader next : 
     groups = λ _ _ start groups so_far. all_groups start old reader groups all so_far;
     refused = tt;
     counted = omega (arith, kept);
-    read = λ _. record { bytes = []; took = took; failures = omega (arith, failures) };
+    read = λ _. record { bytes = []; took = took; unfinished = tt; failures = omega (arith, failures) };
     settles = stopped;
     repeats = λ answer set. absurd (cc (unsettled, set));
     same = same;
@@ -79,7 +79,7 @@ module _ {S : Type 0} (source next_source : S) (old now : State) (reader next : 
     groups = tt;
     refused = λ _ start groups so_far. end_missed start old now reader groups fault all so_far fails;
     counted = omega (arith, kept);
-    read = λ _. record { bytes = fails.bytes; took = fails.took; failures = fails.failures };
+    read = λ _. record { bytes = fails.bytes; took = fails.took; unfinished = λ failed. inl (fails.unfinished failed); failures = fails.failures };
     settles = stopped;
     repeats = λ answer set. absurd (cc (unsettled, set));
     same = same;

@@ -12,7 +12,7 @@ use Rattle.bw_model.specs.Row.{Value}
 use Rattle.bw_model.specs.SchemaText.{schema_shape}
 use Rattle.bw_file.specs.declared.layout.Layout.{Layout}
 use Rattle.bw_file.specs.declared.table_reader.TableReader.{TableReader}
-use Rattle.bw_file.specs.Reading.{tail, Reading, ◌>>=◌, give, State, Took, GoesOn, NeedsEach, HasFault, Fails, HasByteMore}
+use Rattle.bw_file.specs.Reading.{tail, Reading, ◌>>=◌, give, State, Took, GoesOn, NeedsEach, NeedsMore, HasFault, Fails, HasByteMore}
 use Rattle.bw_file.specs.TableReading.{HeaderShape, header, body, segment, end, sizes_within, group_sizes, found_in, IsReadAs}
 use Rattle.bw_file.specs.TableReader.{header_told, SoFar, found_so_far, ReadWhole, LacksFault, HasFirstFault, AnswersFault}
 use Rattle.bw_file.proofs.ReadingLemmas.{passes, stops, took_more, coming_of, is_coming}
@@ -73,6 +73,11 @@ pub header_refused : (start new : State) (fault : Fault) → start.offset ≡ 0 
 header_refused start new fault first p = record {
   bytes = p.bytes;
   took = p.took;
+  unfinished = λ failed.
+      let short : NeedsMore header 0 p.bytes = rw first at (p.unfinished failed) in
+      let place : 0 + length p.bytes ≡ length p.bytes = omega arith in
+      let early : header (tail 0 p.bytes) ≡ Err (at_byte 305 (length p.bytes)) = rw place at short in
+      inl (rw early refl);
   failures = p.failures;
   first = λ own.
       let has = p.refused own in
@@ -123,6 +128,12 @@ module _ (start old : State) (reader : TableReader) (groups : List (List (List V
             (reader.shape.value.schema, refl, sym (ap (found_in reader.layout (schema_shape reader.shape.value.schema)) early))
       ]
 
+  behind_unfinished : (more : List ℕ) → NeedsMore whole_body so_far.behind.offset more → IsReadAs (so_far.head.bytes ++ more) (Err (at_byte 305 (length (so_far.head.bytes ++ more))))
+  behind_unfinished more p =
+      let place : so_far.behind.offset + length more ≡ length (so_far.head.bytes ++ more) = omega (arith, so_far.first, so_far.head.took.counted, length-append so_far.head.bytes more) in
+      let early : whole_body (tail so_far.behind.offset more) ≡ Err (at_byte 305 (length (so_far.head.bytes ++ more))) = rw place at p in
+      rw (header_on more) (reader.shape.value.schema, refl, sym (ap (found_in reader.layout (schema_shape reader.shape.value.schema)) early))
+
   -- the fault behind the header is the file's
   behind_fault : (new : State) (more : List ℕ) (fault : Fault) → ((n : ℕ) → n < length (so_far.head.bytes ++ more) → LacksFault (so_far.head.bytes ++ more) n fault)
       → HasFault whole_body so_far.behind new more fault → HasFirstFault new (so_far.head.bytes ++ more) fault
@@ -136,6 +147,7 @@ module _ (start old : State) (reader : TableReader) (groups : List (List (List V
   behind_refused new fault p = record {
     bytes = so_far.head.bytes ++ p.bytes;
     took = took_more start so_far.behind new so_far.head.bytes p.bytes so_far.head.took p.took;
+    unfinished = λ failed. inl (behind_unfinished p.bytes (p.unfinished failed));
     failures = omega (arith, p.failures, so_far.on.failures);
     first = λ own. behind_fault new p.bytes fault (λ n lt. inl (ends_early p.bytes p.needed n lt)) (p.refused own);
   }
@@ -201,6 +213,9 @@ pub end_missed : (start old new : State) (reader : TableReader) (groups : List (
 end_missed start old new reader groups fault all so_far p = record {
   bytes = so_far.head.bytes ++ (so_far.on.bytes ++ p.bytes);
   took = took_more start so_far.behind new so_far.head.bytes (so_far.on.bytes ++ p.bytes) so_far.head.took (took_more so_far.behind old new so_far.on.bytes p.bytes so_far.on.took p.took);
+  unfinished = λ failed.
+      let whole : so_far.on.bytes ++ p.bytes ≡ so_far.on.bytes = rw (p.unfinished failed) (append-nil so_far.on.bytes) in
+      rw whole (inr (found_so_far reader groups, read_so_far start old reader groups all so_far));
   failures = p.failures;
   first = λ own.
       let has = p.refused own in

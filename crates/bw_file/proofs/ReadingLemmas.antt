@@ -11,7 +11,7 @@ use Rattle.std.proofs.KnownBytes.{Consumes-trans}
 use Rattle.bw_model.specs.declared.fault.Fault.{Fault}
 use Rattle.bw_model.specs.Fault.{at_byte, no_memory, nowhere}
 use Rattle.bw_device.specs.Source.{is_read_fault}
-use Rattle.bw_file.specs.Reading.{AreBytes, Tail, tail, Reading, passed, placed, ◌>>=◌, give, field, said_at, judged, State, state, Took, GoesOn, NeedsEach, HasFault, Fails, Reads}
+use Rattle.bw_file.specs.Reading.{AreBytes, Tail, tail, Reading, passed, placed, ◌>>=◌, give, field, said_at, judged, State, state, Took, GoesOn, NeedsEach, NeedsMore, HasFault, Fails, Reads}
 
 -- the bytes of a buffer are bytes, and so are those in front, and those of several buffers
 no_bytes : AreBytes []
@@ -52,6 +52,10 @@ needs_first : {A B : Type 0} (first : Reading A) (next : A → Reading B) (at : 
     → NeedsEach (first >>= next) at bytes
 needs_first {A = A} first next at bytes p n lt = ap (λ (r : Result (A × Tail) Fault). passed r next) (p n lt)
 
+-- what is read of bytes that end too early, at a place
+abbrev short_at : (A : Type 0) → ℕ → Result (A × Tail) Fault
+short_at A place = Err (at_byte 305 place)
+
 -- bytes that are needed, and then more
 pub needs_more : {A : Type 0} (reading next : Reading A) (at behind : ℕ) (xs ys : List ℕ) → behind ≡ at + length xs → NeedsEach reading at xs
     → ((rest : List ℕ) → reading (tail at (xs ++ rest)) ≡ next (tail behind rest)) → NeedsEach next behind ys → NeedsEach reading at (xs ++ ys)
@@ -63,11 +67,15 @@ needs_more {A = A} reading next at behind xs ys e p on q n lt =
           let split : take n (xs ++ ys) ≡ xs ++ take (n - length xs) ys = ap (λ (k : ℕ). take k (xs ++ ys)) more ∙ take-append-add xs ys (n - length xs) in
           let place : behind + (n - length xs) ≡ at + n = omega (arith, same, e) in
           ap (λ (l : List ℕ). reading (tail at l)) split ∙ on (take (n - length xs) ys) ∙ q (n - length xs) (omega (arith, lt, same, length-append xs ys))
-          ∙ ap (λ (k : ℕ). failed_at A k) place
+          ∙ ap (λ (k : ℕ). short_at A k) place
     ]
-  where
-    failed_at : (B : Type 0) → ℕ → Result (B × Tail) Fault
-    failed_at B k = Err (at_byte 305 k)
+
+-- what needs more than the bytes that it finds still does so behind others
+needs_still : {A B : Type 0} (reading : Reading B) (first : Reading A) (next : A → Reading B) (at behind : ℕ) (xs ys : List ℕ) → behind ≡ at + length xs
+    → ((rest : List ℕ) → reading (tail at (xs ++ rest)) ≡ (first >>= next) (tail behind rest)) → NeedsMore first behind ys → NeedsMore reading at (xs ++ ys)
+needs_still {A = A} {B = B} reading first next at behind xs ys e on p =
+    let place : behind + length ys ≡ at + length (xs ++ ys) = omega (arith, e, length-append xs ys) in
+    on ys ∙ ap (λ (r : Result (A × Tail) Fault). passed r next) p ∙ ap (λ (k : ℕ). short_at B k) place
 
 -- reading begins where it begins
 pub begins : {A : Type 0} (reading : Reading A) (old : State) → GoesOn reading old reading old
@@ -108,6 +116,7 @@ stops {A = A} reading first next old mid new fault p q = record {
   bytes = p.bytes ++ q.bytes;
   took = took_more old mid new p.bytes q.bytes p.took q.took;
   needed = needs_more reading (first >>= next) old.offset mid.offset p.bytes q.bytes p.took.counted p.needed p.on (needs_first first next mid.offset q.bytes q.needed);
+  unfinished = λ failed. needs_still reading first next old.offset mid.offset p.bytes q.bytes p.took.counted p.on (q.unfinished failed);
   failures = omega (arith, p.failures, q.failures);
   refused = λ own.
       let has = q.refused own in
@@ -128,6 +137,7 @@ stops_memory reading next old mid p = record {
   bytes = p.bytes;
   took = p.took;
   needed = p.needed;
+  unfinished = λ failed. absurd (cc failed);
   failures = omega (arith, p.failures);
   refused = λ own. absurd (true≢false own);
 }
@@ -141,6 +151,7 @@ refuses_behind reading old new bytes code place took needed same e =
       bytes = bytes;
       took = took;
       needed = needed;
+      unfinished = λ failed. absurd (true≢false (sym failed ∙ own));
       failures = rw own (omega arith);
       refused = λ _.
           let found : HasFault reading old new bytes (at_byte code place) = record {
@@ -194,6 +205,7 @@ field_ended size old known offset failures bytes took same short ended = record 
   bytes = bytes;
   took = took;
   needed = field_needs size old.offset bytes (omega (arith, short));
+  unfinished = λ failed. absurd (cc failed);
   failures = omega arith;
   refused = λ _.
       let few : nat_lt (length (bytes ++ [])) size ≡ true = lt-ltb _ _ (omega (arith, length-append {A = ℕ} bytes [])) in
@@ -207,12 +219,14 @@ field_ended size old known offset failures bytes took same short ended = record 
 }
 
 -- a read failed before a field was whole
-pub field_failed : (size : ℕ) (old new : State) (bytes : List ℕ) → Took old new bytes → new.failures ≡ old.failures + 1 → length bytes ≤ size
+pub field_failed : (size : ℕ) (old new : State) (bytes : List ℕ) → Took old new bytes → new.failures ≡ old.failures + 1 → length bytes < size
     → Fails (field size) old new (nowhere 701)
-field_failed size old new bytes took failed few = record {
+unfolding field
+field_failed size old new bytes took failed short = record {
   bytes = bytes;
   took = took;
-  needed = field_needs size old.offset bytes few;
+  needed = field_needs size old.offset bytes (omega (arith, short));
+  unfinished = λ _. let few : nat_lt (length bytes) size ≡ true = lt-ltb _ _ short in rw few refl;
   failures = failed;
   refused = λ own. absurd (true≢false own);
 }

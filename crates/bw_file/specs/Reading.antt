@@ -1,5 +1,5 @@
 -- Reading bytes field by field: what is read of them, and the bytes behind it, or the first fault.
-use Rattle.std.specs.Prelude.{◌≡◌, ℕ, ◌+◌, false, List, ◌++◌, length, take, drop, Option, IfSome, Result, Ok, Err, if◌then◌else◌, nat_lt, ◌<◌, slice_index}
+use Rattle.std.specs.Prelude.{◌≡◌, ℕ, ◌+◌, true, false, List, [], ◌++◌, length, take, drop, Option, IfSome, Result, Ok, Err, if◌then◌else◌, nat_lt, ◌<◌, slice_index}
 use Rattle.std.specs.Io.KnownBytes.{Consumes}
 use Rattle.bw_model.specs.declared.fault.Fault.{Fault}
 use Rattle.bw_model.specs.Fault.{at_byte, refused_if}
@@ -77,6 +77,10 @@ abbrev pub NeedsEach : {A : Type 0} → Reading A → ℕ → List ℕ → Type 
 NeedsEach reading at bytes =
     (n : ℕ) → n < length bytes → reading (tail at (take n bytes)) ≡ Err (at_byte 305 (at + n))
 
+-- Reading needs more than these bytes: where there are no others, they end too early.
+abbrev pub NeedsMore : {A : Type 0} → Reading A → ℕ → List ℕ → Type 0
+NeedsMore reading at bytes = reading (tail at bytes) ≡ Err (at_byte 305 (at + length bytes))
+
 -- Bytes were taken of a source, none that reading doesn't need, with no failed read, and reading
 -- goes on behind them, whatever stands there.
 pub record GoesOn {A : Type 0} (reading : Reading A) (old : State)
@@ -100,19 +104,22 @@ abbrev pub failed_reads : Fault → ℕ
 failed_reads fault = if is_read_fault fault then 1 else 0
 
 -- Bytes were taken of a source, none that reading doesn't need, and a fault was answered: that of a
--- failed read, want of memory, or the one that reading gives.
+-- failed read, where the bytes that were taken weren't enough; want of memory; or the one that
+-- reading gives.
 pub record Fails {A : Type 0} (reading : Reading A) (old new : State) (fault : Fault) : Type 0 where
   pub bytes : List ℕ
   pub took : Took old new bytes
   pub needed : NeedsEach reading old.offset bytes
+  pub unfinished : is_read_fault fault ≡ true → NeedsMore reading old.offset bytes
   pub failures : new.failures ≡ old.failures + failed_reads fault
   pub refused : is_input_fault fault ≡ false → HasFault reading old new bytes fault
 
--- A fault was answered where the end is wanted: that of a failed read, want of memory, or 309, once
--- one byte was taken, at that byte.
+-- A fault was answered where the end is wanted: that of a failed read, where no byte was taken; want
+-- of memory; or 309, once one byte was taken, at that byte.
 pub record HasByteMore (old new : State) (fault : Fault) : Type 0 where
   pub bytes : List ℕ
   pub took : Took old new bytes
+  pub unfinished : is_read_fault fault ≡ true → bytes ≡ []
   pub failures : new.failures ≡ old.failures + failed_reads fault
   pub refused : is_input_fault fault ≡ false
       → (length bytes ≡ 1) × (fault ≡ at_byte 309 old.offset)

@@ -1,5 +1,5 @@
 -- What a reader of a table file knows, and what the bytes that came so far say.
-use Rattle.std.specs.Prelude.{◌≡◌, ℕ, ◌-◌, false, List, [], ◌∷◌, ◌++◌, ◌+◌, ◌<◌, ◌⊎◌, length, take, min, Option, Some, None, IfSome, IfOk, IfErr, Result, Ok, Err}
+use Rattle.std.specs.Prelude.{◌≡◌, ℕ, ◌-◌, true, false, List, [], ◌∷◌, ◌++◌, ◌+◌, ◌<◌, ◌⊎◌, length, take, min, Option, Some, None, IfSome, IfOk, IfErr, Result, Ok, Err}
 use Rattle.std.specs.Io.KnownBytes.{IsAtEnd}
 use Rattle.bw_model.specs.declared.fault.Fault.{Fault}
 use Rattle.bw_model.specs.declared.schema.Schema.{Schema}
@@ -8,14 +8,14 @@ use Rattle.bw_model.specs.Groups.{group_size, groups_of, together}
 use Rattle.bw_model.specs.Row.{Value}
 use Rattle.bw_model.specs.SchemaText.{schema_shape}
 use Rattle.bw_file.specs.AnySegment.{any_meaning}
-use Rattle.bw_device.specs.Source.{is_input_fault}
+use Rattle.bw_device.specs.Source.{is_read_fault, is_input_fault}
 use Rattle.bw_file.specs.declared.segments.AnySegment.{AnySegment}
 use Rattle.bw_file.specs.declared.layout.Layout.{Layout}
 use Rattle.bw_file.specs.declared.phase.Phase.{Phase}
 use Rattle.bw_file.specs.declared.phase.Phase.TheVariants.{Reading, Ended, Failed}
 use Rattle.bw_file.specs.declared.table_reader.TableReader.{TableReader}
-use Rattle.bw_file.specs.Reading.{State, Took, GoesOn, failed_reads, give}
-use Rattle.bw_file.specs.TableReading.{HeaderShape, header, body, group_sizes, Found, found_as, IsReadAs}
+use Rattle.bw_file.specs.Reading.{State, Took, GoesOn, NeedsMore, failed_reads, give}
+use Rattle.bw_file.specs.TableReading.{HeaderShape, header, body, segment, group_sizes, Found, found_as, IsReadAs}
 
 abbrev pub schema_in : TableReader → Schema
 schema_in reader = reader.shape.value.schema
@@ -105,11 +105,18 @@ pub record HasFirstFault (now : State) (bytes : List ℕ) (fault : Fault) : Type
   pub coming : IfSome now.known (λ known. known ≡ rest)
   pub read : IsReadAs (bytes ++ rest) (Err fault)
 
+-- bytes that don't settle whether a file has a fault: they end too early; or they are a table's,
+-- and a byte behind them would be one
+abbrev pub AreUnfinished : List ℕ → Type 0
+AreUnfinished bytes =
+    IsReadAs bytes (Err (at_byte 305 (length bytes))) ⊎ ((found : Found) × IsReadAs bytes (Ok found))
+
 -- Since the start of the file bytes were taken, and a fault was answered: that of a failed read,
--- want of memory, or the file's first fault.
+-- where another byte or the end was to be seen; want of memory; or the file's first fault.
 pub record AnswersFault (start old now : State) (fault : Fault) : Type 0 where
   pub bytes : List ℕ
   pub took : Took start now bytes
+  pub unfinished : is_read_fault fault ≡ true → AreUnfinished bytes
   pub failures : now.failures ≡ old.failures + failed_reads fault
   pub first : is_input_fault fault ≡ false → HasFirstFault now bytes fault
 
@@ -118,11 +125,21 @@ abbrev pub failed_by : {A : Type 0} → Result A Fault → ℕ
 failed_by (Ok x) = 0
 failed_by (Err fault) = failed_reads fault
 
+-- these bytes, from a place on, aren't all that a reader wants next: there is none, or there are too
+-- few for a segment of the 512 rows that come next, or of the rows that are left
+abbrev pub WantsMore : TableReader → ℕ → List ℕ → Type 0
+WantsMore reader at bytes =
+    (bytes ≡ []) ⊎ NeedsMore (segment (layout_in reader) (schema_in reader).columns.items
+    (min group_size (rows_told reader - rows_given reader))) at bytes
+
 -- a call that answered this took bytes of a source, whose failures rose where it answered a failed
--- read
-pub record DidRead {A : Type 0} (old new : State) (result : Result A Fault) : Type 0 where
+-- read; and there it wanted more than these bytes
+pub record DidRead {A : Type 0} (reader : TableReader) (old new : State)
+    (result : Result A Fault) : Type 0 where
   pub bytes : List ℕ
   pub took : Took old new bytes
+  pub unfinished : IfErr result
+      (λ fault. is_read_fault fault ≡ true → WantsMore reader old.offset bytes)
   pub failures : new.failures ≡ old.failures + failed_by result
 
 -- a segment of the reader's table, of the 512 rows that come next, or of the rows that are left
@@ -173,7 +190,7 @@ pub record GivesNext {S : Type 0} (source next_source : S) (old now : State)
       (λ fault. settled reader ≡ None → (start : State) (groups : List (List (List Value)))
       → SoFar start old reader groups → AnswersFault start old now fault)
   pub counted : rows_given next ≡ rows_given reader + rows_answered result
-  pub read : settled reader ≡ None → DidRead old now result
+  pub read : settled reader ≡ None → DidRead reader old now result
   pub settles : Settles result (settled next)
   pub repeats : (answer : Result (Unit {0}) Fault) → settled reader ≡ Some answer
       → Repeats result answer × (next ≡ reader) × (next_source ≡ source)

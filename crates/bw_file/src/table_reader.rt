@@ -39,8 +39,8 @@ impl TableReader {
     ghost use Rattle.bw_file.specs.TableReader.{schema_in, version_in, layout_in, header_told, rows_told, rows_given, bytes_taken, settled, SoFar, AnswersFault, GivesNext};
 
     /// Reads the header of a table file, and no byte past it: 301 to 304 and 310, each at the first
-    /// byte of its field, 305 at the end of a file that ends before, or 701. That the source's
-    /// count of failures can rise is the caller's condition.
+    /// byte of its field, 305 at the end of a file that ends before, or 701 where a read fails
+    /// before. That the source's count of failures can rise is the caller's condition.
     pub fn begin<S: Source>(alloc: Global, source: &mut S) -> Result<Self, Fault>
         requires { S.failures source.old < 2 ^ 64 - 1 }
         ensures began { IfOk result (λ reader. SoFar

@@ -4,7 +4,7 @@ use Rattle.std.specs.Prelude.{OnOk}
 use Rattle.std.specs.Io.KnownBytes.{Appends, Keeps}
 use Rattle.bw_model.specs.declared.fault.Fault.{Fault}
 use Rattle.bw_model.specs.declared.schema.Schema.{Schema}
-use Rattle.bw_model.specs.Fault.{no_memory}
+use Rattle.bw_model.specs.Fault.{is_memory, no_memory}
 use Rattle.bw_model.specs.Row.{Value}
 use Rattle.bw_model.specs.SchemaText.{IsSchemaText, SchemaShape, schema_shape}
 use Rattle.bw_device.specs.Sink.{GoesOut, is_write_fault}
@@ -39,7 +39,7 @@ memory_exit start now offset W fault reader read memory w =
     let none : failed_reads fault ≡ 0 = ap failed_reads memory in (
       offset,
       given,
-      record { failures = omega (arith, read.failures, none); info = λ own. let e : true ≡ false = sym (ap is_input_fault memory) ∙ own in absurd (cc e) },
+      record { failures = omega (arith, read.failures, none); info = λ own. let e : true ≡ false = sym (ap is_memory memory) ∙ own in absurd (cc e) },
       w,
     )
 

@@ -55,10 +55,11 @@ pub record TellsHeader (start now : State) (text : List ℕ) : Type 0 where
   pub is : text ≡ info_text told.version told.layout schema told.rows
   pub spelled : IsSchemaText text (schema_shape schema)
 
--- that text, or the header's first fault; failed reads and want of memory aside
+-- that text; or the header's first fault, or a failed read before the header was whole; want of
+-- memory aside
 abbrev pub IsInfo : State → State → Result (List ℕ) Fault → Type 0
 IsInfo start now (Ok text) = TellsHeader start now text
-IsInfo start now (Err fault) = is_input_fault fault ≡ false → Fails header start now fault
+IsInfo start now (Err fault) = is_memory fault ≡ false → Fails header start now fault
 
 -- so it is by what a source gave, whose failures rose where a failed read is answered
 pub record InfoGave (start now : State) (given : Result (List ℕ) Fault) : Type 0 where

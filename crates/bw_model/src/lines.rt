@@ -1,7 +1,7 @@
 //! Texts by lines: a line ends at a line feed or at the text's end, with a carriage return before it or
 //! without; its words stand between spaces and tabs; a line without words, or whose first word begins with
 //! `#`, is skipped, but counted.
-ghost use Rattle.std.specs.Prelude.{◌≡◌, ◌+◌, ◌<◌, ◌^◌, [], ◌∷◌, IfOk, IfSome, IfNone, OnOk, map, filter, not, option_map, length};
+ghost use Rattle.std.specs.Prelude.{◌≡◌, ◌+◌, ◌<◌, ◌^◌, [], ◌∷◌, IfOk, IfSome, IfNone, OnOk, OnErr, map, filter, not, option_map, length};
 ghost use Rattle.std.specs.List.{find, position, slice_split};
 ghost use Rattle.std.specs.Str.Lines.{strip_carriage_return};
 ghost use Rattle.bw_model.specs.Lines.{cut_lines, is_line_feed, is_blank, words_of, only_of, is_empty, is_skipped, line_of, lines_in, end_in, whole, from_line, IsFirstLine};
@@ -82,11 +82,14 @@ impl<'a> Lines<'a> {
         Some(line)
     }
 
-    /// The next line that says something, or none at the end of the text.
+    /// The next line that says something, or none at the end of the text. Where memory is wanting, no such
+    /// line is lost, so the caller may ask again.
     pub fn next_line(&mut self, alloc: Global) -> Result<Option<Line<'a>>, AllocError>
         ensures line { IfOk result (λ found. IfSome found (λ line. lines_in self.old ≡ line_of line ∷ lines_in self.new)) }
         ensures none { IfOk result (λ found. IfNone found ((lines_in self.old ≡ []) × (end_in self.old ≡ self.new.number))) }
         ensures end { OnOk result (end_in self.new ≡ end_in self.old) }
+        ensures refused { OnErr result
+            ((lines_in self.new ≡ lines_in self.old) × (end_in self.new ≡ end_in self.old)) }
     {
         while !self.text.is_empty() {
             let (line, rest) = split_line(self.text);

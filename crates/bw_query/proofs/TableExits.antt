@@ -76,6 +76,7 @@ segment_exit asks start now old offset W reader query fault told asked answers w
           asked = asked;
           bytes = answers.bytes;
           took = answers.took;
+          unfinished = answers.unfinished;
           first = answers.first;
         }));
       },

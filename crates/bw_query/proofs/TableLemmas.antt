@@ -9,7 +9,7 @@ use Rattle.bw_model.specs.Groups.{together}
 use Rattle.bw_model.specs.Row.{Value}
 use Rattle.bw_answer.specs.Over.{GoesOver, IsOver}
 use Rattle.bw_answer.specs.declared.answer.Answer.{Answer}
-use Rattle.bw_device.specs.Source.{is_input_fault}
+use Rattle.bw_device.specs.Source.{is_read_fault, is_input_fault}
 use Rattle.bw_file.specs.Reading.{State, Took, failed_reads}
 use Rattle.bw_file.specs.TableReader.{AnswersFault, SameTable}
 use Rattle.bw_file.specs.declared.table_reader.TableReader.{TableReader}
@@ -42,6 +42,7 @@ pub memory_answers : (start old now : State) (fault : Fault) → ((bytes : List 
 memory_answers start old now fault taken failures memory = record {
   bytes = taken.0;
   took = taken.1;
+  unfinished = λ failed. let e : false ≡ true = sym (ap is_read_fault memory) ∙ failed in absurd (cc e);
   failures = rw memory (failures ∙ sym (add_zero old.failures));
   first = λ own. let e : true ≡ false = sym (ap is_input_fault memory) ∙ own in absurd (cc e);
 }
@@ -54,6 +55,7 @@ pub later_answers : (start first old now : State) (fault : Fault) → old.failur
 later_answers start first old now fault same answers = record {
   bytes = answers.bytes;
   took = answers.took;
+  unfinished = answers.unfinished;
   failures = answers.failures ∙ ap (λ (n : ℕ). n + failed_reads fault) same;
   first = answers.first;
 }

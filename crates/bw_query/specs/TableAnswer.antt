@@ -1,5 +1,5 @@
 -- What an answer from a table file is to be, by the bytes that came of it.
-use Rattle.std.specs.Prelude.{◌≡◌, ◌⊎◌, ℕ, ◌+◌, ◌||◌, Bool, false, IsTrue, List, length, map, Option, Result, Ok, Err, IsOkAnd}
+use Rattle.std.specs.Prelude.{◌≡◌, ◌⊎◌, ℕ, ◌+◌, ◌||◌, Bool, true, false, IsTrue, List, length, map, Option, Result, Ok, Err, IsOkAnd}
 use Rattle.std.specs.Io.KnownBytes.{Appends, Keeps}
 use Rattle.std.specs.List.{range_with_len}
 use Rattle.bw_model.specs.declared.fault.Fault.{Fault}
@@ -15,12 +15,12 @@ use Rattle.bw_model.specs.SchemaText.{schema_shape}
 use Rattle.bw_sql.specs.Statement.{IsReadAs}
 use Rattle.bw_answer.specs.Answer.{csv_text, meaning}
 use Rattle.bw_device.specs.Sink.{TookPart, is_write_fault}
-use Rattle.bw_device.specs.Source.{is_input_fault}
+use Rattle.bw_device.specs.Source.{is_read_fault, is_input_fault}
 use Rattle.bw_file.specs.declared.layout.Layout.{Layout}
 use Rattle.bw_file.specs.FileText.{IsFileText}
 use Rattle.bw_file.specs.Reading.{State, Took, GoesOn, Fails, give}
 use Rattle.bw_file.specs.TableReading.{HeaderShape, Found, header}
-use Rattle.bw_file.specs.TableReader.{HasFirstFault, ReadWhole, failed_by}
+use Rattle.bw_file.specs.TableReader.{AreUnfinished, HasFirstFault, ReadWhole, failed_by}
 use Rattle.bw_query.specs.Scan.{IsScanFault, IsUsable}
 
 -- the header of the file was read, and tells of this schema
@@ -67,8 +67,8 @@ pub record AskedRefused (asks : Schema → Result Query Fault → Type 0) (start
   pub head : HeaderRead start now schema
   pub asked : asks schema (Err fault)
 
--- the header was read and what is asked is a query, and then a read failed, or the file has its first fault behind the
--- header
+-- the header was read and what is asked is a query, and then a read failed, where another byte or
+-- the end was to be seen, or the file has its first fault behind the header
 pub record SegmentRefused (asks : Schema → Result Query Fault → Type 0) (start now : State) (fault : Fault) : Type 0 where
   pub schema : Schema
   pub query : Query
@@ -77,6 +77,7 @@ pub record SegmentRefused (asks : Schema → Result Query Fault → Type 0) (sta
   pub asked : asks schema (Ok query)
   pub bytes : List ℕ
   pub took : Took start now bytes
+  pub unfinished : is_read_fault fault ≡ true → AreUnfinished bytes
   pub first : is_input_fault fault ≡ false → HasFirstFault now bytes fault
 
 -- What is asked of a table file is answered by this text, or by the first fault in the order of the header, what is
