@@ -138,80 +138,41 @@ fn direct<'a>(alloc: Global) -> Result<Command<'a>, Error> {
         .after_help(
             "Example: bw direct trips.schema trips.csv 'SELECT COUNT(*) FROM trips WHERE cents > 2000'",
         )
-        .arg(file(
-            alloc,
-            "SCHEMA",
-            "A file of TABLE and COLUMN lines, as `bw infer` writes one",
-        ))?
-        .arg(file(
-            alloc,
-            "CSV",
-            "A CSV file of whole numbers with a heading; an empty field is null",
-        ))?
+        .arg(schema_file(alloc))?
+        .arg(csv_file(alloc))?
         .arg(statement(alloc))?;
     Ok(command)
 }
 
 fn infer<'a>(alloc: Global) -> Result<Command<'a>, Error> {
-    let name = Arg::new(alloc, "table")
-        .long("table")
-        .action(ArgAction::Set)
-        .value_name("NAME")
-        .help("The name of the table, which is t unless told otherwise");
     let command = Command::new(alloc, "infer")
         .about("Writes a schema for the rows of a CSV file")
         .after_help("Example: bw infer --table trips trips.csv > trips.schema")
-        .arg(name)?
-        .arg(file(
-            alloc,
-            "CSV",
-            "A CSV file of whole numbers with a heading; an empty field is null",
-        ))?;
+        .arg(table_name(alloc))?
+        .arg(csv_file(alloc))?;
     Ok(command)
 }
 
 fn load<'a>(alloc: Global) -> Result<Command<'a>, Error> {
-    let layout = Arg::new(alloc, "layout")
-        .long("layout")
-        .action(ArgAction::Set)
-        .value_parser(["planes", "slices"].as_slice())
-        .help("How segments are kept: bit planes, unless told otherwise, or byte slices");
     let command = Command::new(alloc, "load")
         .about("Writes the table file of the rows of a CSV file")
         .after_help("Example: bw load trips.schema trips.csv trips.bw")
-        .arg(layout)?
-        .arg(file(
-            alloc,
-            "SCHEMA",
-            "A file of TABLE and COLUMN lines, as `bw infer` writes one",
-        ))?
-        .arg(file(
-            alloc,
-            "CSV",
-            "A CSV file of whole numbers with a heading; an empty field is null",
-        ))?
+        .arg(layout(alloc))?
+        .arg(schema_file(alloc))?
+        .arg(csv_file(alloc))?
         .arg(file(alloc, "OUT", "The table file, which is created or replaced"))?;
     Ok(command)
 }
 
 fn query<'a>(alloc: Global) -> Result<Command<'a>, Error> {
-    let program = Arg::new(alloc, "program")
-        .long("program")
-        .action(ArgAction::Set)
-        .value_name("FILE")
-        .help("A program file to scan by, in place of the planner's program");
-    let stats = Arg::new(alloc, "stats")
-        .long("stats")
-        .action(ArgAction::SetTrue)
-        .help("Tells on standard error how the query was served");
     let command = Command::new(alloc, "query")
         .about("Answers a statement over the rows of a table file")
         .after_help(
             "Example: bw query --stats trips.bw 'SELECT MAX(cents) FROM trips WHERE minutes < 10'",
         )
-        .arg(program)?
-        .arg(stats)?
-        .arg(file(alloc, "TABLE", "A table file, as `bw load` writes one"))?
+        .arg(program_file(alloc))?
+        .arg(stats(alloc))?
+        .arg(table_file(alloc))?
         .arg(statement(alloc))?;
     Ok(command)
 }
@@ -220,7 +181,7 @@ fn info<'a>(alloc: Global) -> Result<Command<'a>, Error> {
     let command = Command::new(alloc, "info")
         .about("Writes the schema of a table file, and its numbers as comments")
         .after_help("Example: bw info trips.bw")
-        .arg(file(alloc, "TABLE", "A table file, as `bw load` writes one"))?;
+        .arg(table_file(alloc))?;
     Ok(command)
 }
 
@@ -228,7 +189,7 @@ fn dump<'a>(alloc: Global) -> Result<Command<'a>, Error> {
     let command = Command::new(alloc, "dump")
         .about("Writes all rows of a table file as CSV")
         .after_help("Example: bw dump trips.bw > trips.csv")
-        .arg(file(alloc, "TABLE", "A table file, as `bw load` writes one"))?;
+        .arg(table_file(alloc))?;
     Ok(command)
 }
 
@@ -238,11 +199,7 @@ fn plan<'a>(alloc: Global) -> Result<Command<'a>, Error> {
         .after_help(
             "Example: bw plan trips.schema 'SELECT COUNT(*) FROM trips WHERE cents > 2000' > cents.prog",
         )
-        .arg(file(
-            alloc,
-            "SCHEMA",
-            "A file of TABLE and COLUMN lines, as `bw infer` writes one",
-        ))?
+        .arg(schema_file(alloc))?
         .arg(statement(alloc))?;
     Ok(command)
 }
@@ -253,11 +210,7 @@ fn check<'a>(alloc: Global) -> Result<Command<'a>, Error> {
         .after_help(
             "Example: bw check trips.schema 'SELECT COUNT(*) FROM trips WHERE cents > 2000' cents.prog",
         )
-        .arg(file(
-            alloc,
-            "SCHEMA",
-            "A file of TABLE and COLUMN lines, as `bw infer` writes one",
-        ))?
+        .arg(schema_file(alloc))?
         .arg(statement(alloc))?
         .arg(file(alloc, "FILE", "A program file, as `bw plan` writes one"))?;
     Ok(command)
@@ -266,51 +219,82 @@ fn check<'a>(alloc: Global) -> Result<Command<'a>, Error> {
 /// The words of the command that the command line has.
 pub fn words_of<'a>(matches: &ArgMatches<'a>) -> Option<Words<'a>> {
     if let Some(found) = matches.subcommand_matches("direct") {
-        return Some(Words::Direct {
-            schema: found.get_str("SCHEMA")?,
-            csv: found.get_str("CSV")?,
-            sql: found.get_str("SQL")?,
-        });
+        return direct_words(found);
     }
     if let Some(found) = matches.subcommand_matches("infer") {
-        return Some(Words::Infer {
-            name: found.get_str("table"),
-            csv: found.get_str("CSV")?,
-        });
+        return infer_words(found);
     }
     if let Some(found) = matches.subcommand_matches("load") {
-        return Some(Words::Load {
-            layout: layout_of(found),
-            schema: found.get_str("SCHEMA")?,
-            csv: found.get_str("CSV")?,
-            out: found.get_str("OUT")?,
-        });
+        return load_words(found);
     }
     if let Some(found) = matches.subcommand_matches("query") {
-        return Some(Words::Query {
-            program: found.get_str("program"),
-            stats: found.get_flag("stats"),
-            table: found.get_str("TABLE")?,
-            sql: found.get_str("SQL")?,
-        });
+        return query_words(found);
     }
     if let Some(found) = matches.subcommand_matches("info") {
-        return Some(Words::Info {
-            table: found.get_str("TABLE")?,
-        });
+        return info_words(found);
     }
     if let Some(found) = matches.subcommand_matches("dump") {
-        return Some(Words::Dump {
-            table: found.get_str("TABLE")?,
-        });
+        return dump_words(found);
     }
     if let Some(found) = matches.subcommand_matches("plan") {
-        return Some(Words::Plan {
-            schema: found.get_str("SCHEMA")?,
-            sql: found.get_str("SQL")?,
-        });
+        return plan_words(found);
     }
-    let found = matches.subcommand_matches("check")?;
+    check_words(matches.subcommand_matches("check")?)
+}
+
+fn direct_words<'a>(found: &ArgMatches<'a>) -> Option<Words<'a>> {
+    Some(Words::Direct {
+        schema: found.get_str("SCHEMA")?,
+        csv: found.get_str("CSV")?,
+        sql: found.get_str("SQL")?,
+    })
+}
+
+fn infer_words<'a>(found: &ArgMatches<'a>) -> Option<Words<'a>> {
+    Some(Words::Infer {
+        name: found.get_str("table"),
+        csv: found.get_str("CSV")?,
+    })
+}
+
+fn load_words<'a>(found: &ArgMatches<'a>) -> Option<Words<'a>> {
+    Some(Words::Load {
+        layout: layout_of(found),
+        schema: found.get_str("SCHEMA")?,
+        csv: found.get_str("CSV")?,
+        out: found.get_str("OUT")?,
+    })
+}
+
+fn query_words<'a>(found: &ArgMatches<'a>) -> Option<Words<'a>> {
+    Some(Words::Query {
+        program: found.get_str("program"),
+        stats: found.get_flag("stats"),
+        table: found.get_str("TABLE")?,
+        sql: found.get_str("SQL")?,
+    })
+}
+
+fn info_words<'a>(found: &ArgMatches<'a>) -> Option<Words<'a>> {
+    Some(Words::Info {
+        table: found.get_str("TABLE")?,
+    })
+}
+
+fn dump_words<'a>(found: &ArgMatches<'a>) -> Option<Words<'a>> {
+    Some(Words::Dump {
+        table: found.get_str("TABLE")?,
+    })
+}
+
+fn plan_words<'a>(found: &ArgMatches<'a>) -> Option<Words<'a>> {
+    Some(Words::Plan {
+        schema: found.get_str("SCHEMA")?,
+        sql: found.get_str("SQL")?,
+    })
+}
+
+fn check_words<'a>(found: &ArgMatches<'a>) -> Option<Words<'a>> {
     Some(Words::Check {
         schema: found.get_str("SCHEMA")?,
         sql: found.get_str("SQL")?,
@@ -324,6 +308,57 @@ fn layout_of(matches: &ArgMatches<'_>) -> Layout {
         Some("slices") => Layout::Slices,
         _ => Layout::Planes,
     }
+}
+
+fn table_name<'a>(alloc: Global) -> Arg<'a> {
+    Arg::new(alloc, "table")
+        .long("table")
+        .action(ArgAction::Set)
+        .value_name("NAME")
+        .help("The name of the table, which is t unless told otherwise")
+}
+
+fn layout<'a>(alloc: Global) -> Arg<'a> {
+    Arg::new(alloc, "layout")
+        .long("layout")
+        .action(ArgAction::Set)
+        .value_parser(["planes", "slices"].as_slice())
+        .help("How segments are kept: bit planes, unless told otherwise, or byte slices")
+}
+
+fn program_file<'a>(alloc: Global) -> Arg<'a> {
+    Arg::new(alloc, "program")
+        .long("program")
+        .action(ArgAction::Set)
+        .value_name("FILE")
+        .help("A program file to scan by, in place of the planner's program")
+}
+
+fn stats<'a>(alloc: Global) -> Arg<'a> {
+    Arg::new(alloc, "stats")
+        .long("stats")
+        .action(ArgAction::SetTrue)
+        .help("Tells on standard error how the query was served")
+}
+
+fn schema_file<'a>(alloc: Global) -> Arg<'a> {
+    file(
+        alloc,
+        "SCHEMA",
+        "A file of TABLE and COLUMN lines, as `bw infer` writes one",
+    )
+}
+
+fn csv_file<'a>(alloc: Global) -> Arg<'a> {
+    file(
+        alloc,
+        "CSV",
+        "A CSV file of whole numbers with a heading; an empty field is null",
+    )
+}
+
+fn table_file<'a>(alloc: Global) -> Arg<'a> {
+    file(alloc, "TABLE", "A table file, as `bw load` writes one")
 }
 
 fn file<'a>(alloc: Global, name: &'static str, help: &'static str) -> Arg<'a> {
