@@ -3,7 +3,6 @@ pub mod LineRead
 pub mod LineSpelled
 pub mod PrintLemmas
 pub mod PrintedLines
-pub mod PrintedNumbers
 pub mod PrintedText
 pub mod SpelledNumbers
 pub mod TextLemmas

@@ -1,128 +1,23 @@
--- A printed line is cut into the words that it was printed from.
-use Rattle.std.proofs.Common.{◌≡◌, ◌∙◌, refl, ap, ℕ, zero, suc, ◌+◌, ◌-◌, ◌<◌, Bool, true, false, not, ◌&&◌, ◌==◌, List, [], ◌∷◌, ◌++◌, length, filter, map, nat_lt, get_or, append_assoc, arith}
-use Rattle.std.specs.List.{list_all, slice_split, onto_first}
-use Rattle.std.proofs.lemmas.Bool.{ne_eqb, ltb-true, lt-ltb}
-use Rattle.std.proofs.lemmas.List.{append-nil}
-use Rattle.std.proofs.lemmas.List.Folds.{list_all-append}
-use Rattle.std.proofs.lemmas.List.Splits.{slice_split-cons_no, slice_split-cons_yes}
-use Rattle.bw_model.specs.Lines.{is_empty, is_blank, cut_lines, words_of, begins_comment, numbered_from, numbered}
-use Rattle.bw_model.proofs.LineLemmas.{numbered_from-said}
+-- A printed line is cut into the words of the tokens that it was printed from.
+use Rattle.std.proofs.Common.{◌≡◌, ◌∙◌, refl, ap, ℕ, ◌+◌, true, false, List, [], ◌∷◌, ◌++◌, map, append_assoc}
+use Rattle.std.specs.List.{list_all}
+use Rattle.bw_model.specs.Lines.{begins_comment, cut_lines, numbered_from, numbered}
+use Rattle.bw_model.proofs.SpacedWords.{behind, is_plain_word, words_said}
 use Rattle.bw_cert_text.specs.PrintText.{token_text, behind_text, line_text}
 use Rattle.bw_cert_text.specs.Token.{Token}
-
-pub both : (a b : Bool) → (a && b) ≡ true → (a ≡ true) × (b ≡ true)
-both true b is = (refl, is)
-both false b is = absurd (cc)
-
--- a byte of a word, which is above those of blanks and ends of lines; and one of a line
-abbrev pub is_plain : ℕ → Bool
-is_plain c = nat_lt 32 c
-
-abbrev pub is_inside : ℕ → Bool
-is_inside c = nat_lt 31 c
-
-abbrev pub is_plain_word : List ℕ → Bool
-is_plain_word word = not (is_empty word) && list_all is_plain word
-
-other : (c n : ℕ) → n < c → (c == n) ≡ false
-other c n lt = ne_eqb c n (λ e. absurd (omega arith))
-
-not_blank : (c : ℕ) → is_plain c ≡ true → is_blank c ≡ false
-not_blank c h =
-    let above : 32 < c = ltb-true 32 c h in
-    rw (other c 32 (omega arith), other c 9 (omega arith)) refl
-
-inside : (word : List ℕ) → list_all is_plain word ≡ true → list_all is_inside word ≡ true
-inside [] h = refl
-inside (c ∷ word) h =
-    let here = both (is_plain c) (list_all is_plain word) h in
-    let above : 32 < c = ltb-true 32 c here.0 in
-    rw (lt-ltb 31 c (omega arith)) (inside word here.1)
-
--- words that follow another in a line, each behind a blank
-unfoldable behind : List (List ℕ) → List ℕ
-behind [] = []
-behind (word ∷ words) = 32 ∷ (word ++ behind words)
 
 behind-words : (tokens : List Token) → behind_text tokens ≡ behind (map token_text tokens)
 unfolding behind_text behind
 behind-words [] = refl
 behind-words (token ∷ tokens) = ap (λ (t : List ℕ). 32 ∷ (token_text token ++ t)) (behind-words tokens)
 
-behind_inside : (words : List (List ℕ)) → list_all is_plain_word words ≡ true → list_all is_inside (behind words) ≡ true
-unfolding behind
-behind_inside [] h = refl
-behind_inside (word ∷ words) h =
-    let here = both (is_plain_word word) (list_all is_plain_word words) h in
-    let plain = both (not (is_empty word)) (list_all is_plain word) here.0 in
-    rw (list_all-append is_inside word (behind words), inside word plain.1) (behind_inside words here.1)
-
--- a word, cut off at the blank behind it
-split_word : (word rest : List ℕ) → list_all is_plain word ≡ true → slice_split is_blank (word ++ 32 ∷ rest) ≡ word ∷ slice_split is_blank rest
-split_word [] rest h = slice_split-cons_yes is_blank 32 rest refl
-split_word (c ∷ word) rest h =
-    let here = both (is_plain c) (list_all is_plain word) h in
-    slice_split-cons_no is_blank c (word ++ 32 ∷ rest) (not_blank c here.0) ∙ ap (onto_first c) (split_word word rest here.1)
-
-split_last : (word : List ℕ) → list_all is_plain word ≡ true → slice_split is_blank word ≡ word ∷ []
-split_last [] h = refl
-split_last (c ∷ word) h =
-    let here = both (is_plain c) (list_all is_plain word) h in
-    slice_split-cons_no is_blank c word (not_blank c here.0) ∙ ap (onto_first c) (split_last word here.1)
-
-split_words : (word : List ℕ) (words : List (List ℕ)) → list_all is_plain word ≡ true → list_all is_plain_word words ≡ true →
-    slice_split is_blank (word ++ behind words) ≡ word ∷ words
-unfolding behind
-split_words word [] plain all = rw (append-nil word) (split_last word plain)
-split_words word (next ∷ words) plain all =
-    let here = both (is_plain_word next) (list_all is_plain_word words) all in
-    let second = both (not (is_empty next)) (list_all is_plain next) here.0 in
-    split_word word (next ++ behind words) plain ∙ ap (λ (ws : List (List ℕ)). word ∷ ws) (split_words next words second.1 here.1)
-
-all_kept : (words : List (List ℕ)) → list_all is_plain_word words ≡ true → filter (λ (word : List ℕ). not (is_empty word)) words ≡ words
-all_kept [] all = refl
-all_kept (word ∷ words) all =
-    let here = both (is_plain_word word) (list_all is_plain_word words) all in
-    let some = both (not (is_empty word)) (list_all is_plain word) here.0 in
-    rw (some.0) (ap (λ (ws : List (List ℕ)). word ∷ ws) (all_kept words here.1))
-
--- no byte of a line is a carriage return
-no_return : (line : List ℕ) (k : ℕ) → list_all is_inside line ≡ true → (get_or line k 0 == 13) ≡ false
-no_return [] k h = refl
-no_return (c ∷ line) zero h =
-    let here = both (is_inside c) (list_all is_inside line) h in
-    let above : 31 < c = ltb-true 31 c here.0 in
-    other c 13 (omega arith)
-no_return (c ∷ line) (suc k) h = no_return line k (both (is_inside c) (list_all is_inside line) h).1
-
-words_of-line : (word : List ℕ) (words : List (List ℕ)) → is_plain_word word ≡ true → list_all is_plain_word words ≡ true → words_of (word ++ behind words) ≡ word ∷ words
-unfolding words_of
-words_of-line word words plain all =
-    let first = both (not (is_empty word)) (list_all is_plain word) plain in
-    let line = word ++ behind words in
-    let within : list_all is_inside (word ++ behind words) ≡ true = rw (list_all-append is_inside word (behind words), inside word first.1) (behind_inside words all) in
-    let every : list_all is_plain_word (word ∷ words) ≡ true = rw plain all in
-    rw (no_return (word ++ behind words) (length (word ++ behind words) - 1) within, split_words word words first.1 all) (all_kept (word ∷ words) every)
-
-cut_line : (line rest : List ℕ) → list_all is_inside line ≡ true → cut_lines (line ++ 10 ∷ rest) ≡ line ∷ cut_lines rest
-unfolding cut_lines
-cut_line [] rest h = refl
-cut_line (c ∷ line) rest h =
-    let here = both (is_inside c) (list_all is_inside line) h in
-    let above : 31 < c = ltb-true 31 c here.0 in
-    rw (other c 10 (omega arith), cut_line line rest here.1) refl
-
--- the first of the lines that say something is that of the words
+-- the first of the lines that say something is that of the tokens
 pub line_said : (number : ℕ) (token : Token) (tokens : List Token) (rest : List ℕ) → is_plain_word (token_text token) ≡ true → begins_comment (token_text token) ≡ false →
     list_all is_plain_word (map token_text tokens) ≡ true →
     numbered_from number (cut_lines (line_text (token ∷ tokens) ++ rest)) ≡ numbered number (map token_text (token ∷ tokens)) ∷ numbered_from (number + 1) (cut_lines rest)
 line_said number token tokens rest plain says all =
     let word : List ℕ = token_text token in
     let words : List (List ℕ) = map token_text tokens in
-    let first = both (not (is_empty word)) (list_all is_plain word) plain in
-    let within : list_all is_inside (word ++ behind words) ≡ true = rw (list_all-append is_inside word (behind words), inside word first.1) (behind_inside words all) in
     let same : (word ++ (behind_text tokens ++ 10 ∷ [])) ++ rest ≡ (word ++ behind words) ++ 10 ∷ rest =
     rw (behind-words tokens, ← (append_assoc word (behind words) (10 ∷ []))) (append_assoc (word ++ behind words) (10 ∷ []) rest) in
-    let cut : cut_lines ((word ++ (behind_text tokens ++ 10 ∷ [])) ++ rest) ≡ (word ++ behind words) ∷ cut_lines rest = ap cut_lines same ∙ cut_line (word ++ behind words) rest within in
-    let read = words_of-line word words plain all in
-    numbered_from-said number _ (word ++ behind words) (cut_lines rest) cut (rw read says) ∙ ap (λ (ws : List (List ℕ)). numbered number ws ∷ numbered_from (number + 1) (cut_lines rest)) read
+    ap (λ (text : List ℕ). numbered_from number (cut_lines text)) same ∙ words_said number word words rest plain says all

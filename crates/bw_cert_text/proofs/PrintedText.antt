@@ -1,10 +1,9 @@
 -- The canonical text of a certificate spells it, with its lines numbered one after another.
-use Rattle.std.proofs.Common.{◌≡◌, ◌∙◌, refl, sym, ap, subst, ℕ, zero, suc, ◌+◌, ◌^◌, ◌<◌, ◌≤◌, Bool, true, false, not, ◌&&◌, cond, List, [], ◌∷◌, ◌++◌, length, map, Option, Some, None, nat_le, nat_lt, append_assoc, arith}
-use Rattle.std.specs.Char.{to_ascii_lowercase, is_ascii_digit}
+use Rattle.std.proofs.Common.{◌≡◌, ◌∙◌, refl, sym, ap, subst, ℕ, zero, suc, ◌+◌, ◌^◌, ◌<◌, ◌≤◌, Bool, true, false, not, ◌&&◌, cond, List, [], ◌∷◌, ◌++◌, length, map, Option, Some, None, nat_lt, append_assoc, arith}
+use Rattle.std.specs.Char.{to_ascii_lowercase}
 use Rattle.std.specs.Fmt.{decimal}
 use Rattle.std.specs.List.{list_all, position_or_len}
-use Rattle.std.proofs.lemmas.Bool.{ltb-true, lt-ltb, leb-true}
-use Rattle.std.proofs.lemmas.Bool.Decides.{nat_tests}
+use Rattle.std.proofs.lemmas.Bool.{ltb-true, lt-ltb}
 use Rattle.std.proofs.lemmas.List.{append-nil}
 use Rattle.std.proofs.lemmas.Slice.Eq.{bytes_eq-Decides}
 use Rattle.bw_diagram.specs.declared.chain.ChainKind.TheVariants as compared
@@ -14,11 +13,9 @@ use Rattle.bw_diagram.specs.declared.product.Reason.{Reason}
 use Rattle.bw_diagram.specs.declared.product.Reason.TheVariants.{Shortcut, Cofactors}
 use Rattle.bw_model.specs.declared.column.Column as stored
 use Rattle.bw_model.specs.Column.{names_of, column_named}
-use Rattle.bw_model.specs.Keyword.{is_reserved}
-use Rattle.bw_model.specs.Limits.{longest_name}
 use Rattle.bw_model.specs.Lines.{NumberedWords, begins_comment, cut_lines, numbered, numbered_from}
 use Rattle.bw_model.specs.Name.{is_name}
-use Rattle.bw_model.specs.Text.{same_text, is_word, begins_word, goes_on_in_word}
+use Rattle.bw_model.specs.Text.{same_text}
 use Rattle.bw_cert_text.specs.declared.lines.NodeLine.{NodeLine}
 use Rattle.bw_cert_text.specs.declared.lines.RowLine.{RowLine}
 use Rattle.bw_cert_text.specs.declared.lines.EndLine.{EndLine}
@@ -34,52 +31,19 @@ use Rattle.bw_cert_text.specs.PrintText.{token_text, line_text, lines_text, body
 use Rattle.bw_cert_text.specs.Reprint.{node_at, chain_at, row_at, body_at, numbered_on, renumbered, is_small, is_found, is_named, numbers_fit, has_columns}
 use Rattle.bw_cert_text.specs.Token.{Token, Key, Number, Perhaps, Column, Register, IsSpelled, AreSpelled, none, next, node_tokens, column_tokens, chain_tokens, reason_tokens, row_tokens, condition_tokens, instruction_tokens, edge_tokens, entry_tokens, end_tokens, part_tokens, part_line}
 use Rattle.bw_cert_text.specs.Word.{connective_spelling}
-use Rattle.bw_cert_text.proofs.PrintedLines.{both, is_plain, is_plain_word, line_said}
-use Rattle.bw_cert_text.proofs.PrintedNumbers.{Spells, decimal_spells, natural_of-decimal, register_of-text}
+use Rattle.bw_model.proofs.BitsLemmas.{both}
+use Rattle.bw_model.proofs.DecimalLemmas.{decimal_spells, natural_of-decimal, plain_digits, plain_number}
+use Rattle.bw_model.proofs.SpacedWords.{is_plain_word, plain_name}
+use Rattle.bw_cert_text.specs.Operand.{register_of}
+use Rattle.bw_cert_text.proofs.PrintedLines.{line_said}
 
 same_as_itself : (text : List ℕ) → same_text text text ≡ true
 unfolding same_text
 same_as_itself text = (bytes_eq-Decides (map to_ascii_lowercase text) (map to_ascii_lowercase text)).1 refl
 
--- digits and names are plain words
-plain_digits : (digits : List ℕ) → list_all is_ascii_digit digits ≡ true → list_all is_plain digits ≡ true
-plain_digits [] h = refl
-plain_digits (d ∷ digits) h =
-    let here = both (is_ascii_digit d) (list_all is_ascii_digit digits) h in
-    let low = both (nat_le 48 d) (nat_le d 57) here.0 in
-    let above : 48 ≤ d = leb-true 48 d low.0 in
-    rw (lt-ltb 32 d (omega arith)) (plain_digits digits here.1)
-
-plain_number : (n : ℕ) → n < 2 ^ 64 → is_plain_word (decimal n) ≡ true
-plain_number n lt = go (decimal n) (decimal_spells n lt)
-  where
-    go : (digits : List ℕ) → Spells n digits → is_plain_word digits ≡ true
-    go [] spells = absurd (omega (arith, spells.some))
-    go (d ∷ digits) spells = plain_digits (d ∷ digits) spells.all
-
-above_blanks : (c : ℕ) → goes_on_in_word c ≡ true → is_plain c ≡ true
-above_blanks c h = let lt : 32 < c = grind (arith, nat_tests) in lt-ltb 32 c lt
-
-begins_above : (c : ℕ) → begins_word c ≡ true → is_plain c ≡ true
-begins_above c h = let lt : 32 < c = grind (arith, nat_tests) in lt-ltb 32 c lt
-
-plain_rest : (text : List ℕ) → list_all goes_on_in_word text ≡ true → list_all is_plain text ≡ true
-plain_rest [] h = refl
-plain_rest (c ∷ text) h =
-    let here = both (goes_on_in_word c) (list_all goes_on_in_word text) h in
-    rw (above_blanks c here.0) (plain_rest text here.1)
-
-plain_name : (text : List ℕ) → is_name text ≡ true → is_plain_word text ≡ true
-unfolding is_name
-plain_name text h =
-    let named = both (is_word text && nat_le (length text) longest_name) (not (is_reserved text)) h in
-    go text (both (is_word text) (nat_le (length text) longest_name) named.0).0
-  where
-    go : (text : List ℕ) → is_word text ≡ true → is_plain_word text ≡ true
-    go [] word = absurd (cc word)
-    go (c ∷ text) word =
-        let here = both (begins_word c) (list_all goes_on_in_word text) word in
-        rw (begins_above c here.0) (plain_rest text here.1)
+register_of-text : (r : ℕ) → r < 64 → register_of (114 ∷ decimal r) ≡ Some r
+unfolding register_of
+register_of-text r lt = rw (natural_of-decimal r (omega arith), lt-ltb r 64 lt) refl
 
 plain_column : (columns : List stored.Column) (word : List ℕ) (c : ℕ) → list_all is_name (names_of columns) ≡ true → c < length columns → is_plain_word (spelling_at columns word (Some c)) ≡ true
 plain_column [] word c names lt = absurd (omega arith)

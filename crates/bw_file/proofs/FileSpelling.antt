@@ -14,7 +14,7 @@ use Rattle.bw_file.specs.Blocks.{segment_text}
 use Rattle.bw_file.specs.FileText.{IsSchema, IsFileText, file_text, file_text2, text_of_version, front_text, name_text, header_text, segments_text, version_for, are_bounds, column_text}
 use Rattle.bw_file.specs.Reading.{Tail, tail}
 use Rattle.bw_file.specs.TableReading.{group_sizes, body, HeaderShape, header, Found, found_in, IsReadAs, IsReadBehind}
-use Rattle.bw_file.proofs.ColumnLemmas.{columns_same}
+use Rattle.bw_model.proofs.SameColumns.{columns_same}
 use Rattle.bw_file.proofs.SpellingLemmas.{IsBytes, TakesBoth, shape_text, fits_version, head_text, IsHeader, header_takes}
 use Rattle.bw_file.proofs.BodySpelling.{groups_found, body_take}
 

@@ -1,6 +1,5 @@
 pub mod BodyLemmas
 pub mod BodySpelling
-pub mod ColumnLemmas
 pub mod EncoderLemmas
 pub mod FileSpelling
 pub mod HeaderLemmas

@@ -16,7 +16,7 @@ use Rattle.bw_device.specs.Source.{is_input_fault}
 use Rattle.bw_file.specs.TableReading.{group_sizes, body, header, Found, found_as, IsReadBehind}
 use Rattle.bw_file.specs.TableReader.{header_told, SoFar, ReadWhole, AnswersFault, GaveFirst}
 use Rattle.bw_file.proofs.BodySpelling.{groups_found}
-use Rattle.bw_file.proofs.ColumnLemmas.{columns_same}
+use Rattle.bw_model.proofs.SameColumns.{columns_same}
 use Rattle.bw_file.proofs.FileSpelling.{of_groups, body_found}
 use Rattle.bw_file.proofs.ReaderLemmas.{head_at}
 use Rattle.bw_file.proofs.SpelledFile.{spelled_is_read, text_read, done_is}

@@ -14,7 +14,7 @@ use Rattle.bw_file.specs.declared.layout.Layout.{Layout}
 use Rattle.bw_file.specs.FileText.{IsFileText, text_of_version, segments_text, version_for, are_bounds}
 use Rattle.bw_file.specs.Reading.{Tail, tail}
 use Rattle.bw_file.specs.TableReading.{group_sizes, body, HeaderShape, header, Found, found_as, found_in, IsReadBehind, IsReadAs}
-use Rattle.bw_file.proofs.ColumnLemmas.{columns_same}
+use Rattle.bw_model.proofs.SameColumns.{columns_same}
 use Rattle.bw_file.proofs.FileSpelling.{head_is, shapes_fit}
 use Rattle.bw_file.proofs.SpellingLemmas.{head_text, IsHeader}
 use Rattle.bw_file.proofs.SpelledHeader.{IsWhole, header_reads}

@@ -13,7 +13,8 @@ use Rattle.bw_file.specs.Blocks.{segment_size}
 use Rattle.bw_file.specs.FileText.{header_text}
 use Rattle.bw_schema_text.specs.Printed.{AreComments, schema_text}
 use Rattle.bw_schema_text.proofs.PrintedBounds.{natural_plain, natural_short}
-use Rattle.bw_schema_text.proofs.PrintedLines.{is_plain_word, line_skipped}
+use Rattle.bw_model.proofs.SpacedWords.{is_plain_word}
+use Rattle.bw_schema_text.proofs.PrintedLines.{line_skipped}
 use Rattle.bw_schema_text.proofs.PrintedText.{no_comments}
 use Rattle.bw_info.specs.Info.{comment, facts_text, file_size, info_text, layout_word, segment_count}
 

@@ -15,7 +15,7 @@ use Rattle.bw_file.specs.FileText.{IsFileText}
 use Rattle.bw_file.specs.Reading.{State, Fails, GoesOn, failed_reads, give}
 use Rattle.bw_file.specs.TableReader.{GaveFirst, header_told, layout_in, rows_told, schema_in, version_in}
 use Rattle.bw_file.specs.TableReading.{header}
-use Rattle.bw_file.proofs.ColumnLemmas.{columns_same}
+use Rattle.bw_model.proofs.SameColumns.{columns_same}
 use Rattle.bw_info.specs.Info.{InfoGave, TellsFile, Wrote, info_text, is_no_verdict}
 use Rattle.bw_info.proofs.SizeLemmas.{file_sized}
 

@@ -1,14 +1,17 @@
 pub mod BitsLemmas
 pub mod CondLemmas
+pub mod DecimalLemmas
 pub mod DigitLemmas
 pub mod GroupLemmas
 pub mod LineLemmas
 pub mod Numbers
 pub mod PlaceLemmas
+pub mod SameColumns
 pub mod SameLemmas
 pub mod SchemaCodes
 pub mod SchemaLemmas
 pub mod SchemaSpelling
+pub mod SpacedWords
 pub mod StoredLemmas
 pub mod TotalLemmas
 pub mod TreeLemmas

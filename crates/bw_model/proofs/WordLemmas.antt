@@ -1,5 +1,5 @@
 -- The only one of some words.
-use Rattle.std.proofs.Common.{◌≡◌, ℕ, Bool, true, false, List, [], ◌∷◌, filter, length, refl, ap, ◌∙◌, cond, arith, None, Some}
+use Rattle.std.proofs.Common.{◌≡◌, ℕ, Bool, true, false, List, [], ◌∷◌, filter, length, refl, cond, arith, None, Some}
 use Rattle.std.specs.List.{find}
 use Rattle.bw_model.specs.Lines.{only_of}
 

@@ -2,7 +2,6 @@ pub mod InstrSpelling
 pub mod MachineLaws
 pub mod PrintLemmas
 pub mod PrintedLines
-pub mod PrintedNumbers
 pub mod PrintedText
 pub mod ProgramLemmas
 pub mod ProgramSpelling

@@ -1,10 +1,9 @@
 -- The canonical text of a program spells it.
 use Rattle.std.proofs.Common.{◌≡◌, ◌∙◌, refl, sym, ap, subst, ℕ, zero, suc, ◌+◌, ◌^◌, ◌<◌, ◌≤◌, Bool, true, false, not, ◌&&◌, ◌||◌, List, [], ◌∷◌, ◌++◌, length, map, Some, nat_le, nat_lt, get_or, arith}
-use Rattle.std.specs.Char.{to_ascii_lowercase, is_ascii_digit}
+use Rattle.std.specs.Char.{to_ascii_lowercase}
 use Rattle.std.specs.Fmt.{decimal}
 use Rattle.std.specs.List.{list_all, list_any}
 use Rattle.std.proofs.lemmas.Bool.{ltb-true, lt-ltb, leb-true}
-use Rattle.std.proofs.lemmas.Bool.Decides.{nat_tests}
 use Rattle.std.proofs.lemmas.Int.{ints}
 use Rattle.std.proofs.lemmas.Int.Digits.{length-digits_of-le}
 use Rattle.std.proofs.lemmas.List.{append-nil, get_or-map, length-map}
@@ -15,9 +14,7 @@ use Rattle.bw_model.specs.Code.{width_of, span_of, width_at, slices_at}
 use Rattle.bw_model.specs.Column.{names_of, column_named}
 use Rattle.bw_model.specs.Lines.{cut_lines, numbered, numbered_from}
 use Rattle.bw_model.specs.Name.{is_name, are_apart}
-use Rattle.bw_model.specs.Keyword.{is_reserved}
-use Rattle.bw_model.specs.Limits.{longest_name}
-use Rattle.bw_model.specs.Text.{same_text, is_word, begins_word, goes_on_in_word}
+use Rattle.bw_model.specs.Text.{same_text}
 use Rattle.bw_model.specs.Variable.{is_nullable}
 use Rattle.bw_program.specs.declared.instr.Instr.{Instr}
 use Rattle.bw_program.specs.declared.instr.Instr.TheVariants.{Load, Nulls, Fill, And, Or, Xor, Not, ByteLt, ByteEq, Skip}
@@ -26,13 +23,11 @@ use Rattle.bw_program.specs.declared.opcode.Opcode.TheVariants as op
 use Rattle.bw_program.specs.Opcode.{opcode_spelling, opcode_of}
 use Rattle.bw_program.specs.PrintText.{register_text, column_text, instr_words, result_words, line_text, lines_text, print_text}
 use Rattle.bw_program.specs.Program.{ProgramShape, is_program, is_register, is_sound, are_sound, instr_fits, fits}
-use Rattle.bw_program.specs.ProgramText.{SpellsInstr, load, nulls, fill, conjunction, disjunction, difference, negation, below, same, skip, SpellsLines, result_line, instr_line, IsProgramText}
-use Rattle.bw_program.proofs.PrintedLines.{is_plain, is_plain_word, line_said}
-use Rattle.bw_program.proofs.PrintedNumbers.{Spells, decimal_spells, natural_of-decimal, register_of-text}
-
-both : (a b : Bool) → (a && b) ≡ true → (a ≡ true) × (b ≡ true)
-both true b is = (refl, is)
-both false b is = absurd (cc)
+use Rattle.bw_program.specs.ProgramText.{SpellsInstr, load, nulls, fill, conjunction, disjunction, difference, negation, below, same, skip, SpellsLines, result_line, instr_line, register_of, IsProgramText}
+use Rattle.bw_model.proofs.BitsLemmas.{both}
+use Rattle.bw_model.proofs.DecimalLemmas.{decimal_spells, natural_of-decimal, plain_digits, plain_number}
+use Rattle.bw_model.proofs.SpacedWords.{is_plain_word, plain_name}
+use Rattle.bw_program.proofs.PrintedLines.{line_said}
 
 opcode_of-spelling : (o : Opcode) → opcode_of (opcode_spelling o) ≡ Some o
 unfolding opcode_of same_text
@@ -97,48 +92,13 @@ column_named-text (column ∷ columns) c apart lt =
     let at = position_or_len_is (λ (x : Column). same_text x.name text) (column ∷ columns) c column (omega arith) before (λ _. here) in
     rw (at, lt-ltb c (length (column ∷ columns)) lt) refl
 
+register_of-text : (r : ℕ) → r < 64 → register_of (register_text r) ≡ Some r
+unfolding register_of
+register_of-text r lt = rw (natural_of-decimal r (omega arith), lt-ltb r 64 lt) refl
+
 -- the words of a line are plain ones
-plain_digits : (digits : List ℕ) → list_all is_ascii_digit digits ≡ true → list_all is_plain digits ≡ true
-plain_digits [] h = refl
-plain_digits (d ∷ digits) h =
-    let here = both (is_ascii_digit d) (list_all is_ascii_digit digits) h in
-    let low = both (nat_le 48 d) (nat_le d 57) here.0 in
-    let above : 48 ≤ d = leb-true 48 d low.0 in
-    rw (lt-ltb 32 d (omega arith)) (plain_digits digits here.1)
-
-plain_number : (n : ℕ) → n < 2 ^ 64 → is_plain_word (decimal n) ≡ true
-plain_number n lt = go (decimal n) (decimal_spells n lt)
-  where
-    go : (digits : List ℕ) → Spells n digits → is_plain_word digits ≡ true
-    go [] spells = absurd (omega (arith, spells.some))
-    go (d ∷ digits) spells = plain_digits (d ∷ digits) spells.all
-
 plain_register : (r : ℕ) → r < 64 → is_plain_word (register_text r) ≡ true
 plain_register r lt = plain_digits (decimal r) (decimal_spells r (omega arith)).all
-
-above_blanks : (c : ℕ) → goes_on_in_word c ≡ true → is_plain c ≡ true
-above_blanks c h = let lt : 32 < c = grind (arith, nat_tests) in lt-ltb 32 c lt
-
-begins_above : (c : ℕ) → begins_word c ≡ true → is_plain c ≡ true
-begins_above c h = let lt : 32 < c = grind (arith, nat_tests) in lt-ltb 32 c lt
-
-plain_rest : (text : List ℕ) → list_all goes_on_in_word text ≡ true → list_all is_plain text ≡ true
-plain_rest [] h = refl
-plain_rest (c ∷ text) h =
-    let here = both (goes_on_in_word c) (list_all goes_on_in_word text) h in
-    rw (above_blanks c here.0) (plain_rest text here.1)
-
-plain_name : (text : List ℕ) → is_name text ≡ true → is_plain_word text ≡ true
-unfolding is_name
-plain_name text h =
-    let named = both (is_word text && nat_le (length text) longest_name) (not (is_reserved text)) h in
-    go text (both (is_word text) (nat_le (length text) longest_name) named.0).0
-  where
-    go : (text : List ℕ) → is_word text ≡ true → is_plain_word text ≡ true
-    go [] word = absurd (cc word)
-    go (c ∷ text) word =
-        let here = both (begins_word c) (list_all goes_on_in_word text) word in
-        rw (begins_above c here.0) (plain_rest text here.1)
 
 plain_column : (columns : List Column) (c : ℕ) → list_all is_name (names_of columns) ≡ true → c < length columns → is_plain_word (column_text columns c) ≡ true
 plain_column [] c names lt = absurd (omega arith)

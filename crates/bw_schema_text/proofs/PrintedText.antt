@@ -2,8 +2,7 @@
 use Rattle.std.proofs.Common.{◌≡◌, ◌∙◌, refl, sym, ap, subst, ℕ, ℤ, pos, ◌+◌, ◌*◌, ◌^◌, ◌<◌, ◌≤◌, ◌≤ℤ◌, ◌<ℤ◌, ◌-ℤ◌, Bool, true, false, not, ◌&&◌, All, List, [], ◌∷◌, ◌++◌, length, map, drop, get_or, add-one, Some, nat_le, int_le, int_lt, append_assoc, length-append, codes, arith, rules}
 use Rattle.std.specs.Fmt.{signed_decimal}
 use Rattle.std.specs.List.{list_all, AllZip}
-use Rattle.std.proofs.lemmas.Bool.{lt-ltb, leb-true}
-use Rattle.std.proofs.lemmas.Bool.Decides.{nat_tests}
+use Rattle.std.proofs.lemmas.Bool.{leb-true}
 use Rattle.std.proofs.lemmas.List.{append-nil, drop_all, length-map}
 use Rattle.std.proofs.lemmas.List.Elements.{All-head, All-tail}
 use Rattle.std.proofs.Math.Seq.{drop-cons}
@@ -15,30 +14,14 @@ use Rattle.bw_model.specs.Limits.{longest_name}
 use Rattle.bw_model.specs.Lines.{NumberedWords, cut_lines, numbered, numbered_from}
 use Rattle.bw_model.specs.Name.{is_name, are_apart}
 use Rattle.bw_model.specs.SchemaText.{shape, shape_names, column_shape, schema_shape, column_words, table_words, is_range, SpellsColumn, SpellsSchema, IsSchemaText}
-use Rattle.bw_model.specs.Text.{same_text, is_word, begins_word, goes_on_in_word}
+use Rattle.bw_model.specs.Text.{same_text, is_word}
 use Rattle.bw_schema_text.specs.Printed.{AreComments, IsColumn, column_line, columns_text, line_text, schema_text, table_line}
-use Rattle.bw_schema_text.proofs.PrintedLines.{both, is_plain, is_plain_word, line_said}
+use Rattle.bw_model.proofs.BitsLemmas.{both}
+use Rattle.bw_model.proofs.SpacedWords.{is_plain_word, plain_word}
+use Rattle.bw_schema_text.proofs.PrintedLines.{line_said}
 use Rattle.bw_schema_text.proofs.PrintedBounds.{bound_spelled, bound_plain, bound_length}
 
 -- a name is a plain word of at most 63 bytes
-above_blanks : (c : ℕ) → goes_on_in_word c ≡ true → is_plain c ≡ true
-above_blanks c h = let lt : 32 < c = grind (arith, nat_tests) in lt-ltb 32 c lt
-
-begins_above : (c : ℕ) → begins_word c ≡ true → is_plain c ≡ true
-begins_above c h = let lt : 32 < c = grind (arith, nat_tests) in lt-ltb 32 c lt
-
-plain_rest : (text : List ℕ) → list_all goes_on_in_word text ≡ true → list_all is_plain text ≡ true
-plain_rest [] h = refl
-plain_rest (c ∷ text) h =
-    let here = both (goes_on_in_word c) (list_all goes_on_in_word text) h in
-    rw (above_blanks c here.0) (plain_rest text here.1)
-
-plain_word : (text : List ℕ) → is_word text ≡ true → is_plain_word text ≡ true
-plain_word [] word = absurd (cc word)
-plain_word (c ∷ text) word =
-    let here = both (begins_word c) (list_all goes_on_in_word text) word in
-    rw (begins_above c here.0) (plain_rest text here.1)
-
 record IsShortWord (text : List ℕ) : Type 0 where
   plain : is_plain_word text ≡ true
   short : length text ≤ 63

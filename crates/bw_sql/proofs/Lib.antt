@@ -12,7 +12,6 @@ pub mod Readers
 pub mod Repeats
 pub mod Delimiters
 pub mod Runs
-pub mod SameColumns
 pub mod SameNames
 pub mod Sound
 pub mod Spelled

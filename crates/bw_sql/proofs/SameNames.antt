@@ -19,7 +19,7 @@ use Rattle.bw_sql.specs.Demand.{Demand, IsTable, IsColumn, Fits, OfOneKind, Dept
 use Rattle.bw_sql.specs.Grammar.{OperandIs, MoreOperands, RangeIs, PredicateIs, ConditionIs, MoreTerms, TermIs, MoreFactors, FactorIs, TestIs, PrimaryIs, ItemIs, MoreItems, ItemsAre, SelectionIs, StatementIs, null, column, unsigned, plus, minus, last_operand, next_operand, between, among, comparison, range, not_range, is_null, is_not_null, terms, last_term, next_term, factors, last_factor, next_factor, test, not_test, primary, is, is_not, predicate, bracket, plain, count_all, count, sum, least, greatest, last_item, next_item, star, items, all_rows, rows_where, statement}
 use Rattle.bw_sql.specs.Statement.{Spells}
 use Rattle.bw_sql.specs.Token.{Lexeme, Name, Reserved, Punct}
-use Rattle.bw_sql.proofs.SameColumns.{columns_same}
+use Rattle.bw_model.proofs.SameColumns.{columns_same}
 
 module _ (s t : Schema) (names : s.name ≡ t.name) (columns : s.columns.items ≡ t.columns.items) where
   numbers : (text : List ℕ) → column_number s text ≡ column_number t text

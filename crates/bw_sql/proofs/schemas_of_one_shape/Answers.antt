@@ -1,6 +1,6 @@
 use Rattle.std.proofs.Common.{ap}
 use Rattle.bw_model.specs.SchemaText.{SchemaShape}
-use Rattle.bw_sql.proofs.SameColumns.{columns_same}
+use Rattle.bw_model.proofs.SameColumns.{columns_same}
 use Rattle.bw_sql.proofs.SameNames.{spells_too}
 use Rattle.bw_sql.proofs.schemas_of_one_shape.Goals as goal
 

@@ -1,14 +1,15 @@
--- Numbers and registers in their canonical text spell themselves.
-use Rattle.std.proofs.Common.{◌≡◌, refl, ℕ, zero, suc, ◌+◌, ◌-◌, ◌*◌, ◌/◌, ◌%◌, ◌^◌, ◌<◌, ◌≤◌, true, List, [], ◌∷◌, ◌++◌, length, Some, None, cond, length-append, arith}
+-- Numbers in decimal digits spell themselves.
+use Rattle.std.proofs.Common.{◌≡◌, refl, ℕ, ◌+◌, ◌-◌, ◌*◌, ◌/◌, ◌%◌, ◌^◌, ◌<◌, ◌≤◌, true, List, [], ◌∷◌, ◌++◌, length, Some, None, cond, nat_le, length-append, arith}
 use Rattle.std.specs.Char.{is_ascii_digit}
 use Rattle.std.specs.Fmt.{decimal}
 use Rattle.std.specs.List.{list_all}
-use Rattle.std.proofs.lemmas.Bool.{lt-ltb}
+use Rattle.std.proofs.lemmas.Bool.{lt-ltb, le-leb, leb-true}
 use Rattle.std.proofs.lemmas.Fmt.{decimal_by_steps}
 use Rattle.std.proofs.lemmas.List.Folds.{list_all-append}
 use Rattle.std.proofs.lemmas.List.Sums.{fold-append}
 use Rattle.bw_model.specs.Number as number
-use Rattle.bw_cert_text.specs.Operand.{register_of}
+use Rattle.bw_model.proofs.BitsLemmas.{both}
+use Rattle.bw_model.proofs.SpacedWords.{is_plain, is_plain_word}
 
 -- digits and nothing else, at least one, which spell a number
 pub record Spells (n : ℕ) (digits : List ℕ) : Type 0 where
@@ -17,17 +18,7 @@ pub record Spells (n : ℕ) (digits : List ℕ) : Type 0 where
   pub value : number.digits_value digits ≡ n
 
 digit_is : (d : ℕ) → d < 10 → is_ascii_digit (48 + d) ≡ true
-digit_is zero lt = refl
-digit_is (suc zero) lt = refl
-digit_is (suc (suc zero)) lt = refl
-digit_is (suc (suc (suc zero))) lt = refl
-digit_is (suc (suc (suc (suc zero)))) lt = refl
-digit_is (suc (suc (suc (suc (suc zero))))) lt = refl
-digit_is (suc (suc (suc (suc (suc (suc zero)))))) lt = refl
-digit_is (suc (suc (suc (suc (suc (suc (suc zero))))))) lt = refl
-digit_is (suc (suc (suc (suc (suc (suc (suc (suc zero)))))))) lt = refl
-digit_is (suc (suc (suc (suc (suc (suc (suc (suc (suc zero))))))))) lt = refl
-digit_is (suc (suc (suc (suc (suc (suc (suc (suc (suc (suc d)))))))))) lt = absurd (omega arith)
+digit_is d lt = rw (le-leb 48 (48 + d) (omega arith), le-leb (48 + d) 57 (omega arith)) refl
 
 one_digit : (n : ℕ) → n < 10 → Spells n ((48 + n) ∷ [])
 unfolding number.digits_value
@@ -57,6 +48,18 @@ natural_of-decimal n lt =
     go [] spells = absurd (omega (arith, spells.some))
     go (d ∷ digits) spells = rw (spells.all, spells.value, lt-ltb n (2 ^ 64) lt) refl
 
-pub register_of-text : (r : ℕ) → r < 64 → register_of (114 ∷ decimal r) ≡ Some r
-unfolding register_of
-register_of-text r lt = rw (natural_of-decimal r (omega arith), lt-ltb r 64 lt) refl
+-- they are plain words
+pub plain_digits : (digits : List ℕ) → list_all is_ascii_digit digits ≡ true → list_all is_plain digits ≡ true
+plain_digits [] h = refl
+plain_digits (d ∷ digits) h =
+    let here = both (is_ascii_digit d) (list_all is_ascii_digit digits) h in
+    let low = both (nat_le 48 d) (nat_le d 57) here.0 in
+    let above : 48 ≤ d = leb-true 48 d low.0 in
+    rw (lt-ltb 32 d (omega arith)) (plain_digits digits here.1)
+
+pub plain_number : (n : ℕ) → n < 2 ^ 64 → is_plain_word (decimal n) ≡ true
+plain_number n lt = go (decimal n) (decimal_spells n lt)
+  where
+    go : (digits : List ℕ) → Spells n digits → is_plain_word digits ≡ true
+    go [] spells = absurd (omega (arith, spells.some))
+    go (d ∷ digits) spells = plain_digits (d ∷ digits) spells.all
