@@ -127,12 +127,86 @@ fn programs_select_rows(rt: HostRuntime) -> Result<(), Fail> {
             0,
         ),
     ] {
-        let (plane, counts) = run(&rt, rt.alloc(), rows, text)?;
-        assert_eq!(rt; plane[0], word, "{name}");
-        assert_eq!(rt; count(&plane), ones, "{name}");
-        assert_eq!(rt; counts.loads, loads, "{name}");
-        assert_eq!(rt; counts.skips, skips, "{name}");
+        assert_run(&rt, rt.alloc(), name, rows, text, (word, ones, loads, skips))?;
     }
+    Ok(())
+}
+
+/// Instructions that one step carries out, two at a time, and such that it may not.
+#[test]
+fn pairs_do_what_their_instructions_do(rt: HostRuntime) -> Result<(), Fail> {
+    let five = [Some(5), None];
+    let rows = [five, [Some(200), None]];
+    // program, the first word of the plane, how many rows, loads and skips
+    for (name, rows, text, found) in [
+        (
+            "a skip between a load and a NOT of it",
+            [five].as_slice(),
+            "LOAD r0 a 7\nSKIP r0 3\nLOAD r1 a 0\nNOT r0 r1\nRESULT r0\n",
+            (1, 1, 1, 1),
+        ),
+        (
+            "a NOT of what was loaded",
+            rows.as_slice(),
+            "LOAD r0 a 0\nNOT r1 r0\nRESULT r1\n",
+            (2, 1, 1, 0),
+        ),
+        (
+            "a NOT of another register",
+            rows.as_slice(),
+            "LOAD r0 a 0\nNOT r0 r1\nRESULT r0\n",
+            (3, 2, 1, 0),
+        ),
+        (
+            "a skip by another register than the one loaded",
+            [five].as_slice(),
+            "LOAD r0 a 0\nSKIP r1 3\nFILL r0 0\nRESULT r0\n",
+            (1, 1, 1, 1),
+        ),
+        (
+            "an AND with what was loaded",
+            rows.as_slice(),
+            "LOAD r0 a 7\nLOAD r1 a 6\nAND r2 r0 r1\nRESULT r2\n",
+            (2, 1, 2, 0),
+        ),
+        (
+            "an AND of what was loaded with itself",
+            rows.as_slice(),
+            "LOAD r0 a 0\nAND r0 r0 r0\nRESULT r0\n",
+            (1, 1, 1, 0),
+        ),
+        (
+            "a skip by an AND that is 0",
+            [five].as_slice(),
+            "LOAD r0 a 0\nAND r2 r0 r1\nSKIP r2 4\nFILL r2 1\nRESULT r2\n",
+            (0, 0, 1, 1),
+        ),
+        (
+            "a skip by an AND that isn't",
+            [five].as_slice(),
+            "LOAD r0 a 0\nAND r2 r0 r0\nSKIP r2 4\nFILL r2 0\nRESULT r2\n",
+            (0, 0, 1, 0),
+        ),
+    ] {
+        assert_run(&rt, rt.alloc(), name, rows, text, found)?;
+    }
+    Ok(())
+}
+
+/// Asserts the first word of the plane that a program gives, and how many rows, loads and skips.
+fn assert_run(
+    rt: &impl Abort,
+    alloc: Global,
+    name: &str,
+    rows: &[[Value; 2]],
+    text: &str,
+    (word, ones, loads, skips): (u64, u32, usize, usize),
+) -> Result<(), Fail> {
+    let (plane, counts) = run(rt, alloc, rows, text)?;
+    assert_eq!(rt; plane[0], word, "{name}");
+    assert_eq!(rt; count(&plane), ones, "{name}");
+    assert_eq!(rt; counts.loads, loads, "{name}");
+    assert_eq!(rt; counts.skips, skips, "{name}");
     Ok(())
 }
 

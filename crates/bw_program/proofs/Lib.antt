@@ -6,4 +6,5 @@ pub mod PrintedText
 pub mod ProgramLemmas
 pub mod ProgramSpelling
 pub mod RegisterLemmas
+pub mod StepLemmas
 pub mod TextLemmas

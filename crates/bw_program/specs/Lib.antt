@@ -4,3 +4,4 @@ pub mod Operand
 pub mod PrintText
 pub mod Program
 pub mod ProgramText
+pub mod Step

@@ -5,7 +5,8 @@
 //! a segment is `specs/Machine.antt`, which speaks of assignments alone. A skip goes on at its target exactly
 //! where its register is 0 in every lane, as BitWeaving (Li and Patel) stops a comparison early.
 //!
-//! Read `instr.rt` first, and then `specs/Machine.antt`.
+//! Read `instr.rt` first, and then `specs/Machine.antt`; `step.rt` has the steps in which a run takes the instructions,
+//! one or two at a time.
 #![tactic(auto)]
 
 mod instr;
@@ -15,6 +16,7 @@ mod opcode;
 mod parse;
 mod print;
 mod program;
+mod step;
 #[cfg(test)]
 mod tests;
 
@@ -23,3 +25,4 @@ pub use laws::{places_are_reached, programs_are_read_as_spelled, runs_go_on};
 pub use opcode::Opcode;
 pub use print::canonical_texts_spell_programs;
 pub use program::Program;
+pub use step::Step;

@@ -8,6 +8,7 @@ ghost use Rattle.bw_program.specs.ProgramText.{program_of, program_on, last_line
 use crate::instr::Instr;
 use crate::line::{instr_of, is_result_line, result_of};
 use crate::program::{Program, registers_of};
+use crate::step::steps_of;
 use bw_model::{Fault, Line, Lines, Schema, code};
 use std::alloc::{AllocError, Global};
 
@@ -55,11 +56,13 @@ fn read_program(alloc: Global, schema: &Schema, text: &[u8]) -> Result<Program, 
     refuse_more(alloc, lines)?;
     check_targets(&placed)?;
     let instrs = instrs_of(alloc, &placed)?;
+    let steps = steps_of(alloc, &instrs)?;
     let registers = registers_of(&instrs, result);
     Ok(Program {
         instrs,
         result,
         registers,
+        steps,
     })
 }
 

@@ -1,5 +1,5 @@
 -- What was read is what the text says, and so it is a program.
-use Rattle.std.proofs.Common.{◌≡◌, ◌∙◌, sym, ap, ℕ, List, [], Ok, Result, length}
+use Rattle.std.proofs.Common.{◌≡◌, ◌∙◌, sym, ap, subst, ℕ, List, [], Ok, Result, length}
 use Rattle.bw_model.specs.declared.fault.Fault.{Fault}
 use Rattle.bw_model.specs.Fault.{◌>>=◌}
 use Rattle.bw_model.specs.Lines.{Unread, lines_in, end_in}
@@ -7,6 +7,7 @@ use Rattle.bw_program.specs.declared.instr.Instr.{Instr}
 use Rattle.bw_program.specs.declared.parse.Placed.{Placed}
 use Rattle.bw_program.specs.Program.{ProgramShape, registers_of}
 use Rattle.bw_program.specs.ProgramText.{instrs_of, within_end, ended, program_on, program_of}
+use Rattle.bw_program.specs.Step.{AreSteps}
 use Rattle.bw_program.proofs.ProgramSpelling.{text_spelled, text_is_program}
 use Rattle.bw_program.proofs.parse.read_program.Goals as goal
 
@@ -26,5 +27,8 @@ invariant_of-result c =
     ∙ ap (λ (r : Result ℕ Fault). r >>= λ n. ended placed n) (c.in_ok-refuse_more.ensures.none register)
     ∙ within ∙ ap (λ (is : List Instr). Ok (record { instrs = is; result = register })) instrs in (
       (text_is_program columns c.args.text.now shape (text_spelled columns c.args.text.now shape read)).0,
-      c.registers_of-registers.ensures ∙ ap (λ (is : List Instr). registers_of (record { instrs = is; result = register })) c.deref-3.ensures.value,
+      (
+        c.registers_of-registers.ensures ∙ ap (λ (is : List Instr). registers_of (record { instrs = is; result = register })) c.deref-4.ensures.value,
+        subst (λ (is : List Instr). AreSteps is c.in_ok-steps.steps.items) c.deref-3.ensures.value c.in_ok-steps.ensures,
+      ),
     )
