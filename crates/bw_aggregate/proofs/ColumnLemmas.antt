@@ -41,7 +41,7 @@ unfolding present_lanes
 null_plane meaning col rows other plane group lt nullable plane_is is =
     let first = first_variable meaning.columns col in
     let there : null_variable meaning.columns col ≡ Some first = ap (λ b. cond b (Some first) None) nullable in
-    let nulls : plane ≡ null_bits meaning.rows col = plane_is ∙ sym (nulls_in_lanes meaning col first group lt there) ∙ bits_of_nulls meaning col in
+    let nulls : plane ≡ null_bits meaning.rows col = plane_is ∙ sym (nulls_in_lanes meaning col first group lt there) ∙ bits_of_nulls meaning.rows col in
     ap (zip2 (λ a b. a && b) rows) (is ∙ ap (map not) nulls)
 
 and_true : (b : Bool) → (b && true) ≡ b

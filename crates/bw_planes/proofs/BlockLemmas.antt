@@ -71,7 +71,7 @@ module _ (schema : Schema) (count : ℕ) (bytes : List ℕ) (group : IsGroup (pl
       ∙ ap lanes_of_bytes (sym (piece_within 64 (bytes_before plane_layout columns col) 0 (block_size plane_layout columns col) bytes (omega (arith, one))))
       ∙ sym (ap (λ b. cond b (lanes_of_bytes (take 64 (block_at plane_layout columns col bytes))) (replicate group_size false)) nullable)
       ∙ sym (nulls_again plane_layout planes_are_a_layout columns count bytes few sound col there)
-      ∙ sym (bits_of_nulls meaning col) ∙ nulls_in_lanes meaning col (first_variable columns col) group there (ap (λ b. cond b (Some (first_variable columns col)) None) nullable)
+      ∙ sym (bits_of_nulls meaning.rows col) ∙ nulls_in_lanes meaning col (first_variable columns col) group there (ap (λ b. cond b (Some (first_variable columns col)) None) nullable)
 
   code_plane_is : (col k : ℕ) → col < length columns → k < width_at columns col
       → plane_lanes bytes (first_variable columns col + (cond (is_nullable columns col) 1 0 + k)) ≡ variable_lanes meaning (first_variable columns col + (cond (is_nullable columns col) 1 0 + k))

@@ -1,17 +1,17 @@
 //! Planes built from rows, column by column, from the bytes of the codes.
-ghost use Rattle.std.specs.Prelude.{◌≡◌, ◌<◌, ◌++◌, length, map, IfOk, OnOk, IsOkUnless};
+ghost use Rattle.std.specs.Prelude.{◌≡◌, ◌<◌, ◌++◌, List, length, IfOk, OnOk, IsOkUnless};
 ghost use Rattle.bw_lanes.specs.Lanes.{bytes_of_lanes, lanes_of_words};
 ghost use Rattle.bw_model.specs.Code.{width_at};
 ghost use Rattle.bw_model.specs.Fault.{no_memory};
-ghost use Rattle.bw_model.specs.Row.{values_of};
+ghost use Rattle.bw_model.specs.Row.{Value};
+ghost use Rattle.bw_segment.specs.Columns.{KeepRows};
 ghost use Rattle.bw_segment.specs.Layout.{segment_text};
-ghost use Rattle.bw_segment.specs.Meaning.{meaning_of, IsGroup, stored_codes};
 ghost use Rattle.bw_planes.specs.Planes.{plane_layout, planes_text};
 
 use crate::segment::PlaneSegment;
 use bw_lanes::{Plane, bytes_bit, to_bytes};
 use bw_model::{Fault, Row, Schema};
-use bw_segment::{Segment, Shape, codes_of, slices_of};
+use bw_segment::{ColumnCodes, Segment, Shape, columns_of, slices_of};
 use std::alloc::Global;
 use std::rc::Rc;
 
@@ -40,62 +40,66 @@ impl PlaneSegment {
         ensures only_memory { IsOkUnless result no_memory }
     {
         let shared: &Shape = shape;
-        let bytes = planes_of(alloc, shared, rows)?;
+        let kept = columns_of(alloc, &shared.schema, rows)?;
+        let bytes = planes_of(alloc, shared, &kept)?;
         let shape = shape.clone()?;
         let count = rows.len() as u32;
         Ok(PlaneSegment::of_blocks(shape, count, bytes))
     }
 
-    /// Adds the bytes of a segment of these rows, 1 to 512, which the schema admits. Where memory is refused
-    /// nothing was added.
+    /// Adds the bytes of a segment of the rows, 1 to 512, that are kept in columns. Where memory is refused nothing
+    /// was added.
     pub fn append(
         alloc: Global,
         bytes: &mut Vec<u8>,
         shape: &Shape,
-        rows: &[Row],
+        kept: &[ColumnCodes],
     ) -> Result<(), Fault>
-        requires { IsGroup (meaning_of shape.now.schema rows.now) }
-        ensures added { OnOk result (bytes.new.items ≡ bytes.old.items
-            ++ segment_text plane_layout shape.now.schema.columns.items (map values_of rows.now)) }
+        requires { length kept.now ≡ length shape.now.schema.columns.items }
+        ensures added { OnOk result ((rows : List (List Value))
+            → KeepRows shape.now.schema.columns.items rows kept.now
+            → bytes.new.items ≡ bytes.old.items
+            ++ segment_text plane_layout shape.now.schema.columns.items rows) }
         ensures refused { OnErr result (bytes.new.items ≡ bytes.old.items) }
         ensures only_memory { IsOkUnless result no_memory }
     {
-        let added = planes_of(alloc, shape, rows)?;
+        let added = planes_of(alloc, shape, kept)?;
         bytes.extend_from_slice(&added)?;
         Ok(())
     }
 }
 
-/// The bytes of a segment of rows.
-fn planes_of(alloc: Global, shape: &Shape, rows: &[Row]) -> Result<Vec<u8>, Fault>
-    requires { IsGroup (meaning_of shape.now.schema rows.now) }
-    ensures text { IfOk result (λ bytes. bytes.items
-        ≡ segment_text plane_layout shape.now.schema.columns.items (map values_of rows.now)) }
+/// The bytes of a segment of the rows that are kept in columns.
+fn planes_of(alloc: Global, shape: &Shape, kept: &[ColumnCodes]) -> Result<Vec<u8>, Fault>
+    requires { length kept.now ≡ length shape.now.schema.columns.items }
+    ensures text { IfOk result (λ bytes. (rows : List (List Value))
+        → KeepRows shape.now.schema.columns.items rows kept.now
+        → bytes.items ≡ segment_text plane_layout shape.now.schema.columns.items rows) }
     ensures only_memory { IsOkUnless result no_memory }
 {
     let count = shape.schema.columns.len();
     let mut bytes = Vec::with_capacity(alloc, 64 * shape.first_variable(count) as usize)?;
     for col in 0..count {
-        shape.push_nulls(&mut bytes, rows, col)?;
-        push_codes(&mut bytes, shape, rows, col)?;
+        shape.push_nulls(&mut bytes, col, &kept[col].nulls)?;
+        push_codes(&mut bytes, shape, col, &kept[col].codes)?;
     }
     Ok(bytes)
 }
 
 /// Adds the planes of a column's codes, from the top bit down.
-fn push_codes(bytes: &mut Vec<u8>, shape: &Shape, rows: &[Row], col: usize) -> Result<(), Fault>
-    requires group { IsGroup (meaning_of shape.now.schema rows.now) }
-    requires column { col < length shape.now.schema.columns.items }
+fn push_codes(
+    bytes: &mut Vec<u8>,
+    shape: &Shape,
+    col: usize,
+    codes: &[u64; 512],
+) -> Result<(), Fault>
+    requires { col < length shape.now.schema.columns.items }
     ensures added { OnOk result (bytes.new.items ≡ bytes.old.items
-        ++ planes_text (width_at shape.now.schema.columns.items col)
-        (stored_codes shape.now.schema.columns.items (map values_of rows.now) col)) }
+        ++ planes_text (width_at shape.now.schema.columns.items col) codes.now) }
     ensures only_memory { IsOkUnless result no_memory }
 {
     let width = shape.schema.width(col);
-    let slices = slices_of(
-        &codes_of(&shape.schema, rows, col),
-        shape.schema.slices(col),
-    );
+    let slices = slices_of(codes, shape.schema.slices(col));
     for place in 0..width {
         let bit = width - 1 - place;
         push(bytes, &bytes_bit(&slices[bit as usize / 8], bit % 8))?;

@@ -2,7 +2,7 @@
 use crate::PlaneSegment;
 use bw_lanes::count;
 use bw_model::{Fault, Row, Schema, Value};
-use bw_segment::{Segment, Shape, is_group};
+use bw_segment::{Segment, Shape, columns_of, is_group};
 use std::alloc::Global;
 use std::test::Fail;
 
@@ -167,7 +167,8 @@ fn segments_are_appended(rt: HostRuntime) -> Result<(), Fail> {
     assert!(rt; is_group(&shape.schema, &rows));
     let segment = PlaneSegment::build(rt.alloc(), &schema, &rows)?;
     let mut bytes = vec![in rt.alloc(); 7]?;
-    PlaneSegment::append(rt.alloc(), &mut bytes, &shape, &rows)?;
+    let kept = columns_of(rt.alloc(), &shape.schema, &rows)?;
+    PlaneSegment::append(rt.alloc(), &mut bytes, &shape, &kept)?;
     assert_eq!(rt; &bytes[1..], segment.bytes());
     assert_eq!(rt; segment.into_bytes().len(), bytes.len() - 1);
     Ok(())

@@ -22,7 +22,7 @@ use Rattle.bw_model.proofs.BitsLemmas.{both}
 use Rattle.bw_model.proofs.PlaceLemmas.{code_bit_at, null_bit_at_variable}
 use Rattle.bw_model.proofs.StoredLemmas.{byte_of_bits, spelled_zero}
 use Rattle.bw_segment.specs.Layout.{null_bits}
-use Rattle.bw_segment.specs.Meaning.{Meaning, IsGroup, variable_lanes, byte_lanes, stored_codes, code_lanes, null_lanes}
+use Rattle.bw_segment.specs.Meaning.{Meaning, IsGroup, variable_lanes, byte_lanes, stored_codes, code_lanes, stored_nulls, null_lanes}
 
 map-append : {A B : Type 0} (f : A → B) (xs ys : List A) → map f (xs ++ ys) ≡ map f xs ++ map f ys
 map-append f [] ys = refl
@@ -56,7 +56,7 @@ lanes_agree meaning number of_number of_bits group same none =
 
 pub nulls_in_lanes : (meaning : Meaning) (col variable : ℕ) → IsGroup meaning → col < length meaning.columns → null_variable meaning.columns col ≡ Some variable
     → map (λ null. has_bit null 0) (null_lanes meaning col) ≡ variable_lanes meaning variable
-unfolding null_lanes
+unfolding stored_nulls
 nulls_in_lanes meaning col variable group lt is =
     lanes_agree meaning (λ row. cond (is_null (value_in row col)) 1 0) (λ null. has_bit null 0) (λ bits. bits variable) group
     (λ values admitted. shown (is_null (value_in values col)) ∙ sym (null_bit_at_variable meaning.columns values col variable admitted lt is)) refl
@@ -66,13 +66,13 @@ nulls_in_lanes meaning col variable group lt is =
     shown false = refl
 
 -- the null bits of rows
-pub bits_of_nulls : (meaning : Meaning) (col : ℕ) → map (λ null. has_bit null 0) (null_lanes meaning col) ≡ null_bits meaning.rows col
-unfolding null_lanes null_bits
-bits_of_nulls meaning col =
+pub bits_of_nulls : (rows : List (List Value)) (col : ℕ) → map (λ null. has_bit null 0) (stored_nulls rows col) ≡ null_bits rows col
+unfolding stored_nulls null_bits
+bits_of_nulls rows col =
     let null = λ (row : List Value). cond (is_null (value_in row col)) 1 0 in
-    let count = group_size - length meaning.rows in
-    map-append (λ null. has_bit null 0) (map null meaning.rows) (replicate count 0)
-    ∙ ap₂ ◌++◌ (map-map (λ null. has_bit null 0) null meaning.rows ∙ (λ i. map (λ row. shown (is_null (value_in row col)) i) meaning.rows)) (map-replicate (λ null. has_bit null 0) count 0)
+    let count = group_size - length rows in
+    map-append (λ null. has_bit null 0) (map null rows) (replicate count 0)
+    ∙ ap₂ ◌++◌ (map-map (λ null. has_bit null 0) null rows ∙ (λ i. map (λ row. shown (is_null (value_in row col)) i) rows)) (map-replicate (λ null. has_bit null 0) count 0)
   where
     shown : (b : Bool) → has_bit (cond b 1 0) 0 ≡ b
     shown true = refl

@@ -1,4 +1,5 @@
 pub mod CodeLemmas
+pub mod ColumnLemmas
 pub mod DescentLemmas
 pub mod FaultLemmas
 pub mod LaneLemmas

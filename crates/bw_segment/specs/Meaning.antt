@@ -38,10 +38,13 @@ stored_codes columns rows column =
 abbrev pub code_lanes : Meaning → ℕ → List ℕ
 code_lanes meaning column = stored_codes meaning.columns meaning.rows column
 
--- in each of the lanes 1 where the column is null, and else 0
-unfoldable pub null_lanes : Meaning → ℕ → List ℕ
-null_lanes meaning column =
-    map (λ row. if is_null (value_in row column) then 1 else 0) meaning.rows ++ replicate (group_size - length meaning.rows) 0
+-- in each of the 512 lanes of some rows 1 where a column is null, and else 0
+unfoldable pub stored_nulls : List (List Value) → ℕ → List ℕ
+stored_nulls rows column = map (λ row. if is_null (value_in row column) then 1 else 0) rows ++ replicate (group_size - length rows) 0
+
+-- the same of a group's rows
+abbrev pub null_lanes : Meaning → ℕ → List ℕ
+null_lanes meaning column = stored_nulls meaning.rows column
 
 -- what rows of a table of this schema mean
 abbrev pub meaning_of : Schema → List Row → Meaning

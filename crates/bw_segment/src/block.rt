@@ -6,19 +6,18 @@ ghost use Rattle.bw_model.specs.Groups.{group_size};
 ghost use Rattle.bw_segment.specs.BlockFault.{lanes_fault, TellsCodes};
 ghost use Rattle.bw_segment.specs.Layout.{null_size, block_nulls};
 
-use crate::codes::nulls_of;
 use crate::shape::Shape;
 use bw_lanes::{Plane, and, bytes_bit, is_zero, lane, load, mask, not, or, to_bytes};
-use bw_model::{Fault, Row, code};
+use bw_model::{Fault, code};
 
 impl Shape {
     ghost use Rattle.std.specs.Prelude.{◌++◌, if◌then◌else◌, [], OnOk, IsOkUnless};
     ghost use Rattle.bw_lanes.specs.Lanes.{bytes_of_lanes};
     ghost use Rattle.bw_model.specs.Fault.{no_memory};
-    ghost use Rattle.bw_model.specs.Row.{values_of};
+    ghost use Rattle.bw_model.specs.Row.{Value};
     ghost use Rattle.bw_model.specs.Variable.{is_nullable};
     ghost use Rattle.bw_segment.specs.Layout.{null_bits};
-    ghost use Rattle.bw_segment.specs.Meaning.{meaning_of, IsGroup};
+    ghost use Rattle.bw_segment.specs.Meaning.{stored_nulls};
 
     /// The greatest code of a column.
     pub fn span(&self, col: usize) -> u64
@@ -43,20 +42,24 @@ impl Shape {
         }
     }
 
-    /// Adds the null plane of a column of some rows to bytes, where it is nullable.
-    pub fn push_nulls(&self, bytes: &mut Vec<u8>, rows: &[Row], col: usize) -> Result<(), Fault>
-        requires group { IsGroup (meaning_of self.now.schema rows.now) }
-        requires column { col < length self.now.schema.columns.items }
-        ensures added { OnOk result (bytes.new.items ≡ bytes.old.items
+    /// Adds the null plane of a column to bytes, where it is nullable, from 1 or 0 for each lane.
+    pub fn push_nulls(
+        &self,
+        bytes: &mut Vec<u8>,
+        col: usize,
+        nulls: &[u8; 512],
+    ) -> Result<(), Fault>
+        requires { col < length self.now.schema.columns.items }
+        ensures added { OnOk result ((rows : List (List Value)) → nulls.now ≡ stored_nulls rows col
+            → bytes.new.items ≡ bytes.old.items
             ++ (if is_nullable self.now.schema.columns.items col
-            then bytes_of_lanes (null_bits (map values_of rows.now) col) else [])) }
+            then bytes_of_lanes (null_bits rows col) else [])) }
         ensures only_memory { IsOkUnless result no_memory }
     {
         if !self.schema.columns[col].nullable {
             return Ok(());
         }
-        let plane = bytes_bit(&nulls_of(&self.schema, rows, col), 0);
-        let added = to_bytes(&plane);
+        let added = to_bytes(&bytes_bit(nulls, 0));
         bytes.extend_from_slice(&added)?;
         Ok(())
     }

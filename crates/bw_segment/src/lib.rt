@@ -11,6 +11,7 @@
 
 mod block;
 mod codes;
+mod columns;
 mod group;
 mod lanes;
 mod layout;
@@ -18,7 +19,8 @@ mod segment;
 mod shape;
 
 pub use block::fault_of_lanes;
-pub use codes::{bytes_of, codes_of, nulls_of, slices_of};
+pub use codes::{bytes_of, slices_of};
+pub use columns::{ColumnCodes, clear_rows, columns_of, keep_row, no_rows};
 pub use group::is_group;
 pub use lanes::lanes_hold_codes;
 pub use layout::{blocks_are_added, sound_bytes_spell_a_group, text_of_a_group_is_sound};

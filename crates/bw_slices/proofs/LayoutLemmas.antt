@@ -172,7 +172,7 @@ module _ (schema : Schema) (count : ℕ) (bytes : List ℕ) (group : IsGroup (sl
       sym (ap (λ n. lanes_of_bytes (take 64 (drop n bytes))) start)
       ∙ ap lanes_of_bytes (sym (piece_within 64 (bytes_before slice_layout columns col) 0 (block_size slice_layout columns col) bytes (omega (arith, one))))
       ∙ sym (ap (λ b. cond b (lanes_of_bytes (take 64 (block_at slice_layout columns col bytes))) (replicate group_size false)) nullable)
-      ∙ sym (nulls_again slice_layout slices_are_a_layout columns count bytes few sound col there) ∙ sym (bits_of_nulls meaning col)
+      ∙ sym (nulls_again slice_layout slices_are_a_layout columns count bytes few sound col there) ∙ sym (bits_of_nulls meaning.rows col)
 
   codes_are : (col slice : ℕ) → col < length columns → slice < slices_at columns col → slice_bytes columns bytes col slice ≡ map (byte_of slice) (code_lanes meaning col)
   unfolding block_codes

@@ -16,7 +16,7 @@ use Rattle.bw_model.specs.Variable.{is_nullable}
 use Rattle.bw_model.proofs.BitsLemmas.{both, value_of_distance}
 use Rattle.bw_model.proofs.StoredLemmas.{stored_below}
 use Rattle.bw_segment.specs.Blocks.{block_start}
-use Rattle.bw_segment.specs.Meaning.{Meaning, IsGroup, stored_codes, code_lanes, null_lanes}
+use Rattle.bw_segment.specs.Meaning.{Meaning, IsGroup, stored_codes, code_lanes, stored_nulls, null_lanes}
 use Rattle.bw_segment.proofs.SpanLemmas.{all_at}
 use Rattle.bw_slices.specs.Slices.{AreSlices, slice_start, null_plane_lanes, number_from, code_spelled, null_spelled, value_spelled}
 use Rattle.bw_slices.proofs.BlockLemmas.{slice_within, nulls_within}
@@ -35,7 +35,7 @@ length_padded xs count long few =
     omega (arith, length-append xs zeros, long, padding)
 
 pub length-null_lanes : (meaning : Meaning) (col : ℕ) → IsGroup meaning → length (null_lanes meaning col) ≡ 512
-unfolding null_lanes group_size
+unfolding stored_nulls group_size
 length-null_lanes meaning col group =
     let null = λ (row : List Value). one_if (is_null (value_in row col)) in
     length_padded (map null meaning.rows) (length meaning.rows) (length-map meaning.rows null) group.few
@@ -86,7 +86,7 @@ module _ (meaning : Meaning) (bytes : List ℕ) (group : IsGroup meaning) (slice
 
   row_is_null : (row col : ℕ) → row < length meaning.rows → col < length meaning.columns → is_nullable meaning.columns col ≡ true
       → get_or (null_plane_lanes meaning.columns bytes col) row false ≡ is_null (value_in (get_or meaning.rows row []) col)
-  unfolding null_lanes
+  unfolding stored_nulls
   row_is_null row col lt there nullable =
       let null = λ (values : List Value). one_if (is_null (value_in values col)) in
       let long = length-null_lanes meaning col group in

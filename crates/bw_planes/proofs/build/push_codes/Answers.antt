@@ -1,22 +1,19 @@
 use Rattle.std.proofs.Common.{◌≡◌, ◌∙◌, ap, suc, ◌+◌, ◌-◌, ◌/◌, ◌%◌, ◌<◌, ◌++◌, map, ◌==◌, append_assoc, arith}
 use Rattle.std.specs.Int.{bit_at}
-use Rattle.bw_model.specs.Row.{values_of}
-use Rattle.bw_model.specs.Stored.{byte_of}
 use Rattle.bw_model.specs.Code.{has_bit}
 use Rattle.bw_lanes.specs.Lanes.{bytes_of_lanes, lanes_of_words}
-use Rattle.bw_segment.specs.Meaning.{stored_codes}
 use Rattle.bw_segment.proofs.LaneLemmas.{bits_of_bytes}
 use Rattle.bw_planes.specs.Planes.{planes_text}
 use Rattle.bw_planes.proofs.build.push_codes.Goals as goal
 
 pub loop-place-preserved : goal.loop-place-preserved
 loop-place-preserved c =
-    let codes = stored_codes c.args.shape.now.schema.columns.items (map values_of c.args.rows.now) c.args.col in
+    let codes = c.args.codes.now in
     let width = c.width-width.result in
     let bit = width - 1 - c.loop-place.place in
     let there : bit / 8 < c.slices.result = omega (arith, c.width-width.ensures.width, c.slices.ensures.slices) in
     let lanes : lanes_of_words c.bytes_bit.result ≡ map (λ code. has_bit code bit) codes =
-    c.bytes_bit.ensures ∙ ap (map (λ byte. bit_at byte (bit % 8) == 1)) (c.slices_of-slices.ensures (bit / 8) there ∙ ap (map (byte_of (bit / 8))) c.codes_of.ensures) ∙ bits_of_bytes codes bit in
+    c.bytes_bit.ensures ∙ ap (map (λ byte. bit_at byte (bit % 8) == 1)) (c.slices_of-slices.ensures (bit / 8) there) ∙ bits_of_bytes codes bit in
     let rest : width - (c.loop-place.place + 1) ≡ bit = omega arith in
     let before : suc bit ≡ width - c.loop-place.place = omega arith in
     ap (λ l. l ++ planes_text (width - (c.loop-place.place + 1)) codes) (c.in_ok-push.ensures.added ∙ ap (λ l. c.loop-place.bytes.items ++ bytes_of_lanes l) lanes)

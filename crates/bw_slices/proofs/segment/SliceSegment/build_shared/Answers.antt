@@ -4,6 +4,8 @@ use Rattle.bw_model.specs.declared.row.Row.{Row}
 use Rattle.bw_model.specs.Row.{Value, values_of}
 use Rattle.bw_segment.specs.BlockFault.{IsSound}
 use Rattle.bw_segment.specs.Layout.{segment_text, rows_spelled}
+use Rattle.bw_segment.specs.Columns.{KeepRows}
+use Rattle.bw_segment.specs.declared.columns.ColumnCodes.{ColumnCodes}
 use Rattle.bw_segment.specs.declared.shape.Shape.{Shape}
 use Rattle.bw_segment.specs.Meaning.{Meaning, meaning_of, IsGroup}
 use Rattle.bw_segment.proofs.CodeLemmas.{few_rows}
@@ -13,9 +15,10 @@ use Rattle.bw_slices.proofs.LayoutLemmas.{slices_are_a_layout}
 use Rattle.bw_slices.proofs.segment.SliceSegment.build_shared.Goals as goal
 
 module _ (given used kept : Shape) (rows : List Row) (bytes : List ℕ) (group : IsGroup (meaning_of given.schema rows)) (is_used : used ≡ given) (is_kept : kept ≡ given)
-    (text : bytes ≡ segment_text slice_layout used.schema.columns.items (map values_of rows)) where
+    (kept_in : List ColumnCodes) (keep : KeepRows used.schema.columns.items (map values_of rows) kept_in)
+    (text : (all : List (List Value)) → KeepRows used.schema.columns.items all kept_in → bytes ≡ segment_text slice_layout used.schema.columns.items all) where
   text_given : bytes ≡ segment_text slice_layout given.schema.columns.items (map values_of rows)
-  text_given = text ∙ ap (λ (shape : Shape). segment_text slice_layout shape.schema.columns.items (map values_of rows)) is_used
+  text_given = text (map values_of rows) keep ∙ ap (λ (shape : Shape). segment_text slice_layout shape.schema.columns.items (map values_of rows)) is_used
 
   is_sound : IsSound slice_layout kept.schema.columns.items (length rows) bytes
   is_sound =
@@ -38,8 +41,10 @@ overflow_cast-count c = omega (arith, few_rows c.args.shape.now.value.schema c.a
 
 pub of_blocks-requires-clause-sound : goal.of_blocks-requires-clause-sound
 of_blocks-requires-clause-sound c =
-    is_sound c.args.shape.now.value c.deref-shared.result.now c.in_ok-shape.shape.value c.args.rows.now c.in_ok-bytes.bytes.items c.requires c.deref-shared.ensures c.in_ok-shape.ensures.cases c.in_ok-bytes.ensures.text
+    is_sound c.args.shape.now.value c.deref-shared.result.now c.in_ok-shape.shape.value c.args.rows.now c.in_ok-bytes.bytes.items c.requires c.deref-shared.ensures c.in_ok-shape.ensures.cases
+    c.deref.result.now (subst (KeepRows c.deref-shared.result.now.schema.columns.items (map values_of c.args.rows.now)) (sym c.deref.ensures.value) c.in_ok-kept.ensures.keeps) c.in_ok-bytes.ensures.text
 
 pub returns-clause-means : goal.returns-clause-means
 returns-clause-means c =
-    c.of_blocks.ensures.means ∙ means c.args.shape.now.value c.deref-shared.result.now c.in_ok-shape.shape.value c.args.rows.now c.in_ok-bytes.bytes.items c.requires c.deref-shared.ensures c.in_ok-shape.ensures.cases c.in_ok-bytes.ensures.text
+    c.of_blocks.ensures.means ∙ means c.args.shape.now.value c.deref-shared.result.now c.in_ok-shape.shape.value c.args.rows.now c.in_ok-bytes.bytes.items c.requires c.deref-shared.ensures c.in_ok-shape.ensures.cases
+    c.deref.result.now (subst (KeepRows c.deref-shared.result.now.schema.columns.items (map values_of c.args.rows.now)) (sym c.deref.ensures.value) c.in_ok-kept.ensures.keeps) c.in_ok-bytes.ensures.text
