@@ -1,21 +1,22 @@
 -- The text of a table, row by row.
-use Rattle.std.proofs.Common.{◌≡◌, ℕ, zero, suc, ◌+◌, ◌*◌, ◌<◌, ◌≤◌, ◌&&◌, true, not, List, [], ◌∷◌, ◌++◌, length, map, take, drop, nat_le, append_assoc, length-append, length-drop, refl, sym, ap, ◌∙◌, arith}
+use Rattle.std.proofs.Common.{◌≡◌, ℕ, zero, suc, ◌+◌, ◌*◌, ◌<◌, ◌≤◌, ◌&&◌, true, not, List, [], ◌∷◌, ◌++◌, length, take, drop, nat_le, append_assoc, length-append, length-drop, refl, sym, ap, ap₂, ◌∙◌, arith}
 use Rattle.std.proofs.lemmas.Bool.{leb-true}
-use Rattle.std.proofs.lemmas.List.{append-nil, length-map, length-take-le, nil_from_length, take_all, drop_all, take-append-le, drop-append-le, flat_map_more}
+use Rattle.std.proofs.lemmas.List.{append-nil, nil_from_length, take_all, drop_all, take-append-le, drop-append-le, flat_map_more}
 use Rattle.std.proofs.Math.Nat.{mul-suc}
 use Rattle.std.specs.Int.{w32, to_le_bytes}
+use Rattle.std.proofs.lemmas.List.Folds.{list_all-append}
 use Rattle.std.specs.List.{flat_map}
+use Rattle.bw_model.specs.Column.{admits_values}
+use Rattle.bw_model.specs.Limits.{most_rows}
 use Rattle.bw_model.specs.declared.column.Column.{Column}
 use Rattle.bw_model.specs.Groups.{group_size, groups_of}
-use Rattle.bw_model.specs.declared.row.Row.{Row}
-use Rattle.bw_model.specs.Row.{Value, values_of}
-use Rattle.bw_segment.specs.Meaning.{IsGroup, meaning_of}
+use Rattle.bw_model.specs.Row.{Value}
 use Rattle.bw_model.proofs.GroupLemmas.{groups_of-nothing, groups_of-first}
 use Rattle.bw_file.specs.declared.encoder.Encoder.{Encoder}
 use Rattle.bw_file.specs.Encoder.{Holds}
 use Rattle.bw_file.specs.declared.layout.Layout.{Layout}
 use Rattle.bw_file.specs.Blocks.{segment_text}
-use Rattle.bw_file.specs.FileText.{magic, front_text, header_text, segments_text, text_of_version, file_text, version_for}
+use Rattle.bw_file.specs.FileText.{AreRows, magic, front_text, header_text, segments_text, text_of_version, file_text, version_for}
 use Rattle.bw_model.specs.Name.{is_name}
 use Rattle.bw_model.specs.Keyword.{is_reserved}
 use Rattle.bw_model.specs.Text.{is_word}
@@ -78,36 +79,33 @@ pub rows_put : (version : ℕ) (layout : Layout) (name : List ℕ) (columns : Li
 unfolding header_text front_text magic
 rows_put version layout name columns rows rest = refl
 
--- the rows that an encoder keeps are those of one group
-pub group_kept : (encoder : Encoder) (kept : List Row) → 0 < encoder.filled → kept ≡ encoder.group.items → IsGroup (meaning_of encoder.shape.schema (take encoder.filled kept))
-unfolding group_size
-group_kept encoder kept some same =
-    let size : length (map values_of (take encoder.filled kept)) ≡ encoder.filled =
-    rw same (length-map (take encoder.filled encoder.group.items) values_of ∙ length-take-le encoder.filled encoder.group.items encoder.within) in
-    record { some = omega (arith, size); few = omega (arith, size, encoder.few); admitted = rw same encoder.admitted }
-
 -- the text with the group that an encoder kept
-pub text_flushed : (encoder : Encoder) (rows : List (List Value)) (kept : List Row) (bytes : List ℕ) → 0 < encoder.filled → kept ≡ encoder.group.items
-    → bytes ≡ encoder.bytes.items ++ segment_text encoder.layout encoder.shape.schema.columns.items (map values_of (take encoder.filled kept)) → Holds encoder rows
+pub text_flushed : (encoder : Encoder) (rows : List (List Value)) (bytes : List ℕ) → 0 < encoder.filled → (holds : Holds encoder rows)
+    → bytes ≡ encoder.bytes.items ++ segment_text encoder.layout encoder.shape.schema.columns.items holds.group
     → bytes ≡ header_text (version_for encoder.shape.schema.columns.items) encoder.layout encoder.shape.schema.name encoder.shape.schema.columns.items 0
     ++ segments_text encoder.layout encoder.shape.schema.columns.items rows
-text_flushed encoder rows kept bytes some same added holds =
+unfolding group_size
+text_flushed encoder rows bytes some holds added =
     let columns = encoder.shape.schema.columns.items in
     let head = header_text (version_for columns) encoder.layout encoder.shape.schema.name columns 0 in
-    let group = map values_of (take encoder.filled encoder.group.items) in
-    let is_group = group_kept encoder encoder.group.items some refl in
-    let text : bytes ≡ encoder.bytes.items ++ segment_text encoder.layout columns group = rw same at added in
-    text ∙ ap (λ (front : List ℕ). front ++ segment_text encoder.layout columns group) holds.text
-    ∙ segments_more encoder.layout columns holds.groups head holds.before group holds.whole is_group.some is_group.few
+    let size = holds.filled in
+    added ∙ ap (λ (front : List ℕ). front ++ segment_text encoder.layout columns holds.group) holds.text
+    ∙ segments_more encoder.layout columns holds.groups head holds.before holds.group holds.whole (omega (arith, size)) (omega (arith, size, encoder.few))
     ∙ ap (λ (all : List (List Value)). head ++ segments_text encoder.layout columns all) (sym holds.parts)
 
 -- how many rows an encoder was given, where its group is whole
 pub whole_flushed : (encoder : Encoder) (rows : List (List Value)) → encoder.filled ≡ 512 → (holds : Holds encoder rows) → length rows ≡ group_size * suc holds.groups
 unfolding group_size
 whole_flushed encoder rows full holds =
-    let size : length (map values_of (take encoder.filled encoder.group.items)) ≡ encoder.filled =
-    length-map (take encoder.filled encoder.group.items) values_of ∙ length-take-le encoder.filled encoder.group.items encoder.within in
-    ap length holds.parts ∙ simp length-append (omega (arith, size, holds.whole))
+    ap length holds.parts ∙ simp length-append (omega (arith, holds.filled, holds.whole))
+
+-- a row more is admitted
+pub admitted_more : (columns : List Column) (rows : List (List Value)) (row : List Value) → AreRows columns rows → length rows < most_rows → admits_values columns row ≡ true
+    → AreRows columns (rows ++ row ∷ [])
+admitted_more columns rows row are lt admitted = record {
+  few = omega (arith, length-append rows (row ∷ []));
+  admitted = list_all-append (admits_values columns) rows (row ∷ []) ∙ ap₂ ◌&&◌ are.admitted (ap (λ b. b && true) admitted);
+}
 
 -- a header takes sixteen bytes at least
 pub header_long : (version : ℕ) (layout : Layout) (name : List ℕ) (columns : List Column) (rows : ℕ) → 16 ≤ length (header_text version layout name columns rows)
@@ -136,4 +134,5 @@ pub text_held : (encoder : Encoder) (rows : List (List Value)) → encoder.fille
     → encoder.bytes.items ≡ header_text (version_for encoder.shape.schema.columns.items) encoder.layout encoder.shape.schema.name encoder.shape.schema.columns.items 0
     ++ segments_text encoder.layout encoder.shape.schema.columns.items rows
 text_held encoder rows none holds =
-    let all : rows ≡ holds.before = holds.parts ∙ rw none (append-nil holds.before) in rw all holds.text
+    let none_left : holds.group ≡ [] = nil_from_length holds.group (omega (arith, none, holds.filled)) in
+    let all : rows ≡ holds.before = holds.parts ∙ rw none_left (append-nil holds.before) in rw all holds.text

@@ -1,8 +1,9 @@
 -- What an encoder holds of the rows that were added to it.
-use Rattle.std.specs.Prelude.{◌≡◌, ℕ, ◌*◌, List, ◌++◌, length, map, take}
+use Rattle.std.specs.Prelude.{◌≡◌, ℕ, ◌*◌, List, ◌++◌, length}
 use Rattle.bw_model.specs.declared.schema.Schema.{Schema}
 use Rattle.bw_model.specs.Groups.{group_size}
-use Rattle.bw_model.specs.Row.{Value, values_of}
+use Rattle.bw_model.specs.Row.{Value}
+use Rattle.bw_segment.specs.Columns.{KeepRows}
 use Rattle.bw_file.specs.declared.encoder.Encoder.{Encoder}
 use Rattle.bw_file.specs.declared.layout.Layout.{Layout}
 use Rattle.bw_file.specs.FileText.{AreRows, header_text, segments_text, version_for}
@@ -24,12 +25,16 @@ IsTextOf layout schema bytes rows =
     ++ segments_text layout schema.columns.items rows
 
 -- The encoder was given these rows, which the columns admit: the text of the groups that are whole,
--- behind a header that tells of no rows yet, and less than a group that isn't yet in the text.
+-- behind a header that tells of no rows yet, and less than a group that isn't yet in the text, or one
+-- that is just whole, which it keeps by columns.
 pub record Holds (encoder : Encoder) (rows : List (List Value)) : Type 0 where
   pub before : List (List Value)
+  pub group : List (List Value)
   pub groups : ℕ
-  pub parts : rows ≡ before ++ map values_of (take encoder.filled encoder.group.items)
+  pub parts : rows ≡ before ++ group
   pub whole : length before ≡ group_size * groups
   pub text : IsTextOf encoder.layout encoder.shape.schema encoder.bytes.items before
+  pub kept : KeepRows encoder.shape.schema.columns.items group encoder.kept.items
+  pub filled : length group ≡ encoder.filled
   pub count : length rows ≡ encoder.rows
   pub admitted : AreRows encoder.shape.schema.columns.items rows

@@ -1,12 +1,11 @@
 //! A table file written row by row.
-ghost use Rattle.std.specs.Prelude.{◌≡◌, ◌+◌, ◌-◌, ◌<◌, ◌≤◌, ◌++◌, ◌∷◌, [], List, true, map, take, drop, length, OnOk, IfOk, IsOkUnless};
+ghost use Rattle.std.specs.Prelude.{◌≡◌, ◌+◌, ◌-◌, ◌<◌, ◌≤◌, ◌++◌, ◌∷◌, [], List, true, take, drop, length, OnOk, IfOk, IsOkUnless};
 ghost use Rattle.std.specs.List.{list_all, flat_map};
 ghost use Rattle.std.specs.Int.{w32, to_le_bytes};
 ghost use Rattle.bw_model.specs.Column.{admits_values};
 ghost use Rattle.bw_model.specs.Fault.{no_memory};
 ghost use Rattle.bw_model.specs.Limits.{most_rows};
 ghost use Rattle.bw_model.specs.Row.{Value, values_of};
-ghost use Rattle.bw_segment.specs.Meaning.{IsGroup, meaning_of};
 ghost use Rattle.bw_file.specs.Blocks.{segment_text};
 ghost use Rattle.bw_file.specs.FileText.{are_bounds, AreRows, file_text, front_text, header_text, name_text, column_text, bound_text, layout_byte, flag_byte, version_for};
 
@@ -14,7 +13,7 @@ use crate::fields::{MAGIC, are_bounds};
 use crate::layout::Layout;
 use crate::segments::append;
 use bw_model::{Column, Fault, Name, Row, Schema};
-use bw_segment::Shape;
+use bw_segment::{ColumnCodes, Shape, clear_rows, keep_row, no_rows};
 use byteorder::{ByteOrder, LittleEndian};
 use std::alloc::Global;
 
@@ -24,24 +23,22 @@ const GROUP: usize = 512;
 /// Where the number of rows stands in a file.
 const ROW_COUNT_AT: usize = 12;
 
-/// A table file that is written row by row. Of the rows it keeps no more than one segment, whose
-/// memory is used again, and behind it the text of the segments before.
+/// A table file that is written row by row. Of the rows it keeps no more than one segment, by
+/// columns, and behind it the text of the segments before.
 #[derive(Drop)]
 pub struct Encoder {
     alloc: Global,
     layout: Layout,
     shape: Shape,
     bytes: Vec<u8>,
-    /// The rows that aren't in the text yet are the first `filled` ones.
-    group: Vec<Row>,
+    /// The rows that aren't in the text yet, `filled` many.
+    kept: Vec<ColumnCodes>,
     filled: usize,
     rows: u32,
     ghost headed: { 16 ≤ length bytes.items },
-    ghost within: { filled ≤ length group.items },
+    ghost all: { length kept.items ≡ length shape.schema.columns.items },
     ghost few: { filled ≤ 512 },
     ghost countable: { rows ≤ most_rows },
-    ghost admitted: { list_all (admits_values shape.schema.columns.items)
-        (map values_of (take filled group.items)) ≡ true },
 }
 
 impl Encoder {
@@ -61,12 +58,13 @@ impl Encoder {
         let shape = Shape::new(alloc, schema)?;
         let mut bytes = Vec::new(alloc);
         push_header(&mut bytes, layout, &shape.schema)?;
+        let kept = no_rows(alloc, shape.schema.columns.len())?;
         Ok(Encoder {
             alloc,
             layout,
             shape,
             bytes,
-            group: Vec::new(alloc),
+            kept,
             filled: 0,
             rows: 0,
         })
@@ -87,33 +85,25 @@ impl Encoder {
         if self.filled == GROUP {
             self.flush()?;
         }
-        self.keep(row)
+        self.keep(row);
+        Ok(())
     }
 
     /// Keeps a row behind those that aren't in the text yet.
-    fn keep(&mut self, row: &Row) -> Result<(), Fault>
+    fn keep(&mut self, row: &Row)
         requires admitted { admits_values (encoder_schema self.old).columns.items
             (values_of row.now) ≡ true }
         requires room { rows_in self.old < most_rows }
         requires few { self.old.filled < 512 }
-        ensures holds { OnOk result ((rows : List (List Value)) → Holds self.old rows
-            → Holds self.new (rows ++ values_of row.now ∷ [])) }
-        ensures rows { OnOk result (rows_in self.new ≡ rows_in self.old + 1) }
-        ensures same { OnOk result ((encoder_layout self.new ≡ encoder_layout self.old)
-            × (encoder_schema self.new ≡ encoder_schema self.old)) }
-        ensures only_memory { IsOkUnless result no_memory }
+        ensures holds { (rows : List (List Value)) → Holds self.old rows
+            → Holds self.new (rows ++ values_of row.now ∷ []) }
+        ensures rows { rows_in self.new ≡ rows_in self.old + 1 }
+        ensures same { (encoder_layout self.new ≡ encoder_layout self.old)
+            × (encoder_schema self.new ≡ encoder_schema self.old) }
     {
-        if self.filled < self.group.len() {
-            let kept = &mut self.group[self.filled];
-            kept.values.clear();
-            kept.values.extend_from_slice(&row.values)?;
-        } else {
-            let copy = row.copy(self.alloc)?;
-            self.group.push(copy)?;
-        }
+        keep_row(&mut self.kept, &self.shape.schema, self.filled, row);
         self.filled += 1;
         self.rows += 1;
-        Ok(())
     }
 
     /// Puts the rows that aren't in the text yet there.
@@ -135,8 +125,9 @@ impl Encoder {
             self.layout,
             &mut self.bytes,
             &self.shape,
-            &self.group[..self.filled],
+            &self.kept,
         )?;
+        clear_rows(&mut self.kept);
         self.filled = 0;
         Ok(())
     }

@@ -1,16 +1,16 @@
 //! Segments in either layout, behind the same calls.
-ghost use Rattle.std.specs.Prelude.{◌≡◌, ◌++◌, ◌<◌, ◌≤◌, map, length, OnOk, OnErr, IsOkUnless};
+ghost use Rattle.std.specs.Prelude.{◌≡◌, ◌++◌, ◌<◌, ◌≤◌, List, length, take, OnOk, OnErr, IsOkUnless};
 ghost use Rattle.bw_model.specs.Fault.{no_memory};
 ghost use Rattle.bw_model.specs.Groups.{group_size};
-ghost use Rattle.bw_model.specs.Row.{values_of};
-ghost use Rattle.bw_segment.specs.Meaning.{IsGroup, meaning_of};
+ghost use Rattle.bw_model.specs.Row.{Value};
+ghost use Rattle.bw_segment.specs.Columns.{KeepRows};
 ghost use Rattle.bw_file.specs.Blocks.{form_of, block_size, block_fault, segment_size, segment_text, IsSound, rows_spelled};
 
 use crate::layout::Layout;
 use bw_lanes::Plane;
-use bw_model::{Fault, Row, Schema, Value};
+use bw_model::{Fault, Schema, Value};
 use bw_planes::PlaneSegment;
-use bw_segment::{Segment, Shape};
+use bw_segment::{ColumnCodes, Segment, Shape};
 use bw_slices::SliceSegment;
 use std::alloc::Global;
 use std::rc::Rc;
@@ -140,24 +140,27 @@ impl AnySegment {
     }
 }
 
-/// Adds the bytes of a segment of these rows.
+/// Adds the bytes of a segment of the rows that are kept in columns.
 #[tactic(auto, unfolding(crate::specs::Blocks::form_of))]
 pub(crate) fn append(
     alloc: Global,
     layout: Layout,
     bytes: &mut Vec<u8>,
     shape: &Shape,
-    rows: &[Row],
+    kept: &[ColumnCodes],
 ) -> Result<(), Fault>
-    requires { IsGroup (meaning_of shape.now.schema rows.now) }
-    ensures added { OnOk result (bytes.new.items ≡ bytes.old.items
-        ++ segment_text layout shape.now.schema.columns.items (map values_of rows.now)) }
+    requires { length kept.now ≡ length shape.now.schema.columns.items }
+    ensures added { OnOk result ((rows : List (List Value))
+        → KeepRows shape.now.schema.columns.items rows kept.now
+        → bytes.new.items ≡ bytes.old.items
+        ++ segment_text layout shape.now.schema.columns.items rows) }
+    ensures front { OnOk result (take (length bytes.old.items) bytes.new.items ≡ bytes.old.items) }
     ensures refused { OnErr result (bytes.new.items ≡ bytes.old.items) }
     ensures only_memory { IsOkUnless result no_memory }
 {
     match layout {
-        Layout::Planes => PlaneSegment::append(alloc, bytes, shape, rows),
-        Layout::Slices => SliceSegment::append(alloc, bytes, shape, rows),
+        Layout::Planes => PlaneSegment::append(alloc, bytes, shape, kept),
+        Layout::Slices => SliceSegment::append(alloc, bytes, shape, kept),
     }
 }
 

@@ -1,5 +1,5 @@
 //! Planes built from rows, column by column, from the bytes of the codes.
-ghost use Rattle.std.specs.Prelude.{◌≡◌, ◌<◌, ◌++◌, List, length, IfOk, OnOk, IsOkUnless};
+ghost use Rattle.std.specs.Prelude.{◌≡◌, ◌<◌, ◌++◌, List, length, take, IfOk, OnOk, IsOkUnless};
 ghost use Rattle.bw_lanes.specs.Lanes.{bytes_of_lanes, lanes_of_words};
 ghost use Rattle.bw_model.specs.Code.{width_at};
 ghost use Rattle.bw_model.specs.Fault.{no_memory};
@@ -60,6 +60,7 @@ impl PlaneSegment {
             → KeepRows shape.now.schema.columns.items rows kept.now
             → bytes.new.items ≡ bytes.old.items
             ++ segment_text plane_layout shape.now.schema.columns.items rows) }
+        ensures front { OnOk result (take (length bytes.old.items) bytes.new.items ≡ bytes.old.items) }
         ensures refused { OnErr result (bytes.new.items ≡ bytes.old.items) }
         ensures only_memory { IsOkUnless result no_memory }
     {

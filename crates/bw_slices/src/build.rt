@@ -1,5 +1,5 @@
 //! Slices built from rows, column by column, from the bytes of the codes.
-ghost use Rattle.std.specs.Prelude.{◌≡◌, ◌<◌, ◌++◌, List, length, IfOk, OnOk, IsOkUnless};
+ghost use Rattle.std.specs.Prelude.{◌≡◌, ◌<◌, ◌++◌, List, length, take, IfOk, OnOk, IsOkUnless};
 ghost use Rattle.bw_model.specs.Code.{slices_at};
 ghost use Rattle.bw_model.specs.Fault.{no_memory};
 ghost use Rattle.bw_model.specs.Row.{Value};
@@ -58,6 +58,7 @@ impl SliceSegment {
             → KeepRows shape.now.schema.columns.items rows kept.now
             → bytes.new.items ≡ bytes.old.items
             ++ segment_text slice_layout shape.now.schema.columns.items rows) }
+        ensures front { OnOk result (take (length bytes.old.items) bytes.new.items ≡ bytes.old.items) }
         ensures refused { OnErr result (bytes.new.items ≡ bytes.old.items) }
         ensures only_memory { IsOkUnless result no_memory }
     {

@@ -17,10 +17,13 @@ returns-clause-holds c =
     let text : c.push_header.new.bytes.items ≡ head = rw c.new-bytes.ensures.items at c.in_ok-push_header.ensures.header in
     record {
       before = [];
+      group = [];
       groups = 0;
       parts = refl;
       whole = omega arith;
       text = text ∙ segments_none c.args.layout columns head;
+      kept = c.in_ok-kept.ensures.keeps columns (omega (arith, c.len.ensures));
+      filled = refl;
       count = refl;
       admitted = record { few = lit≤ tt; admitted = refl };
     }
