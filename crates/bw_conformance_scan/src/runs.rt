@@ -127,7 +127,14 @@ fn programs_select_rows(rt: HostRuntime) -> Result<(), Fail> {
             0,
         ),
     ] {
-        assert_run(&rt, rt.alloc(), name, rows, text, (word, ones, loads, skips))?;
+        assert_run(
+            &rt,
+            rt.alloc(),
+            name,
+            rows,
+            text,
+            (word, ones, loads, skips),
+        )?;
     }
     Ok(())
 }
