@@ -1,16 +1,16 @@
--- A field of digits alone.
-use Rattle.std.proofs.Common.{◌≡◌, ◌∙◌, ℕ, ◌-◌, ◌<◌, ◌≤◌, List, [], ◌∷◌, ℤ, Option, Some, None, Bool, true, false, length, take, get_or, refl, sym, ap, arith, leb, ltb, eqb}
+-- A field of digits, alone or behind a minus sign.
+use Rattle.std.proofs.Common.{◌≡◌, ◌∙◌, ℕ, ◌-◌, ◌<◌, ◌≤◌, List, [], ◌∷◌, ℤ, Option, Some, None, Bool, true, false, length, take, get_or, refl, sym, ap, arith, leb, ltb, eqb, zero, suc}
 use Rattle.std.specs.Prelude.{◌&&◌, if◌then◌else◌}
 use Rattle.std.specs.Char.{is_ascii_digit, to_ascii_lowercase}
 use Rattle.std.specs.List.{list_all, suffix_len}
-use Rattle.std.proofs.lemmas.Bool.{leb-true, lt-ltb, ne_eqb}
+use Rattle.std.proofs.lemmas.Bool.{leb-true, eqb-true, lt-ltb, ne_eqb}
 use Rattle.std.proofs.Math.Dec.{eqb-suc-zero}
 use Rattle.std.proofs.lemmas.List.{take_all}
 use Rattle.std.proofs.lemmas.List.Sums.{AllPass-from_list_all, suffix_len-take_no}
 use Rattle.bw_model.specs.declared.column.Column.{Column}
 use Rattle.bw_model.specs.Number.{are_digits, number_of}
 use Rattle.bw_model.specs.Text.{same_text}
-use Rattle.bw_csv.specs.Rows.{is_blank, is_null_text, text_value, value_of_field, within_bounds, without_blanks, without_end_blanks, without_front_blanks}
+use Rattle.bw_csv.specs.Rows.{behind_minus, is_blank, is_minus, is_null_text, text_value, value_of_field, within_bounds, without_blanks, without_end_blanks, without_front_blanks}
 
 both : (a b : Bool) → (a && b) ≡ true → (a ≡ true) × (b ≡ true)
 both true b e = (refl, e)
@@ -37,12 +37,17 @@ no_letter c e =
 front : (c : ℕ) (cs : List ℕ) → is_ascii_digit c ≡ true → without_front_blanks (c ∷ cs) ≡ c ∷ cs
 front c cs e = rw (no_blank c e) refl
 
-behind : (text : List ℕ) → 0 < length text → list_all is_ascii_digit text ≡ true → without_end_blanks text ≡ text
-behind text some all =
-    let last : is_blank (get_or text (length text - 1) 0) ≡ false = no_blank (get_or text (length text - 1) 0) (AllPass-from_list_all is_ascii_digit text all (length text - 1) 0 (omega (arith, some))) in
+ended : (text : List ℕ) → 0 < length text → is_blank (get_or text (length text - 1) 0) ≡ false → without_end_blanks text ≡ text
+ended text some last =
     let whole : take (length text) text ≡ text = take_all (length text) text (omega arith) in
     let zeros : suffix_len is_blank text ≡ 0 = rw whole at (suffix_len-take_no is_blank text (length text) 0 some (omega arith) last) in
     rw zeros (take_all (length text - 0) text (omega arith))
+
+last_digit : (text : List ℕ) → 0 < length text → list_all is_ascii_digit text ≡ true → is_blank (get_or text (length text - 1) 0) ≡ false
+last_digit text some all = no_blank (get_or text (length text - 1) 0) (AllPass-from_list_all is_ascii_digit text all (length text - 1) 0 (omega (arith, some)))
+
+behind : (text : List ℕ) → 0 < length text → list_all is_ascii_digit text ≡ true → without_end_blanks text ≡ text
+behind text some all = ended text some (last_digit text some all)
 
 -- no digits are NULL
 no_null : (c : ℕ) (cs : List ℕ) → is_ascii_digit c ≡ true → is_null_text (c ∷ cs) ≡ false
@@ -62,12 +67,39 @@ digits_alone number column (c ∷ cs) e =
     let whole : without_blanks (c ∷ cs) ≡ c ∷ cs = rw (front c cs all.0) (behind (c ∷ cs) (omega arith) e) in
     rw whole (spells_itself number column c cs all.0 e)
 
--- what was read of a field of digits alone
-read_alone : (number : ℕ) (column : Column) (field : List ℕ) (n : Option ℤ) (digits : Bool) → are_digits field ≡ digits
-    → Some n ≡ (if digits then Some (number_of false field) else None) → value_of_field number column field ≡ within_bounds number column n
-read_alone number column field n true d e = digits_alone number column field d ∙ ap (within_bounds number column) (let same : n ≡ number_of false field = cc e in sym same)
+-- a minus sign is no blank, and no text that begins with it is NULL
+whole_behind : (cs : List ℕ) → are_digits cs ≡ true → without_blanks (45 ∷ cs) ≡ 45 ∷ cs
+whole_behind [] e = absurd (cc e)
+whole_behind (c ∷ cs) e =
+    let last : length (45 ∷ c ∷ cs) - 1 ≡ suc (length (c ∷ cs) - 1) = omega arith in
+    ended (45 ∷ c ∷ cs) (omega arith) (rw last (last_digit (c ∷ cs) (omega arith) e))
+
+digits_behind_minus : (number : ℕ) (column : Column) (cs : List ℕ) → are_digits cs ≡ true
+    → value_of_field number column (45 ∷ cs) ≡ within_bounds number column (number_of true cs)
+unfolding value_of_field same_text
+digits_behind_minus number column cs e = rw (whole_behind cs e, eqb-suc-zero (length cs), e) refl
+
+by_sign : (number : ℕ) (column : Column) (c : ℕ) (cs : List ℕ) (minus : Bool) → eqb c 45 ≡ minus
+    → are_digits (if minus then cs else c ∷ cs) ≡ true
+    → value_of_field number column (c ∷ cs) ≡ within_bounds number column (number_of minus (if minus then cs else c ∷ cs))
+by_sign number column c cs true s e = rw (eqb-true c 45 s) (digits_behind_minus number column cs e)
+by_sign number column c cs false s e = digits_alone number column (c ∷ cs) e
+
+-- digits, behind a minus sign where there is one
+signed_digits : (number : ℕ) (column : Column) (field : List ℕ) → are_digits (behind_minus field) ≡ true
+    → value_of_field number column field ≡ within_bounds number column (number_of (is_minus field) (behind_minus field))
+signed_digits number column [] e = absurd (cc e)
+signed_digits number column (c ∷ cs) e = by_sign number column c cs (eqb c 45) refl e
+
+-- what was read of a field of digits
+read_alone : (number : ℕ) (column : Column) (field : List ℕ) (n : Option ℤ) (digits : Bool) → are_digits (behind_minus field) ≡ digits
+    → Some n ≡ (if digits then Some (number_of (is_minus field) (behind_minus field)) else None) → value_of_field number column field ≡ within_bounds number column n
+read_alone number column field n true d e = signed_digits number column field d ∙ ap (within_bounds number column) (let same : n ≡ number_of (is_minus field) (behind_minus field) = cc e in sym same)
 read_alone number column field n false d e = absurd (cc e)
 
-pub read_digits : (number : ℕ) (column : Column) (field : List ℕ) (n : Option ℤ) → Some n ≡ (if are_digits field then Some (number_of false field) else None)
+pub read_digits : (number : ℕ) (column : Column) (field : List ℕ) (n : Option ℤ) (is_negative : Bool) (digits : List ℕ)
+    → is_negative ≡ is_minus field → digits ≡ behind_minus field
+    → Some n ≡ (if are_digits digits then Some (number_of is_negative digits) else None)
     → value_of_field number column field ≡ within_bounds number column n
-read_digits number column field n e = read_alone number column field n (are_digits field) refl e
+read_digits number column field n is_negative digits s d e =
+    read_alone number column field n (are_digits (behind_minus field)) refl (rw (← d, ← s) e)

@@ -44,7 +44,10 @@ is_minus text = slice_index text 0 == 45
 abbrev pub is_plus : List ℕ → Bool
 is_plus text = slice_index text 0 == 43
 
--- a text without its sign, where it has one
+-- a text without its minus sign, and without its sign, where it has one
+abbrev pub behind_minus : List ℕ → List ℕ
+behind_minus text = if is_minus text then drop 1 text else text
+
 abbrev pub unsigned : List ℕ → List ℕ
 unsigned text = if is_minus text || is_plus text then drop 1 text else text
 

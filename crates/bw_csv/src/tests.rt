@@ -120,6 +120,37 @@ fn fields(rt: HostRuntime) -> Result<(), Fail> {
     Ok(())
 }
 
+/// Around 18 digits, from where on more than one way is gone.
+#[test]
+fn long_and_negative(rt: HostRuntime) -> Result<(), Fail> {
+    let table = b"TABLE t\nCOLUMN a -1000000000000000000 1000000000000000000\n";
+    let schema = Schema::parse(rt.alloc(), table)?;
+    for (field, want) in [
+        ("-0", Ok(Some(0))),
+        ("-7", Ok(Some(-7))),
+        (" -7", Ok(Some(-7))),
+        ("999999999999999999", Ok(Some(999999999999999999))),
+        ("-999999999999999999", Ok(Some(-999999999999999999))),
+        ("1000000000000000000", Ok(Some(1000000000000000000))),
+        ("-1000000000000000000", Ok(Some(-1000000000000000000))),
+        ("-0000000000000000000000007", Ok(Some(-7))),
+        ("-1000000000000000001", Err(205)),
+        ("-99999999999999999999", Err(205)),
+        ("-7-", Err(204)),
+        ("-+7", Err(204)),
+    ] {
+        for column in schema.columns.iter() {
+            let value = value_of(column, field.as_bytes(), 3);
+            assert_eq!(rt;
+                value,
+                want.map_err(|code| Fault::at_record(code, 3)),
+                "{field:?}"
+            );
+        }
+    }
+    Ok(())
+}
+
 #[test]
 fn blanks(rt: HostRuntime) {
     for (field, want) in [

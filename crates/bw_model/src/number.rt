@@ -1,5 +1,5 @@
 //! Whole numbers as decimal digits spell them.
-ghost use Rattle.std.specs.Prelude.{◌≡◌, ◌+◌, ◌*◌, ◌^◌, ◌-◌, ◌<◌, ◌≤◌, ℕ, List, Some, None, length, min, if◌then◌else◌};
+ghost use Rattle.std.specs.Prelude.{◌≡◌, ◌+◌, ◌*◌, ◌^◌, ◌-◌, ◌<◌, ◌≤◌, ℕ, List, Some, None, IfSome, length, min, if◌then◌else◌};
 ghost use Rattle.std.specs.List.{list_all};
 ghost use Rattle.std.specs.Char.{is_ascii_digit};
 ghost use Rattle.bw_model.specs.Number.{digits_value, are_digits, number_of, natural_of, where_64_bits_hold};
@@ -23,7 +23,29 @@ pub fn whole_number(is_negative: bool, digits: &[u8]) -> Option<i64>
 pub fn number_in(is_negative: bool, text: &[u8]) -> Option<Option<i64>>
     ensures { result ≡ if are_digits text.now then Some (number_of is_negative text.now) else None }
 {
-    match magnitude_in(text) {
+    if text.len() <= 18 {
+        short_number(is_negative, text)
+    } else {
+        long_number(is_negative, text)
+    }
+}
+
+/// The same for a text so short that 64 bits hold each number on the way.
+fn short_number(is_negative: bool, text: &[u8]) -> Option<Option<i64>>
+    requires { length text.now ≤ 18 }
+    ensures { result ≡ if are_digits text.now then Some (number_of is_negative text.now) else None }
+{
+    match short_magnitude(text) {
+        None => None,
+        Some(magnitude) => Some(Some(with_sign(is_negative, magnitude))),
+    }
+}
+
+/// The same for a text of any length.
+fn long_number(is_negative: bool, text: &[u8]) -> Option<Option<i64>>
+    ensures { result ≡ if are_digits text.now then Some (number_of is_negative text.now) else None }
+{
+    match long_magnitude(text) {
         None => None,
         Some(magnitude) => Some(signed(is_negative, magnitude)),
     }
@@ -78,21 +100,11 @@ fn magnitude_of(digits: &[u8]) -> u64
     magnitude
 }
 
-/// The same for a text of digits; none for another one.
-fn magnitude_in(text: &[u8]) -> Option<u64>
-    ensures { result ≡ if are_digits text.now then Some (min (digits_value text.now) (2 ^ 64 - 1)) else None }
-{
-    if text.len() <= 18 {
-        short_magnitude(text)
-    } else {
-        long_magnitude(text)
-    }
-}
-
-/// The same for a text so short that 64 bits hold each number on the way.
+/// What the digits of a short text spell; none for another text.
 fn short_magnitude(text: &[u8]) -> Option<u64>
     requires { length text.now ≤ 18 }
-    ensures { result ≡ if are_digits text.now then Some (min (digits_value text.now) (2 ^ 64 - 1)) else None }
+    ensures magnitude { result ≡ if are_digits text.now then Some (digits_value text.now) else None }
+    ensures small { IfSome result (λ magnitude. magnitude < 2 ^ 63) }
 {
     if text.is_empty() {
         return None;
@@ -108,7 +120,7 @@ fn short_magnitude(text: &[u8]) -> Option<u64>
     Some(magnitude)
 }
 
-/// The same for a text of any length.
+/// What the digits of a text spell, or the greatest `u64` where that is less; none for another text.
 fn long_magnitude(text: &[u8]) -> Option<u64>
     ensures { result ≡ if are_digits text.now then Some (min (digits_value text.now) (2 ^ 64 - 1)) else None }
 {
@@ -136,6 +148,17 @@ fn with_digit(magnitude: u64, units: u64) -> u64
     } else {
         magnitude.saturating_mul(10).saturating_add(units)
     }
+}
+
+/// The number of a sign and digits of this magnitude, which 63 bits hold. Both sides are so short that they are compiled
+/// without a branch: no processor foresees a sign.
+#[tactic(auto, unfolding(crate::specs::Number::number_of))]
+fn with_sign(is_negative: bool, magnitude: u64) -> i64
+    requires { magnitude < 2 ^ 63 }
+    ensures { (digits : List ℕ) → magnitude ≡ digits_value digits → number_of is_negative digits ≡ Some result }
+{
+    let number = magnitude as i64;
+    if is_negative { -number } else { number }
 }
 
 /// The whole number of a sign and the magnitude of digits, where 64 bits hold it.

@@ -1,9 +1,9 @@
 -- Each turn takes one more digit.
-use Rattle.std.proofs.Common.{◌≡◌, ◌-◌, ◌<◌, get_or, refl, sym, ◌∙◌, arith}
+use Rattle.std.proofs.Common.{◌≡◌, ◌-◌, ◌<◌, ◌≤◌, get_or, refl, sym, ◌∙◌, arith}
 use Rattle.std.specs.Char.{is_ascii_digit}
 use Rattle.std.proofs.lemmas.List.Folds.{list_all_more}
 use Rattle.bw_model.specs.Number.{digits_value}
-use Rattle.bw_model.proofs.Numbers.{decimal_more, one_zero_more, zeros_before_last}
+use Rattle.bw_model.proofs.Numbers.{decimal_more, few_zeros, one_zero_more, zeros_before_last}
 use Rattle.bw_model.proofs.number.short_magnitude.Goals as goal
 
 pub loop-digit-init : goal.loop-digit-init
@@ -33,3 +33,9 @@ loop-digit-preserved c =
       magnitude = rw (step, ← c.loop-digit.invariant.magnitude, units) refl;
       below = one_zero_more i c.loop-digit.magnitude c.from-units.result c.loop-digit.invariant.below (grind (arith, units));
     }
+
+pub returns-clause-small : goal.returns-clause-small
+returns-clause-small c =
+    let few : c.loop-digit.digit-index ≤ 18 = let end = c.loop-digit.auto.digit-index-end in let most = c.requires in omega arith in
+    let below = few_zeros c.loop-digit.digit-index c.loop-digit.magnitude few c.loop-digit.invariant.below in
+    omega arith
