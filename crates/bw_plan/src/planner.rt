@@ -61,25 +61,54 @@ fn planned(
     let mut lines = Vec::new(alloc);
     let pair = steps_of(&mut facts, &mut lines, cond)?;
     let mut code = Code::new(alloc, facts, lines, with_skips);
-    let answer = written(&mut code, cond)?;
-    let node = code.node(answer)?;
-    let end = code.facts.row(Order::Whole, Logic::Xor, node, pair.yes)?;
-    if end.node != 0 {
-        return Err(Refusal::Unjoined);
+    let (program, row) = programmed(schema, cond, pair.yes, &mut code)?;
+    let certificate = certified(schema, code, row)?;
+    Ok(Proposal {
+        program,
+        certificate,
+    })
+}
+
+/// The program of a condition that has this node, and the row that says that its answer has it too.
+fn programmed(
+    schema: &Schema,
+    cond: &Cond,
+    node: u32,
+    code: &mut Code<'_>,
+) -> Result<(Program, u32), Refusal>
+    ensures { IfOk result (λ made. IsTrue (fits schema.now.columns.items made.0)) }
+{
+    let answer = written(code, cond)?;
+    let row = agreeing(code, answer, node)?;
+    let program = emit::program(code.alloc, schema, &code.instrs, answer)?;
+    Ok((program, row))
+}
+
+/// The row that says that a register holds a node.
+fn agreeing(code: &mut Code<'_>, register: u8, wanted: u32) -> Result<u32, Refusal> {
+    let node = code.node(register)?;
+    let row = code.facts.row(Order::Whole, Logic::Xor, node, wanted)?;
+    if row.node == 0 {
+        Ok(row.number)
+    } else {
+        Err(Refusal::Unjoined)
     }
+}
+
+/// The certificate of the instructions, behind as many lines as their program has, with the row that ends it.
+fn certified(schema: &Schema, code: Code<'_>, row: u32) -> Result<Certificate, Refusal>
+    ensures { IfOk result (λ certificate.
+        IsTrue (has_columns schema.now.columns.items (certificate_fields certificate))) }
+{
     let Code {
+        alloc,
         facts,
         lines,
         instrs,
         ..
     } = code;
-    let program = emit::program(alloc, schema, &instrs, answer)?;
     let before = instrs.len().saturating_add(2);
-    let certificate = emit::certificate(alloc, schema, &facts, lines, end.number, before)?;
-    Ok(Proposal {
-        program,
-        certificate,
-    })
+    emit::certificate(alloc, schema, &facts, lines, row, before)
 }
 
 /// Writes the instructions of a condition, and gives the result register.
