@@ -1,5 +1,5 @@
 -- A field of digits, alone or behind a minus sign.
-use Rattle.std.proofs.Common.{◌≡◌, ◌∙◌, ℕ, ◌-◌, ◌<◌, ◌≤◌, List, [], ◌∷◌, ℤ, Option, Some, None, Bool, true, false, length, take, get_or, refl, sym, ap, arith, leb, ltb, eqb, zero, suc}
+use Rattle.std.proofs.Common.{◌≡◌, ◌∙◌, ℕ, ◌-◌, ◌<◌, ◌≤◌, List, [], ◌∷◌, ℤ, Option, Some, None, Bool, true, false, length, take, get_or, refl, sym, ap, arith, leb, ltb, eqb, suc}
 use Rattle.std.specs.Prelude.{◌&&◌, if◌then◌else◌}
 use Rattle.std.specs.Char.{is_ascii_digit, to_ascii_lowercase}
 use Rattle.std.specs.List.{list_all, suffix_len}
