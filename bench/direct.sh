@@ -21,8 +21,7 @@ million() {
 }
 [ -s "$csv" ] || kept "$csv" million
 
-# both programs are built, and proved, by their first runs
-"$top/bw" direct "$schema" <(printf 'a,b,c,d\n') 'SELECT COUNT(*) FROM m' > /dev/null
+bw=$("$top/bw" --where)
 built bench_reader
 
 best() {
@@ -33,6 +32,6 @@ best() {
     done | sort -n | head -n 1 | sed "s/^/$name: /"
 }
 best 'csv reader alone           ' "$top/crates/bench_reader/out/bench_reader" "$csv"
-best 'SELECT COUNT(*) WHERE a < 8' "$top/crates/bw/out/bw" direct "$schema" "$csv" 'SELECT COUNT(*) FROM m WHERE a < 8'
-best 'SELECT SUM(c), MAX(d)      ' "$top/crates/bw/out/bw" direct "$schema" "$csv" 'SELECT SUM(c), MAX(d) FROM m'
-best 'SELECT *                   ' "$top/crates/bw/out/bw" direct "$schema" "$csv" 'SELECT * FROM m'
+best 'SELECT COUNT(*) WHERE a < 8' "$bw" direct "$schema" "$csv" 'SELECT COUNT(*) FROM m WHERE a < 8'
+best 'SELECT SUM(c), MAX(d)      ' "$bw" direct "$schema" "$csv" 'SELECT SUM(c), MAX(d) FROM m'
+best 'SELECT *                   ' "$bw" direct "$schema" "$csv" 'SELECT * FROM m'

@@ -19,9 +19,7 @@ csv=$folder/rows-$rows.csv
 printf 'TABLE m\nCOLUMN a 0 255 NOT NULL\nCOLUMN b -10 10\nCOLUMN c 0 1000000 NOT NULL\nCOLUMN d 0 4294967295\n' > "$schema"
 [ -s "$csv" ] || kept "$csv" four_columns "$rows"
 
-# the programs are built, and proved, by their first runs
-"$top/bw" direct "$schema" <(printf 'a,b,c,d\n') 'SELECT COUNT(*) FROM m' > /dev/null
-bw=$top/crates/bw/out/bw
+bw=$("$top/bw" --where)
 reader=$top/crates/bench_reader/out/bench_reader
 built bench_reader
 gcc -O2 -o "$folder/table" "$top/bench/table.c"

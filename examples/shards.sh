@@ -8,8 +8,8 @@ set -euo pipefail
 here=$(cd "$(dirname "$0")" && pwd)
 shards=${1:-8}
 processes=${2:-4}
-"$here/../bw" direct "$here/trips.schema" "$here/trips.csv" 'SELECT COUNT(*) FROM trips' > /dev/null
-export bw=$here/../crates/bw/out/bw schema=$here/trips.schema
+bw=${BW:-$("$here/../bw" --where)}
+export bw schema=$here/trips.schema
 folder=$(mktemp -d)
 trap 'rm -r "$folder"' EXIT
 export folder

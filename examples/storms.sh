@@ -3,7 +3,7 @@
 # answers are the same: examples/storms.sh. It needs sqlite3 (Debian's package of that name).
 set -euo pipefail
 here=$(cd "$(dirname "$0")" && pwd)
-bw=$here/../bw
+bw=${BW:-$here/../bw}
 folder=$(mktemp -d)
 trap 'rm -r "$folder"' EXIT
 
