@@ -16,8 +16,6 @@ mod lines;
 mod operand;
 mod parse;
 mod print;
-#[cfg(test)]
-mod tests;
 
 pub use certificate::Certificate;
 pub use lines::{

@@ -1,8 +1,9 @@
 //! Each line of a certificate left out, doubled, and exchanged with its neighbour, and each of its numbers changed.
 use crate::files::{
-    BELOW_EIGHT, EVERY_ROW, NULLS, ONE_BIT, ProgramFile, TOP_BITS, TWO_COLUMNS, TWO_SKIPS,
+    BELOW_EIGHT, BITS, EVERY_ROW, NULLS, ONE_BIT, ProgramFile, TABLE, TOP_BITS, TWO_COLUMNS,
+    TWO_SKIPS,
 };
-use crate::verdicts::{BITS, TABLE, judged, with_line};
+use crate::verdicts::{judged, with_line};
 use bw_cert::Certified;
 use bw_cert_text::Certificate;
 use bw_model::Row;

@@ -1,4 +1,13 @@
-//! Program files, each as its program and its certificate.
+//! Schemas, and program files, each as its program and its certificate.
+
+/// `a` has eight bits, of variables 0 to 7, and `b` five, of variables 9 to 13, behind its null variable.
+pub(crate) const TABLE: &str = "TABLE t\nCOLUMN a 0 255 NOT NULL\nCOLUMN b -10 10\n";
+
+/// `x` and `y` have a bit each.
+pub(crate) const BITS: &str = "TABLE q\nCOLUMN x 0 1 NOT NULL\nCOLUMN y 0 1 NOT NULL\n";
+
+/// The same bits, but their least values aren't the same.
+pub(crate) const APART: &str = "TABLE q\nCOLUMN x 0 1 NOT NULL\nCOLUMN y 1 2 NOT NULL\n";
 
 /// A program file: the program, how many lines stand before the certificate, the line `CERTIFICATE` among them, and the
 /// certificate.

@@ -1,7 +1,7 @@
 //! What the checker says of program files.
 use crate::files::{
-    BELOW_EIGHT, EVERY_ROW, FALSE_JOIN, NULLS, ONE_BIT, ProgramFile, TOP_BITS, TOP_BITS_STRAIGHT,
-    TWO_COLUMNS, TWO_SKIPS,
+    APART, BELOW_EIGHT, BITS, EVERY_ROW, FALSE_JOIN, NULLS, ONE_BIT, ProgramFile, TABLE, TOP_BITS,
+    TOP_BITS_STRAIGHT, TWO_COLUMNS, TWO_SKIPS,
 };
 use bw_cert::{Certified, check};
 use bw_cert_text::Certificate;
@@ -11,16 +11,8 @@ use bw_sql::parse;
 use std::alloc::Global;
 use std::test::Fail;
 
-pub(crate) const TABLE: &str = "TABLE t\nCOLUMN a 0 255 NOT NULL\nCOLUMN b -10 10\n";
-
-/// The same with `a` nullable.
+/// `TABLE` with `a` nullable.
 const NULLABLE: &str = "TABLE t\nCOLUMN a 0 255\nCOLUMN b -10 10\n";
-
-/// Two columns of a bit each.
-pub(crate) const BITS: &str = "TABLE q\nCOLUMN x 0 1 NOT NULL\nCOLUMN y 0 1 NOT NULL\n";
-
-/// Two columns whose least values differ.
-const APART: &str = "TABLE q\nCOLUMN x 0 1 NOT NULL\nCOLUMN y 1 2 NOT NULL\n";
 
 /// A text in which a line, by its number from 1, has others in its place; none where that is the number 0.
 pub(crate) fn with_line(

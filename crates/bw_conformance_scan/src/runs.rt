@@ -1,10 +1,11 @@
 //! Programs and what they select.
-use crate::segments::{SCHEMA, assert_group, rows_of};
+use crate::segments::{SCHEMA, TABLE, rows_of};
 use bw_lanes::{Plane, count};
 use bw_model::{Schema, Value};
 use bw_planes::PlaneSegment;
 use bw_program::Program;
 use bw_run::{Counts, run_segment};
+use bw_segment::is_group;
 use bw_slices::SliceSegment;
 use std::alloc::Global;
 use std::process::Abort;
@@ -17,10 +18,10 @@ fn run(
     table: &[[Value; 2]],
     text: &str,
 ) -> Result<(Plane, Counts), Fail> {
-    let schema = Schema::parse(alloc, SCHEMA.as_bytes())?;
+    let schema = Schema::parse(alloc, SCHEMA)?;
     let program = Program::parse(alloc, &schema, text.as_bytes())?;
     let rows = rows_of(alloc, table)?;
-    assert_group(rt, &schema, &rows);
+    assert!(rt; is_group(&schema, &rows));
     let planes = PlaneSegment::build(alloc, &schema, &rows)?;
     let (plane, counts) = run_segment(&program, &planes);
     let slices = SliceSegment::build(alloc, &schema, &rows)?;
@@ -94,14 +95,7 @@ fn programs_select_rows(rt: HostRuntime) -> Result<(), Fail> {
         ),
         (
             "a byte below eight in the common table",
-            [
-                [Some(0), Some(-10)],
-                [Some(255), Some(10)],
-                [Some(7), None],
-                [Some(7), None],
-                [Some(8), Some(0)],
-            ]
-            .as_slice(),
+            TABLE.as_slice(),
             "BYTELT r0 a 0 8\nRESULT r0\n",
             0b01101,
             3,

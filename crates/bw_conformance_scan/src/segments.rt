@@ -1,18 +1,23 @@
 //! Rows in memory, as one group of a table in both layouts.
-ghost use Rattle.std.specs.Prelude.{◌≡◌, IfOk};
-ghost use Rattle.bw_segment.specs.Meaning.{IsGroup, meaning_of};
-
-use bw_lanes::Plane;
+use bw_lanes::{Plane, count};
 use bw_model::{Row, Schema, Value};
 use bw_planes::PlaneSegment;
-use bw_segment::Segment;
+use bw_segment::{Segment, is_group};
 use bw_slices::SliceSegment;
 use std::alloc::Global;
-use std::process::Abort;
 use std::test::Fail;
 
-/// A table with a column from 0 to 255 and a nullable one from -10 to 10.
-pub(crate) const SCHEMA: &str = "TABLE t\nCOLUMN a 0 255 NOT NULL\nCOLUMN b -10 10\n";
+/// A table with a column of 8 bits, from 0 to 255, that takes no null, and one of 5 bits, from -10 to 10, that does.
+pub(crate) const SCHEMA: &[u8] = b"TABLE t\nCOLUMN a 0 255 NOT NULL\nCOLUMN b -10 10\n";
+
+/// Five rows of it.
+pub(crate) const TABLE: [[Value; 2]; 5] = [
+    [Some(0), Some(-10)],
+    [Some(255), Some(10)],
+    [Some(7), None],
+    [Some(7), None],
+    [Some(8), Some(0)],
+];
 
 /// Rows of these values.
 pub(crate) fn rows_of(alloc: Global, table: &[[Value; 2]]) -> Result<Vec<Row>, Fail> {
@@ -25,19 +30,33 @@ pub(crate) fn rows_of(alloc: Global, table: &[[Value; 2]]) -> Result<Vec<Row>, F
     Ok(rows)
 }
 
-/// Ends the test where the rows are no group of the table.
-pub(crate) fn assert_group(rt: &impl Abort, schema: &Schema, rows: &[Row])
-    ensures { IsGroup (meaning_of schema.now rows.now) }
-{
-    assert!(rt; rows.len() >= 1);
-    assert!(rt; rows.len() <= 512);
-    for row in rows {
-        assert!(rt; schema.admits(row), "{row:?}");
+/// How many rows have a 1 at a variable; none where there is no such variable.
+pub(crate) fn ones(segment: &impl Segment, var: u32) -> Option<u32> {
+    if var < segment.schema().var_count() {
+        Some(count(&segment.plane(var)))
+    } else {
+        None
+    }
+}
+
+/// How many rows, those past the last one too, have a byte below c, and how many have c.
+pub(crate) fn compared(
+    segment: &impl Segment,
+    col: usize,
+    slice: usize,
+    c: u8,
+) -> Option<(u32, u32)> {
+    let schema = segment.schema();
+    if col < schema.columns.len() && slice < schema.slices(col) {
+        let below = count(&segment.byte_lt(col, slice, c));
+        Some((below, count(&segment.byte_eq(col, slice, c))))
+    } else {
+        None
     }
 }
 
 /// What a segment answers for every variable, and for every byte of its codes and every constant.
-pub(crate) fn answers<S: Segment>(alloc: Global, segment: &S) -> Result<Vec<Plane>, Fail> {
+fn answers<S: Segment>(alloc: Global, segment: &S) -> Result<Vec<Plane>, Fail> {
     let mut planes = Vec::new(alloc);
     let schema = segment.schema();
     for variable in 0..schema.var_count() {
@@ -57,16 +76,9 @@ pub(crate) fn answers<S: Segment>(alloc: Global, segment: &S) -> Result<Vec<Plan
 #[test]
 fn layouts_answer_alike(rt: HostRuntime) -> Result<(), Fail> {
     let alloc = rt.alloc();
-    let table = [
-        [Some(0), Some(-10)],
-        [Some(255), Some(10)],
-        [Some(7), None],
-        [Some(7), None],
-        [Some(8), Some(0)],
-    ];
-    let schema = Schema::parse(alloc, SCHEMA.as_bytes())?;
-    let rows = rows_of(alloc, &table)?;
-    assert_group(&rt, &schema, &rows);
+    let schema = Schema::parse(alloc, SCHEMA)?;
+    let rows = rows_of(alloc, &TABLE)?;
+    assert!(rt; is_group(&schema, &rows));
     let planes = PlaneSegment::build(alloc, &schema, &rows)?;
     let slices = SliceSegment::build(alloc, &schema, &rows)?;
     let answers_of_planes = answers(alloc, &planes)?;

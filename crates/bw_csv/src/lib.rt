@@ -14,8 +14,6 @@ mod field;
 mod records;
 mod row;
 mod rows;
-#[cfg(test)]
-mod tests;
 
 pub use bare::{bare_rows_are_rows, read_bare_row};
 pub use records::Records;

@@ -46,28 +46,3 @@ pub fn read_limited<S: Source>(alloc: Global, source: &mut S, limit: u64) -> Res
     }
     Ok(Input::Over)
 }
-
-#[cfg(test)]
-mod tests {
-    use super::*;
-    use crate::from_read::FromRead;
-    use std::test::Fail;
-
-    #[test]
-    fn a_source_is_read_whole_or_is_over(rt: HostRuntime) -> Result<(), Fail> {
-        let text = b"TABLE t".as_slice();
-        for limit in [0, 6, 7, 8, 100] {
-            let mut source = FromRead::new(text);
-            let input = read_limited(rt.alloc(), &mut source, limit)?;
-            let came = match input {
-                Input::Whole(bytes) => bytes.as_slice() == text,
-                Input::Over => false,
-            };
-            assert_eq!(rt; came, limit >= 7, "at limit {limit}");
-            let left = source.into_inner();
-            let taken = (limit as usize + 1).min(7);
-            assert_eq!(rt; left.len(), 7 - taken, "at limit {limit}");
-        }
-        Ok(())
-    }
-}

@@ -23,20 +23,3 @@ pub fn write_whole<K: Sink>(sink: &mut K, text: &[u8]) -> Result<(), Fault>
     }
     Ok(())
 }
-
-#[cfg(test)]
-mod tests {
-    use super::*;
-    use crate::to_write::ToWrite;
-    use std::test::Fail;
-
-    #[test]
-    fn a_text_is_written_whole(rt: HostRuntime) -> Result<(), Fail> {
-        let mut sink = ToWrite::new(Vec::new(rt.alloc()));
-        write_whole(&mut sink, b"COUNT(*)\n")?;
-        write_whole(&mut sink, b"")?;
-        write_whole(&mut sink, b"3\n")?;
-        assert_eq!(rt; sink.into_inner().as_slice(), b"COUNT(*)\n3\n".as_slice());
-        Ok(())
-    }
-}

@@ -49,30 +49,3 @@ impl<W: Write> Sink for ToWrite<W> {
         self.failures
     }
 }
-
-#[cfg(test)]
-mod tests {
-    use super::*;
-
-    #[test]
-    fn bytes_go_to_memory(rt: HostRuntime) {
-        let mut sink = ToWrite::new(Vec::new(rt.alloc()));
-        assert_eq!(rt; sink.write(b"by"), Ok(2));
-        assert_eq!(rt; sink.write(b""), Ok(0));
-        assert_eq!(rt; sink.write(b"tes"), Ok(3));
-        assert_eq!(rt; sink.failures(), 0);
-        assert_eq!(rt; sink.into_inner().as_slice(), b"bytes".as_slice());
-    }
-
-    #[test]
-    fn a_full_writer_counts(rt: HostRuntime) {
-        let mut room = [0; 3];
-        let mut sink = ToWrite::new(room.as_mut_slice());
-        assert_eq!(rt; sink.write(b"bytes"), Ok(3));
-        assert_eq!(rt; sink.write(b"es"), Err(Failed));
-        assert_eq!(rt; sink.failures(), 1);
-        assert_eq!(rt; sink.write(b""), Ok(0));
-        assert_eq!(rt; sink.failures(), 1);
-        assert_eq!(rt; sink.into_inner().len(), 0);
-    }
-}

@@ -17,8 +17,6 @@ mod cited;
 mod diagram;
 mod node;
 mod product;
-#[cfg(test)]
-mod tests;
 
 pub use chain::{Chain, ChainKind, ChainLine};
 pub use cited::cited_nodes_are_worth;

@@ -13,8 +13,6 @@ mod infer_call;
 mod input;
 mod schema;
 mod seen;
-#[cfg(test)]
-mod tests;
 
 pub use infer_call::infer;
 pub use schema::inferred_schemas_are_exact;

@@ -7,8 +7,6 @@
 #![tactic(auto)]
 
 mod info_call;
-#[cfg(test)]
-mod tests;
 mod text;
 
 pub use info_call::{info, tables_have_their_size};

@@ -14,8 +14,6 @@ mod join;
 mod judge;
 mod known;
 mod laws;
-#[cfg(test)]
-mod tests;
 mod walk;
 
 pub use edge::Edge;

@@ -11,8 +11,6 @@ mod bytes;
 mod picked;
 mod plane;
 mod stored;
-#[cfg(test)]
-mod tests;
 
 pub use bytes::{bytes_bit, bytes_eq, bytes_lt, bytes_none};
 pub use picked::{bytes_of_plane, greatest_in, keep_in, least_in, sum_in};

@@ -23,8 +23,6 @@ mod parse;
 mod query;
 mod row;
 mod schema;
-#[cfg(test)]
-mod tests;
 mod text;
 mod total;
 mod variable;

@@ -15,8 +15,6 @@ mod comparison;
 mod laws;
 mod nodes;
 mod steps;
-#[cfg(test)]
-mod tests;
 
 pub use laws::{pairs_are_of_trees, pairs_tell_truths};
 pub use nodes::Pair;

@@ -15,8 +15,6 @@ mod judge;
 mod layout;
 mod read;
 mod segment;
-#[cfg(test)]
-mod tests;
 
 pub use layout::planes_keep_codes;
 pub use segment::PlaneSegment;

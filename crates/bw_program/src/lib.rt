@@ -17,8 +17,6 @@ mod parse;
 mod print;
 mod program;
 mod step;
-#[cfg(test)]
-mod tests;
 
 pub use instr::Instr;
 pub use laws::{places_are_reached, programs_are_read_as_spelled, runs_go_on};

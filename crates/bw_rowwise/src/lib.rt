@@ -12,8 +12,6 @@
 mod accumulator;
 mod condition;
 mod logic;
-#[cfg(test)]
-mod tests;
 mod total;
 
 pub use accumulator::{Accumulator, aggregate};

@@ -7,7 +7,5 @@
 #![tactic(auto)]
 
 mod print;
-#[cfg(test)]
-mod tests;
 
 pub use print::print_schema;

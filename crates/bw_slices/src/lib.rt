@@ -14,8 +14,6 @@ mod judge;
 mod layout;
 mod read;
 mod segment;
-#[cfg(test)]
-mod tests;
 
 pub use layout::slices_keep_codes;
 pub use segment::SliceSegment;

@@ -42,8 +42,6 @@ mod operand;
 mod predicate;
 mod reader;
 mod statement;
-#[cfg(test)]
-mod tests;
 mod token;
 
 use crate::lexer::{Lexed, lex};

@@ -1,0 +1,221 @@
+//! Worked table files, and the tables that they are of.
+ghost use Rattle.std.specs.Prelude.{◌≡◌, All, IfOk, length, map};
+ghost use Rattle.bw_file.specs.FileText.{AreRows};
+ghost use Rattle.bw_model.specs.Row.{values_of};
+
+use bw_file::{Layout, Table, decode, encode};
+use bw_model::{Fault, Row, Schema, Value};
+use std::alloc::Global;
+use std::process::Abort;
+use std::test::Fail;
+
+/// A table with a column from 0 to 255 and a nullable one from -10 to 10.
+pub(crate) const SCHEMA: &[u8] = b"TABLE t\nCOLUMN a 0 255 NOT NULL\nCOLUMN b -10 10\n";
+
+/// Five rows of it.
+pub(crate) const ROWS: [[Value; 2]; 5] = [
+    [Some(0), Some(-10)],
+    [Some(255), Some(10)],
+    [Some(7), None],
+    [Some(7), None],
+    [Some(8), Some(0)],
+];
+
+/// The header of their file in planes.
+pub(crate) const HEADER: [u8; 56] = [
+    0x42, 0x57, 0x43, 0x4F, 0x4C, 0x55, 0x4D, 0x4E, 0x01, 0x00, 0x02, 0x00, 0x05, 0x00, 0x00, 0x00,
+    0x01, 0x74, 0x01, 0x61, 0x00, 0x00, 0x00, 0x00, 0x00, 0x00, 0x00, 0x00, 0xFF, 0x00, 0x00, 0x00,
+    0x00, 0x00, 0x00, 0x00, 0x00, 0x01, 0x62, 0xF6, 0xFF, 0xFF, 0xFF, 0xFF, 0xFF, 0xFF, 0xFF, 0x0A,
+    0x00, 0x00, 0x00, 0x00, 0x00, 0x00, 0x00, 0x01,
+];
+
+/// The first byte of each plane; the others are 0.
+const PLANES: [u8; 14] = [
+    0x02, 0x02, 0x02, 0x02, 0x12, 0x0E, 0x0E, 0x0E, 0x0C, 0x02, 0x10, 0x02, 0x10, 0x00,
+];
+
+/// A file of this many bytes, of which these stand behind a header and the others are 0.
+fn file(alloc: Global, layout: u8, len: usize, parts: &[(usize, u8)]) -> Result<Vec<u8>, Fail> {
+    let mut bytes = Vec::from_slice(alloc, &HEADER)?;
+    bytes.resize(len, 0)?;
+    put(&mut bytes, 9, layout);
+    for (at, byte) in parts {
+        put(&mut bytes, *at, *byte);
+    }
+    Ok(bytes)
+}
+
+/// Changes a byte, where there is one.
+pub(crate) fn put(bytes: &mut Vec<u8>, at: usize, byte: u8) {
+    if at < bytes.len() {
+        bytes[at] = byte;
+    }
+}
+
+/// The five rows' file in planes: 952 bytes.
+pub(crate) fn planes_file(alloc: Global) -> Result<Vec<u8>, Fail> {
+    let mut bytes = file(alloc, 0, 952, &[])?;
+    for (i, byte) in PLANES.iter().enumerate() {
+        put(&mut bytes, 56 + 64 * i, *byte);
+    }
+    Ok(bytes)
+}
+
+/// The five rows' file in slices: 1,144 bytes.
+pub(crate) fn slices_file(alloc: Global) -> Result<Vec<u8>, Fail> {
+    let parts = [
+        (57, 0xFF),
+        (58, 0x07),
+        (59, 0x07),
+        (60, 0x08),
+        (568, 0x0C),
+        (633, 0x14),
+        (636, 0x0A),
+    ];
+    file(alloc, 1, 1144, &parts)
+}
+
+/// The file of a nullable column of 63 bits, with its greatest value twice and a null.
+pub(crate) fn wide_file(rt: &impl Abort, alloc: Global, layout: Layout) -> Result<Vec<u8>, Fail> {
+    let schema = Schema::parse(alloc, b"TABLE g\nCOLUMN x 0 9223372036854775807\n")?;
+    let mut rows = Vec::new(alloc);
+    for value in [Some(i64::MAX), Some(i64::MAX), None] {
+        rows.push(Row {
+            values: vec![in alloc; value]?,
+        })?;
+    }
+    Ok(file_of(rt, alloc, layout, &schema, &rows)?)
+}
+
+/// The five rows' files and the wide column's, in planes and in slices.
+pub(crate) fn worked_files(rt: &impl Abort, alloc: Global) -> Result<Vec<Vec<u8>>, Fail> {
+    let files = vec![in alloc;
+        planes_file(alloc)?,
+        slices_file(alloc)?,
+        wide_file(rt, alloc, Layout::Planes)?,
+        wide_file(rt, alloc, Layout::Slices)?,
+    ]?;
+    Ok(files)
+}
+
+/// Rows of these values.
+pub(crate) fn rows_of(alloc: Global, table: &[[Value; 2]]) -> Result<Vec<Row>, Fault>
+    ensures { IfOk result (λ rows. All (λ row. length (values_of row) ≡ 2) rows.items) }
+{
+    let mut rows = Vec::new(alloc);
+    for [a, b] in table {
+        rows.push(Row {
+            values: vec![in alloc; *a, *b]?,
+        })?;
+    }
+    Ok(rows)
+}
+
+/// Ends the test where the schema doesn't admit the rows, or where they are too many.
+pub(crate) fn assert_rows(rt: &impl Abort, schema: &Schema, rows: &[Row])
+    ensures { AreRows schema.now.columns.items (map values_of rows.now) }
+{
+    assert!(rt; rows.len() <= 16_777_216);
+    for row in rows {
+        assert!(rt; schema.admits(row), "{row:?}");
+    }
+}
+
+/// The file of a table.
+pub(crate) fn file_of(
+    rt: &impl Abort,
+    alloc: Global,
+    layout: Layout,
+    schema: &Schema,
+    rows: &[Row],
+) -> Result<Vec<u8>, Fault> {
+    assert_rows(rt, schema, rows);
+    encode(alloc, layout, schema, rows)
+}
+
+/// The same file again of a table that was read.
+pub(crate) fn again(rt: &impl Abort, alloc: Global, table: &Table) -> Result<Vec<u8>, Fault> {
+    file_of(rt, alloc, table.layout, &table.schema, &table.rows)
+}
+
+#[test]
+fn five_rows_are_written_and_read(rt: HostRuntime) -> Result<(), Fail> {
+    let alloc = rt.alloc();
+    let schema = Schema::parse(alloc, SCHEMA)?;
+    let rows = rows_of(alloc, &ROWS)?;
+    let planes = planes_file(alloc)?;
+    let slices = slices_file(alloc)?;
+    assert_eq!(rt;
+        file_of(&rt, alloc, Layout::Planes, &schema, &rows)?.as_slice(),
+        planes.as_slice()
+    );
+    assert_eq!(rt;
+        file_of(&rt, alloc, Layout::Slices, &schema, &rows)?.as_slice(),
+        slices.as_slice()
+    );
+    for file in [planes.as_slice(), slices.as_slice()] {
+        let table = decode(alloc, file)?;
+        assert_eq!(rt; table.rows.len(), 5);
+        for (row, values) in table.rows.iter().zip(&ROWS) {
+            assert_eq!(rt; row.values.as_slice(), values.as_slice());
+        }
+        assert_eq!(rt; again(&rt, alloc, &table)?.as_slice(), file);
+    }
+    Ok(())
+}
+
+#[test]
+fn no_rows_have_a_header_alone(rt: HostRuntime) -> Result<(), Fail> {
+    let alloc = rt.alloc();
+    let schema = Schema::parse(alloc, SCHEMA)?;
+    for layout in [Layout::Planes, Layout::Slices] {
+        let file = file_of(&rt, alloc, layout, &schema, &[])?;
+        assert_eq!(rt; file.len(), 56);
+        assert_eq!(rt; decode(alloc, &file)?.rows.len(), 0);
+    }
+    Ok(())
+}
+
+/// 512 rows of 1 and 0, and one of 0 and 0, take two segments, of which the second one has one row.
+#[test]
+fn a_second_segment_has_one_row(rt: HostRuntime) -> Result<(), Fail> {
+    let alloc = rt.alloc();
+    let schema = Schema::parse(alloc, SCHEMA)?;
+    let mut rows = Vec::new(alloc);
+    for i in 0..513u32 {
+        let a = if i < 512 { 1 } else { 0 };
+        rows.push(Row {
+            values: vec![in alloc; Some(a), Some(0)]?,
+        })?;
+    }
+    let mut file = file_of(&rt, alloc, Layout::Planes, &schema, &rows)?;
+    assert_eq!(rt; file.len(), 1848);
+    assert_eq!(rt; decode(alloc, &file)?.rows.len(), 513);
+    put(&mut file, 1847, 0x02);
+    assert_eq!(rt; decode(alloc, &file).err(), Some(Fault::at_byte(308, 1847)));
+    Ok(())
+}
+
+/// A column of 63 bits needs version 2, which both kinds of tables may have.
+#[test]
+fn wide_columns_need_version_2(rt: HostRuntime) -> Result<(), Fail> {
+    let alloc = rt.alloc();
+    for (layout, len) in [(Layout::Planes, 4133), (Layout::Slices, 4197)] {
+        let mut file = wide_file(&rt, alloc, layout)?;
+        assert_eq!(rt; file.len(), len);
+        assert_eq!(rt; file.get(8).copied(), Some(2));
+        assert_eq!(rt; decode(alloc, &file)?.rows.len(), 3);
+        put(&mut file, 8, 1);
+        assert_eq!(rt; decode(alloc, &file).err(), Some(Fault::at_byte(304, 20)));
+    }
+    let mut file = planes_file(alloc)?;
+    put(&mut file, 8, 2);
+    let table = decode(alloc, &file)?;
+    assert_eq!(rt;
+        again(&rt, alloc, &table)?.as_slice(),
+        planes_file(alloc)?.as_slice()
+    );
+    put(&mut file, 8, 3);
+    assert_eq!(rt; decode(alloc, &file).err(), Some(Fault::at_byte(302, 8)));
+    Ok(())
+}
