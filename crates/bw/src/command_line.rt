@@ -3,13 +3,13 @@
 //! `bw check SCHEMA SQL FILE`, `bw info TABLE` or `bw dump TABLE`.
 use bw_file::Layout;
 use clap::{Arg, ArgAction, ArgMatches, Command, Error};
-use std::alloc::Global;
+use std::alloc::{AllocError, Global};
 
 /// The version of this program and, below it, the kit's that proved and built it, as `rt version` prints it.
 const VERSION: &str = "0.1.0\nrattle-kit-13b logic dac8208d650f15bf";
 
 /// A command and its words. All but SQL and the name of a table are names of files.
-#[derive(Clone, Copy, Debug)]
+#[derive(Clone, Copy)]
 pub enum Words<'a> {
     Direct {
         schema: &'a str,
@@ -110,9 +110,133 @@ impl<'a> Words<'a> {
     }
 }
 
+/// A word or an option that a command takes.
+#[derive(Clone, Copy)]
+enum Taken {
+    /// A name of a file, and what the file is.
+    File(&'static str, &'static str),
+    Statement,
+    /// An option with a value: its name, the value's, and what it is.
+    Valued(&'static str, &'static str, &'static str),
+    Layout,
+    Stats,
+}
+
+const SCHEMA: Taken = Taken::File(
+    "SCHEMA",
+    "A file of TABLE and COLUMN lines, as `bw infer` writes one",
+);
+
+const CSV: Taken = Taken::File(
+    "CSV",
+    "A CSV file of whole numbers with a heading; an empty field is null",
+);
+
+const TABLE: Taken = Taken::File("TABLE", "A table file, as `bw load` writes one");
+
+const OUT: Taken = Taken::File("OUT", "The table file, which is created or replaced");
+
+const FILE: Taken = Taken::File("FILE", "A program file, as `bw plan` writes one");
+
+const NAME: Taken = Taken::Valued(
+    "table",
+    "NAME",
+    "The name of the table, which is t unless told otherwise",
+);
+
+const PROGRAM: Taken = Taken::Valued(
+    "program",
+    "FILE",
+    "A program file to scan by, in place of the planner's program",
+);
+
+/// A command: its name, what it does, an example of it, and what it takes.
+#[derive(Clone, Copy)]
+struct Told {
+    name: &'static str,
+    about: &'static str,
+    example: &'static str,
+    takes: &'static [Taken],
+}
+
+/// The commands, in the order of the help.
+const COMMANDS: [Told; 8] = [
+    Told {
+        name: "direct",
+        about: "Answers a statement over the rows of a CSV file",
+        example: "Example: bw direct trips.schema trips.csv 'SELECT COUNT(*) FROM trips WHERE cents > 2000'",
+        takes: &[SCHEMA, CSV, Taken::Statement],
+    },
+    Told {
+        name: "infer",
+        about: "Writes a schema for the rows of a CSV file",
+        example: "Example: bw infer --table trips trips.csv > trips.schema",
+        takes: &[NAME, CSV],
+    },
+    Told {
+        name: "load",
+        about: "Writes the table file of the rows of a CSV file",
+        example: "Example: bw load trips.schema trips.csv trips.bw",
+        takes: &[Taken::Layout, SCHEMA, CSV, OUT],
+    },
+    Told {
+        name: "query",
+        about: "Answers a statement over the rows of a table file",
+        example: "Example: bw query --stats trips.bw 'SELECT MAX(cents) FROM trips WHERE minutes < 10'",
+        takes: &[PROGRAM, Taken::Stats, TABLE, Taken::Statement],
+    },
+    Told {
+        name: "plan",
+        about: "Writes a scan program and its certificate for the condition of a statement",
+        example: "Example: bw plan trips.schema 'SELECT COUNT(*) FROM trips WHERE cents > 2000' > cents.prog",
+        takes: &[SCHEMA, Taken::Statement],
+    },
+    Told {
+        name: "check",
+        about: "Checks a scan program and its certificate for the condition of a statement",
+        example: "Example: bw check trips.schema 'SELECT COUNT(*) FROM trips WHERE cents > 2000' cents.prog",
+        takes: &[SCHEMA, Taken::Statement, FILE],
+    },
+    Told {
+        name: "info",
+        about: "Writes the schema of a table file, and its numbers as comments",
+        example: "Example: bw info trips.bw",
+        takes: &[TABLE],
+    },
+    Told {
+        name: "dump",
+        about: "Writes all rows of a table file as CSV",
+        example: "Example: bw dump trips.bw > trips.csv",
+        takes: &[TABLE],
+    },
+];
+
 /// Reads the command line. Its first word is the program's name.
 pub fn matches_of<'a>(alloc: Global, words: &'a [String]) -> Result<ArgMatches<'a>, Error> {
-    let command = Command::new(alloc, "bw")
+    with_commands(alloc)?.try_get_matches_from(words)
+}
+
+fn with_commands<'a>(alloc: Global) -> Result<Command<'a>, AllocError> {
+    let mut program = program(alloc);
+    for told in &COMMANDS {
+        program = with_command(program, command(alloc, told))?;
+    }
+    Ok(program)
+}
+
+fn with_command<'a>(
+    program: Command<'a>,
+    command: Result<Command<'a>, AllocError>,
+) -> Result<Command<'a>, AllocError> {
+    match command {
+        Ok(command) => program.subcommand(command),
+        Err(error) => Err(error),
+    }
+}
+
+/// The program, before it has its commands.
+fn program<'a>(alloc: Global) -> Command<'a> {
+    Command::new(alloc, "bw")
         .about("An analytical column store whose answers are proved")
         .version(VERSION)
         .after_help(
@@ -121,125 +245,46 @@ pub fn matches_of<'a>(alloc: Global, words: &'a [String]) -> Result<ArgMatches<'
         )
         .subcommand_required(true)
         .disable_help_subcommand(true)
-        .subcommand(direct(alloc)?)?
-        .subcommand(infer(alloc)?)?
-        .subcommand(load(alloc)?)?
-        .subcommand(query(alloc)?)?
-        .subcommand(plan(alloc)?)?
-        .subcommand(check(alloc)?)?
-        .subcommand(info(alloc)?)?
-        .subcommand(dump(alloc)?)?;
-    command.try_get_matches_from(words)
 }
 
-fn direct<'a>(alloc: Global) -> Result<Command<'a>, Error> {
-    let command = Command::new(alloc, "direct")
-        .about("Answers a statement over the rows of a CSV file")
-        .after_help(
-            "Example: bw direct trips.schema trips.csv 'SELECT COUNT(*) FROM trips WHERE cents > 2000'",
-        )
-        .arg(schema_file(alloc))?
-        .arg(csv_file(alloc))?
-        .arg(statement(alloc))?;
+fn command<'a>(alloc: Global, told: &Told) -> Result<Command<'a>, AllocError> {
+    let mut command = Command::new(alloc, told.name)
+        .about(told.about)
+        .after_help(told.example);
+    for taken in told.takes {
+        command = command.arg(argument(alloc, *taken))?;
+    }
     Ok(command)
 }
 
-fn infer<'a>(alloc: Global) -> Result<Command<'a>, Error> {
-    let command = Command::new(alloc, "infer")
-        .about("Writes a schema for the rows of a CSV file")
-        .after_help("Example: bw infer --table trips trips.csv > trips.schema")
-        .arg(table_name(alloc))?
-        .arg(csv_file(alloc))?;
-    Ok(command)
-}
-
-fn load<'a>(alloc: Global) -> Result<Command<'a>, Error> {
-    let command = Command::new(alloc, "load")
-        .about("Writes the table file of the rows of a CSV file")
-        .after_help("Example: bw load trips.schema trips.csv trips.bw")
-        .arg(layout(alloc))?
-        .arg(schema_file(alloc))?
-        .arg(csv_file(alloc))?
-        .arg(file(alloc, "OUT", "The table file, which is created or replaced"))?;
-    Ok(command)
-}
-
-fn query<'a>(alloc: Global) -> Result<Command<'a>, Error> {
-    let command = Command::new(alloc, "query")
-        .about("Answers a statement over the rows of a table file")
-        .after_help(
-            "Example: bw query --stats trips.bw 'SELECT MAX(cents) FROM trips WHERE minutes < 10'",
-        )
-        .arg(program_file(alloc))?
-        .arg(stats(alloc))?
-        .arg(table_file(alloc))?
-        .arg(statement(alloc))?;
-    Ok(command)
-}
-
-fn info<'a>(alloc: Global) -> Result<Command<'a>, Error> {
-    let command = Command::new(alloc, "info")
-        .about("Writes the schema of a table file, and its numbers as comments")
-        .after_help("Example: bw info trips.bw")
-        .arg(table_file(alloc))?;
-    Ok(command)
-}
-
-fn dump<'a>(alloc: Global) -> Result<Command<'a>, Error> {
-    let command = Command::new(alloc, "dump")
-        .about("Writes all rows of a table file as CSV")
-        .after_help("Example: bw dump trips.bw > trips.csv")
-        .arg(table_file(alloc))?;
-    Ok(command)
-}
-
-fn plan<'a>(alloc: Global) -> Result<Command<'a>, Error> {
-    let command = Command::new(alloc, "plan")
-        .about("Writes a scan program and its certificate for the condition of a statement")
-        .after_help(
-            "Example: bw plan trips.schema 'SELECT COUNT(*) FROM trips WHERE cents > 2000' > cents.prog",
-        )
-        .arg(schema_file(alloc))?
-        .arg(statement(alloc))?;
-    Ok(command)
-}
-
-fn check<'a>(alloc: Global) -> Result<Command<'a>, Error> {
-    let command = Command::new(alloc, "check")
-        .about("Checks a scan program and its certificate for the condition of a statement")
-        .after_help(
-            "Example: bw check trips.schema 'SELECT COUNT(*) FROM trips WHERE cents > 2000' cents.prog",
-        )
-        .arg(schema_file(alloc))?
-        .arg(statement(alloc))?
-        .arg(file(alloc, "FILE", "A program file, as `bw plan` writes one"))?;
-    Ok(command)
+fn argument<'a>(alloc: Global, taken: Taken) -> Arg<'a> {
+    match taken {
+        Taken::File(name, help) => Arg::new(alloc, name).required(true).help(help),
+        Taken::Statement => statement(alloc),
+        Taken::Valued(name, value, help) => Arg::new(alloc, name)
+            .long(name)
+            .action(ArgAction::Set)
+            .value_name(value)
+            .help(help),
+        Taken::Layout => layout(alloc),
+        Taken::Stats => stats(alloc),
+    }
 }
 
 /// The words of the command that the command line has.
 pub fn words_of<'a>(matches: &ArgMatches<'a>) -> Option<Words<'a>> {
-    if let Some(found) = matches.subcommand_matches("direct") {
-        return direct_words(found);
+    let (name, found) = matches.subcommand()?;
+    match name {
+        "direct" => direct_words(found),
+        "infer" => infer_words(found),
+        "load" => load_words(found),
+        "query" => query_words(found),
+        "info" => info_words(found),
+        "dump" => dump_words(found),
+        "plan" => plan_words(found),
+        "check" => check_words(found),
+        _ => None,
     }
-    if let Some(found) = matches.subcommand_matches("infer") {
-        return infer_words(found);
-    }
-    if let Some(found) = matches.subcommand_matches("load") {
-        return load_words(found);
-    }
-    if let Some(found) = matches.subcommand_matches("query") {
-        return query_words(found);
-    }
-    if let Some(found) = matches.subcommand_matches("info") {
-        return info_words(found);
-    }
-    if let Some(found) = matches.subcommand_matches("dump") {
-        return dump_words(found);
-    }
-    if let Some(found) = matches.subcommand_matches("plan") {
-        return plan_words(found);
-    }
-    check_words(matches.subcommand_matches("check")?)
 }
 
 fn direct_words<'a>(found: &ArgMatches<'a>) -> Option<Words<'a>> {
@@ -310,14 +355,6 @@ fn layout_of(matches: &ArgMatches<'_>) -> Layout {
     }
 }
 
-fn table_name<'a>(alloc: Global) -> Arg<'a> {
-    Arg::new(alloc, "table")
-        .long("table")
-        .action(ArgAction::Set)
-        .value_name("NAME")
-        .help("The name of the table, which is t unless told otherwise")
-}
-
 fn layout<'a>(alloc: Global) -> Arg<'a> {
     Arg::new(alloc, "layout")
         .long("layout")
@@ -326,43 +363,11 @@ fn layout<'a>(alloc: Global) -> Arg<'a> {
         .help("How segments are kept: bit planes, unless told otherwise, or byte slices")
 }
 
-fn program_file<'a>(alloc: Global) -> Arg<'a> {
-    Arg::new(alloc, "program")
-        .long("program")
-        .action(ArgAction::Set)
-        .value_name("FILE")
-        .help("A program file to scan by, in place of the planner's program")
-}
-
 fn stats<'a>(alloc: Global) -> Arg<'a> {
     Arg::new(alloc, "stats")
         .long("stats")
         .action(ArgAction::SetTrue)
         .help("Tells on standard error how the query was served")
-}
-
-fn schema_file<'a>(alloc: Global) -> Arg<'a> {
-    file(
-        alloc,
-        "SCHEMA",
-        "A file of TABLE and COLUMN lines, as `bw infer` writes one",
-    )
-}
-
-fn csv_file<'a>(alloc: Global) -> Arg<'a> {
-    file(
-        alloc,
-        "CSV",
-        "A CSV file of whole numbers with a heading; an empty field is null",
-    )
-}
-
-fn table_file<'a>(alloc: Global) -> Arg<'a> {
-    file(alloc, "TABLE", "A table file, as `bw load` writes one")
-}
-
-fn file<'a>(alloc: Global, name: &'static str, help: &'static str) -> Arg<'a> {
-    Arg::new(alloc, name).required(true).help(help)
 }
 
 /// The statement. It may begin with `-`, as a comment does.

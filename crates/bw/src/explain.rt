@@ -40,20 +40,27 @@ pub fn explain(rt: &HostRuntime, words: &Words<'_>, ended: &Ended<'_>) {
         words.sql(),
         ended.fault.place,
     ) {
-        if let Some(part) = usize::try_from(byte).ok().and_then(|at| Part::of(sql, at)) {
-            let _ = eprintln!(rt;
-                "    {}{}\n    {}^",
-                part.before,
-                part.after,
-                Blank(part.before)
-            );
-        }
-        return;
+        explain_byte(rt, sql, byte);
+    } else if let Some(file) = file_of(words, ended) {
+        explain_place(rt, &ended.fault, file);
     }
-    let Some(file) = file_of(words, ended) else {
-        return;
-    };
-    let _ = match (ended.fault.code, ended.fault.place) {
+}
+
+/// Shows the part of a statement about a byte.
+fn explain_byte(rt: &HostRuntime, sql: &str, byte: u64) {
+    if let Some(part) = usize::try_from(byte).ok().and_then(|at| Part::of(sql, at)) {
+        let _ = eprintln!(rt;
+            "    {}{}\n    {}^",
+            part.before,
+            part.after,
+            Blank(part.before)
+        );
+    }
+}
+
+/// Says where in a file a fault stands.
+fn explain_place(rt: &HostRuntime, fault: &Fault, file: &str) {
+    let _ = match (fault.code, fault.place) {
         (code::READ_FAILED, _) => eprintln!(rt; "    {} can't be opened or read", file),
         (code::WRITE_FAILED, _) => eprintln!(rt; "    {} can't be written", file),
         (_, Place::Byte(byte)) => eprintln!(rt; "    byte {} of {}, from 0", byte, file),
@@ -101,19 +108,29 @@ impl<'a> Part<'a> {
     fn of(sql: &'a str, at: usize) -> Option<Self> {
         let before = sql.get(..at)?;
         let after = sql.get(at..)?;
-        let begin = before.rfind('\n').map_or(0, |feed| feed + 1);
-        let end = after.find('\n').unwrap_or(after.len());
-        let near = (begin.max(at.saturating_sub(SIDE))..=at).find(|from| sql.is_char_boundary(
-            *from,
-        ))?;
-        let far = (0..=end.min(SIDE))
-            .rev()
-            .find(|to| after.is_char_boundary(*to))?;
         Some(Part {
-            before: before.get(near..)?,
-            after: after.get(..far)?,
+            before: end_of_line(before)?,
+            after: begin_of_line(after)?,
         })
     }
+}
+
+/// The last line of a text, cut to its last bytes.
+fn end_of_line(text: &str) -> Option<&str> {
+    let begin = text.rfind('\n').map_or(0, |feed| feed + 1);
+    let near = (begin.max(text.len().saturating_sub(SIDE))..=text.len()).find(
+        |from| text.is_char_boundary(*from),
+    )?;
+    text.get(near..)
+}
+
+/// The first line of a text, cut to its first bytes.
+fn begin_of_line(text: &str) -> Option<&str> {
+    let end = text.find('\n').unwrap_or(text.len());
+    let far = (0..=end.min(SIDE))
+        .rev()
+        .find(|to| text.is_char_boundary(*to))?;
+    text.get(..far)
 }
 
 /// As many blanks as a text has characters.

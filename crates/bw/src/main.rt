@@ -6,6 +6,7 @@
 //! line may be is in `command_line.rt`.
 #![tactic(auto)]
 
+mod calls;
 mod command_line;
 mod explain;
 mod out_file;

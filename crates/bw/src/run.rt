@@ -1,6 +1,7 @@
 //! Runs the command that the command line asks for, and gives the exit status.
 ghost use Rattle.std.specs.Prelude.{◌≡◌};
 
+use crate::calls::{answer, check, direct, dump, infer, info, load, plan};
 use crate::command_line::{Words, matches_of, words_of};
 use crate::explain::{Ended, explain};
 use crate::out_file::OutFile;
@@ -8,11 +9,10 @@ use bw_device::{FromRead, Source, ToWrite};
 use bw_file::Layout;
 use bw_model::{Fault, MAX_SCHEMA_LEN, code};
 use bw_shell::{
-    Input, MAX_PROGRAM_FILE_LEN, accepted_line, answer, check_text, direct, dump, infer, info,
-    load, plan_text, read_limited, report, stats_line,
+    Input, MAX_PROGRAM_FILE_LEN, Served, accepted_line, read_limited, report, stats_line,
 };
-use clap::Error;
 use clap::error::ErrorKind;
+use clap::{ArgMatches, Error};
 use std::env;
 use std::fs::File;
 use std::io::{BufReader, IsTerminal};
@@ -29,35 +29,47 @@ const PIECE: usize = 64 * 1024;
 
 /// Runs the command of the process's command line.
 pub fn run(rt: &HostRuntime) -> u8 {
-    let words: Vec<String> = match env::args(rt) {
+    match words_given(rt) {
+        Ok(words) => run_given(rt, &words),
+        Err(status) => status,
+    }
+}
+
+/// The words of the process's command line, or the status without them.
+fn words_given(rt: &HostRuntime) -> Result<Vec<String>, u8> {
+    match env::args(rt) {
         Err(_) => {
             let _ = eprintln!(rt; "error: a word of the command line is not UTF-8");
-            return USAGE;
+            Err(USAGE)
         }
-        Ok(words) => match words.collect(rt.alloc()) {
-            Ok(words) => words,
-            Err(_) => return MEMORY,
-        },
-    };
-    let matches = match matches_of(rt.alloc(), words.as_slice()) {
-        Ok(matches) => matches,
-        Err(error) => {
-            return tell(rt, &error);
-        }
-    };
-    let Some(words) = words_of(&matches) else {
+        Ok(words) => words.collect(rt.alloc()).map_err(|_| MEMORY),
+    }
+}
+
+fn run_given(rt: &HostRuntime, words: &[String]) -> u8 {
+    match matches_of(rt.alloc(), words) {
+        Ok(matches) => run_matched(rt, &matches),
+        Err(error) => tell(rt, &error),
+    }
+}
+
+fn run_matched(rt: &HostRuntime, matches: &ArgMatches<'_>) -> u8 {
+    let Some(words) = words_of(matches) else {
         return USAGE;
     };
     match run_words(rt, words) {
         Ok(()) => 0,
-        Err(ended) => {
-            let status = report(&ended.fault, &mut ToWrite::new(rt.stderr()));
-            if rt.stderr().is_terminal() {
-                explain(rt, &words, &ended);
-            }
-            status
-        }
+        Err(ended) => tell_fault(rt, &words, &ended),
     }
+}
+
+/// Writes the line of what ended a command, and at a terminal what its place is of, and gives the status.
+fn tell_fault(rt: &HostRuntime, words: &Words<'_>, ended: &Ended<'_>) -> u8 {
+    let status = report(&ended.fault, &mut ToWrite::new(rt.stderr()));
+    if rt.stderr().is_terminal() {
+        explain(rt, words, ended);
+    }
+    status
 }
 
 /// Says what the command line asked for in place of a command, and gives the status: the version goes to standard output
@@ -115,21 +127,21 @@ fn run_direct<'a>(
     csv_path: &'a str,
     sql: &str,
 ) -> Result<(), Ended<'a>> {
-    let mut schema = FromRead::new(open(rt, schema_path)?);
-    let mut csv = FromRead::new(open(rt, csv_path)?);
+    let (schema, csv) = open_both(rt, schema_path, csv_path)?;
+    let mut schema = FromRead::new(schema);
+    let mut csv = FromRead::new(csv);
     let mut out = ToWrite::new(rt.stdout());
-    let done = direct(rt.alloc(), &mut schema, &mut csv, sql.as_bytes(), &mut out);
+    let done = direct(rt.alloc(), &mut schema, &mut csv, sql, &mut out);
     let files = [(schema_path, schema.failures()), (csv_path, csv.failures())];
-    done.map_err(|fault| Ended::of(fault, &files))
+    or_ended(done, &files)
 }
 
 /// Runs `bw infer`.
 fn run_infer<'a>(rt: &HostRuntime, name: Option<&str>, csv_path: &'a str) -> Result<(), Ended<'a>> {
     let mut csv = FromRead::new(open(rt, csv_path)?);
     let mut out = ToWrite::new(rt.stdout());
-    let name = name.unwrap_or("t");
-    let done = infer(rt.alloc(), name.as_bytes(), &mut csv, &mut out);
-    done.map_err(|fault| Ended::of(fault, &[(csv_path, csv.failures())]))
+    let done = infer(rt.alloc(), name.unwrap_or("t"), &mut csv, &mut out);
+    or_ended(done, &[(csv_path, csv.failures())])
 }
 
 /// Runs `bw load`: both files are opened before either is read, and the third is created at the first write.
@@ -140,12 +152,13 @@ fn run_load<'a>(
     csv_path: &'a str,
     out: &str,
 ) -> Result<(), Ended<'a>> {
-    let mut schema = FromRead::new(open(rt, schema_path)?);
-    let mut csv = FromRead::new(open(rt, csv_path)?);
+    let (schema, csv) = open_both(rt, schema_path, csv_path)?;
+    let mut schema = FromRead::new(schema);
+    let mut csv = FromRead::new(csv);
     let mut out = OutFile::new(rt, out);
     let done = load(rt.alloc(), &mut schema, &mut csv, layout, &mut out);
     let files = [(schema_path, schema.failures()), (csv_path, csv.failures())];
-    done.map_err(|fault| Ended::of(fault, &files))
+    or_ended(done, &files)
 }
 
 /// Runs `bw query`: the files are opened before any is read, and the program file is read first.
@@ -156,20 +169,39 @@ fn run_query<'a>(
     table_path: &'a str,
     sql: &str,
 ) -> Result<(), Ended<'a>> {
-    let mut table = FromRead::new(open_buffered(rt, table_path)?);
-    let program = match program {
-        Some(path) => Some(read_program(rt, path, open(rt, path)?)?),
-        None => None,
-    };
-    let mut out = ToWrite::new(rt.stdout());
-    let program = program.as_deref();
-    let done = answer(rt.alloc(), &mut table, sql.as_bytes(), program, &mut out);
-    let served = done.map_err(|fault| Ended::of(fault, &[(table_path, table.failures())]))?;
+    let table = open_buffered(rt, table_path)?;
+    let program = program_given(rt, program)?;
+    let served = answer_from(rt, table_path, table, sql, program.as_deref())?;
     if stats {
         let told = stats_line(&served, &mut ToWrite::new(rt.stderr()));
-        return told.map_err(|fault| Ended::of(fault, &[]));
+        return or_ended(told, &[]);
     }
     Ok(())
+}
+
+/// The bytes of the program file that the command line names, if it names one.
+fn program_given<'a>(
+    rt: &HostRuntime,
+    program: Option<&'a str>,
+) -> Result<Option<Vec<u8>>, Ended<'a>> {
+    match program {
+        Some(path) => Ok(Some(read_program(rt, path, open(rt, path)?)?)),
+        None => Ok(None),
+    }
+}
+
+/// Answers a statement over the rows of a table file, on standard output.
+fn answer_from<'a>(
+    rt: &HostRuntime,
+    path: &'a str,
+    table: BufReader<File>,
+    sql: &str,
+    program: Option<&[u8]>,
+) -> Result<Served, Ended<'a>> {
+    let mut table = FromRead::new(table);
+    let mut out = ToWrite::new(rt.stdout());
+    let done = answer(rt.alloc(), &mut table, sql, program, &mut out);
+    or_ended(done, &[(path, table.failures())])
 }
 
 /// The bytes of a program file, whole.
@@ -184,25 +216,22 @@ fn read_program<'a>(rt: &HostRuntime, path: &'a str, file: File) -> Result<Vec<u
 fn run_plan<'a>(rt: &HostRuntime, schema_path: &'a str, sql: &str) -> Result<(), Ended<'a>> {
     let schema = open(rt, schema_path)?;
     let schema = read_schema(rt, schema_path, schema)?;
-    let mut out = ToWrite::new(rt.stdout());
-    let done = plan_text(rt.alloc(), &schema, sql.as_bytes(), &mut out);
-    done.map_err(|fault| Ended::of(fault, &[]))
+    let done = plan(rt.alloc(), &schema, sql, &mut ToWrite::new(rt.stdout()));
+    or_ended(done, &[])
 }
 
 /// Runs `bw info`.
 fn run_info<'a>(rt: &HostRuntime, table_path: &'a str) -> Result<(), Ended<'a>> {
     let mut table = FromRead::new(open_buffered(rt, table_path)?);
-    let mut out = ToWrite::new(rt.stdout());
-    let done = info(rt.alloc(), &mut table, &mut out);
-    done.map_err(|fault| Ended::of(fault, &[(table_path, table.failures())]))
+    let done = info(rt.alloc(), &mut table, &mut ToWrite::new(rt.stdout()));
+    or_ended(done, &[(table_path, table.failures())])
 }
 
 /// Runs `bw dump`.
 fn run_dump<'a>(rt: &HostRuntime, table_path: &'a str) -> Result<(), Ended<'a>> {
     let mut table = FromRead::new(open_buffered(rt, table_path)?);
-    let mut out = ToWrite::new(rt.stdout());
-    let done = dump(rt.alloc(), &mut table, &mut out);
-    done.map_err(|fault| Ended::of(fault, &[(table_path, table.failures())]))
+    let done = dump(rt.alloc(), &mut table, &mut ToWrite::new(rt.stdout()));
+    or_ended(done, &[(table_path, table.failures())])
 }
 
 /// Runs `bw check`: both files are opened before either is read, and read in this order.
@@ -212,14 +241,12 @@ fn run_check<'a>(
     sql: &str,
     file_path: &'a str,
 ) -> Result<(), Ended<'a>> {
-    let schema = open(rt, schema_path)?;
-    let file = open(rt, file_path)?;
+    let (schema, file) = open_both(rt, schema_path, file_path)?;
     let schema = read_schema(rt, schema_path, schema)?;
     let file = read_program(rt, file_path, file)?;
-    let done = check_text(rt.alloc(), &schema, sql.as_bytes(), &file);
-    let accepted = done.map_err(|fault| Ended::of(fault, &[]))?;
+    let accepted = or_ended(check(rt.alloc(), &schema, sql, &file), &[])?;
     let told = accepted_line(&accepted, &mut ToWrite::new(rt.stdout()));
-    told.map_err(|fault| Ended::of(fault, &[]))
+    or_ended(told, &[])
 }
 
 /// The text of a schema, whole.
@@ -239,7 +266,27 @@ fn read_text<'a>(
 ) -> Result<Input, Ended<'a>> {
     let mut source = FromRead::new(file);
     let done = read_limited(rt.alloc(), &mut source, u64::from(limit));
-    done.map_err(|fault| Ended::of(fault, &[(path, source.failures())]))
+    or_ended(done, &[(path, source.failures())])
+}
+
+/// What a call gave, or what ended the command: the call's fault, and the files that it read, each with its number of
+/// failed reads.
+fn or_ended<'a, T>(done: Result<T, Fault>, files: &[(&'a str, u64)]) -> Result<T, Ended<'a>> {
+    match done {
+        Ok(given) => Ok(given),
+        Err(fault) => Err(Ended::of(fault, files)),
+    }
+}
+
+/// Opens two files, in this order.
+fn open_both<'a>(
+    rt: &HostRuntime,
+    first: &'a str,
+    second: &'a str,
+) -> Result<(File, File), Ended<'a>> {
+    let first = open(rt, first)?;
+    let second = open(rt, second)?;
+    Ok((first, second))
 }
 
 fn open<'a>(rt: &HostRuntime, path: &'a str) -> Result<File, Ended<'a>> {

@@ -6,7 +6,7 @@ use std::process::Abort;
 use std::test::Fail;
 
 /// Narrow, wide and nullable columns. The first four begin at 0, the next two at -10.
-pub(crate) const COLUMNS_TABLE: &str = "\
+const COLUMNS_TABLE: &str = "\
     TABLE t\n\
     COLUMN a 0 255 NOT NULL\n\
     COLUMN x 0 1048575\n\
@@ -22,7 +22,7 @@ const COLUMNS: [&str; 7] = ["a", "x", "y", "z", "b", "w", "g"];
 const COMPARISONS: [&str; 6] = ["=", "<>", "<", ">", "<=", ">="];
 
 /// Numbers that conditions compare with, and that rows are near.
-pub(crate) const NEAR: [i64; 16] = [
+const NEAR: [i64; 16] = [
     -9223372036854775807,
     -300,
     -11,
@@ -163,39 +163,4 @@ fn second_conditions_pick_what_is_true(rt: HostRuntime) -> Result<(), Fail> {
 #[test]
 fn third_conditions_pick_what_is_true(rt: HostRuntime) -> Result<(), Fail> {
     pick(&rt, 1074, 30)
-}
-
-#[test]
-fn fourth_conditions_pick_what_is_true(rt: HostRuntime) -> Result<(), Fail> {
-    pick(&rt, 1111, 30)
-}
-
-#[test]
-fn fifth_conditions_pick_what_is_true(rt: HostRuntime) -> Result<(), Fail> {
-    pick(&rt, 1148, 30)
-}
-
-#[test]
-fn sixth_conditions_pick_what_is_true(rt: HostRuntime) -> Result<(), Fail> {
-    pick(&rt, 1185, 30)
-}
-
-#[test]
-fn seventh_conditions_pick_what_is_true(rt: HostRuntime) -> Result<(), Fail> {
-    pick(&rt, 1222, 30)
-}
-
-#[test]
-fn eighth_conditions_pick_what_is_true(rt: HostRuntime) -> Result<(), Fail> {
-    pick(&rt, 1259, 30)
-}
-
-#[test]
-fn ninth_conditions_pick_what_is_true(rt: HostRuntime) -> Result<(), Fail> {
-    pick(&rt, 1296, 30)
-}
-
-#[test]
-fn tenth_conditions_pick_what_is_true(rt: HostRuntime) -> Result<(), Fail> {
-    pick(&rt, 1333, 30)
 }

@@ -1,13 +1,16 @@
-//! Tests of program files from their text on: what is accepted, and what the accepted programs select. Nothing stands on
-//! this crate.
+//! Tests of accepted program files, of what they select and which skips they take, of conditions and totals over rows
+//! in memory, and of lines with numbers that no call comes to. Nothing stands on this crate.
 //!
-//! Read `selections.rt`, which is a table of segments with the skips that are taken on them.
+//! Read `selections.rt`, which is a table of segments with the skips that are taken on them. `cases/programs.md` has what
+//! queries answer by program files.
 #![tactic(auto)]
 
 #[cfg(test)]
-mod answers;
-#[cfg(test)]
 mod files;
+#[cfg(test)]
+mod lines;
+#[cfg(test)]
+mod rows_in_memory;
 #[cfg(test)]
 mod selections;
 #[cfg(test)]

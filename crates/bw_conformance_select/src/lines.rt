@@ -1,0 +1,69 @@
+//! Lines that no call of the program comes to: numbers as great as they may be, and the fault of which no example is
+//! known.
+use bw_device::ToWrite;
+use bw_model::{Fault, Place};
+use bw_shell::{Accepted, By, Served, accepted_line, report, stats_line};
+use std::test::Fail;
+
+#[test]
+fn faults_are_reported(rt: HostRuntime) -> Result<(), Fail> {
+    for (code, place, line) in [
+        (209, Place::Rec(0), "bw: 209 csv fault at record 0\n"),
+        (
+            406,
+            Place::Byte(u64::MAX),
+            "bw: 406 columns and aggregates mixed at byte 18446744073709551615\n",
+        ),
+    ] {
+        let mut sink = ToWrite::new(Vec::new(rt.alloc()));
+        assert_eq!(rt; report(&Fault { code, place }, &mut sink), 3, "at {code}");
+        let text = sink.into_inner();
+        assert_eq!(rt; text.as_slice(), line.as_bytes(), "at {code}");
+    }
+    Ok(())
+}
+
+#[test]
+fn served_queries_are_told(rt: HostRuntime) -> Result<(), Fail> {
+    let served = Served {
+        by: By::Program,
+        segments: u32::MAX,
+        loads: u64::MAX,
+        skips: u64::MAX,
+    };
+    let line =
+        "served program segments 4294967295 loads 18446744073709551615 skips 18446744073709551615\n";
+    let mut sink = ToWrite::new(Vec::new(rt.alloc()));
+    stats_line(&served, &mut sink)?;
+    assert_eq!(rt; sink.into_inner().as_slice(), line.as_bytes());
+    Ok(())
+}
+
+#[test]
+fn accepted_files_are_told(rt: HostRuntime) -> Result<(), Fail> {
+    let most = usize::MAX;
+    let table = [
+        (
+            [0, 0, 0, 0, 1],
+            "accepted: 0 instructions, 0 skips, 0 nodes, 0 chains, 1 rows\n",
+        ),
+        (
+            [most, most, most, most, most],
+            "accepted: 18446744073709551615 instructions, 18446744073709551615 skips, \
+             18446744073709551615 nodes, 18446744073709551615 chains, 18446744073709551615 rows\n",
+        ),
+    ];
+    for ([instructions, skips, nodes, chains, rows], line) in table {
+        let accepted = Accepted {
+            instructions,
+            skips,
+            nodes,
+            chains,
+            rows,
+        };
+        let mut sink = ToWrite::new(Vec::new(rt.alloc()));
+        accepted_line(&accepted, &mut sink)?;
+        assert_eq!(rt; sink.into_inner().as_slice(), line.as_bytes());
+    }
+    Ok(())
+}

@@ -1,0 +1,156 @@
+"""What the scripts that run the built program share: which program that is, the calls that a page has, and the last line.
+
+A page is Markdown. In its blocks, indented by four spaces, a line that begins with `$ ` is run by sh, lines that begin with
+`> ` go on with it, and the others are what it prints; an empty line ends a block. `cases/README.md` has tables too."""
+import collections
+import contextlib
+import os
+import pathlib
+import re
+import shlex
+import subprocess
+import sys
+import tempfile
+
+ROOT = pathlib.Path(__file__).resolve().parent.parent
+
+# the exit status of a fault, by the first digit of its number
+STATUS = {"1": 3, "2": 3, "3": 3, "4": 3, "5": 3, "6": 4, "7": 5, "8": 6}
+
+# A command and the lines that it prints, at a line of a page, in a section and in one of the page's blocks. Where it's of a
+# table, the block is None.
+Call = collections.namedtuple("Call", "section block line command prints")
+
+# A script may be started with its standard input closed: then another file mustn't get its number.
+try:
+    os.fstat(0)
+except OSError:
+    os.open(os.devnull, os.O_RDONLY)
+
+
+def program(path=None):
+    """The program to run: the one of this path, or of the environment variable BW, or the one that ./bw runs."""
+    path = path or os.environ.get("BW")
+    if not path:
+        path = subprocess.run([ROOT / "bw", "--where"], stdout=subprocess.PIPE, text=True, check=False).stdout.strip()
+    path = pathlib.Path(path).resolve()
+    if not os.access(path, os.X_OK) or path.is_dir():
+        print(f"{path} is no program")
+        sys.exit(2)
+    return path
+
+
+@contextlib.contextmanager
+def new_folder(bw):
+    """A new folder with the examples and the cases, and with `bin`, in which `bw` is the program."""
+    with tempfile.TemporaryDirectory() as name:
+        folder = pathlib.Path(name)
+        (folder / "bin").mkdir()
+        (folder / "bin" / "bw").symlink_to(bw)
+        for each in ("examples", "cases"):
+            (folder / each).symlink_to(ROOT / each)
+        yield folder
+
+
+def sh(command, folder, seconds=60, **names):
+    """A run of a command by sh in a folder, with the program on the path: its output, its errors, and its status."""
+    path = f"{folder / 'bin'}:{os.environ.get('PATH', os.defpath)}"
+    names = {**os.environ, **names, "PATH": path, "LC_ALL": "C"}
+    done = subprocess.run(["timeout", str(seconds), "sh", "-c", command], cwd=folder, env=names, stdin=subprocess.DEVNULL,
+                          capture_output=True, check=False)
+    if done.returncode == 124:
+        done.stderr += f"no end within {seconds} seconds\n".encode()
+    return done
+
+
+def lines(text):
+    return text.decode("utf-8", "replace").splitlines()
+
+
+def came(done):
+    """What a run printed, first on standard output and then on standard error, and its status where that doesn't tell it."""
+    printed = lines(done.stdout) + lines(done.stderr)
+    return printed + ([] if done.returncode == status_of(printed) else [f"(status {done.returncode})"])
+
+
+def status_of(printed):
+    """The status that printed lines tell: that of the fault among them, or 0."""
+    faults = [line for line in printed if re.match(r"bw: [1-8]\d\d ", line)]
+    return STATUS[faults[0][4]] if faults else 0
+
+
+def misplaced(done):
+    """The lines that stand on the wrong stream: results and the version go to standard output, faults, what `--stats` tells
+    and what is said of a command line that is no use to standard error."""
+    usage = done.returncode == 2
+    is_error = [usage or re.match(r"bw: \d{3} |served ", line) is not None for line in lines(done.stdout)]
+    wrong = [line for line, error in zip(lines(done.stdout), is_error) if error]
+    return wrong + [line for line in lines(done.stderr) if not usage and not re.match(r"bw: \d{3} |served ", line)]
+
+
+def quoted(cell, before):
+    """A cell in a command, behind this text of the command: in its single quotes, or in quotes of its own."""
+    return cell.replace("'", "'\\''") if before.count("'") % 2 else shlex.quote(cell)
+
+
+def filled(template, given):
+    """A table's command for a row: `…` stands for the first cell that is given to it, and `…2` for the second."""
+    return re.sub(r"…(\d?)", lambda place: quoted(given[int(place.group(1) or 1) - 1], template[:place.start()]), template)
+
+
+def cells_of(line):
+    """The cells of a table's line."""
+    return [cell.strip().replace("\\|", "|") for cell in re.split(r"(?<!\\)\|", line)[1:-1]]
+
+
+def plain(cell):
+    """A cell without the backticks round it."""
+    return cell[1:-1] if re.fullmatch("`[^`]*`", cell) else cell
+
+
+def told(cell):
+    """The lines that a cell says are printed: they are parted by strokes, and a fault's line begins with its number."""
+    text, status = re.fullmatch(r"(.*?) ?(\(status \d+\))?", cell).groups()
+    found = [] if text in ("", "nothing") else plain(text).split("/")
+    found = [f"bw: {line}" if re.match(r"[1-8]\d\d [a-z]", line) else line for line in found]
+    return found + ([status] if status else [])
+
+
+def calls(page):
+    """The calls of a page, in its order. A table's first cell has the commands that are run for each row; a column `prints`
+    says what each of them prints, a column `why` is for the reader, and the others are given to the commands."""
+    found, section, block, call, table = [], "", 0, None, None
+    for number, line in enumerate(page.read_text(encoding="utf-8").splitlines(), 1):
+        if line.startswith("##"):
+            section = line.lstrip("# ")
+        if line.startswith("    $ "):
+            block += call is None
+            call = Call(section, block, number, line[6:], [])
+            found.append(call)
+        elif line.startswith("    > ") and call and not call.prints:
+            call = call._replace(command=f"{call.command}\n{line[6:]}")
+            found[-1] = call
+        elif line.startswith("    ") and call:
+            call.prints.append(line[4:])
+        else:
+            call = None
+        if not line.startswith("|"):
+            table = None
+        elif table is None:
+            heads = cells_of(line)
+            table = (heads, re.findall("`([^`]+)`", heads[0]) if "…" in heads[0] else [])
+        elif not re.fullmatch(r"[|: -]+", line):
+            heads, commands = table
+            cells = [plain(cell) for cell in cells_of(line)]
+            if commands and (len(cells) != len(heads) or "prints" not in heads):
+                sys.exit(f"{page}:{number}: a row has a cell for each column, one of which is headed `prints`")
+            given = [cell for head, cell in zip(heads, cells) if head not in ("prints", "why")]
+            prints = told(cells[heads.index("prints")]) if commands else []
+            found += [Call(section, None, number, filled(command, given), prints) for command in commands]
+    return found
+
+
+def ended(name, passed, failed):
+    """Prints a script's last line, and gives its status."""
+    print(f"{name}: {passed} passed, {failed} failed")
+    return 1 if failed else 0
