@@ -1,23 +1,9 @@
-//! Tests of certificates and what they stand on: their texts, diagrams, the pairs of conditions and what is known of
-//! registers; and program files that are accepted, and those in which a line is wrong, with the fault and its line.
-//! Nothing stands on this crate.
-//!
-//! Read `verdicts.rt`, which is a table of conditions and program files with what the checker says.
+//! Tests of certificate texts, which are read and printed, and of diagrams, which a refused line doesn't change. What
+//! the checker says of program files is in `cases/certificates.md` and `cases/certificate_lines.md`. Nothing stands on
+//! this crate.
 #![tactic(auto)]
 
 #[cfg(test)]
 mod cert_text;
 #[cfg(test)]
 mod diagram;
-#[cfg(test)]
-mod edits;
-#[cfg(test)]
-mod files;
-#[cfg(test)]
-mod known;
-#[cfg(test)]
-mod lines;
-#[cfg(test)]
-mod pair;
-#[cfg(test)]
-mod verdicts;
