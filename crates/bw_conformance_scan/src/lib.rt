@@ -1,5 +1,5 @@
-//! Tests of scans and what they stand on: lanes, segments in both layouts, programs, their runs, and totals, with
-//! outcomes that were worked out by hand. Nothing stands on this crate.
+//! Tests of scans and what they stand on: lanes, segments in both layouts, runs of programs, and totals, with outcomes
+//! that were worked out by hand. Nothing stands on this crate.
 //!
 //! Read `runs.rt`, which is a table of programs with what they select, and `totals.rt`, which is one of aggregates with
 //! their totals.
@@ -11,8 +11,6 @@ mod lanes;
 mod picked;
 #[cfg(test)]
 mod planes;
-#[cfg(test)]
-mod program;
 #[cfg(test)]
 mod runs;
 #[cfg(test)]

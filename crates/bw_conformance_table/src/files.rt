@@ -10,10 +10,10 @@ use std::process::Abort;
 use std::test::Fail;
 
 /// A table with a column from 0 to 255 and a nullable one from -10 to 10.
-pub(crate) const SCHEMA: &[u8] = b"TABLE t\nCOLUMN a 0 255 NOT NULL\nCOLUMN b -10 10\n";
+const SCHEMA: &[u8] = b"TABLE t\nCOLUMN a 0 255 NOT NULL\nCOLUMN b -10 10\n";
 
 /// Five rows of it.
-pub(crate) const ROWS: [[Value; 2]; 5] = [
+const ROWS: [[Value; 2]; 5] = [
     [Some(0), Some(-10)],
     [Some(255), Some(10)],
     [Some(7), None],
@@ -22,7 +22,7 @@ pub(crate) const ROWS: [[Value; 2]; 5] = [
 ];
 
 /// The header of their file in planes.
-pub(crate) const HEADER: [u8; 56] = [
+const HEADER: [u8; 56] = [
     0x42, 0x57, 0x43, 0x4F, 0x4C, 0x55, 0x4D, 0x4E, 0x01, 0x00, 0x02, 0x00, 0x05, 0x00, 0x00, 0x00,
     0x01, 0x74, 0x01, 0x61, 0x00, 0x00, 0x00, 0x00, 0x00, 0x00, 0x00, 0x00, 0xFF, 0x00, 0x00, 0x00,
     0x00, 0x00, 0x00, 0x00, 0x00, 0x01, 0x62, 0xF6, 0xFF, 0xFF, 0xFF, 0xFF, 0xFF, 0xFF, 0xFF, 0x0A,
@@ -99,7 +99,7 @@ pub(crate) fn worked_files(rt: &impl Abort, alloc: Global) -> Result<Vec<Vec<u8>
 }
 
 /// Rows of these values.
-pub(crate) fn rows_of(alloc: Global, table: &[[Value; 2]]) -> Result<Vec<Row>, Fault>
+fn rows_of(alloc: Global, table: &[[Value; 2]]) -> Result<Vec<Row>, Fault>
     ensures { IfOk result (λ rows. All (λ row. length (values_of row) ≡ 2) rows.items) }
 {
     let mut rows = Vec::new(alloc);
@@ -112,7 +112,7 @@ pub(crate) fn rows_of(alloc: Global, table: &[[Value; 2]]) -> Result<Vec<Row>, F
 }
 
 /// Ends the test where the schema doesn't admit the rows, or where they are too many.
-pub(crate) fn assert_rows(rt: &impl Abort, schema: &Schema, rows: &[Row])
+fn assert_rows(rt: &impl Abort, schema: &Schema, rows: &[Row])
     ensures { AreRows schema.now.columns.items (map values_of rows.now) }
 {
     assert!(rt; rows.len() <= 16_777_216);
@@ -122,7 +122,7 @@ pub(crate) fn assert_rows(rt: &impl Abort, schema: &Schema, rows: &[Row])
 }
 
 /// The file of a table.
-pub(crate) fn file_of(
+fn file_of(
     rt: &impl Abort,
     alloc: Global,
     layout: Layout,
@@ -161,61 +161,5 @@ fn five_rows_are_written_and_read(rt: HostRuntime) -> Result<(), Fail> {
         }
         assert_eq!(rt; again(&rt, alloc, &table)?.as_slice(), file);
     }
-    Ok(())
-}
-
-#[test]
-fn no_rows_have_a_header_alone(rt: HostRuntime) -> Result<(), Fail> {
-    let alloc = rt.alloc();
-    let schema = Schema::parse(alloc, SCHEMA)?;
-    for layout in [Layout::Planes, Layout::Slices] {
-        let file = file_of(&rt, alloc, layout, &schema, &[])?;
-        assert_eq!(rt; file.len(), 56);
-        assert_eq!(rt; decode(alloc, &file)?.rows.len(), 0);
-    }
-    Ok(())
-}
-
-/// 512 rows of 1 and 0, and one of 0 and 0, take two segments, of which the second one has one row.
-#[test]
-fn a_second_segment_has_one_row(rt: HostRuntime) -> Result<(), Fail> {
-    let alloc = rt.alloc();
-    let schema = Schema::parse(alloc, SCHEMA)?;
-    let mut rows = Vec::new(alloc);
-    for i in 0..513u32 {
-        let a = if i < 512 { 1 } else { 0 };
-        rows.push(Row {
-            values: vec![in alloc; Some(a), Some(0)]?,
-        })?;
-    }
-    let mut file = file_of(&rt, alloc, Layout::Planes, &schema, &rows)?;
-    assert_eq!(rt; file.len(), 1848);
-    assert_eq!(rt; decode(alloc, &file)?.rows.len(), 513);
-    put(&mut file, 1847, 0x02);
-    assert_eq!(rt; decode(alloc, &file).err(), Some(Fault::at_byte(308, 1847)));
-    Ok(())
-}
-
-/// A column of 63 bits needs version 2, which both kinds of tables may have.
-#[test]
-fn wide_columns_need_version_2(rt: HostRuntime) -> Result<(), Fail> {
-    let alloc = rt.alloc();
-    for (layout, len) in [(Layout::Planes, 4133), (Layout::Slices, 4197)] {
-        let mut file = wide_file(&rt, alloc, layout)?;
-        assert_eq!(rt; file.len(), len);
-        assert_eq!(rt; file.get(8).copied(), Some(2));
-        assert_eq!(rt; decode(alloc, &file)?.rows.len(), 3);
-        put(&mut file, 8, 1);
-        assert_eq!(rt; decode(alloc, &file).err(), Some(Fault::at_byte(304, 20)));
-    }
-    let mut file = planes_file(alloc)?;
-    put(&mut file, 8, 2);
-    let table = decode(alloc, &file)?;
-    assert_eq!(rt;
-        again(&rt, alloc, &table)?.as_slice(),
-        planes_file(alloc)?.as_slice()
-    );
-    put(&mut file, 8, 3);
-    assert_eq!(rt; decode(alloc, &file).err(), Some(Fault::at_byte(302, 8)));
     Ok(())
 }

@@ -5,7 +5,7 @@ use Rattle.std.proofs.lemmas.List.Folds.{list_all-map}
 use Rattle.bw_model.specs.declared.row.Row.{Row}
 use Rattle.bw_model.specs.Column.{admits_values}
 use Rattle.bw_model.specs.Row.{values_of}
-use Rattle.bw_conformance_texts.proofs.files.assert_rows.Goals as goal
+use Rattle.bw_conformance_table.proofs.files.assert_rows.Goals as goal
 
 pub returns : goal.returns
 returns g c =

@@ -13,39 +13,6 @@ fn fault_of(alloc: Global, file: &[u8]) -> Option<Fault> {
 }
 
 #[test]
-fn worked_damage_is_refused(rt: HostRuntime) -> Result<(), Fail> {
-    let alloc = rt.alloc();
-    let changes = [
-        (0, 0x43, 301, 0),
-        (8, 0x00, 302, 8),
-        (9, 0x02, 303, 9),
-        (10, 0x00, 304, 10),
-        (10, 0x41, 304, 10),
-        (15, 0x01, 310, 12),
-        (17, 0x20, 304, 16),
-        (38, 0x41, 304, 37),
-        (27, 0x7F, 304, 20),
-        (55, 0x02, 304, 55),
-        (56, 0x22, 308, 56),
-        (632, 0x06, 307, 568),
-        (888, 0x02, 306, 568),
-    ];
-    for (at, byte, code, place) in changes {
-        let mut file = planes_file(alloc)?;
-        put(&mut file, at, byte);
-        assert_eq!(rt;
-            fault_of(alloc, &file),
-            Some(Fault::at_byte(code, place)),
-            "byte {at}"
-        );
-    }
-    let mut file = planes_file(alloc)?;
-    file.push(0)?;
-    assert_eq!(rt; fault_of(alloc, &file), Some(Fault::at_byte(309, 952)));
-    Ok(())
-}
-
-#[test]
 fn each_front_of_a_file_is_truncated(rt: HostRuntime) -> Result<(), Fail> {
     let alloc = rt.alloc();
     for (number, file) in worked_files(&rt, alloc)?.iter().enumerate() {
