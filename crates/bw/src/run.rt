@@ -15,14 +15,11 @@ use clap::error::ErrorKind;
 use clap::{ArgMatches, Error};
 use std::env;
 use std::fs::File;
-use std::io::{BufReader, IsTerminal};
+use std::io::{self, BufReader, IsTerminal};
 use std::rt::{Env, Files};
 
 /// The status of a command line that is no use, a call for help among them.
 const USAGE: u8 = 2;
-
-/// The status of want of memory.
-const MEMORY: u8 = 6;
 
 /// How many bytes of a table file are asked for at once.
 const PIECE: usize = 64 * 1024;
@@ -38,12 +35,21 @@ pub fn run(rt: &HostRuntime) -> u8 {
 /// The words of the process's command line, or the status without them.
 fn words_given(rt: &HostRuntime) -> Result<Vec<String>, u8> {
     match env::args(rt) {
+        Err(error) if error.kind() == io::ErrorKind::OutOfMemory => Err(out_of_memory(rt)),
         Err(_) => {
             let _ = eprintln!(rt; "error: a word of the command line is not UTF-8");
             Err(USAGE)
         }
-        Ok(words) => words.collect(rt.alloc()).map_err(|_| MEMORY),
+        Ok(words) => words.collect(rt.alloc()).map_err(|_| out_of_memory(rt)),
     }
+}
+
+/// Tells that there is no memory for the command line, and gives the status.
+fn out_of_memory(rt: &HostRuntime) -> u8 {
+    report(
+        &Fault::new(code::OUT_OF_MEMORY),
+        &mut ToWrite::new(rt.stderr()),
+    )
 }
 
 fn run_given(rt: &HostRuntime, words: &[String]) -> u8 {
@@ -86,13 +92,10 @@ fn tell(rt: &HostRuntime, error: &Error) -> u8 {
                 )
             }
         }
-        kind => {
+        ErrorKind::OutOfMemory => out_of_memory(rt),
+        _ => {
             let _ = rt.eprint(error);
-            if kind == ErrorKind::OutOfMemory {
-                MEMORY
-            } else {
-                USAGE
-            }
+            USAGE
         }
     }
 }

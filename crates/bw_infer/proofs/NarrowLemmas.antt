@@ -8,7 +8,7 @@ use Rattle.bw_model.specs.declared.query.Item.{Item}
 use Rattle.bw_model.specs.declared.query.Item.TheVariants.{Min, Max}
 use Rattle.bw_model.specs.Fault.{◌>>=◌}
 use Rattle.bw_model.specs.Row.{Value, value_in}
-use Rattle.bw_model.specs.SchemaText.{ColumnShape, SchemaShape}
+use Rattle.bw_model.specs.SchemaText.{ColumnShape}
 use Rattle.bw_model.specs.Total.{joined, total}
 use Rattle.bw_model.specs.Truth.{is_null}
 use Rattle.bw_model.proofs.TotalLemmas.{total_append}
@@ -16,7 +16,7 @@ use Rattle.bw_csv.specs.Bare.{bare_rows}
 use Rattle.bw_infer.specs.declared.seen.Seen.{Seen}
 use Rattle.bw_infer.specs.Heading.{heading_names}
 use Rattle.bw_infer.specs.Inferred.{column_over, columns_over, has_null, inferred_behind, ranged, schema_over, table_of}
-use Rattle.bw_infer.specs.Seen.{columns_seen, greater, lesser, nothing, seen, seen_in, with_records, with_rows, with_value, with_values}
+use Rattle.bw_infer.specs.Seen.{columns_behind, columns_seen, greater, lesser, nothing, seen, seen_in, with_records, with_rows, with_value, with_values}
 
 -- what the rows have in so many columns from this one on
 unfoldable seen_from : List (List Value) → ℕ → ℕ → List Seen
@@ -109,34 +109,35 @@ columns_by_rows names rows =
     ap (λ (l : List Seen). columns_seen names (with_rows l rows)) (nothing_yet 0 (length names))
     ∙ ap (columns_seen names) (rows_more [] rows (length names)) ∙ columns_are rows 0 names
 
-abbrev schema_by : List ℕ → List (List ℕ) → List Seen → Result SchemaShape Fault
-schema_by table names columns = ranged (columns_seen names columns) >>= λ ranges. Ok (table_of table ranges)
+by_rows : (names : List (List ℕ)) (rows : Result (List (List Value)) Fault)
+    → (rows >>= λ those. ranged (columns_over those 0 names))
+    ≡ ((rows >>= λ those. Ok (with_rows (replicate (length names) nothing) those)) >>= λ columns. ranged (columns_seen names columns))
+by_rows names (Ok rows) = ap ranged (sym (columns_by_rows names rows))
+by_rows names (Err fault) = refl
 
-by_rows : (table : List ℕ) (names : List (List ℕ)) (rows : Result (List (List Value)) Fault)
-    → (rows >>= schema_over table names) ≡ ((rows >>= λ those. Ok (with_rows (replicate (length names) nothing) those)) >>= schema_by table names)
-by_rows table names (Ok rows) = ap (λ (columns : List ColumnShape). ranged columns >>= λ ranges. Ok (table_of table ranges)) (sym (columns_by_rows names rows))
-by_rows table names (Err fault) = refl
+-- the columns behind a heading, by what was seen, or by the fault before that
+pub behind_seen : (names : List (List ℕ)) (more : List (List (List ℕ))) (width : ℕ) (found : Result (List Seen) Fault)
+    → width ≡ length names → with_records (replicate width nothing) width 1 more ≡ found
+    → columns_behind names more ≡ (found >>= λ columns. ranged (columns_seen names columns))
+behind_seen names more width found e s =
+    by_rows names (bare_rows (length names) 1 more)
+    ∙ ap (λ (those : Result (List Seen) Fault). those >>= λ columns. ranged (columns_seen names columns)) (rw e at s)
 
--- what is inferred, by what was seen
-pub inferred_by : (table : List ℕ) (records more : List (List (List ℕ))) (heading names : List (List ℕ)) (columns : List Seen) (ranges : Result (List ColumnShape) Fault)
-    → records ≡ heading ∷ more → heading_names heading ≡ Ok names → with_records (replicate (length names) nothing) (length names) 1 more ≡ Ok columns → ranged (columns_seen names columns) ≡ ranges
+in_table : (table : List ℕ) (names : List (List ℕ)) (rows : Result (List (List Value)) Fault)
+    → (rows >>= schema_over table names) ≡ ((rows >>= λ those. ranged (columns_over those 0 names)) >>= λ columns. Ok (table_of table columns))
+in_table table names (Ok rows) = refl
+in_table table names (Err fault) = refl
+
+-- what is inferred, by the columns behind the heading
+pub inferred_by : (table : List ℕ) (records more : List (List (List ℕ))) (heading names : List (List ℕ)) (ranges : Result (List ColumnShape) Fault)
+    → records ≡ heading ∷ more → heading_names heading ≡ Ok names → columns_behind names more ≡ ranges
     → inferred_behind table records ≡ (ranges >>= λ found. Ok (table_of table found))
 unfolding inferred_behind
-inferred_by table records more heading names columns ranges e n s r =
-    rw (e, n) (by_rows table names (bare_rows (length names) 1 more) ∙ ap (λ (found : Result (List Seen) Fault). found >>= schema_by table names) s
+inferred_by table records more heading names ranges e n r =
+    rw (e, n) (in_table table names (bare_rows (length names) 1 more)
     ∙ ap (λ (found : Result (List ColumnShape) Fault). found >>= λ those. Ok (table_of table those)) r)
 
-pub rows_fault : (table : List ℕ) (records more : List (List (List ℕ))) (heading names : List (List ℕ)) (fault : Fault)
-    → records ≡ heading ∷ more → heading_names heading ≡ Ok names → with_records (replicate (length names) nothing) (length names) 1 more ≡ Err fault
-    → inferred_behind table records ≡ Err fault
-unfolding inferred_behind
-rows_fault table records more heading names fault e n s =
-    rw (e, n) (by_rows table names (bare_rows (length names) 1 more) ∙ ap (λ (found : Result (List Seen) Fault). found >>= schema_by table names) s)
-
 -- what was seen, from columns of which nothing was
-pub from_nothing : (columns : List Seen) (m n : ℕ) (more : List (List (List ℕ))) (found : Result (List Seen) Fault) → columns ≡ replicate m nothing → m ≡ n
-    → with_records columns (length columns) 1 more ≡ found → with_records (replicate n nothing) n 1 more ≡ found
-from_nothing columns m n more found c e s =
-    let start : columns ≡ replicate n nothing = c ∙ ap (λ (k : ℕ). replicate k nothing) e in
-    let width : length columns ≡ n = ap length start ∙ length-replicate n nothing in
-    rw (start, length-replicate n nothing) at s
+pub from_nothing : (columns : List Seen) (width : ℕ) (more : List (List (List ℕ))) (found : Result (List Seen) Fault) → columns ≡ replicate width nothing
+    → with_records columns (length columns) 1 more ≡ found → with_records (replicate width nothing) width 1 more ≡ found
+from_nothing columns width more found start s = rw (start, length-replicate width nothing) at s

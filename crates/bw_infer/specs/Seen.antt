@@ -1,5 +1,5 @@
 -- What is seen of columns while their rows go by.
-use Rattle.std.specs.Prelude.{ℕ, ℤ, Bool, true, false, List, [], ◌∷◌, Option, Some, None, Result, Ok}
+use Rattle.std.specs.Prelude.{ℕ, ℤ, Bool, true, false, List, [], ◌∷◌, length, Option, Some, None, Result, Ok}
 use Rattle.std.specs.Int.{int_min, int_max}
 use Rattle.bw_model.specs.declared.fault.Fault.{Fault}
 use Rattle.bw_model.specs.declared.query.Item.TheVariants.{Min, Max}
@@ -8,7 +8,7 @@ use Rattle.bw_model.specs.Row.{Value}
 use Rattle.bw_model.specs.SchemaText.{ColumnShape, shape}
 use Rattle.bw_model.specs.Total.{total}
 use Rattle.bw_csv.specs.Bare.{bare_rows}
-use Rattle.bw_infer.specs.Inferred.{has_null, or_zero}
+use Rattle.bw_infer.specs.Inferred.{columns_over, has_null, or_zero, ranged}
 use Rattle.bw_infer.specs.declared.seen.Seen.{Seen}
 
 abbrev pub seen : Option ℤ → Option ℤ → Bool → Seen
@@ -57,3 +57,8 @@ unfoldable pub columns_seen : List (List ℕ) → List Seen → List ColumnShape
 columns_seen [] columns = []
 columns_seen (name ∷ names) [] = []
 columns_seen (name ∷ names) (s ∷ columns) = column_seen name s ∷ columns_seen names columns
+
+-- the columns of these names over the rows of records, the first of which has number 1; or the first fault in them, and then
+-- in the bounds
+abbrev pub columns_behind : List (List ℕ) → List (List (List ℕ)) → Result (List ColumnShape) Fault
+columns_behind names more = bare_rows (length names) 1 more >>= λ rows. ranged (columns_over rows 0 names)

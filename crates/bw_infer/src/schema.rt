@@ -1,21 +1,22 @@
 //! The schema that a CSV text makes.
-ghost use Rattle.std.specs.Prelude.{◌≡◌, ℕ, List, Ok, true, length, replicate, IfErr, IfOk, OnOk, IsTrue};
+ghost use Rattle.std.specs.Prelude.{◌≡◌, ℕ, List, Ok, true, length, map, replicate, IfErr, IfOk, OnOk, IsTrue};
 ghost use Rattle.bw_model.specs.declared.schema.Schema.{Schema};
 ghost use Rattle.bw_model.specs.Limits.{most_rows};
 ghost use Rattle.bw_model.specs.Name.{is_name};
 ghost use Rattle.bw_model.specs.Row.{values_of};
-ghost use Rattle.bw_model.specs.SchemaText.{schema_shape};
+ghost use Rattle.bw_model.specs.SchemaText.{column_shape, schema_shape};
+ghost use Rattle.bw_model.specs.Column.{names_of};
 ghost use Rattle.bw_csv.specs.Records.{IsOpen, coming, fields_in};
 ghost use Rattle.bw_csv.specs.Rows.{GivesButAside};
 ghost use Rattle.bw_infer.specs.Infer.{is_inferring_fault};
 ghost use Rattle.bw_infer.specs.Inferred.{inferred, IsExact};
-ghost use Rattle.bw_infer.specs.Seen.{nothing, with_records};
+ghost use Rattle.bw_infer.specs.Seen.{columns_behind, nothing, with_records};
 
 use crate::columns::columns_seen;
 use crate::heading::heading_names;
 use crate::seen::{Seen, take_values};
 use bw_csv::{Records, read_bare_row};
-use bw_model::{Fault, Name, Row, Schema, code};
+use bw_model::{Column, Fault, Name, Row, Schema, code};
 use std::alloc::{AllocError, Global};
 
 /// The schema of this name that is inferred from a CSV text. That the table's name is a name is the caller's condition.
@@ -35,16 +36,43 @@ pub(crate) fn infer_schema(alloc: Global, table: &[u8], text: &[u8]) -> Result<S
         return Err(Fault::at_record(code::NO_HEADING, 0));
     }
     let names = heading_names(alloc, &records)?;
-    let mut row = Row {
-        values: Vec::with_capacity(alloc, names.len())?,
-    };
-    let mut seen = nothing_seen(alloc, names.len())?;
-    take_rows(&mut records, &mut row, &mut seen)?;
-    let columns = columns_seen(alloc, &names, &seen)?;
+    let columns = columns_behind(alloc, &mut records, &names)?;
     Ok(Schema {
         name: Name::new(alloc, table)?,
         columns,
     })
+}
+
+/// The columns of these names, by the rows of the records to come, the first of which has number 1.
+fn columns_behind(
+    alloc: Global,
+    records: &mut Records<'_>,
+    names: &[Name],
+) -> Result<Vec<Column>, Fault>
+    requires { IsOpen records.old }
+    ensures columns { GivesButAside (λ columns. map column_shape columns.items) result
+        (columns_behind names.now (coming records.old)) }
+    ensures names { IfOk result (λ columns. names_of columns.items ≡ names.now) }
+    ensures fault { IfErr result (λ fault. is_inferring_fault fault ≡ true) }
+{
+    let seen = rows_seen(alloc, records, names.len())?;
+    columns_seen(alloc, names, &seen)
+}
+
+/// What the rows of the records to come, the first of which has number 1, have in so many columns.
+fn rows_seen(alloc: Global, records: &mut Records<'_>, width: usize) -> Result<Vec<Seen>, Fault>
+    requires { IsOpen records.old }
+    ensures seen { GivesButAside (λ columns. columns.items) result
+        (with_records (replicate width nothing) width 1 (coming records.old)) }
+    ensures width { IfOk result (λ columns. length columns.items ≡ width) }
+    ensures fault { IfErr result (λ fault. is_inferring_fault fault ≡ true) }
+{
+    let mut row = Row {
+        values: Vec::with_capacity(alloc, width)?,
+    };
+    let mut seen = nothing_seen(alloc, width)?;
+    take_rows(records, &mut row, &mut seen)?;
+    Ok(seen)
 }
 
 /// So many columns of which nothing was seen yet.

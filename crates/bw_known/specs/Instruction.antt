@@ -105,22 +105,33 @@ byte_on facts line kind there column slice k given =
     found_on 607 line (byte_chain given) >>= λ chain. refused_if (not there) (at_line 607 line)
     (found_on 607 line (byte_node facts kind column slice k chain))
 
+-- a register gets a node, where there is one
+abbrev pub put : Known → ℕ → Result ℕ Fault → Result Known Fault
+put known register given = given >>= λ node. Ok (with_node known register node)
+
+-- a register gets the node of a constant, where the line is a constant's
+abbrev pub fill : Known → ℕ → ℕ → Bool → InstructionEntry → Result Known Fault
+fill known line register bit given = refused_if (not (is_fill given)) (at_line 607 line) (Ok (with_node known register (terminal bit)))
+
+-- a register that a skip looks at has to have a node, and the line to be a skip's
+abbrev pub look : Known → ℕ → ℕ → InstructionEntry → Result Known Fault
+look known line register given = refused_if (not (is_skip_line given)) (at_line 607 line) (read_on known line register >>= λ node. Ok known)
+
 -- What is known behind an instruction, by its line: the register that it writes has the node that the line shows. A
 -- line of another kind, and one that doesn't show it, is refused as 607, and one of the right kind that reads a register
 -- without a node as 609. A skip changes nothing.
 unfoldable pub behind : Facts → Known → ℕ → Instr → InstructionEntry → Result Known Fault
 behind facts known line (Load r column bit) given =
-    plane_on facts line (instr_fits facts.columns (Load r column bit)) (bit_variable facts.columns column bit) given >>= λ node. Ok (with_node known r node)
+    put known r (plane_on facts line (instr_fits facts.columns (Load r column bit)) (bit_variable facts.columns column bit) given)
 behind facts known line (Nulls r column) given =
-    plane_on facts line (instr_fits facts.columns (Nulls r column)) (first_variable facts.columns column) given >>= λ node. Ok (with_node known r node)
-behind facts known line (Fill r bit) given = refused_if (not (is_fill given)) (at_line 607 line) (Ok (with_node known r (terminal bit)))
-behind facts known line (And r x y) given = joined_on facts known line connective.And x y given >>= λ node. Ok (with_node known r node)
-behind facts known line (Or r x y) given = joined_on facts known line connective.Or x y given >>= λ node. Ok (with_node known r node)
-behind facts known line (Xor r x y) given = joined_on facts known line connective.Xor x y given >>= λ node. Ok (with_node known r node)
-behind facts known line (Not r x) given = opposite_on facts known line x given >>= λ node. Ok (with_node known r node)
+    put known r (plane_on facts line (instr_fits facts.columns (Nulls r column)) (first_variable facts.columns column) given)
+behind facts known line (Fill r bit) given = fill known line r bit given
+behind facts known line (And r x y) given = put known r (joined_on facts known line connective.And x y given)
+behind facts known line (Or r x y) given = put known r (joined_on facts known line connective.Or x y given)
+behind facts known line (Xor r x y) given = put known r (joined_on facts known line connective.Xor x y given)
+behind facts known line (Not r x) given = put known r (opposite_on facts known line x given)
 behind facts known line (ByteLt r column slice k) given =
-    byte_on facts line Less (instr_fits facts.columns (ByteLt r column slice k)) column slice k given >>= λ node. Ok (with_node known r node)
+    put known r (byte_on facts line Less (instr_fits facts.columns (ByteLt r column slice k)) column slice k given)
 behind facts known line (ByteEq r column slice k) given =
-    byte_on facts line Equal (instr_fits facts.columns (ByteEq r column slice k)) column slice k given >>= λ node. Ok (with_node known r node)
-behind facts known line (Skip x target) given =
-    refused_if (not (is_skip_line given)) (at_line 607 line) (read_on known line x >>= λ node. Ok known)
+    put known r (byte_on facts line Equal (instr_fits facts.columns (ByteEq r column slice k)) column slice k given)
+behind facts known line (Skip x target) given = look known line x given

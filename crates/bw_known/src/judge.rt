@@ -4,7 +4,7 @@ ghost use Rattle.bw_model.specs.Code.{width_at, slices_at};
 ghost use Rattle.bw_model.specs.Fault.{at_line};
 ghost use Rattle.bw_model.specs.Variable.{first_variable, bit_variable, is_nullable};
 ghost use Rattle.bw_program.specs.Program.{named_by, register_count};
-ghost use Rattle.bw_known.specs.Instruction.{behind, plane_on, read_on, joined_on, opposite_on, operation_on, byte_on, byte_node, past_node};
+ghost use Rattle.bw_known.specs.Instruction.{behind, put, fill, look, plane_on, read_on, joined_on, opposite_on, operation_on, byte_on, byte_node, past_node};
 ghost use Rattle.bw_known.specs.Known.{is_known_fault};
 
 use crate::known::Known;
@@ -28,6 +28,52 @@ const fn unfit(line: u64) -> Fault
     Fault::at_line(code::INSTRUCTION_LINE, line)
 }
 
+/// A register gets a node, where there is one.
+fn put(known: &mut Known, register: u8, node: Result<u64, Fault>) -> Result<(), Fault>
+    requires register { register < 64 }
+    requires code { IfErr node (λ fault. IsTrue (is_known_fault fault)) }
+    ensures known { IfOk result (λ _. put known.old register node ≡ Ok known.new) }
+    ensures fault { IfErr result (λ fault. put known.old register node ≡ Err fault) }
+    ensures code { IfErr result (λ fault. IsTrue (is_known_fault fault)) }
+{
+    known[register as usize] = Some(node?);
+    Ok(())
+}
+
+/// A register gets the node of a constant.
+fn fill(
+    known: &mut Known,
+    line: u64,
+    register: u8,
+    bit: bool,
+    given: InstructionEntry,
+) -> Result<(), Fault>
+    requires register { register < 64 }
+    ensures known { IfOk result (λ _. fill known.old line register bit given ≡ Ok known.new) }
+    ensures fault { IfErr result (λ fault. fill known.old line register bit given ≡ Err fault) }
+    ensures code { IfErr result (λ fault. IsTrue (is_known_fault fault)) }
+{
+    if given != InstructionEntry::Fill {
+        return Err(unfit(line));
+    }
+    known[register as usize] = Some(u64::from(bit));
+    Ok(())
+}
+
+/// A register that a skip looks at has to have a node; nothing new is known behind it.
+fn look(known: &Known, line: u64, register: u8, given: InstructionEntry) -> Result<(), Fault>
+    requires register { register < 64 }
+    ensures known { IfOk result (λ _. look known.now line register given ≡ Ok known.now) }
+    ensures fault { IfErr result (λ fault. look known.now line register given ≡ Err fault) }
+    ensures code { IfErr result (λ fault. IsTrue (is_known_fault fault)) }
+{
+    if given != InstructionEntry::Skip {
+        return Err(unfit(line));
+    }
+    read(known, line, register)?;
+    Ok(())
+}
+
 impl Judge<'_> {
     /// What is known behind an instruction, by its line. Where the line is refused, it may be known
     /// already or not.
@@ -48,40 +94,35 @@ impl Judge<'_> {
         ensures code { IfErr result (λ fault. IsTrue (is_known_fault fault)) }
     {
         match instr {
-            Instr::Load(r, col, bit) => {
-                known[r as usize] = Some(self.plane(line, col, bit, given)?);
-            }
-            Instr::Nulls(r, col) => known[r as usize] = Some(self.nulls(line, col, given)?),
-            Instr::Fill(r, bit) => {
-                if given != InstructionEntry::Fill {
-                    return Err(unfit(line));
-                }
-                known[r as usize] = Some(u64::from(bit));
-            }
+            Instr::Load(r, col, bit) => put(known, r, self.plane(line, col, bit, given)),
+            Instr::Nulls(r, col) => put(known, r, self.nulls(line, col, given)),
+            Instr::Fill(r, bit) => fill(known, line, r, bit, given),
             Instr::And(r, x, y) => {
-                known[r as usize] = Some(self.joined(known, line, Connective::And, x, y, given)?);
+                let node = self.joined(known, line, Connective::And, x, y, given);
+                put(known, r, node)
             }
             Instr::Or(r, x, y) => {
-                known[r as usize] = Some(self.joined(known, line, Connective::Or, x, y, given)?);
+                let node = self.joined(known, line, Connective::Or, x, y, given);
+                put(known, r, node)
             }
             Instr::Xor(r, x, y) => {
-                known[r as usize] = Some(self.joined(known, line, Connective::Xor, x, y, given)?);
+                let node = self.joined(known, line, Connective::Xor, x, y, given);
+                put(known, r, node)
             }
-            Instr::Not(r, x) => known[r as usize] = Some(self.opposite(known, line, x, given)?),
+            Instr::Not(r, x) => {
+                let node = self.opposite(known, line, x, given);
+                put(known, r, node)
+            }
             Instr::ByteLt(r, col, slice, k) => {
-                known[r as usize] = Some(self.byte(line, ChainKind::Less, col, slice, k, given)?);
+                let node = self.byte(line, ChainKind::Less, col, slice, k, given);
+                put(known, r, node)
             }
             Instr::ByteEq(r, col, slice, k) => {
-                known[r as usize] = Some(self.byte(line, ChainKind::Equal, col, slice, k, given)?);
+                let node = self.byte(line, ChainKind::Equal, col, slice, k, given);
+                put(known, r, node)
             }
-            Instr::Skip(x, _) => {
-                if given != InstructionEntry::Skip {
-                    return Err(unfit(line));
-                }
-                read(known, line, x)?;
-            }
+            Instr::Skip(x, _) => look(known, line, x, given),
         }
-        Ok(())
     }
 
     /// The node of the plane of a column's bit.

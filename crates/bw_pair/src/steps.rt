@@ -2,11 +2,11 @@
 ghost use Rattle.std.specs.Prelude.{◌≡◌, [], ◌∷◌, Some, IsTrue, IfErr, length, map};
 ghost use Rattle.std.specs.List.{list_all};
 ghost use Rattle.bw_model.specs.Cond.{names_within, is_within};
-ghost use Rattle.bw_model.specs.declared.cond.Op.TheVariants.{Le, Ge};
+ghost use Rattle.bw_model.specs.declared.cond.Op.TheVariants.{Eq, Le, Ge};
 ghost use Rattle.bw_model.specs.Fault.{at_line};
 ghost use Rattle.bw_pair.specs.declared.steps.Junction.TheVariants.{All, Any};
 ghost use Rattle.bw_pair.specs.Comparison.{fixed, comparison};
-ghost use Rattle.bw_pair.specs.Pair.{Answers, next_entry, next_number, taken, by_line, null_test, is_null_test, joined_pair, negated_pair, with_opposite, tested_pair, joined_parts, equations, pair_of};
+ghost use Rattle.bw_pair.specs.Pair.{Answers, next_entry, next_number, taken, by_line, null_test, is_null_test, joined_pair, negated_pair, with_opposite, tested_pair, joined_parts, one_more, equations, pair_of};
 
 use crate::comparison::{comparison, fixed};
 use crate::nodes::{Pair, cited, null_cited};
@@ -111,12 +111,29 @@ fn among<'a>(
     };
     let (mut made, mut left) = compared(schema, diagram, Op::Eq, x, *first, lines, end)?;
     for item in others {
-        let (next, rest) = compared(schema, diagram, Op::Eq, x, *item, left, end)?;
-        let (both, rest) = join(diagram, Junction::Any, made, next, rest, end)?;
-        made = both;
-        left = rest;
+        (made, left) = one_more(schema, diagram, x, *item, made, left, end)?;
     }
     Ok((made, left))
+}
+
+/// The pair of one of these equations more, joined to the pair so far.
+fn one_more<'a>(
+    schema: &Schema,
+    diagram: &Diagram<'_>,
+    x: Operand,
+    item: Operand,
+    made: Pair,
+    lines: &'a [BodyLine],
+    end: u64,
+) -> Read<'a>
+    requires operand { IsTrue (is_within (length schema.now.columns.items) x) }
+    requires item { IsTrue (is_within (length schema.now.columns.items) item) }
+    ensures pair { Answers result (one_more schema.now.columns.items diagram.now end Any
+        (by_line end (comparison schema.now.columns.items diagram.now Eq x item)) (made, lines.now)) }
+    ensures code { IfErr result (λ fault. fault.code ≡ 606) }
+{
+    let (next, rest) = compared(schema, diagram, Op::Eq, x, item, lines, end)?;
+    join(diagram, Junction::Any, made, next, rest, end)
 }
 
 /// The pair of `x >= y AND x <= z`.

@@ -3,7 +3,7 @@ ghost use Rattle.std.specs.Prelude.{◌≡◌, ◌-◌, ◌^◌, ◌<◌, ℕ, L
 ghost use Rattle.bw_model.specs.declared.fault.Fault.{Fault};
 ghost use Rattle.bw_model.specs.Cond.{names_within};
 ghost use Rattle.bw_model.specs.Fault.{is_memory, nowhere};
-ghost use Rattle.bw_program.specs.Program.{ProgramShape};
+ghost use Rattle.bw_program.specs.Program.{ProgramShape, fits};
 ghost use Rattle.bw_cert_text.specs.CertificateShape.{CertificateShape};
 ghost use Rattle.bw_check.specs.Judged.{Certifies};
 ghost use Rattle.bw_device.specs.Sink.{is_write_fault};
@@ -14,7 +14,7 @@ ghost use Rattle.bw_query.specs.TableAnswer.{Wrote};
 use bw_check::certify;
 use bw_device::{Sink, write_whole};
 use bw_model::{Cond, Fault, Place, Schema, code};
-use bw_plan::propose;
+use bw_plan::{Proposal, propose};
 use bw_sql::parse;
 use std::alloc::Global;
 
@@ -54,14 +54,33 @@ fn plan_of(alloc: Global, schema: &Schema, cond: &Cond) -> Result<Vec<u8>, Fault
         × Certifies schema.now.columns.items cond.now file.items program certificate) }
     ensures fault { IfErr result (λ fault. is_memory fault ≡ false → fault ≡ nowhere 651) }
 {
-    let proposal = propose(alloc, schema, cond)?;
-    let mut file = proposal.program.print(alloc, schema)?;
-    file.extend_from_slice(b"CERTIFICATE\n")?;
-    file.extend_from_slice(&proposal.certificate.print(alloc, schema)?)?;
+    let file = proposed_file(alloc, schema, cond)?;
     match certify(alloc, schema, cond, &file) {
         Ok(_) => Ok(file),
         Err(fault) => Err(unplanned_unless_memory(fault)),
     }
+}
+
+/// The program file of a proposal for a condition, which nothing has judged yet.
+fn proposed_file(alloc: Global, schema: &Schema, cond: &Cond) -> Result<Vec<u8>, Fault>
+    requires { IsTrue (names_within (length schema.now.columns.items) cond.now) }
+    ensures printed { IfOk result (λ file. IsPrinted schema.now.columns.items file.items) }
+    ensures fault { IfErr result (λ fault. is_memory fault ≡ false → fault ≡ nowhere 651) }
+{
+    let proposal = propose(alloc, schema, cond)?;
+    file_of(alloc, schema, &proposal)
+}
+
+/// The text of a program, the line CERTIFICATE, and the text of a certificate.
+fn file_of(alloc: Global, schema: &Schema, proposal: &Proposal) -> Result<Vec<u8>, Fault>
+    requires { IsTrue (fits schema.now.columns.items proposal.now.program) }
+    ensures printed { IfOk result (λ file. IsPrinted schema.now.columns.items file.items) }
+    ensures only_memory { IfErr result (λ fault. IsTrue (is_memory fault)) }
+{
+    let mut file = proposal.program.print(alloc, schema)?;
+    file.extend_from_slice(b"CERTIFICATE\n")?;
+    file.extend_from_slice(&proposal.certificate.print(alloc, schema)?)?;
+    Ok(file)
 }
 
 /// Want of memory, or else that there is no plan.
