@@ -1,0 +1,259 @@
+"""Turns a statement over a table's texts, decimals, dates and times into one over its numbers, which bw answers.
+
+The statement is cut into words, and each comparison, BETWEEN, IN and IS NULL is turned on its own; all else stays as it is,
+and is bw's to judge. A literal that the column can't have is kept right: a number stands below it and the next one above it,
+so `< 12.505` is `<= 1250` on hundredths. A condition that is FALSE for each value is written as `x <> x`, and one that is
+TRUE as `x = x`: both are UNKNOWN where x is null, as what they stand for."""
+import collections
+import fractions
+import operator
+import re
+
+from kinds import GREATEST, LEAST, RESERVED, Refused
+
+PIECES = re.compile(r"""(?P<gap>[ \t\r\n]+|--[^\n]*)
+    |(?P<text>'(?:[^']|'')*')
+    |(?P<quoted>"(?:[^"]|"")*")
+    |(?P<number>[0-9]+(?:\.[0-9]*)?|\.[0-9]+)
+    |(?P<word>[A-Za-z_][A-Za-z0-9_]*)
+    |(?P<compare><>|<=|>=|[<>=])
+    |(?P<mark>[()*+,;-])""", re.VERBOSE)
+SWAPPED = {"<": ">", ">": "<", "<=": ">=", ">=": "<=", "=": "=", "<>": "<>"}
+MEANING = {"<": operator.lt, ">": operator.gt, "<=": operator.le, ">=": operator.ge, "=": operator.eq, "<>": operator.ne}
+UNKNOWN = "NULL = NULL"
+
+# A piece of a statement: what it is, its text, and the character at which it stands.
+Piece = collections.namedtuple("Piece", "kind text at")
+
+# What is compared: a column, or the value of a literal, or neither, which is NULL; and how it stands in the statement.
+Operand = collections.namedtuple("Operand", "column value text")
+
+
+def pieces_of(statement):
+    """The pieces of a statement, without blanks and comments."""
+    pieces, at = [], 0
+    while at < len(statement):
+        found = PIECES.match(statement, at)
+        if not found:
+            raise Refused(f"{statement[at]!r} at character {at} of the statement begins no word")
+        kind, text = found.lastgroup, found.group()
+        if kind == "word" and text.upper() in RESERVED:
+            kind, text = "key", text.upper()
+        if kind != "gap":
+            pieces.append(Piece(kind, text, at))
+        at = found.end()
+    return pieces
+
+
+def never(column):
+    return f"{column.name} <> {column.name}"
+
+
+def always(column):
+    return f"{column.name} = {column.name}"
+
+
+def place_of(column, literal):
+    """Where a literal stands among the numbers of a column."""
+    if column.null and literal.value == column.null:
+        raise Refused(f"{literal.text} is null in {column.name}: ask for IS NULL")
+    try:
+        return column.kind.place(literal.value)
+    except Refused as refused:
+        raise Refused(f"{literal.text} can't be compared with {column.name}, which {refused}") from None
+
+
+def compared(left, sign, right):
+    """A comparison over numbers."""
+    if None in (left.column or left.value, right.column or right.value):
+        return UNKNOWN
+    if left.column and right.column:
+        if left.column is not right.column and not (left.column.kind.alike(right.column.kind)
+                                                    or right.column.kind.alike(left.column.kind)):
+            raise Refused(f"{left.column.name} and {right.column.name} can't be compared: their numbers mean other things")
+        return f"{left.column.name} {sign} {right.column.name}"
+    if right.column:
+        return compared(right, SWAPPED[sign], left)
+    if left.column:
+        return placed(left.column, sign, *place_of(left.column, right))
+    if isinstance(left.value, str) != isinstance(right.value, str):
+        raise Refused(f"{left.text} and {right.text} can't be compared")
+    return "1 = 1" if MEANING[sign](left.value, right.value) else "1 = 0"
+
+
+def placed(column, sign, number, is_exact):
+    """The comparison of a column with a literal whose place is known."""
+    if number < LEAST:
+        return always(column) if sign in (">", ">=", "<>") else never(column)
+    if number > GREATEST:
+        return always(column) if sign in ("<", "<=", "<>") else never(column)
+    if is_exact:
+        return f"{column.name} {sign} {number}"
+    if sign in ("=", "<>"):
+        return never(column) if sign == "=" else always(column)
+    return f"{column.name} {'<=' if sign in ('<', '<=') else '>'} {number}"
+
+
+def between(operand, negated, low, high):
+    """A BETWEEN over numbers: one, where its ends are literals that have a place, or else two comparisons."""
+    if operand.column and None not in (low.value, high.value):
+        least, is_exact = place_of(operand.column, low)
+        least, greatest = least if is_exact else least + 1, place_of(operand.column, high)[0]
+        if LEAST <= least <= GREATEST and LEAST <= greatest <= GREATEST:
+            return f"{operand.column.name} {negated}BETWEEN {least} AND {greatest}"
+    return f"{negated}({compared(operand, '>=', low)} AND {compared(operand, '<=', high)})"
+
+
+def among(operand, negated, members):
+    """An IN over numbers, without the members that the column can't have."""
+    parts = [compared(operand, "=", member) for member in members]
+    if not operand.column:
+        return f"{negated}({' OR '.join(parts)})"
+    column, kept = operand.column, []
+    for member, part in zip(members, parts):
+        if member.column:
+            kept.append(member.column.name)
+        elif part != never(column):
+            kept.append(part.rsplit(" ", 1)[1])
+    if kept:
+        return f"{column.name} {negated}IN ({', '.join(kept)})"
+    return always(column) if negated else never(column)
+
+
+class Turner:
+    """Turns the pieces of a statement, from the first on."""
+
+    def __init__(self, statement, columns):
+        self.pieces = [*pieces_of(statement), Piece("end", "", len(statement))]
+        self.columns, self.place, self.out = columns, 0, []
+
+    def next(self):
+        return self.pieces[self.place]
+
+    def take(self):
+        self.place += 1
+        return self.pieces[self.place - 1]
+
+    def takes(self, *texts):
+        """Takes the next piece, where it's one of these key words and signs."""
+        if self.next().text in texts and self.next().kind in ("key", "mark", "compare"):
+            return self.take().text
+        return ""
+
+    def wants(self, *texts):
+        found = self.takes(*texts)
+        if not found:
+            self.refuse(" or ".join(texts))
+        return found
+
+    def refuse(self, wanted):
+        piece = self.next()
+        raise Refused(f"{wanted} is expected at character {piece.at} of the statement, "
+                      + (f"and not {piece.text}" if piece.text else "where it ends"))
+
+    def column(self):
+        """The column of the next piece: by its name, or in double quotes by its heading or its name."""
+        piece = self.take()
+        name = piece.text if piece.kind == "word" else piece.text[1:-1].replace('""', '"')
+        headed = [column for column in self.columns if column.heading == name] if piece.kind == "quoted" else []
+        if len(headed) > 1:
+            names = " or ".join(column.name for column in headed)
+            raise Refused(f"{len(headed)} columns are headed {piece.text}: say {names}, without quotes")
+        named = [column for column in self.columns if column.name.lower() == name.lower()]
+        if not headed and not named:
+            raise Refused(f"there is no column {piece.text}; there are {', '.join(each.name for each in self.columns)}")
+        return (headed or named)[0]
+
+    def operand(self):
+        """The column, the literal or the NULL that is next."""
+        first = self.next()
+        if first.text.upper() in ("DATE", "TIMESTAMP") and self.pieces[self.place + 1:][:1] and \
+                self.pieces[self.place + 1].kind == "text":
+            self.place += 1
+        if self.next().kind in ("word", "quoted"):
+            return Operand(self.column(), None, first.text)
+        if self.next().kind == "text":
+            text = self.take().text
+            return Operand(None, text[1:-1].replace("''", "'"), text)
+        if self.takes("NULL"):
+            return Operand(None, None, "NULL")
+        truth = self.takes("TRUE", "FALSE")
+        if truth:
+            return Operand(None, fractions.Fraction(truth == "TRUE"), truth)
+        sign = self.takes("+", "-")
+        if self.next().kind != "number":
+            self.refuse("a column or a literal")
+        text = sign + self.take().text
+        return Operand(None, fractions.Fraction(text), text)
+
+    def list(self):
+        """The operands in brackets."""
+        self.wants("(")
+        found = [self.operand()]
+        while self.wants(",", ")") == ",":
+            found.append(self.operand())
+        return found
+
+    def predicate(self):
+        """A comparison, BETWEEN, IN or IS NULL over numbers. A column of true and false may stand alone."""
+        operand = self.operand()
+        if self.next().kind == "compare":
+            sign = self.take().text
+            return compared(operand, sign, self.operand())
+        after = [piece.text for piece in self.pieces[self.place:self.place + 3] if piece.kind == "key"]
+        if after[:2] == ["IS", "NULL"] or after[:3] == ["IS", "NOT", "NULL"]:
+            self.place += after.index("NULL") + 1
+            shown = operand.column.name if operand.column else "NULL" if operand.value is None else "1"
+            return f"{shown} {' '.join(after[:after.index('NULL') + 1])}"
+        if after[:1] in (["NOT"], ["BETWEEN"], ["IN"]):
+            negated = "NOT " if self.takes("NOT") else ""
+            if self.wants("BETWEEN", "IN") == "IN":
+                return among(operand, negated, self.list())
+            low = self.operand()
+            self.wants("AND")
+            return between(operand, negated, low, self.operand())
+        if operand.column and operand.column.kind.name == "truths":
+            return f"{operand.column.name} = 1"
+        return self.refuse("a comparison, BETWEEN, IN or IS")
+
+    def condition(self):
+        """A condition over numbers, to the end of the statement."""
+        while self.next().kind != "end":
+            if self.takes("IS"):
+                self.out += ["IS", self.takes("NOT"), self.wants("TRUE", "FALSE", "UNKNOWN")]
+            elif self.next().text in ("(", ")", ";", "AND", "OR", "NOT") and self.next().kind in ("key", "mark"):
+                self.out.append(self.take().text)
+            else:
+                self.out.append(self.predicate())
+
+    def items(self):
+        """The items of the statement, to FROM."""
+        while self.next().text != "FROM" or self.next().kind != "key":
+            if self.next().kind == "end":
+                self.refuse("FROM")
+            if self.next().kind not in ("word", "quoted"):
+                self.out.append(self.take().text)
+                continue
+            column = self.column()
+            if self.out[-2:] == ["SUM", "("] and column.kind.sum is None:
+                raise Refused(f"SUM({column.name}): a sum of {column.kind.name} means nothing")
+            self.out.append(column.name)
+
+    def statement(self):
+        """The whole statement over numbers."""
+        self.out.append(self.wants("SELECT"))
+        self.items()
+        self.out.append(self.wants("FROM"))
+        if self.next().kind not in ("word", "quoted"):
+            self.refuse("a table")
+        self.out.append(self.take().text.strip('"'))
+        if self.takes("WHERE"):
+            self.out.append("WHERE")
+            self.condition()
+        self.out += [piece.text for piece in self.pieces[self.place:]]
+        return " ".join(text for text in self.out if text)
+
+
+def turned(statement, columns):
+    """The statement over the numbers of a table's columns."""
+    return Turner(statement, columns).statement()
