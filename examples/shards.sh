@@ -8,7 +8,11 @@ set -euo pipefail
 here=$(cd "$(dirname "$0")" && pwd)
 shards=${1:-8}
 processes=${2:-4}
-bw=${BW:-$("$here/../bw" --where)}
+# bw of the environment variable BW, of the PATH, or of the repository
+bw=${BW:-$(command -v bw || { [ -x "$here/../bw" ] && "$here/../bw" --where; })} || {
+    echo "shards.sh: no bw in the PATH, and none in the folder above this one" >&2
+    exit 1
+}
 export bw schema=$here/trips.schema
 folder=$(mktemp -d)
 trap 'rm -r "$folder"' EXIT
