@@ -3,7 +3,11 @@
 # answers are the same: examples/storms.sh. It needs sqlite3 (Debian's package of that name).
 set -euo pipefail
 here=$(cd "$(dirname "$0")" && pwd)
-bw=${BW:-$here/../bw}
+# bw of the environment variable BW, of the PATH, or of the repository
+bw=${BW:-$(command -v bw || { [ -x "$here/../bw" ] && "$here/../bw" --where; })} || {
+    echo "storms.sh: no bw in the PATH, and none in the folder above this one" >&2
+    exit 1
+}
 folder=$(mktemp -d)
 trap 'rm -r "$folder"' EXIT
 
