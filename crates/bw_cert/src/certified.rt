@@ -87,8 +87,8 @@ impl Certified {
     }
 
     /// Runs the program on a segment of a table of the schema: gives, for each of its rows, whether
-    /// the condition is TRUE on it, and 0 past the last one, with the counts of the run, which come
-    /// to at most 4,096. No memory, no refusal.
+    /// the condition is TRUE on it, and 0 past the last one, with the counts of the run, which are
+    /// together no more than the program's instructions, and so than 4,096. No memory, no refusal.
     pub fn run_segment<S: Segment>(&self, segment: &S) -> (Plane, Counts)
         requires { (S.meaning segment.now).columns ≡ self.now.schema.columns.items }
         ensures rows { lanes_of_words result.0
@@ -96,7 +96,8 @@ impl Certified {
             ++ replicate (group_size - length (S.meaning segment.now).rows) false }
         ensures loads { result.1.loads ≡ (run_of self.now.program (S.meaning segment.now)).loads }
         ensures skips { result.1.skips ≡ (run_of self.now.program (S.meaning segment.now)).skips }
-        ensures bounded { result.1.loads + result.1.skips ≤ 4096 }
+        ensures bounded { result.1.loads + result.1.skips ≤ length self.now.program.instrs }
+        ensures most { result.1.loads + result.1.skips ≤ 4096 }
     {
         self.program.is_valid();
         self.schema.bits_spell_row();

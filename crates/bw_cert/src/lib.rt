@@ -17,5 +17,6 @@ mod stated;
 pub use certified::Certified;
 pub use checker::check;
 pub use laws::{
-    certificates_are_judged_by_what_they_say, valid_exactly_where_checked, valid_programs_select,
+    certificates_are_judged_by_what_they_say, refused_certificates_have_a_first_fault,
+    refused_lines_have_a_first_fault, valid_exactly_where_checked, valid_programs_select,
 };

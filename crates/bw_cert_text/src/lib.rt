@@ -3,7 +3,8 @@
 //!
 //! The contract that the crates above use: a text is read exactly where its lines spell a certificate, and to that
 //! certificate; else the first line that is wrong is told, by 605 alone. A certificate is printed as its canonical
-//! text, which spells it. Nothing here judges what a line states.
+//! text, which spells it where its chains name columns of the schema and its registers are r0 to r63. Nothing here
+//! judges what a line states.
 //!
 //! Read `lines.rt` first: a line of each kind. `specs/Token.antt` is the table of how they are written, and
 //! `specs/CertificateText.antt` says in which order they stand.

@@ -27,18 +27,19 @@ use std::alloc::{AllocError, Global};
 impl Certificate {
     /// The certificate's canonical text: words of the language in capitals, single blanks, columns
     /// in the schema's spelling, numbers without leading zeros, `-` for none, and one line feed
-    /// after each line. A word that names no column of the schema stands as it is. Refused is want
-    /// of memory alone (801).
+    /// after each line. A word that names no column of the schema stands as it is; where each names
+    /// one and the registers are r0 to r63, the text spells the certificate, its lines numbered one
+    /// after another from any number on. Refused is want of memory alone (801).
     pub fn print(&self, alloc: Global, schema: &Schema) -> Result<Vec<u8>, Fault>
         ensures text { IfOk result
             (λ text. text.items ≡ print_text schema.now.columns.items (certificate_fields self.now)) }
-        ensures spelled { IsTrue (list_all is_name (names_of schema.now.columns.items))
-            → IsTrue (numbers_fit (certificate_fields self.now))
+        ensures spelled { IsTrue (numbers_fit (certificate_fields self.now))
             → IsTrue (has_columns schema.now.columns.items (certificate_fields self.now))
             → IfOk result (λ text. (first : ℕ) → IsCertificateText first text.items
             (renumbered first (respelled schema.now.columns.items (certificate_fields self.now)))) }
         ensures only_memory { IsOkUnless result no_memory }
     {
+        schema.has_names_and_bounds();
         let mut text = Vec::new(alloc);
         put_nodes(alloc, &self.nodes, &mut text)?;
         put_chains(alloc, schema, &self.chains, &mut text)?;

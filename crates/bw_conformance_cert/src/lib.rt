@@ -7,3 +7,5 @@
 mod cert_text;
 #[cfg(test)]
 mod diagram;
+#[cfg(test)]
+mod held_lines;

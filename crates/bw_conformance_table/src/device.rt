@@ -2,7 +2,7 @@
 //! texts.
 use bw_device::{Failed, FromRead, Input, Sink, Source, ToWrite, read_limited, write_whole};
 use std::io;
-use std::io::Read;
+use std::io::{Read, Write};
 use std::test::Fail;
 
 /// Is interrupted once, and then at its end.
@@ -40,6 +40,36 @@ fn an_interrupted_read_counts(rt: HostRuntime) {
     assert_eq!(rt; source.read(&mut [0; 4]), Ok(0));
     assert_eq!(rt; source.failures(), 1);
     let Interrupted { once } = source.into_inner();
+    assert!(rt; once);
+}
+
+/// Is interrupted once, and then takes all.
+struct InterruptedWriter {
+    once: bool,
+}
+
+impl Write for InterruptedWriter {
+    fn write(&mut self, bytes: &[u8]) -> io::Result<usize> {
+        if self.once {
+            return Ok(bytes.len());
+        }
+        self.once = true;
+        Err(io::ErrorKind::Interrupted.into())
+    }
+
+    fn flush(&mut self) -> io::Result<()> {
+        Ok(())
+    }
+}
+
+#[test]
+fn an_interrupted_write_counts(rt: HostRuntime) {
+    let mut sink = ToWrite::new(InterruptedWriter { once: false });
+    assert_eq!(rt; sink.write(b"bytes"), Err(Failed));
+    assert_eq!(rt; sink.failures(), 1);
+    assert_eq!(rt; sink.write(b"bytes"), Ok(5));
+    assert_eq!(rt; sink.failures(), 1);
+    let InterruptedWriter { once } = sink.into_inner();
     assert!(rt; once);
 }
 

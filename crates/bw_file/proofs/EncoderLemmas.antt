@@ -13,7 +13,7 @@ use Rattle.bw_model.specs.Groups.{group_size, groups_of}
 use Rattle.bw_model.specs.Row.{Value}
 use Rattle.bw_model.proofs.GroupLemmas.{groups_of-nothing, groups_of-first}
 use Rattle.bw_file.specs.declared.encoder.Encoder.{Encoder}
-use Rattle.bw_file.specs.Encoder.{Holds}
+use Rattle.bw_file.specs.Encoder.{Holds, IsAsBefore}
 use Rattle.bw_file.specs.declared.layout.Layout.{Layout}
 use Rattle.bw_file.specs.Blocks.{segment_text}
 use Rattle.bw_file.specs.FileText.{AreRows, magic, front_text, header_text, segments_text, text_of_version, file_text, version_for}
@@ -136,3 +136,18 @@ pub text_held : (encoder : Encoder) (rows : List (List Value)) → encoder.fille
 text_held encoder rows none holds =
     let none_left : holds.group ≡ [] = nil_from_length holds.group (omega (arith, none, holds.filled)) in
     let all : rows ≡ holds.before = holds.parts ∙ rw none_left (append-nil holds.before) in rw all holds.text
+
+-- an encoder that is as it was holds the rows that it held
+pub held_as_before : (old new : Encoder) (rows : List (List Value)) → IsAsBefore old new → Holds old rows → Holds new rows
+held_as_before old new rows same held = record {
+  before = held.before;
+  group = held.group;
+  groups = held.groups;
+  parts = held.parts;
+  whole = held.whole;
+  text = rw (same.layout, same.schema, same.text) held.text;
+  kept = rw (same.schema, same.kept) held.kept;
+  filled = held.filled ∙ sym same.filled;
+  count = held.count ∙ sym same.rows;
+  admitted = rw same.schema held.admitted;
+}

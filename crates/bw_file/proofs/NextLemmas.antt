@@ -6,7 +6,7 @@ use Rattle.bw_model.specs.Groups.{group_size, groups_of, together}
 use Rattle.bw_model.specs.Row.{Value}
 use Rattle.bw_file.specs.declared.segments.AnySegment.{AnySegment}
 use Rattle.bw_file.specs.declared.table_reader.TableReader.{TableReader}
-use Rattle.bw_file.specs.AnySegment.{any_meaning}
+use Rattle.bw_file.specs.AnySegment.{any_layout, any_meaning}
 use Rattle.bw_file.specs.Reading.{tail, State, Took, GoesOn, NeedsMore, Fails, HasByteMore, give}
 use Rattle.bw_file.specs.TableReading.{segment, end, group_sizes}
 use Rattle.bw_file.specs.TableReader.{settled, SoFar, SameTable, GivesNext}
@@ -24,12 +24,12 @@ all_groups start now reader groups all so_far =
 
 module _ {S : Type 0} (source next_source : S) (old now : State) (reader next : TableReader) (same : SameTable reader next) where
   pub segment_given : (given : AnySegment) (size : ℕ) → settled next ≡ None → reader.given < reader.rows → settled reader ≡ None → size ≡ min group_size (reader.rows - reader.given)
-      → next.given ≡ reader.given + size → (any_meaning given).name ≡ reader.shape.value.schema.name → (any_meaning given).columns ≡ reader.shape.value.schema.columns.items
+      → next.given ≡ reader.given + size → any_layout given ≡ reader.layout → (any_meaning given).name ≡ reader.shape.value.schema.name → (any_meaning given).columns ≡ reader.shape.value.schema.columns.items
       → length (any_meaning given).rows ≡ size → GoesOn (segment reader.layout reader.shape.value.schema.columns.items size) old (give (any_meaning given).rows) now
       → GivesNext source next_source old now reader next (Ok (Some given))
-  segment_given given size reading left unsettled sized counted name columns count read = record {
+  segment_given given size reading left unsettled sized counted layout name columns count read = record {
     given = λ start groups so_far. so_far_more start old now reader next groups (any_meaning given).rows size same.version same.layout same.schema same.rows counted left sized so_far read;
-    segment = (record { name = name; columns = columns; count = count ∙ sized }, counted ∙ ap (λ (n : ℕ). reader.given + n) (sym count), reading);
+    segment = (record { layout = layout; name = name; columns = columns; count = count ∙ sized }, counted ∙ ap (λ (n : ℕ). reader.given + n) (sym count), reading);
     ended = λ none. absurd cc;
     groups = λ none. absurd cc;
     refused = tt;

@@ -1,20 +1,21 @@
 -- What the bytes of a file say, segment by segment.
-use Rattle.std.proofs.Common.{◌≡◌, ℕ, zero, suc, min, ◌+◌, ◌-◌, ◌<◌, ◌≤◌, inl, inr, List, [], ◌∷◌, ◌++◌, length, length-append, take, Ok, Err, refl, sym, ap, ◌∙◌, append_assoc, arith}
+use Rattle.std.proofs.Common.{◌≡◌, ℕ, zero, suc, min, Bool, true, false, ◌||◌, ◌+◌, ◌-◌, ◌<◌, ◌≤◌, inl, inr, List, [], ◌∷◌, ◌++◌, length, length-append, take, Ok, Err, refl, sym, ap, ◌∙◌, append_assoc, arith}
 use Rattle.std.specs.Io.KnownBytes.{IsAtEnd}
 use Rattle.std.proofs.Math.Seq.{take-append-add}
 use Rattle.std.proofs.lemmas.Bool.{cases_lt}
 use Rattle.std.proofs.lemmas.List.{append-nil, take-append-le, take_at}
 use Rattle.bw_model.specs.declared.column.Column.{Column}
 use Rattle.bw_model.specs.declared.fault.Fault.{Fault}
-use Rattle.bw_model.specs.Fault.{at_byte}
+use Rattle.bw_model.specs.Fault.{at_byte, is_memory}
 use Rattle.bw_model.specs.Groups.{group_size}
 use Rattle.bw_model.specs.Row.{Value}
 use Rattle.bw_model.specs.SchemaText.{schema_shape}
+use Rattle.bw_device.specs.Source.{is_input_fault, is_read_fault}
 use Rattle.bw_file.specs.declared.layout.Layout.{Layout}
 use Rattle.bw_file.specs.declared.table_reader.TableReader.{TableReader}
 use Rattle.bw_file.specs.Reading.{tail, Reading, ◌>>=◌, give, State, Took, GoesOn, NeedsEach, NeedsMore, HasFault, Fails, HasByteMore}
 use Rattle.bw_file.specs.TableReading.{HeaderShape, header, body, segment, end, sizes_within, group_sizes, found_in, IsReadAs}
-use Rattle.bw_file.specs.TableReader.{header_told, SoFar, found_so_far, ReadWhole, LacksFault, HasFirstFault, AnswersFault}
+use Rattle.bw_file.specs.TableReader.{header_told, SoFar, found_so_far, ReadWhole, LacksFault, AreTooFew, NoneToSpare, HasFirstFault, AnswersFault}
 use Rattle.bw_file.proofs.ReadingLemmas.{passes, stops, took_more, coming_of, is_coming}
 
 -- the sizes of groups don't hang on how many groups there may be
@@ -68,11 +69,21 @@ so_far_more start old new reader next groups rows size same_version same_layout 
           (body_more reader.layout reader.shape.value.schema.columns.items reader.rows (reader.rows - reader.given) groups rows size so_far.behind old new (omega arith) sized so_far.on more);
     }
 
+-- a file that ends within its header ends too early
+header_early : (start new : State) (fault : Fault) → start.offset ≡ 0 → (p : Fails header start new fault) → (n : ℕ) → n < length p.bytes
+    → IsReadAs (take n p.bytes) (Err (at_byte 305 n))
+header_early start new fault first p n lt =
+    let short : NeedsEach header 0 p.bytes = rw first at p.needed in
+    let place : 0 + n ≡ n = omega arith in
+    let early : header (tail 0 (take n p.bytes)) ≡ Err (at_byte 305 n) = rw place at (short n lt) in
+    rw early refl
+
 -- what is refused of the header is the file's first fault
 pub header_refused : (start new : State) (fault : Fault) → start.offset ≡ 0 → Fails header start new fault → AnswersFault start start new fault
 header_refused start new fault first p = record {
   bytes = p.bytes;
   took = p.took;
+  needed = λ n lt. inl (header_early start new fault first p n lt);
   unfinished = λ failed.
       let short : NeedsMore header 0 p.bytes = rw first at (p.unfinished failed) in
       let place : 0 + length p.bytes ≡ length p.bytes = omega arith in
@@ -82,12 +93,8 @@ header_refused start new fault first p = record {
   first = λ own.
       let has = p.refused own in
       let e : header (tail 0 (p.bytes ++ has.rest)) ≡ Err fault = rw first at has.gives in
-      let short : NeedsEach header 0 p.bytes = rw first at p.needed in
       let found : HasFirstFault new p.bytes fault = record {
-        needed = λ n lt.
-            let place : 0 + n ≡ n = omega arith in
-            let early : header (tail 0 (take n p.bytes)) ≡ Err (at_byte 305 n) = rw place at (short n lt) in
-            inl (rw early refl);
+        needed = λ n lt. inl (header_early start new fault first p n lt);
         rest = has.rest;
         coming = has.coming;
         read = rw e refl;
@@ -108,7 +115,7 @@ module _ (start old : State) (reader : TableReader) (groups : List (List (List V
   header_on rest = head_at start so_far.behind (header_told reader.version reader) rest so_far.first so_far.head
 
   -- a file that ends within its header, or where what stands behind it needs more, ends too early
-  ends_early : (more : List ℕ) → NeedsEach whole_body so_far.behind.offset more → (n : ℕ) → n < length (so_far.head.bytes ++ more)
+  pub ends_early : (more : List ℕ) → NeedsEach whole_body so_far.behind.offset more → (n : ℕ) → n < length (so_far.head.bytes ++ more)
       → IsReadAs (take n (so_far.head.bytes ++ more)) (Err (at_byte 305 n))
   ends_early more needed n lt =
       elim (cases_lt n (length so_far.head.bytes)) [
@@ -147,6 +154,7 @@ module _ (start old : State) (reader : TableReader) (groups : List (List (List V
   behind_refused new fault p = record {
     bytes = so_far.head.bytes ++ p.bytes;
     took = took_more start so_far.behind new so_far.head.bytes p.bytes so_far.head.took p.took;
+    needed = λ n lt. inl (ends_early p.bytes p.needed n lt);
     unfinished = λ failed. inl (behind_unfinished p.bytes (p.unfinished failed));
     failures = omega (arith, p.failures, so_far.on.failures);
     first = λ own. behind_fault new p.bytes fault (λ n lt. inl (ends_early p.bytes p.needed n lt)) (p.refused own);
@@ -208,17 +216,41 @@ byte_needed start old reader groups all so_far byte one n lt =
           rw (take_at front byte n size) (inr (found_so_far reader groups, read_so_far start old reader groups all so_far, ap (λ (k : ℕ). at_byte 309 k) place))
     ])
 
+-- bytes that lack a fault are too few
+lacking : (bytes : List ℕ) (n : ℕ) (fault : Fault) → LacksFault bytes n fault → AreTooFew bytes n
+lacking bytes n fault (inl early) = inl early
+lacking bytes n fault (inr whole) = inr (whole.0, whole.1)
+
+-- no byte could be spared, whether a byte came behind the groups or a read failed
+end_needed : (start old : State) (reader : TableReader) (groups : List (List (List Value))) → reader.given ≡ reader.rows → (so_far : SoFar start old reader groups)
+    → (byte : List ℕ) (failed : Bool) → (failed ≡ true → byte ≡ []) → (failed ≡ false → length byte ≡ 1)
+    → NoneToSpare (so_far.head.bytes ++ (so_far.on.bytes ++ byte))
+end_needed start old reader groups all so_far byte true none one =
+    let whole : so_far.on.bytes ++ byte ≡ so_far.on.bytes = rw (none refl) (append-nil so_far.on.bytes) in
+    rw whole (λ n lt. inl (ends_early start old reader groups so_far so_far.on.bytes so_far.on.needed n lt))
+end_needed start old reader groups all so_far byte false none one =
+    λ n lt. lacking (so_far.head.bytes ++ (so_far.on.bytes ++ byte)) n (at_byte 309 old.offset) (byte_needed start old reader groups all so_far byte (one refl) n lt)
+
+-- a fault that isn't a failed read, nor want of memory
+own_fault : (fault : Fault) → is_input_fault fault ≡ false → is_read_fault fault ≡ false
+own_fault fault own = either (is_memory fault) (is_read_fault fault) own
+  where
+    either : (a b : Bool) → (a || b) ≡ false → b ≡ false
+    either true b e = absurd (cc e)
+    either false b e = e
+
 pub end_missed : (start old new : State) (reader : TableReader) (groups : List (List (List Value))) (fault : Fault) → reader.given ≡ reader.rows → SoFar start old reader groups
     → HasByteMore old new fault → AnswersFault start old new fault
 end_missed start old new reader groups fault all so_far p = record {
   bytes = so_far.head.bytes ++ (so_far.on.bytes ++ p.bytes);
   took = took_more start so_far.behind new so_far.head.bytes (so_far.on.bytes ++ p.bytes) so_far.head.took (took_more so_far.behind old new so_far.on.bytes p.bytes so_far.on.took p.took);
+  needed = end_needed start old reader groups all so_far p.bytes (is_read_fault fault) p.unfinished (λ own. (p.refused own).0);
   unfinished = λ failed.
       let whole : so_far.on.bytes ++ p.bytes ≡ so_far.on.bytes = rw (p.unfinished failed) (append-nil so_far.on.bytes) in
       rw whole (inr (found_so_far reader groups, read_so_far start old reader groups all so_far));
   failures = p.failures;
   first = λ own.
-      let has = p.refused own in
+      let has = p.refused (own_fault fault own) in
       let whole = body reader.layout reader.shape.value.schema.columns.items (group_sizes reader.rows) [] in
       let rest = coming_of new.known in
       let found : HasFault whole so_far.behind new (so_far.on.bytes ++ p.bytes) (at_byte 309 old.offset) = record {
@@ -238,6 +270,7 @@ end_seen start old new reader groups all so_far took same ended = record {
   bytes = so_far.head.bytes ++ so_far.on.bytes;
   took = rw append-nil at (took_more start old new (so_far.head.bytes ++ so_far.on.bytes) []
       (took_more start so_far.behind old so_far.head.bytes so_far.on.bytes so_far.head.took so_far.on.took) took);
+  needed = λ n lt. inl (ends_early start old reader groups so_far so_far.on.bytes so_far.on.needed n lt);
   failures = omega (arith, same, so_far.on.failures, so_far.head.failures);
   ended = ended;
   read = read_so_far start old reader groups all so_far;

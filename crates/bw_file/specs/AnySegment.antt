@@ -1,9 +1,11 @@
--- What a segment in either layout means.
+-- What a segment in either layout means, and its layout.
 use Rattle.bw_planes.specs.Planes.{planes_meaning}
 use Rattle.bw_slices.specs.Slices.{slices_meaning}
 use Rattle.bw_segment.specs.Meaning.{Meaning, IsGroup}
 use Rattle.bw_file.specs.declared.segments.AnySegment.{AnySegment}
 use Rattle.bw_file.specs.declared.segments.AnySegment.TheVariants.{Planes, Slices}
+use Rattle.bw_file.specs.declared.layout.Layout.{Layout}
+use Rattle.bw_file.specs.declared.layout.Layout.TheVariants as layouts
 
 unfoldable pub any_meaning : AnySegment → Meaning
 any_meaning (Planes segment) =
@@ -16,3 +18,8 @@ pub any_is_group : (segment : AnySegment) → IsGroup (any_meaning segment)
 unfolding any_meaning
 any_is_group (Planes segment) = segment.group
 any_is_group (Slices segment) = segment.group
+
+-- the layout that the segment is kept in
+abbrev pub any_layout : AnySegment → Layout
+any_layout (Planes segment) = layouts.Planes
+any_layout (Slices segment) = layouts.Slices

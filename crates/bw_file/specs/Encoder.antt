@@ -38,3 +38,13 @@ pub record Holds (encoder : Encoder) (rows : List (List Value)) : Type 0 where
   pub filled : length group ≡ encoder.filled
   pub count : length rows ≡ encoder.rows
   pub admitted : AreRows encoder.shape.schema.columns.items rows
+
+-- An encoder is as it was before a call, but for room in its memory: it writes the same table in the
+-- same layout, with the same text and the same rows behind it.
+pub record IsAsBefore (old new : Encoder) : Type 0 where
+  pub layout : new.layout ≡ old.layout
+  pub schema : new.shape.schema ≡ old.shape.schema
+  pub text : new.bytes.items ≡ old.bytes.items
+  pub kept : new.kept.items ≡ old.kept.items
+  pub filled : new.filled ≡ old.filled
+  pub rows : new.rows ≡ old.rows

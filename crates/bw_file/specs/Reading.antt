@@ -114,14 +114,14 @@ pub record Fails {A : Type 0} (reading : Reading A) (old new : State) (fault : F
   pub failures : new.failures ≡ old.failures + failed_reads fault
   pub refused : is_input_fault fault ≡ false → HasFault reading old new bytes fault
 
--- A fault was answered where the end is wanted: that of a failed read, where no byte was taken; want
--- of memory; or 309, once one byte was taken, at that byte.
+-- A fault was answered where the end is wanted: that of a failed read, where no byte was taken; or
+-- 309, once one byte was taken, at that byte.
 pub record HasByteMore (old new : State) (fault : Fault) : Type 0 where
   pub bytes : List ℕ
   pub took : Took old new bytes
   pub unfinished : is_read_fault fault ≡ true → bytes ≡ []
   pub failures : new.failures ≡ old.failures + failed_reads fault
-  pub refused : is_input_fault fault ≡ false
+  pub refused : is_read_fault fault ≡ false
       → (length bytes ≡ 1) × (fault ≡ at_byte 309 old.offset)
 
 -- What a call took of a source says what the call answered, seen by view, whatever stands behind

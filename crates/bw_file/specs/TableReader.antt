@@ -7,7 +7,7 @@ use Rattle.bw_model.specs.Fault.{at_byte}
 use Rattle.bw_model.specs.Groups.{group_size, groups_of, together}
 use Rattle.bw_model.specs.Row.{Value}
 use Rattle.bw_model.specs.SchemaText.{schema_shape}
-use Rattle.bw_file.specs.AnySegment.{any_meaning}
+use Rattle.bw_file.specs.AnySegment.{any_layout, any_meaning}
 use Rattle.bw_device.specs.Source.{is_read_fault, is_input_fault}
 use Rattle.bw_file.specs.declared.segments.AnySegment.{AnySegment}
 use Rattle.bw_file.specs.declared.layout.Layout.{Layout}
@@ -82,10 +82,21 @@ abbrev pub found_so_far : TableReader → List (List (List Value)) → Found
 found_so_far reader groups =
     found_as reader.layout (schema_shape reader.shape.value.schema) (together groups)
 
+-- so many of the bytes, the first ones, don't settle whether a file has a fault: they end too early;
+-- or they are a table's, and a byte behind them would be one
+abbrev pub AreTooFew : List ℕ → ℕ → Type 0
+AreTooFew bytes n =
+    IsReadAs (take n bytes) (Err (at_byte 305 n)) ⊎ ((found : Found) × IsReadAs (take n bytes) (Ok found))
+
+-- none of the bytes could be spared: fewer of them are too few
+abbrev pub NoneToSpare : List ℕ → Type 0
+NoneToSpare bytes = (n : ℕ) → n < length bytes → AreTooFew bytes n
+
 -- all bytes were taken, with no failed read, and they are read as this
 pub record ReadWhole (start now : State) (found : Found) : Type 0 where
   pub bytes : List ℕ
   pub took : Took start now bytes
+  pub needed : NoneToSpare bytes
   pub failures : now.failures ≡ start.failures
   pub ended : IsAtEnd now.known
   pub read : IsReadAs bytes (Ok found)
@@ -111,11 +122,13 @@ abbrev pub AreUnfinished : List ℕ → Type 0
 AreUnfinished bytes =
     IsReadAs bytes (Err (at_byte 305 (length bytes))) ⊎ ((found : Found) × IsReadAs bytes (Ok found))
 
--- Since the start of the file bytes were taken, and a fault was answered: that of a failed read,
--- where another byte or the end was to be seen; want of memory; or the file's first fault.
+-- Since the start of the file bytes were taken, none of which could be spared, and a fault was
+-- answered: that of a failed read, where another byte or the end was to be seen; want of memory; or
+-- the file's first fault.
 pub record AnswersFault (start old now : State) (fault : Fault) : Type 0 where
   pub bytes : List ℕ
   pub took : Took start now bytes
+  pub needed : NoneToSpare bytes
   pub unfinished : is_read_fault fault ≡ true → AreUnfinished bytes
   pub failures : now.failures ≡ old.failures + failed_reads fault
   pub first : is_input_fault fault ≡ false → HasFirstFault now bytes fault
@@ -142,8 +155,10 @@ pub record DidRead {A : Type 0} (reader : TableReader) (old new : State)
       (λ fault. is_read_fault fault ≡ true → WantsMore reader old.offset bytes)
   pub failures : new.failures ≡ old.failures + failed_by result
 
--- a segment of the reader's table, of the 512 rows that come next, or of the rows that are left
+-- a segment of the reader's table, in the file's layout, of the 512 rows that come next, or of the rows
+-- that are left
 pub record IsSegmentOf (reader : TableReader) (segment : AnySegment) : Type 0 where
+  pub layout : any_layout segment ≡ reader.layout
   pub name : (any_meaning segment).name ≡ reader.shape.value.schema.name
   pub columns : (any_meaning segment).columns ≡ reader.shape.value.schema.columns.items
   pub count : length (any_meaning segment).rows ≡ min group_size (reader.rows - reader.given)

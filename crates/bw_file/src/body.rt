@@ -3,7 +3,7 @@
 ghost use Rattle.std.specs.Prelude.{◌≡◌, ◌+◌, ◌-◌, ◌^◌, ◌<◌, ◌≤◌, [], length, None, OnOk, IfOk, IfErr};
 ghost use Rattle.std.specs.Io.KnownBytes.{IsAtEnd};
 ghost use Rattle.bw_model.specs.Groups.{group_size};
-ghost use Rattle.bw_file.specs.AnySegment.{any_meaning};
+ghost use Rattle.bw_file.specs.AnySegment.{any_layout, any_meaning};
 ghost use Rattle.bw_file.specs.Blocks.{block_size, block_fault, bytes_before, segment_size, IsSound};
 ghost use Rattle.bw_file.specs.Reading.{Reads, HasByteMore, Took, state};
 ghost use Rattle.bw_file.specs.TableReading.{plane_has_padding, has_padding, padding_from, fault_place, one_block, blocks, segment};
@@ -36,6 +36,7 @@ pub(crate) fn read_segment<S: Source>(
         (state (S.to_come source.old) offset.old (S.failures source.old))
         (state (S.to_come source.new) offset.new (S.failures source.new)) result }
     ensures counted { OnOk result (offset.new ≤ offset.old + 2 ^ 19) }
+    ensures layout { IfOk result (λ found. any_layout found ≡ layout) }
     ensures name { IfOk result (λ found. (any_meaning found).name ≡ shape.now.value.schema.name) }
     ensures columns { IfOk result
         (λ found. (any_meaning found).columns ≡ shape.now.value.schema.columns.items) }

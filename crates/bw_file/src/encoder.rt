@@ -1,5 +1,5 @@
 //! A table file written row by row.
-ghost use Rattle.std.specs.Prelude.{◌≡◌, ◌+◌, ◌-◌, ◌<◌, ◌≤◌, ◌++◌, ◌∷◌, [], List, true, take, drop, length, OnOk, IfOk, IsOkUnless};
+ghost use Rattle.std.specs.Prelude.{◌≡◌, ◌+◌, ◌-◌, ◌<◌, ◌≤◌, ◌++◌, ◌∷◌, [], List, true, take, drop, length, OnOk, OnErr, IfOk, IsOkUnless};
 ghost use Rattle.std.specs.List.{list_all, flat_map};
 ghost use Rattle.std.specs.Int.{w32, to_le_bytes};
 ghost use Rattle.bw_model.specs.Column.{admits_values};
@@ -42,7 +42,7 @@ pub struct Encoder {
 }
 
 impl Encoder {
-    ghost use Rattle.bw_file.specs.Encoder.{Holds, IsTextOf, encoder_schema, encoder_layout, rows_in};
+    ghost use Rattle.bw_file.specs.Encoder.{Holds, IsAsBefore, IsTextOf, encoder_schema, encoder_layout, rows_in};
 
     /// An encoder of a table of this schema, to which no row was added. It keeps a copy of the
     /// schema.
@@ -70,7 +70,8 @@ impl Encoder {
         })
     }
 
-    /// Adds a row, which the schema admits, where there are less than 2^24.
+    /// Adds a row, which the schema admits, where there are less than 2^24. Where memory is refused
+    /// it holds the rows that it held, and the row may be added again.
     pub fn add(&mut self, row: &Row) -> Result<(), Fault>
         requires admitted { admits_values (encoder_schema self.old).columns.items
             (values_of row.now) ≡ true }
@@ -78,8 +79,10 @@ impl Encoder {
         ensures holds { OnOk result ((rows : List (List Value)) → Holds self.old rows
             → Holds self.new (rows ++ values_of row.now ∷ [])) }
         ensures rows { OnOk result (rows_in self.new ≡ rows_in self.old + 1) }
-        ensures same { OnOk result ((encoder_layout self.new ≡ encoder_layout self.old)
-            × (encoder_schema self.new ≡ encoder_schema self.old)) }
+        ensures refused { OnErr result ((rows_in self.new ≡ rows_in self.old)
+            × ((rows : List (List Value)) → Holds self.old rows → Holds self.new rows)) }
+        ensures same { (encoder_layout self.new ≡ encoder_layout self.old)
+            × (encoder_schema self.new ≡ encoder_schema self.old) }
         ensures only_memory { IsOkUnless result no_memory }
     {
         if self.filled == GROUP {
@@ -106,7 +109,7 @@ impl Encoder {
         self.rows += 1;
     }
 
-    /// Puts the rows that aren't in the text yet there.
+    /// Puts the rows that aren't in the text yet there. Where memory is refused it is as it was.
     fn flush(&mut self) -> Result<(), Fault>
         requires { 0 < self.old.filled }
         ensures text { OnOk result ((rows : List (List Value)) → Holds self.old rows
@@ -116,8 +119,9 @@ impl Encoder {
             → self.old.filled ≡ 512 → Holds self.new rows) }
         ensures rows { OnOk result (rows_in self.new ≡ rows_in self.old) }
         ensures empty { OnOk result (self.new.filled ≡ 0) }
-        ensures same { OnOk result ((encoder_layout self.new ≡ encoder_layout self.old)
-            × (encoder_schema self.new ≡ encoder_schema self.old)) }
+        ensures refused { OnErr result (IsAsBefore self.old self.new) }
+        ensures same { (encoder_layout self.new ≡ encoder_layout self.old)
+            × (encoder_schema self.new ≡ encoder_schema self.old) }
         ensures only_memory { IsOkUnless result no_memory }
     {
         append(

@@ -112,7 +112,7 @@ impl Segment for AnySegment {
 
 impl AnySegment {
     ghost use Rattle.std.specs.Prelude.{IfOk};
-    ghost use Rattle.bw_file.specs.AnySegment.{any_meaning};
+    ghost use Rattle.bw_file.specs.AnySegment.{any_layout, any_meaning};
 
     /// The memory of the segment's bytes, for another one.
     pub(crate) fn into_bytes(self) -> Vec<u8> {
@@ -122,12 +122,13 @@ impl AnySegment {
         }
     }
 
-    /// The segment of bytes that have no fault.
+    /// The segment of bytes that have no fault, in a layout.
     #[tactic(auto, unfolding(crate::specs::AnySegment::any_meaning, crate::specs::Blocks::form_of))]
     pub(crate) fn of_blocks(layout: Layout, shape: Rc<Shape>, rows: u32, bytes: Vec<u8>) -> Self
         requires some { 1 ≤ rows }
         requires few { rows ≤ group_size }
         requires sound { IsSound layout shape.value.schema.columns.items rows bytes.items }
+        ensures layout { any_layout result ≡ layout }
         ensures name { (any_meaning result).name ≡ shape.value.schema.name }
         ensures columns { (any_meaning result).columns ≡ shape.value.schema.columns.items }
         ensures rows { (any_meaning result).rows

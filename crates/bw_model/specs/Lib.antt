@@ -10,6 +10,7 @@ pub mod Lines
 pub mod Name
 pub mod Number
 pub mod Row
+pub mod Schema
 pub mod SchemaText
 pub mod Selection
 pub mod Stored

@@ -16,6 +16,7 @@ mod copy;
 mod fault;
 mod groups;
 mod keyword;
+mod laws;
 mod lines;
 mod name;
 mod number;

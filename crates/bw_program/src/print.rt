@@ -21,17 +21,17 @@ use std::alloc::{AllocError, Global};
 impl Program {
     /// The program's canonical text under a schema that has all that it names: capital keywords,
     /// single blanks, names in the schema's spelling, numbers without leading zeros, and one line
-    /// feed after each line, of which the last is that of the result. Refused is want of memory
-    /// alone (801).
+    /// feed after each line, of which the last is that of the result. It spells the program. Refused
+    /// is want of memory alone (801).
     pub fn print(&self, alloc: Global, schema: &Schema) -> Result<Vec<u8>, Fault>
         requires { IsTrue (fits schema.now.columns.items self.now) }
         ensures text { IfOk result
             (λ text. text.items ≡ print_text schema.now.columns.items self.now) }
-        ensures spelled { IsTrue (list_all is_name (names_of schema.now.columns.items))
-            → IfOk result (λ text. IsProgramText schema.now.columns.items text.items self.now) }
+        ensures spelled { IfOk result (λ text. IsProgramText schema.now.columns.items text.items self.now) }
         ensures only_memory { IsOkUnless result no_memory }
     {
         let _ = &self.instrs;
+        schema.has_names_and_bounds();
         let mut text = Vec::new(alloc);
         for number in 0..self.len() {
             put_instr(alloc, schema, self.instr(number), &mut text)?;

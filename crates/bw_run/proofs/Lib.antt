@@ -1,2 +1,3 @@
+pub mod EndLemmas
 pub mod MachineLemmas
 pub mod RunLemmas

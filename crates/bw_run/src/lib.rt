@@ -6,7 +6,10 @@
 //! Read `machine.rt` first, and then `specs/Run.antt`.
 #![tactic(auto)]
 
+mod laws;
 mod machine;
+mod planes;
 mod run;
 
+pub use laws::runs_come_to_the_end;
 pub use run::{Counts, run_segment};

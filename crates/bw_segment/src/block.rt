@@ -11,7 +11,7 @@ use bw_lanes::{Plane, and, bytes_bit, is_zero, lane, load, mask, not, or, to_byt
 use bw_model::{Fault, code};
 
 impl Shape {
-    ghost use Rattle.std.specs.Prelude.{◌++◌, if◌then◌else◌, [], OnOk, IsOkUnless};
+    ghost use Rattle.std.specs.Prelude.{◌++◌, if◌then◌else◌, [], OnOk, OnErr, IsOkUnless};
     ghost use Rattle.bw_lanes.specs.Lanes.{bytes_of_lanes};
     ghost use Rattle.bw_model.specs.Fault.{no_memory};
     ghost use Rattle.bw_model.specs.Row.{Value};
@@ -42,7 +42,8 @@ impl Shape {
         }
     }
 
-    /// Adds the null plane of a column to bytes, where it is nullable, from 1 or 0 for each lane.
+    /// Adds the null plane of a column to bytes, where it is nullable, from 1 or 0 for each lane. Where memory is
+    /// refused nothing was added.
     pub fn push_nulls(
         &self,
         bytes: &mut Vec<u8>,
@@ -54,6 +55,7 @@ impl Shape {
             → bytes.new.items ≡ bytes.old.items
             ++ (if is_nullable self.now.schema.columns.items col
             then bytes_of_lanes (null_bits rows col) else [])) }
+        ensures refused { OnErr result (bytes.new.items ≡ bytes.old.items) }
         ensures only_memory { IsOkUnless result no_memory }
     {
         if !self.schema.columns[col].nullable {

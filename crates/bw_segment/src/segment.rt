@@ -22,8 +22,9 @@ pub trait Segment {
         ensures name { result.now.name ≡ (meaning self.now).name }
         ensures columns { result.now.columns.items ≡ (meaning self.now).columns };
 
-    /// The same columns, with where their variables stand.
+    /// The same name and columns, with where the columns' variables stand.
     fn shape(&self) -> &Shape
+        ensures name { result.now.schema.name ≡ (meaning self.now).name }
         ensures columns { result.now.schema.columns.items ≡ (meaning self.now).columns };
 
     /// How many rows the segment has, 1 to 512.

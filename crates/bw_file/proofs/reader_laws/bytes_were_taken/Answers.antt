@@ -1,8 +1,15 @@
 -- The header's bytes, and those behind it.
-use Rattle.std.proofs.Common.{◌∙◌, ◌++◌}
+use Rattle.std.proofs.Common.{◌∙◌, ◌++◌, inl}
+use Rattle.bw_file.proofs.ReaderLemmas.{ends_early}
 use Rattle.bw_file.proofs.ReadingLemmas.{took_more}
 use Rattle.bw_file.proofs.reader_laws.bytes_were_taken.Goals as goal
 
 pub returns : goal.returns
-returns c = λ start now reader groups read.
-    ((read.head.bytes ++ read.on.bytes, took_more start read.behind now read.head.bytes read.on.bytes read.head.took read.on.took), read.on.failures ∙ read.head.failures)
+returns c = λ start now reader groups read. (
+  (
+    read.head.bytes ++ read.on.bytes,
+    took_more start read.behind now read.head.bytes read.on.bytes read.head.took read.on.took,
+    λ n lt. inl (ends_early start now reader groups read read.on.bytes read.on.needed n lt),
+  ),
+  read.on.failures ∙ read.head.failures,
+)

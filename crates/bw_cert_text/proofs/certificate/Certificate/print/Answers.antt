@@ -22,7 +22,7 @@ returns-clause-text c =
     ∙ sym (shape_text columns shape) ∙ ap (λ (shape : CertificateShape). print_text columns (certificate_fields shape)) c.self.view_is
 
 pub returns-clause-spelled : goal.returns-clause-spelled
-returns-clause-spelled c = λ names small there first.
+returns-clause-spelled c = λ small there first.
     let columns = c.args.schema.now.columns.items in
     let fields = certificate_fields c.args.self.now in
-    subst (λ (text : List ℕ). IsCertificateText first text (renumbered first (respelled columns fields))) (sym (returns-clause-text c)) (text_spells columns first fields names small there)
+    subst (λ (text : List ℕ). IsCertificateText first text (renumbered first (respelled columns fields))) (sym (returns-clause-text c)) (text_spells columns first fields c.has_names_and_bounds.ensures.names small there)

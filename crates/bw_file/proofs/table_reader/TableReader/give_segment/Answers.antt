@@ -12,7 +12,7 @@ unfolding group_size
 returns-in-Ok g c =
     let sized : c.min-rows.result ≡ min group_size (c.args.self.now.rows - c.args.self.now.given) = omega (arith, c.min-rows.ensures) in
     segment_given _ _ _ _ c.args.self.now _ (record { version = refl; layout = refl; schema = refl; rows = refl }) _ c.min-rows.result (rw c.requires.open refl) c.requires.left (rw c.requires.open refl) sized (omega arith)
-    c.in-Ok.ensures.name c.in-Ok.ensures.columns c.in-Ok.ensures.count c.in-Ok.ensures.reads
+    c.in-Ok.ensures.layout c.in-Ok.ensures.name c.in-Ok.ensures.columns c.in-Ok.ensures.count c.in-Ok.ensures.reads
 
 pub returns-in-Err : goal.returns-in-Err
 unfolding group_size

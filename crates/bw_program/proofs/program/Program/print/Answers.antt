@@ -20,8 +20,8 @@ returns-clause-text c =
     ∙ ap (λ (rest : List ℕ). c.loop-number.text.items ++ rest) (sym last) ∙ c.loop-number.invariant
 
 pub returns-clause-spelled : goal.returns-clause-spelled
-returns-clause-spelled c = λ names.
+returns-clause-spelled c =
     let columns = c.args.schema.now.columns.items in
     let valid : is_program c.args.self.now ≡ true = ap is_program (sym c.self.view_is) ∙ c.self.invariant.0 in
     let P : List ℕ → Type 0 = λ text. IsProgramText columns text c.args.self.now in
-    subst P (sym (returns-clause-text c)) (text_spells columns c.args.self.now c.args.schema.now.apart names valid c.requires)
+    subst P (sym (returns-clause-text c)) (text_spells columns c.args.self.now c.args.schema.now.apart c.has_names_and_bounds.ensures.names valid c.requires)

@@ -1,0 +1,35 @@
+//! What every schema has by its type, as laws.
+ghost use Rattle.std.specs.Prelude.{IsTrue};
+ghost use Rattle.std.specs.List.{list_all};
+ghost use Rattle.bw_model.specs.Column.{names_of};
+ghost use Rattle.bw_model.specs.Name.{is_name};
+ghost use Rattle.bw_model.specs.Schema.{IsColumn, IsSchema};
+ghost use Rattle.bw_model.specs.SchemaText.{column_shape, schema_shape, is_range};
+
+use crate::column::Column;
+use crate::schema::Schema;
+
+impl Schema {
+    /// A law: the names of a schema, its table's and its columns', are names, 64 bits hold each column's bounds, and these
+    /// are in order and less than 2^63 apart. It looks at each column.
+    pub fn has_names_and_bounds(&self)
+        ensures schema { IsSchema (schema_shape self.now) }
+        ensures names { IsTrue (list_all is_name (names_of self.now.columns.items)) }
+        ensures ranges { IsTrue (list_all (λ column. is_range column.lo column.hi) self.now.columns.items) }
+    {
+        let _name = self.name.as_bytes();
+        for column in &self.columns {
+            column.has_name_and_bounds();
+        }
+    }
+}
+
+impl Column {
+    /// A law: a column's name is one, and 64 bits hold its bounds.
+    fn has_name_and_bounds(&self)
+        ensures { IsColumn (column_shape self.now) }
+    {
+        let _name = self.name.as_bytes();
+        let _bounds = (self.lo, self.hi);
+    }
+}
