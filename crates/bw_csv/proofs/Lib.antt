@@ -1,5 +1,6 @@
 pub mod BareLemmas
 pub mod DigitsAlone
 pub mod FieldLemmas
+pub mod Passed
 pub mod RecordLemmas
 pub mod RowLemmas

@@ -1,8 +1,9 @@
 -- The rows of a text, one more at a time.
-use Rattle.std.proofs.Common.{◌≡◌, ◌∙◌, ℕ, ℤ, ◌+◌, ◌^◌, ltb, List, [], ◌∷◌, ◌++◌, length, Option, Some, None, Result, Ok, Err, Bool, true, false, refl, ap, eqb}
+use Rattle.std.proofs.Common.{◌≡◌, ◌∙◌, ℕ, ℤ, ◌+◌, ◌^◌, ◌≤◌, inl, inr, arith, ltb, lt-ltb, List, [], ◌∷◌, ◌++◌, length, Option, Some, None, Result, Ok, Err, Bool, true, false, refl, ap, eqb}
 use Rattle.std.specs.Prelude.{◌&&◌, not, int_le, if◌then◌else◌}
 use Rattle.std.specs.Prelude.{IfOk, IsOkAnd, IsTrue}
 use Rattle.std.specs.List.{list_all}
+use Rattle.std.proofs.lemmas.Bool.{cases_lt}
 use Rattle.std.proofs.lemmas.List.{append-nil}
 use Rattle.bw_model.specs.declared.column.Column.{Column}
 use Rattle.bw_model.specs.declared.fault.Fault.{Fault}
@@ -10,8 +11,9 @@ use Rattle.bw_model.specs.Fault.{◌>>=◌, at_record, refused_if}
 use Rattle.bw_model.specs.Column.{admits_value, admits_values}
 use Rattle.bw_model.specs.Number.{are_digits, number_of}
 use Rattle.bw_model.specs.Row.{Value}
-use Rattle.bw_csv.specs.Rows.{Hands, is_heading, is_minus, is_null_text, number_value, row_of_record, rows_from, rows_behind, unsigned, value_of_field, values_of_fields, with_row, within_bounds, without_blanks}
-use Rattle.bw_csv.proofs.FieldLemmas.{behind, behind-cons, behind-nothing}
+use Rattle.bw_csv.specs.Rows.{StopsBehind, is_reader_fault, stands_at, is_heading, is_minus, is_null_text, number_value, row_of_record, rows_from, rows_behind, unsigned, value_of_field, values_of_fields, with_row, within_bounds, without_blanks}
+use Rattle.bw_csv.proofs.FieldLemmas.{behind}
+use Rattle.bw_csv.proofs.Passed.{Passed, passed-nothing, passed-next, passed-on, passed-stops}
 
 and_right : (a b : Bool) → (a && b) ≡ true → b ≡ true
 and_right true b e = e
@@ -98,32 +100,39 @@ rows_from-end columns number records e = rw e refl
 
 pub ruleset rows_of_records = (rows_from-next, rows_from-fault, rows_from-end, row_admitted)
 
--- a taker that was led through the rows so far of a whole, of which those of the records to come are left
-unfoldable pub LedSoFar : {K : Type 0} → (K → List (List Value) → K → Type 0) → K → K → Result (List (List Value)) Fault → List Column → ℕ → List (List (List ℕ)) → Type 0
-LedSoFar led start now whole columns number records = (before : List (List Value)) × led start before now × (whole ≡ behind before (rows_from columns number records))
+-- A taker was led through the rows of the records that were read of the first ones.
+unfoldable pub LedSoFar : {K : Type 0} → (K → List (List Value) → K → Type 0) → K → K → List Column → List (List (List ℕ)) → ℕ → List (List (List ℕ)) → Type 0
+LedSoFar led start now columns first number records = (before : List (List Value)) × led start before now × Passed (rows_from columns) first before number records
 
 pub led-nothing : {K : Type 0} (led : K → List (List Value) → K → Type 0) (start : K) (columns : List Column) (records : List (List (List ℕ)))
-    → led start [] start → LedSoFar led start start (rows_from columns 1 records) columns 1 records
+    → led start [] start → LedSoFar led start start columns records 1 records
 unfolding LedSoFar
-led-nothing led start columns records h = ([], h, behind-nothing (rows_from columns 1 records))
+led-nothing led start columns records h = ([], h, passed-nothing (rows_from columns) records)
 
-pub led-next : {K : Type 0} (led : K → List (List Value) → K → Type 0) (start old new : K) (whole : Result (List (List Value)) Fault) (columns : List Column) (number : ℕ) (records more : List (List (List ℕ))) (row : List Value)
-    → LedSoFar led start old whole columns number records → rows_from columns number records ≡ with_row row (rows_from columns (number + 1) more)
+pub led-next : {K : Type 0} (led : K → List (List Value) → K → Type 0) (start old new : K) (columns : List Column) (first : List (List (List ℕ))) (number : ℕ) (records more : List (List (List ℕ))) (fields : List (List ℕ)) (row : List Value)
+    → LedSoFar led start old columns first number records → records ≡ fields ∷ more → row_of_record number columns fields ≡ Ok row
     → ((first : K) (before : List (List Value)) → led first before old → led first (before ++ row ∷ []) new)
-    → LedSoFar led start new whole columns (number + 1) more
+    → LedSoFar led start new columns first (number + 1) more
 unfolding LedSoFar
-led-next led start old new whole columns number records more row h e step =
-    (h.0 ++ row ∷ [], step start h.0 h.1, h.2 ∙ ap (behind h.0) e ∙ behind-cons h.0 row (rows_from columns (number + 1) more))
+led-next led start old new columns first number records more fields row h e r step =
+    (h.0 ++ row ∷ [], step start h.0 h.1, passed-next (rows_from columns) first h.0 number records more fields row h.2 e (λ rest. rows_from-next columns number fields row (fields ∷ rest) rest refl r))
 
-pub led-fault : {K : Type 0} (led : K → List (List Value) → K → Type 0) (start now : K) (whole : Result (List (List Value)) Fault) (columns : List Column) (number : ℕ) (records : List (List (List ℕ))) (fault : Fault)
-    → LedSoFar led start now whole columns number records → rows_from columns number records ≡ Err fault → whole ≡ Err fault
+pub led-fault : {K : Type 0} (led : K → List (List Value) → K → Type 0) (start now : K) (columns : List Column) (first : List (List (List ℕ))) (number : ℕ) (records : List (List (List ℕ))) (fault : Fault)
+    → LedSoFar led start now columns first number records → rows_from columns number records ≡ Err fault → rows_from columns 1 first ≡ Err fault
 unfolding LedSoFar
-led-fault led start now whole columns number records fault h e = h.2 ∙ ap (behind h.0) e
+led-fault led start now columns first number records fault h e = passed-on (rows_from columns) first h.0 number records h.2 ∙ ap (behind h.0) e
 
-pub led-all : {K : Type 0} (led : K → List (List Value) → K → Type 0) (start now : K) (whole : Result (List (List Value)) Fault) (columns : List Column) (number : ℕ) (records : List (List (List ℕ)))
-    → LedSoFar led start now whole columns number records → rows_from columns number records ≡ Ok [] → IsOkAnd whole (λ rows. led start rows now)
+pub led-all : {K : Type 0} (led : K → List (List Value) → K → Type 0) (start now : K) (columns : List Column) (first : List (List (List ℕ))) (number : ℕ) (records : List (List (List ℕ)))
+    → LedSoFar led start now columns first number records → rows_from columns number records ≡ Ok [] → IsOkAnd (rows_from columns 1 first) (λ rows. led start rows now)
 unfolding LedSoFar
-led-all led start now whole columns number records h e = rw (h.2 ∙ ap (behind h.0) e ∙ ap Ok (append-nil h.0)) h.1
+led-all led start now columns first number records h e = rw (passed-on (rows_from columns) first h.0 number records h.2 ∙ ap (behind h.0) e ∙ ap Ok (append-nil h.0)) h.1
+
+-- where the reader has an error of its own, it's behind those
+pub led-stops : {K : Type 0} (led : K → List (List Value) → K → Type 0) (start now : K) (columns : List Column) (first : List (List (List ℕ))) (number : ℕ) (records : List (List (List ℕ))) (fault : Fault)
+    → LedSoFar led start now columns first number records → stands_at number fault ≡ true → is_reader_fault fault ≡ true → StopsBehind (rows_from columns) first fault
+unfolding LedSoFar
+led-stops led start now columns first number records fault h place own =
+    passed-stops (rows_from columns) first h.0 number records fault h.2 (rows_from-end columns number [] refl) place own
 
 pub ruleset so_far = (led-nothing, led-next, led-fault, led-all)
 
@@ -144,10 +153,49 @@ rows_behind-rows columns records more heading e h = rw (e, h) refl
 
 pub ruleset behind_heading = (rows_behind-none, rows_behind-other, rows_behind-rows)
 
--- what is handed of the rows behind the heading is what is handed of the rows
-pub hands_behind : {K : Type 0} (led : K → List (List Value) → K → Type 0) (start now : K) (columns : List Column) (records more : List (List (List ℕ))) (result : Result (Unit {0}) Fault)
-    → rows_behind columns records ≡ rows_from columns 1 more → Hands led (rows_from columns 1 more) start now result → Hands led (rows_behind columns records) start now result
-hands_behind led start now columns records more result e handed = rw e handed
+-- the number of a record that has a row
+row_within : (number : ℕ) (columns : List Column) (fields : List (List ℕ)) (row : List Value) → row_of_record number columns fields ≡ Ok row → number ≤ 2 ^ 24
+unfolding row_of_record
+row_within number columns fields row e =
+    elim (cases_lt (2 ^ 24) number) [
+      | inl late ↦ absurd (tested (eqb (length fields) (length columns)) (ltb (2 ^ 24) number) (lt-ltb (2 ^ 24) number late) e)
+      | inr fine ↦ fine
+    ]
+  where
+    tested : (wide late : Bool) → late ≡ true
+        → refused_if (not wide) (at_record 203 number) (refused_if late (at_record 207 number) (values_of_fields number columns fields)) ≡ Ok row → ⊥
+    tested true true l h = cc h
+    tested true false l h = cc l
+    tested false late l h = cc h
+
+-- a text has at most 2^24 rows
+abbrev AreFew : ℕ → Result (List (List Value)) Fault → Type 0
+AreFew number rows = IfOk rows (λ rows. number + length rows ≤ 2 ^ 24 + 1)
+
+first_few : (number : ℕ) (row : List Value) (more : Result (List (List Value)) Fault) → AreFew (number + 1) more → AreFew number (more >>= λ rows. Ok (row ∷ rows))
+first_few number row (Ok rows) few = omega (arith, few)
+first_few number row (Err fault) few = tt
+
+record_few : (columns : List Column) (number : ℕ) (fields : List (List ℕ)) (row : Result (List Value) Fault) (more : Result (List (List Value)) Fault)
+    → row_of_record number columns fields ≡ row → (number ≤ 2 ^ 24 → AreFew (number + 1) more) → AreFew number (row >>= λ first. more >>= λ rows. Ok (first ∷ rows))
+record_few columns number fields (Ok row) more e few = first_few number row more (few (row_within number columns fields row e))
+record_few columns number fields (Err fault) more e few = tt
+
+rows_few : (columns : List Column) (records : List (List (List ℕ))) (number : ℕ) → number ≤ 2 ^ 24 + 1 → AreFew number (rows_from columns number records)
+unfolding rows_from
+rows_few columns [] number h = omega (arith, h)
+rows_few columns (fields ∷ more) number h =
+    record_few columns number fields (row_of_record number columns fields) (rows_from columns (number + 1) more) refl (λ fine. rows_few columns more (number + 1) (omega (arith, fine)))
+
+heading_few : (other : Bool) (rows : Result (List (List Value)) Fault) → AreFew 1 rows → IfOk (refused_if other (at_record 202 0) rows) (λ rows. length rows ≤ 2 ^ 24)
+heading_few true rows few = tt
+heading_few false (Ok rows) few = omega (arith, few)
+heading_few false (Err fault) few = tt
+
+pub text_few : (columns : List Column) (records : List (List (List ℕ))) → IfOk (rows_behind columns records) (λ rows. length rows ≤ 2 ^ 24)
+unfolding rows_behind
+text_few columns [] = tt
+text_few columns (heading ∷ more) = heading_few (not (is_heading columns heading)) (rows_from columns 1 more) (rows_few columns more 1 (omega arith))
 
 -- columns admit each row of a text
 abbrev AreAdmitted : List Column → Result (List (List Value)) Fault → Type 0

@@ -1,6 +1,6 @@
 -- The rows that a CSV text spells under columns, or the first fault in it. How bytes are cut into records and fields is
 -- the csv crate's.
-use Rattle.std.specs.Prelude.{◌≡◌, ◌+◌, ◌-◌, ℕ, ℤ, Bool, true, false, List, [], ◌∷◌, ◌||◌, ◌&&◌, not, ◌==◌, length, Option, Some, None, Result, Ok, Err, IsOkAnd, IsTrue, if◌then◌else◌, codes, int_le, nat_le, nat_lt, slice_index, drop, take}
+use Rattle.std.specs.Prelude.{◌≡◌, ◌+◌, ◌-◌, ℕ, ℤ, Bool, true, false, List, [], ◌∷◌, ◌++◌, ◌⊎◌, ◌||◌, ◌&&◌, not, ◌==◌, length, Option, Some, None, Result, Ok, Err, IsOkAnd, IsTrue, if◌then◌else◌, codes, int_le, nat_le, nat_lt, slice_index, drop, take}
 use Rattle.std.specs.List.{prefix_len, suffix_len}
 use Rattle.csv.specs.Reading.{records, strip_bom, default_config}
 use Rattle.bw_model.specs.declared.column.Column.{Column}
@@ -118,9 +118,13 @@ is_record number (Byte at) = false
 is_record number (Line at) = false
 is_record number (Rec at) = at == number
 
--- want of memory, or an error of the reader's own at a record (209), which no rule of the rows foresees
+-- an error of the reader's own at a record (209), which no rule of the rows foresees
+abbrev pub is_reader_fault : Fault → Bool
+is_reader_fault fault = (fault.code == 209) && is_any_record fault.place
+
+-- want of memory, or an error of the reader's own
 abbrev pub is_aside : Fault → Bool
-is_aside fault = is_memory fault || ((fault.code == 209) && is_any_record fault.place)
+is_aside fault = is_memory fault || is_reader_fault fault
 
 -- one of 201 to 208, or one that is set aside
 abbrev pub is_rows_fault : Fault → Bool
@@ -136,6 +140,25 @@ stands_at number fault = not (fault.code == 209) || is_record number fault.place
 -- an error of the reader's own stands at the heading, or at the record behind those whose rows were handed over
 abbrev pub stands_behind : ℕ → Fault → Bool
 stands_behind rows fault = stands_at 0 fault || stands_at (rows + 1) fault
+
+-- Records begin with some that have rows, the first of which has number 1; and the fault is an error of the reader's own
+-- at the record behind them.
+pub record StopsBehind (rows_from_number : ℕ → List (List (List ℕ)) → Result (List (List Value)) Fault) (records : List (List (List ℕ))) (fault : Fault) : Type 0 where
+  pub done : List (List (List ℕ))
+  pub rest : List (List (List ℕ))
+  pub all : records ≡ done ++ rest
+  pub rows : List (List Value)
+  pub good : rows_from_number 1 done ≡ Ok rows
+  pub is : fault ≡ at_record 209 (length done + 1)
+
+-- An error of the reader's own stands at the heading, or at a record behind a good heading and records that have rows.
+abbrev pub Stops : (List (List ℕ) → List (List (List ℕ)) → Fault → Type 0) → List (List (List ℕ)) → Fault → Type 0
+Stops behind records fault =
+    (fault ≡ at_record 209 0) ⊎ ((heading : List (List ℕ)) × (more : List (List (List ℕ))) × (records ≡ heading ∷ more) × behind heading more fault)
+
+-- so it is under columns
+abbrev pub StopsUnder : List Column → List (List (List ℕ)) → Fault → Type 0
+StopsUnder columns = Stops (λ heading more fault. (is_heading columns heading ≡ true) × StopsBehind (rows_from columns) more fault)
 
 -- What a call answered is what is expected, but for the faults that are set aside.
 abbrev pub GivesButAside : {A B : Type 0} → (A → B) → Result A Fault → Result B Fault → Type 0

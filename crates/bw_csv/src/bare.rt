@@ -1,5 +1,5 @@
 //! The rows of records where there is no schema yet.
-ghost use Rattle.std.specs.Prelude.{◌≡◌, ◌≤◌, ◌+◌, ℕ, List, [], true, false, length, Ok, Err, OnOk, IfOk, IfErr, IsTrue};
+ghost use Rattle.std.specs.Prelude.{◌≡◌, ◌≤◌, ℕ, List, [], ◌∷◌, true, false, length, Ok, Err, OnOk, IfOk, IfErr, IsTrue};
 ghost use Rattle.std.specs.List.{list_all};
 ghost use Rattle.csv.specs.Records.{fields_of};
 ghost use Rattle.bw_model.specs.declared.column.Column.{Column};
@@ -8,7 +8,7 @@ ghost use Rattle.bw_model.specs.Limits.{most_rows};
 ghost use Rattle.bw_model.specs.Row.{Value, values_of};
 ghost use Rattle.bw_csv.specs.Bare.{bare_number, bare_row, bare_rows, bare_text, bare_value, bare_values, within_64_bits};
 ghost use Rattle.bw_csv.specs.Records.{IsOpen, coming};
-ghost use Rattle.bw_csv.specs.Rows.{is_aside, rows_from, with_row, GivesButAside, IsRowsFault, stands_at};
+ghost use Rattle.bw_csv.specs.Rows.{is_aside, rows_from, GivesButAside, IsRowsFault, stands_at};
 
 use crate::field::{is_minus, is_null_text, unsigned, without_blanks};
 use crate::records::Records;
@@ -28,7 +28,8 @@ pub fn read_bare_row(
     row: &mut Row,
 ) -> Result<bool, Fault>
     requires { IsOpen records.old }
-    ensures some { IfOk result (λ found. found ≡ true → bare_rows width number (coming records.old) ≡ with_row (values_of row.new) (bare_rows width (number + 1) (coming records.new))) }
+    ensures some { IfOk result (λ found. found ≡ true → (fields : List (List ℕ)) × (coming records.old ≡ fields ∷ coming records.new)
+        × (bare_row number width fields ≡ Ok (values_of row.new))) }
     ensures open { IfOk result (λ found. found ≡ true → IsOpen records.new × (number ≤ most_rows) × (length (values_of row.new) ≡ width)) }
     ensures none { IfOk result (λ found. found ≡ false → bare_rows width number (coming records.old) ≡ Ok []) }
     ensures row { IfErr result (λ fault. is_aside fault ≡ false → bare_rows width number (coming records.old) ≡ Err fault) }
@@ -72,15 +73,16 @@ fn read_values(fields: &ByteRecord, number: u32, row: &mut Row) -> Result<(), Fa
         let Some(field) = fields.get(i) else {
             return Err(Fault::at_record(code::RECORD_LENGTH, number));
         };
-        let value = value_of(field, number)?;
+        let value = bare_value_of(field, number)?;
         row.values.push(value)?;
     }
     Ok(())
 }
 
-/// The value that a field spells: null, or a number that 64 bits hold.
+/// The value that a field of the record of this number spells: null, or a number that 64 bits hold; or its fault: no whole
+/// number (204), or one that 64 bits don't hold (205).
 #[tactic(auto, unfolding(crate::specs::Bare::bare_value))]
-fn value_of(field: &[u8], number: u32) -> Result<Value, Fault>
+pub fn bare_value_of(field: &[u8], number: u32) -> Result<Value, Fault>
     ensures value { GivesButAside (λ value. value) result (bare_value number field.now) }
     ensures fault { IfErr result IsRowsFault }
     ensures place { IfErr result (λ fault. IsTrue (stands_at number fault)) }

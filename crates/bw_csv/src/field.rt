@@ -5,11 +5,11 @@ ghost use Rattle.bw_csv.specs.Rows.{is_blank, without_front_blanks, without_end_
 
 use bw_model::{Column, Fault, Value, code, is_same_text, number_in};
 
-/// The value that a field spells in a column, or its fault: no whole number (204), a null in a column that has
+/// The value that a field of the record of this number spells in a column, or its fault: no whole number (204), a null in a column that has
 /// none (206), or a number outside the column's bounds (205). Most fields are digits alone, or behind a minus sign, which
 /// are read in one pass.
 #[tactic(auto, unfolding(crate::specs::Rows::value_of_field))]
-pub(crate) fn value_of(column: &Column, field: &[u8], number: u32) -> Result<Value, Fault>
+pub fn value_of(column: &Column, field: &[u8], number: u32) -> Result<Value, Fault>
     ensures value { GivesButAside (λ value. value) result (value_of_field number column.now field.now) }
     ensures fault { IfErr result IsRowsFault }
     ensures place { IfErr result (λ fault. IsTrue (stands_at number fault)) }
@@ -93,7 +93,7 @@ pub(crate) fn unsigned(text: &[u8]) -> &[u8]
 }
 
 /// A field without the spaces and tabs at both ends.
-pub(crate) fn without_blanks(field: &[u8]) -> &[u8]
+pub fn without_blanks(field: &[u8]) -> &[u8]
     ensures { result.now ≡ without_blanks field.now }
 {
     without_end_blanks(without_front_blanks(field))

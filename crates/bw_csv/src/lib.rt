@@ -15,6 +15,7 @@ mod records;
 mod row;
 mod rows;
 
-pub use bare::{bare_rows_are_rows, read_bare_row};
+pub use bare::{bare_rows_are_rows, bare_value_of, read_bare_row};
+pub use field::{value_of, without_blanks};
 pub use records::Records;
 pub use rows::{MAX_ROWS, RowTaker, read_rows, rows_are_admitted};

@@ -1,11 +1,11 @@
 //! The row of a record.
-ghost use Rattle.std.specs.Prelude.{◌≡◌, ◌≤◌, ◌+◌, [], true, false, length, Ok, Err, OnOk, IfOk, IfErr, IsTrue};
+ghost use Rattle.std.specs.Prelude.{◌≡◌, ◌≤◌, ℕ, List, [], ◌∷◌, true, false, length, Ok, Err, OnOk, IfOk, IfErr, IsTrue};
 ghost use Rattle.csv.specs.Records.{fields_of};
 ghost use Rattle.bw_model.specs.Column.{admits_values};
 ghost use Rattle.bw_model.specs.Limits.{most_rows};
 ghost use Rattle.bw_model.specs.Row.{values_of};
 ghost use Rattle.bw_csv.specs.Records.{IsOpen, coming};
-ghost use Rattle.bw_csv.specs.Rows.{is_aside, is_heading, row_of_record, rows_behind, rows_from, with_row, values_of_fields, GivesButAside, IsRowsFault, stands_at};
+ghost use Rattle.bw_csv.specs.Rows.{is_aside, is_heading, row_of_record, rows_behind, rows_from, values_of_fields, GivesButAside, IsRowsFault, stands_at};
 
 use crate::field::{value_of, without_blanks};
 use crate::records::Records;
@@ -18,7 +18,8 @@ use csv::ByteRecord;
 pub(crate) fn read_heading(columns: &[Column], records: &mut Records<'_>) -> Result<(), Fault>
     requires { IsOpen records.old }
     ensures open { OnOk result (IsOpen records.new) }
-    ensures rows { OnOk result (rows_behind columns.now (coming records.old) ≡ rows_from columns.now 1 (coming records.new)) }
+    ensures heading_read { OnOk result ((heading : List (List ℕ)) × (coming records.old ≡ heading ∷ coming records.new)
+        × (is_heading columns.now heading ≡ true)) }
     ensures heading { IfErr result (λ fault. is_aside fault ≡ false → rows_behind columns.now (coming records.old) ≡ Err fault) }
     ensures fault { IfErr result IsRowsFault }
     ensures place { IfErr result (λ fault. IsTrue (stands_at 0 fault)) }
@@ -58,7 +59,8 @@ pub(crate) fn read_row(
     row: &mut Row,
 ) -> Result<bool, Fault>
     requires { IsOpen records.old }
-    ensures some { IfOk result (λ found. found ≡ true → rows_from columns.now number (coming records.old) ≡ with_row (values_of row.new) (rows_from columns.now (number + 1) (coming records.new))) }
+    ensures some { IfOk result (λ found. found ≡ true → (fields : List (List ℕ)) × (coming records.old ≡ fields ∷ coming records.new)
+        × (row_of_record number columns.now fields ≡ Ok (values_of row.new))) }
     ensures open { IfOk result (λ found. found ≡ true → IsOpen records.new × (number ≤ most_rows) × IsTrue (admits_values columns.now (values_of row.new))) }
     ensures none { IfOk result (λ found. found ≡ false → rows_from columns.now number (coming records.old) ≡ Ok []) }
     ensures row { IfErr result (λ fault. is_aside fault ≡ false → rows_from columns.now number (coming records.old) ≡ Err fault) }

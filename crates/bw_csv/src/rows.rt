@@ -4,7 +4,7 @@
 //! after it is a row. Spaces and tabs at both ends of a field are dropped; what is then empty, or `NULL` in
 //! any case, is null, and anything else must be a sign or none and one digit or more. How the bytes are cut
 //! into records and fields is the `csv` crate's, which drops one byte order mark at the start.
-ghost use Rattle.std.specs.Prelude.{◌≡◌, ◌+◌, ◌<◌, ℕ, List, [], ◌∷◌, ◌++◌, Bool, OnOk, IfOk, IfErr, IsTrue};
+ghost use Rattle.std.specs.Prelude.{◌≡◌, ◌+◌, ◌<◌, ◌≤◌, ℕ, List, [], ◌∷◌, ◌++◌, Bool, true, OnOk, IfOk, IfErr, IsTrue, length};
 ghost use Rattle.std.specs.List.{list_all};
 ghost use Rattle.bw_model.specs.Column.{admits_values};
 ghost use Rattle.bw_model.specs.declared.column.Column.{Column};
@@ -12,7 +12,8 @@ ghost use Rattle.bw_model.specs.Fault.{no_memory};
 ghost use Rattle.bw_model.specs.Limits.{most_rows};
 ghost use Rattle.bw_model.specs.Row.{Value, values_of};
 ghost use Rattle.bw_csv.specs.Records.{IsOpen, coming};
-ghost use Rattle.bw_csv.specs.Rows.{rows_of, rows_from, Hands, IsRowsFault, stands_at, stands_behind};
+ghost use Rattle.bw_csv.specs.Bare.{records_of};
+ghost use Rattle.bw_csv.specs.Rows.{rows_of, rows_from, is_reader_fault, Hands, IsRowsFault, StopsBehind, StopsUnder, stands_at, stands_behind};
 
 use crate::records::Records;
 use crate::row::{read_heading, read_row};
@@ -51,7 +52,6 @@ pub trait RowTaker {
 /// for each row its number of fields (203), a row past 2^24 (207), and its fields from the left: no whole
 /// number (204), a null in a column that has none (206), or a number outside the column's bounds (205). 209 is
 /// any other error of the reader, at the record that it read. The heading is record 0.
-#[tactic(auto, using(crate::proofs::RowLemmas::hands_behind))]
 pub fn read_rows<K: RowTaker>(
     alloc: Global,
     schema: &Schema,
@@ -64,6 +64,9 @@ pub fn read_rows<K: RowTaker>(
     ensures handed { Hands K.led (rows_of schema.now.columns.items text.now) taker.old taker.new result }
     ensures fault { IfErr result IsRowsFault }
     ensures place { IfErr result (λ fault. IsTrue (stands_behind (K.rows taker.new) fault)) }
+    // An error of the reader's own stands at the heading, or at the record behind those whose rows are good.
+    ensures reader { IfErr result (λ fault. is_reader_fault fault ≡ true
+        → StopsUnder schema.now.columns.items (records_of text.now) fault) }
 {
     let mut records = Records::new(alloc, text);
     read_heading(&schema.columns, &mut records)?;
@@ -88,6 +91,8 @@ fn hand_rows<K: RowTaker>(
     ensures handed { Hands K.led (rows_from columns.now 1 (coming records.old)) taker.old taker.new result }
     ensures fault { IfErr result IsRowsFault }
     ensures place { IfErr result (λ fault. IsTrue (stands_at (K.rows taker.new + 1) fault)) }
+    ensures reader { IfErr result (λ fault. is_reader_fault fault ≡ true
+        → StopsBehind (rows_from columns.now) (coming records.old) fault) }
 {
     let mut number = 1;
     'rows: while read_row(columns, records, number, row)? {
@@ -97,7 +102,8 @@ fn hand_rows<K: RowTaker>(
     Ok(())
 }
 
-/// Columns admit each row of a text.
+/// A law: columns admit each row of a text, and a text has at most 2^24 rows.
 pub fn rows_are_admitted()
-    ensures { (columns : List Column) (text : List ℕ) → IfOk (rows_of columns text) (λ rows. IsTrue (list_all (admits_values columns) rows)) }
+    ensures admitted { (columns : List Column) (text : List ℕ) → IfOk (rows_of columns text) (λ rows. IsTrue (list_all (admits_values columns) rows)) }
+    ensures few { (columns : List Column) (text : List ℕ) → IfOk (rows_of columns text) (λ rows. length rows ≤ most_rows) }
 {}

@@ -1,5 +1,5 @@
 -- What of a text went out to a sink.
-use Rattle.std.specs.Prelude.{◌≡◌, ◌==◌, ℕ, ◌+◌, ◌<◌, Bool, true, false, List, length, take, Option, Result, Ok, Err, IsOkAnd}
+use Rattle.std.specs.Prelude.{◌≡◌, ◌==◌, ◌⊎◌, ℕ, ◌+◌, ◌<◌, Bool, true, false, List, length, take, Option, Result, Ok, Err, IsOkAnd}
 use Rattle.std.specs.Io.KnownBytes.{Appends, Keeps}
 use Rattle.bw_model.specs.declared.fault.Fault.{Fault}
 use Rattle.bw_model.specs.Fault.{nowhere}
@@ -32,3 +32,24 @@ Went aside old new before after given (Err fault) =
     → (fault ≡ nowhere 702) × IsOkAnd given (TookPart old new) × (after ≡ before + 1))
     × (is_write_fault fault ≡ false
     → Keeps old new × (after ≡ before) × (aside fault ≡ false → given ≡ Err fault))
+
+-- A call that is to write a text, or to refuse: the text went out; or up to a failed write; or the
+-- call wrote nothing and refused as it was to.
+pub record WriteFailed (old new : Option (List ℕ)) (before after : ℕ) (given : Result (List ℕ) Fault)
+    (fault : Fault) : Type 0 where
+  pub is : fault ≡ nowhere 702
+  pub part : IsOkAnd given (TookPart old new)
+  pub count : after ≡ before + 1
+
+pub record WroteNothing (old new : Option (List ℕ)) (before after : ℕ) (given : Result (List ℕ) Fault)
+    (fault : Fault) : Type 0 where
+  pub kept : Keeps old new
+  pub count : after ≡ before
+  pub is : given ≡ Err fault
+
+abbrev pub Wrote : {T : Type 0} → Option (List ℕ) → Option (List ℕ) → ℕ → ℕ → Result (List ℕ) Fault
+    → Result T Fault → Type 0
+Wrote old new before after given (Ok x) =
+    IsOkAnd given (λ text. Appends old new text) × (after ≡ before)
+Wrote old new before after given (Err fault) =
+    WriteFailed old new before after given fault ⊎ WroteNothing old new before after given fault

@@ -1,7 +1,7 @@
 -- What is seen of columns while rows go by is what all rows have in them.
 use Rattle.std.proofs.Common.{◌≡◌, ◌∙◌, refl, sym, ap, ℕ, ℤ, zero, suc, Bool, true, false, List, [], ◌∷◌, ◌++◌, length, drop, get_or, replicate, append_assoc, Option, Some, None, Result, Ok, Err}
 use Rattle.std.specs.Prelude.{◌||◌}
-use Rattle.std.proofs.lemmas.List.{append-nil, length-replicate}
+use Rattle.std.proofs.lemmas.List.{append-nil}
 use Rattle.std.proofs.lemmas.List.Folds.{list_any-append}
 use Rattle.bw_model.specs.declared.fault.Fault.{Fault}
 use Rattle.bw_model.specs.declared.query.Item.{Item}
@@ -14,8 +14,7 @@ use Rattle.bw_model.specs.Truth.{is_null}
 use Rattle.bw_model.proofs.TotalLemmas.{total_append}
 use Rattle.bw_csv.specs.Bare.{bare_rows}
 use Rattle.bw_infer.specs.declared.seen.Seen.{Seen}
-use Rattle.bw_infer.specs.Heading.{heading_names}
-use Rattle.bw_infer.specs.Inferred.{column_over, columns_over, has_null, inferred_behind, ranged, schema_over, table_of}
+use Rattle.bw_infer.specs.Inferred.{column_over, columns_over, has_null, ranged}
 use Rattle.bw_infer.specs.Seen.{columns_behind, columns_seen, greater, lesser, nothing, seen, seen_in, with_records, with_rows, with_value, with_values}
 
 -- what the rows have in so many columns from this one on
@@ -122,22 +121,3 @@ pub behind_seen : (names : List (List ℕ)) (more : List (List (List ℕ))) (wid
 behind_seen names more width found e s =
     by_rows names (bare_rows (length names) 1 more)
     ∙ ap (λ (those : Result (List Seen) Fault). those >>= λ columns. ranged (columns_seen names columns)) (rw e at s)
-
-in_table : (table : List ℕ) (names : List (List ℕ)) (rows : Result (List (List Value)) Fault)
-    → (rows >>= schema_over table names) ≡ ((rows >>= λ those. ranged (columns_over those 0 names)) >>= λ columns. Ok (table_of table columns))
-in_table table names (Ok rows) = refl
-in_table table names (Err fault) = refl
-
--- what is inferred, by the columns behind the heading
-pub inferred_by : (table : List ℕ) (records more : List (List (List ℕ))) (heading names : List (List ℕ)) (ranges : Result (List ColumnShape) Fault)
-    → records ≡ heading ∷ more → heading_names heading ≡ Ok names → columns_behind names more ≡ ranges
-    → inferred_behind table records ≡ (ranges >>= λ found. Ok (table_of table found))
-unfolding inferred_behind
-inferred_by table records more heading names ranges e n r =
-    rw (e, n) (in_table table names (bare_rows (length names) 1 more)
-    ∙ ap (λ (found : Result (List ColumnShape) Fault). found >>= λ those. Ok (table_of table those)) r)
-
--- what was seen, from columns of which nothing was
-pub from_nothing : (columns : List Seen) (width : ℕ) (more : List (List (List ℕ))) (found : Result (List Seen) Fault) → columns ≡ replicate width nothing
-    → with_records columns (length columns) 1 more ≡ found → with_records (replicate width nothing) width 1 more ≡ found
-from_nothing columns width more found start s = rw (start, length-replicate width nothing) at s

@@ -1,5 +1,5 @@
 -- What a call that infers a schema is to write, by what came of the CSV's source.
-use Rattle.std.specs.Prelude.{◌≡◌, ◌||◌, ◌&&◌, Bool, ℕ, List, nat_le, not, Option, Some, None, Result, Ok, Err, MatchBool, Vec}
+use Rattle.std.specs.Prelude.{◌≡◌, ◌||◌, ◌&&◌, Bool, ℕ, List, length, nat_le, not, Option, Some, None, Result, Ok, Err, MatchBool, Vec}
 use Rattle.std.specs.declared.alloc.Global.{Global}
 use Rattle.std.specs.Io.KnownBytes.{Appends}
 use Rattle.bw_model.specs.declared.fault.Fault.{Fault}
@@ -7,8 +7,10 @@ use Rattle.bw_model.specs.declared.schema.Schema.{Schema}
 use Rattle.bw_model.specs.Fault.{nowhere, no_memory, is_memory, ◌>>=◌, refused_if}
 use Rattle.bw_model.specs.Name.{is_name}
 use Rattle.bw_model.specs.SchemaText.{schema_shape, IsSchemaText}
-use Rattle.bw_csv.specs.Rows.{is_rows_fault}
+use Rattle.bw_csv.specs.Bare.{bare_rows, records_of}
+use Rattle.bw_csv.specs.Rows.{Stops, StopsBehind, is_rows_fault}
 use Rattle.bw_schema_text.specs.Printed.{schema_text}
+use Rattle.bw_infer.specs.Heading.{heading_names}
 use Rattle.bw_infer.specs.Inferred.{inferred, IsExact}
 
 -- the bytes that came of a CSV, or the fault: a failed read, or a text past the limit
@@ -28,6 +30,11 @@ inferred_text table csv = inferred table csv >>= λ schema. Ok (schema_text sche
 -- the same by what came, once it's certain that the table's name is a name
 abbrev pub text_from : List ℕ → Result (Option (List ℕ)) Fault → Result (List ℕ) Fault
 text_from table csv = refused_if (not (is_name table)) (nowhere 102) (csv_from csv >>= inferred_text table)
+
+-- an error of the reader's own stands at the heading, or at a record behind a heading of names and records that have rows
+abbrev pub StopsInferring : List ℕ → Fault → Type 0
+StopsInferring csv =
+    Stops (λ heading more fault. (names : List (List ℕ)) × (heading_names heading ≡ Ok names) × StopsBehind (bare_rows (length names)) more fault) (records_of csv)
 
 -- a text spells a schema that is exact for a CSV text
 pub record SpellsExactly (text csv : List ℕ) : Type 0 where

@@ -1,8 +1,8 @@
 //! The columns of a schema, by what was seen of them.
-ghost use Rattle.std.specs.Prelude.{◌≡◌, ◌≤ℤ◌, ◌<ℤ◌, ◌-ℤ◌, ◌^◌, pos, length, map, true, IfOk, IfErr, IsTrue};
+ghost use Rattle.std.specs.Prelude.{◌≡◌, ◌≤ℤ◌, ◌<ℤ◌, ◌-ℤ◌, ◌^◌, pos, length, map, true, false, IfOk, IfErr, IsTrue};
 ghost use Rattle.bw_model.specs.Column.{names_of};
 ghost use Rattle.bw_model.specs.SchemaText.{column_shape, is_range};
-ghost use Rattle.bw_csv.specs.Rows.{GivesButAside};
+ghost use Rattle.bw_csv.specs.Rows.{GivesButAside, is_reader_fault};
 ghost use Rattle.bw_infer.specs.Infer.{is_inferring_fault};
 ghost use Rattle.bw_infer.specs.Inferred.{or_zero, ranged, ranged_column};
 ghost use Rattle.bw_infer.specs.Seen.{column_seen, columns_seen};
@@ -21,6 +21,7 @@ pub(crate) fn columns_seen(
     ensures columns { GivesButAside (λ columns. map column_shape columns.items) result (ranged (columns_seen names.now seen.now)) }
     ensures names { IfOk result (λ columns. names_of columns.items ≡ names.now) }
     ensures fault { IfErr result (λ fault. is_inferring_fault fault ≡ true) }
+    ensures own { IfErr result (λ fault. is_reader_fault fault ≡ false) }
 {
     let mut columns: Vec<Column> = Vec::new(alloc);
     for i in 0..names.len() {
@@ -35,6 +36,7 @@ fn column_seen(alloc: Global, name: &Name, seen: &Seen) -> Result<Column, Fault>
     ensures column { GivesButAside column_shape result (ranged_column (column_seen name.now seen.now)) }
     ensures name { IfOk result (λ column. column.name ≡ name.now) }
     ensures fault { IfErr result (λ fault. is_inferring_fault fault ≡ true) }
+    ensures own { IfErr result (λ fault. is_reader_fault fault ≡ false) }
 {
     let lo = or_zero(seen.least);
     let hi = or_zero(seen.greatest);

@@ -1,11 +1,11 @@
 //! The names of the columns that a heading makes.
-ghost use Rattle.std.specs.Prelude.{◌≡◌, ◌≤◌, IfOk, IfErr, length, true};
+ghost use Rattle.std.specs.Prelude.{◌≡◌, ◌≤◌, IfOk, IfErr, length, true, false};
 ghost use Rattle.std.specs.List.{list_any};
 ghost use Rattle.bw_model.specs.Limits.{most_columns};
 ghost use Rattle.bw_model.specs.Name.{are_apart};
 ghost use Rattle.bw_model.specs.Text.{same_text};
 ghost use Rattle.bw_csv.specs.Records.{fields_in};
-ghost use Rattle.bw_csv.specs.Rows.{GivesButAside};
+ghost use Rattle.bw_csv.specs.Rows.{GivesButAside, is_reader_fault};
 ghost use Rattle.bw_infer.specs.Heading.{heading_names};
 ghost use Rattle.bw_infer.specs.Infer.{is_inferring_fault};
 
@@ -23,6 +23,7 @@ pub(crate) fn heading_names(alloc: Global, records: &Records<'_>) -> Result<Vec<
     ensures few { IfOk result (λ names. length names.items ≤ most_columns) }
     ensures apart { IfOk result (λ names. are_apart names.items ≡ true) }
     ensures fault { IfErr result (λ fault. is_inferring_fault fault ≡ true) }
+    ensures own { IfErr result (λ fault. is_reader_fault fault ≡ false) }
 {
     let mut names: Vec<Name> = Vec::new(alloc);
     for i in 0..records.field_count() {

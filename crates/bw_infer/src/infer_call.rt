@@ -1,13 +1,13 @@
 //! A schema text written from a CSV text.
-ghost use Rattle.std.specs.Prelude.{◌≡◌, ◌+◌, ◌-◌, ◌^◌, ◌<◌, ℕ, List, Option, Result, Some, true, false, IfOk, IfErr, IsTrue, OnOk};
+ghost use Rattle.std.specs.Prelude.{◌≡◌, ◌+◌, ◌-◌, ◌^◌, ◌<◌, ℕ, List, Option, Result, Ok, Some, true, false, IfOk, IfErr, IsTrue, OnOk};
 ghost use Rattle.bw_model.specs.declared.fault.Fault.{Fault};
 ghost use Rattle.bw_model.specs.Fault.{nowhere};
 ghost use Rattle.bw_model.specs.Limits.{longest_csv};
 ghost use Rattle.bw_model.specs.Name.{is_name};
 ghost use Rattle.bw_device.specs.Sink.{is_write_fault, Went};
 ghost use Rattle.bw_device.specs.Source.{Came, TookAtMost, EndsWith};
-ghost use Rattle.bw_csv.specs.Rows.{is_aside, GivesButAside};
-ghost use Rattle.bw_infer.specs.Infer.{inferred_text, is_inferring_fault, text_from, InfersExactly, SpellsExactly};
+ghost use Rattle.bw_csv.specs.Rows.{is_aside, is_reader_fault, GivesButAside};
+ghost use Rattle.bw_infer.specs.Infer.{inferred_text, is_inferring_fault, text_from, InfersExactly, SpellsExactly, StopsInferring};
 
 use crate::input::read_csv;
 use crate::schema::{infer_schema, inferred_schemas_are_exact};
@@ -47,6 +47,13 @@ pub fn infer<C: Source, K: Sink>(
     ensures exact { (csv : List ℕ) → C.to_come csv_source.old ≡ Some csv
         → OnOk result (InfersExactly csv (K.taken sink.old) (K.taken sink.new)) }
 
+    // Where the reader has an error of its own, the CSV came whole, and its place is the heading, or the record behind
+    // those whose rows are good.
+    ensures reader { IfErr result (λ fault. is_reader_fault fault ≡ true → (csv : List ℕ)
+        × Came longest_csv (C.to_come csv_source.old) (C.to_come csv_source.new)
+        (C.failures csv_source.old) (C.failures csv_source.new) (Ok (Some csv))
+        × StopsInferring csv fault) }
+
     // Where a device failed, the call ends with that; and no more is taken of the source than one byte past its limit.
     ensures csv_failed { EndsWith (nowhere 701) (C.failures csv_source.old) (C.failures csv_source.new) result }
     ensures sink_failed { EndsWith (nowhere 702) (K.failures sink.old) (K.failures sink.new) result }
@@ -72,6 +79,7 @@ fn inferred_text(alloc: Global, table: &[u8], csv: &[u8]) -> Result<Vec<u8>, Fau
     ensures text { GivesButAside (λ text. text.items) result (inferred_text table.now csv.now) }
     ensures exact { IfOk result (λ text. SpellsExactly text.items csv.now) }
     ensures fault { IfErr result (λ fault. is_inferring_fault fault ≡ true) }
+    ensures reader { IfErr result (λ fault. is_reader_fault fault ≡ true → StopsInferring csv.now fault) }
 {
     inferred_schemas_are_exact();
     let schema = infer_schema(alloc, table, csv)?;

@@ -1,6 +1,7 @@
 //! A CSV text, read whole.
 ghost use Rattle.std.specs.Prelude.{◌≡◌, ◌+◌, ◌-◌, ◌^◌, ◌<◌, ℕ, List, Option, Result, false, IfErr};
 ghost use Rattle.bw_model.specs.declared.fault.Fault.{Fault};
+ghost use Rattle.bw_csv.specs.Rows.{is_reader_fault};
 ghost use Rattle.bw_device.specs.Sink.{is_write_fault};
 ghost use Rattle.bw_model.specs.Fault.{nowhere};
 ghost use Rattle.bw_model.specs.Limits.{longest_csv};
@@ -23,6 +24,7 @@ pub(crate) fn read_csv<C: Source>(alloc: Global, source: &mut C) -> Result<Vec<u
     ensures took { TookAtMost (longest_csv + 1) (C.to_come source.old) (C.to_come source.new) }
     ensures failed { EndsWith (nowhere 701) (C.failures source.old) (C.failures source.new) result }
     ensures fault { IfErr result (λ fault. is_write_fault fault ≡ false) }
+    ensures own { IfErr result (λ fault. is_reader_fault fault ≡ false) }
 {
     match read_limited(alloc, source, MAX_CSV_LEN)? {
         Input::Whole(text) => Ok(text),

@@ -7,8 +7,9 @@ ghost use Rattle.bw_model.specs.Row.{values_of};
 ghost use Rattle.bw_model.specs.SchemaText.{column_shape, schema_shape};
 ghost use Rattle.bw_model.specs.Column.{names_of};
 ghost use Rattle.bw_csv.specs.Records.{IsOpen, coming, fields_in};
-ghost use Rattle.bw_csv.specs.Rows.{GivesButAside};
-ghost use Rattle.bw_infer.specs.Infer.{is_inferring_fault};
+ghost use Rattle.bw_csv.specs.Bare.{bare_rows};
+ghost use Rattle.bw_csv.specs.Rows.{GivesButAside, is_reader_fault, StopsBehind};
+ghost use Rattle.bw_infer.specs.Infer.{is_inferring_fault, StopsInferring};
 ghost use Rattle.bw_infer.specs.Inferred.{inferred, IsExact};
 ghost use Rattle.bw_infer.specs.Seen.{columns_behind, nothing, with_records};
 
@@ -30,6 +31,7 @@ pub(crate) fn infer_schema(alloc: Global, table: &[u8], text: &[u8]) -> Result<S
     requires { IsTrue (is_name table.now) }
     ensures schema { GivesButAside schema_shape result (inferred table.now text.now) }
     ensures fault { IfErr result (λ fault. is_inferring_fault fault ≡ true) }
+    ensures reader { IfErr result (λ fault. is_reader_fault fault ≡ true → StopsInferring text.now fault) }
 {
     let mut records = Records::new(alloc, text);
     if !records.next(0)? {
@@ -54,6 +56,8 @@ fn columns_behind(
         (columns_behind names.now (coming records.old)) }
     ensures names { IfOk result (λ columns. names_of columns.items ≡ names.now) }
     ensures fault { IfErr result (λ fault. is_inferring_fault fault ≡ true) }
+    ensures reader { IfErr result (λ fault. is_reader_fault fault ≡ true
+        → StopsBehind (bare_rows (length names.now)) (coming records.old) fault) }
 {
     let seen = rows_seen(alloc, records, names.len())?;
     columns_seen(alloc, names, &seen)
@@ -66,6 +70,8 @@ fn rows_seen(alloc: Global, records: &mut Records<'_>, width: usize) -> Result<V
         (with_records (replicate width nothing) width 1 (coming records.old)) }
     ensures width { IfOk result (λ columns. length columns.items ≡ width) }
     ensures fault { IfErr result (λ fault. is_inferring_fault fault ≡ true) }
+    ensures reader { IfErr result (λ fault. is_reader_fault fault ≡ true
+        → StopsBehind (bare_rows width) (coming records.old) fault) }
 {
     let mut row = Row {
         values: Vec::with_capacity(alloc, width)?,
@@ -96,6 +102,8 @@ fn take_rows(records: &mut Records<'_>, row: &mut Row, columns: &mut Vec<Seen>) 
         (with_records columns.old.items (length columns.old.items) 1 (coming records.old)) }
     ensures width { OnOk result (length columns.new.items ≡ length columns.old.items) }
     ensures fault { IfErr result (λ fault. is_inferring_fault fault ≡ true) }
+    ensures reader { IfErr result (λ fault. is_reader_fault fault ≡ true
+        → StopsBehind (bare_rows (length columns.old.items)) (coming records.old) fault) }
 {
     let width = columns.len();
     let mut number = 1;

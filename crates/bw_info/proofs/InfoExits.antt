@@ -1,14 +1,14 @@
 -- Where a call that tells a header ends: at the header, or when the text goes out.
-use Rattle.std.proofs.Common.{◌≡◌, ◌∙◌, refl, sym, ap, subst, ℕ, Bool, true, false, ◌||◌, List, [], length, Option, Some, None, Result, Ok, Err, inl, inr, arith}
+use Rattle.std.proofs.Common.{◌≡◌, ◌∙◌, ◌+◌, refl, sym, ap, subst, ℕ, Bool, true, false, ◌||◌, List, [], length, Option, Some, None, Result, Ok, Err, inl, inr, arith}
 use Rattle.std.specs.Prelude.{OnOk}
 use Rattle.std.specs.Io.KnownBytes.{Appends, Keeps}
 use Rattle.bw_model.specs.declared.fault.Fault.{Fault}
 use Rattle.bw_model.specs.declared.schema.Schema.{Schema}
-use Rattle.bw_model.specs.Fault.{is_memory, no_memory}
+use Rattle.bw_model.specs.Fault.{no_memory}
 use Rattle.bw_model.specs.Row.{Value}
 use Rattle.bw_model.specs.SchemaText.{IsSchemaText, SchemaShape, schema_shape}
-use Rattle.bw_device.specs.Sink.{GoesOut, is_write_fault}
-use Rattle.bw_device.specs.Source.{is_input_fault}
+use Rattle.bw_device.specs.Sink.{GoesOut, Wrote, is_write_fault}
+use Rattle.bw_device.specs.Source.{is_input_fault, is_read_fault}
 use Rattle.bw_file.specs.declared.layout.Layout.{Layout}
 use Rattle.bw_file.specs.declared.table_reader.TableReader.{TableReader}
 use Rattle.bw_file.specs.FileText.{IsFileText}
@@ -16,7 +16,7 @@ use Rattle.bw_file.specs.Reading.{State, Fails, GoesOn, failed_reads, give}
 use Rattle.bw_file.specs.TableReader.{GaveFirst, header_told, layout_in, rows_told, schema_in, version_in}
 use Rattle.bw_file.specs.TableReading.{header}
 use Rattle.bw_model.proofs.SameColumns.{columns_same}
-use Rattle.bw_info.specs.Info.{InfoGave, TellsFile, Wrote, info_text, is_no_verdict}
+use Rattle.bw_info.specs.Info.{InfoGave, TellsFile, info_text, is_no_verdict}
 use Rattle.bw_info.proofs.SizeLemmas.{file_sized}
 
 abbrev Given : Type 0
@@ -29,19 +29,26 @@ Ends start now W = (offset : ℕ) × (given : Given) × InfoGave start (now offs
 pub header_exit : (start : State) (now : ℕ → State) (W : Given → Type 0) (fault : Fault) → ((offset : ℕ) × Fails header start (now offset) fault) → W (Err fault) → Ends start now W
 header_exit start now W fault fails w =
     let given : Given = Err fault in
-    (fails.0, given, record { failures = fails.1.failures; info = λ own. fails.1 }, w)
+    (fails.0, given, record { failures = fails.1.failures; info = fails.1 }, w)
 
 -- there was no memory for the text
 pub memory_exit : (start : State) (now : ℕ → State) (offset : ℕ) (W : Given → Type 0) (fault : Fault) (reader : TableReader)
     → GoesOn header start (give (header_told (version_in reader) reader)) (now offset) → fault ≡ no_memory → W (Err fault) → Ends start now W
 memory_exit start now offset W fault reader read memory w =
     let given : Given = Err fault in
-    let none : failed_reads fault ≡ 0 = ap failed_reads memory in (
-      offset,
-      given,
-      record { failures = omega (arith, read.failures, none); info = λ own. let e : true ≡ false = sym (ap is_memory memory) ∙ own in absurd (cc e) },
-      w,
-    )
+    let none : failed_reads fault ≡ 0 = ap failed_reads memory in
+    let read_none : is_read_fault fault ≡ false = ap is_read_fault memory in
+    let aside : is_input_fault fault ≡ true = ap is_input_fault memory in
+    let failures : (now offset).failures ≡ start.failures + failed_reads fault = omega (arith, read.failures, none) in
+    let fails : Fails header start (now offset) fault = record {
+      bytes = read.bytes;
+      took = read.took;
+      needed = read.needed;
+      unfinished = λ failed. let e : false ≡ true = sym read_none ∙ failed in absurd (cc e);
+      failures = failures;
+      refused = λ own. let e : true ≡ false = sym aside ∙ own in absurd (cc e);
+    } in
+    (offset, given, record { failures = failures; info = fails }, w)
 
 -- the text of the header was given
 pub text_exit : (start : State) (now : ℕ → State) (offset : ℕ) (W : Given → Type 0) (reader : TableReader) (text : List ℕ)
@@ -64,7 +71,7 @@ keeps_itself None = tt
 keeps_itself (Some xs) = refl
 
 pub wrote_nothing : (T : Type 0) (old : Option (List ℕ)) (count : ℕ) (fault : Fault) → Wrote {T = T} old old count count (Err fault) (Err fault)
-wrote_nothing T old count fault = inr (record { kept = keeps_itself old; count = refl; is = λ other. refl })
+wrote_nothing T old count fault = inr (record { kept = keeps_itself old; count = refl; is = refl })
 
 -- the text went out whole, or up to a failed write
 pub wrote_either : (T : Type 0) (old new : Option (List ℕ)) (before after : ℕ) (text : List ℕ) (result : Result T Fault) → GoesOut {T = T} old new before after text result

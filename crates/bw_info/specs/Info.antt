@@ -1,13 +1,12 @@
 -- What the header of a table file says, as text.
-use Rattle.std.specs.Prelude.{◌≡◌, ◌⊎◌, ℕ, ◌+◌, ◌*◌, ◌/◌, ◌||◌, Bool, false, List, [], ◌∷◌, ◌++◌, length, codes, Option, Result, Ok, Err, IsOkAnd}
+use Rattle.std.specs.Prelude.{◌≡◌, ℕ, ◌+◌, ◌*◌, ◌/◌, ◌||◌, Bool, List, [], ◌∷◌, ◌++◌, length, codes, Option, Result, Ok, Err}
 use Rattle.std.specs.Fmt.{decimal}
-use Rattle.std.specs.Io.KnownBytes.{Appends, Keeps}
+use Rattle.std.specs.Io.KnownBytes.{Appends}
 use Rattle.bw_model.specs.declared.fault.Fault.{Fault}
 use Rattle.bw_model.specs.declared.schema.Schema.{Schema}
-use Rattle.bw_model.specs.Fault.{is_memory, nowhere}
 use Rattle.bw_model.specs.Row.{Value}
 use Rattle.bw_model.specs.SchemaText.{IsSchemaText, schema_shape}
-use Rattle.bw_device.specs.Sink.{TookPart, is_write_fault}
+use Rattle.bw_device.specs.Sink.{is_write_fault}
 use Rattle.bw_device.specs.Source.{is_input_fault}
 use Rattle.bw_file.specs.declared.layout.Layout.{Layout}
 use Rattle.bw_file.specs.declared.layout.Layout.TheVariants.{Planes, Slices}
@@ -55,11 +54,11 @@ pub record TellsHeader (start now : State) (text : List ℕ) : Type 0 where
   pub is : text ≡ info_text told.version told.layout schema told.rows
   pub spelled : IsSchemaText text (schema_shape schema)
 
--- that text; or the header's first fault, or a failed read before the header was whole; want of
--- memory aside
+-- that text; or the header's first fault, or a failed read before the header was whole; or want of
+-- memory, once no more was taken than the header needs
 abbrev pub IsInfo : State → State → Result (List ℕ) Fault → Type 0
 IsInfo start now (Ok text) = TellsHeader start now text
-IsInfo start now (Err fault) = is_memory fault ≡ false → Fails header start now fault
+IsInfo start now (Err fault) = Fails header start now fault
 
 -- so it is by what a source gave, whose failures rose where a failed read is answered
 pub record InfoGave (start now : State) (given : Result (List ℕ) Fault) : Type 0 where
@@ -75,19 +74,3 @@ pub record TellsFile (bytes : List ℕ) (layout : Layout) (schema : Schema) (row
 -- a refusal that no bytes call for: a failed read, a failed write, or want of memory
 abbrev pub is_no_verdict : Fault → Bool
 is_no_verdict fault = is_input_fault fault || is_write_fault fault
-
--- A call that is to write a text, or to refuse: the text went out; or up to a failed write; or the call wrote nothing and
--- refused as it was to, want of memory aside.
-pub record WriteFailed (old new : Option (List ℕ)) (before after : ℕ) (given : Result (List ℕ) Fault) (fault : Fault) : Type 0 where
-  pub is : fault ≡ nowhere 702
-  pub part : IsOkAnd given (TookPart old new)
-  pub count : after ≡ before + 1
-
-pub record WroteNothing (old new : Option (List ℕ)) (before after : ℕ) (given : Result (List ℕ) Fault) (fault : Fault) : Type 0 where
-  pub kept : Keeps old new
-  pub count : after ≡ before
-  pub is : is_memory fault ≡ false → given ≡ Err fault
-
-abbrev pub Wrote : {T : Type 0} → Option (List ℕ) → Option (List ℕ) → ℕ → ℕ → Result (List ℕ) Fault → Result T Fault → Type 0
-Wrote old new before after given (Ok x) = IsOkAnd given (λ text. Appends old new text) × (after ≡ before)
-Wrote old new before after given (Err fault) = WriteFailed old new before after given fault ⊎ WroteNothing old new before after given fault

@@ -5,12 +5,12 @@ ghost use Rattle.bw_model.specs.declared.schema.Schema.{Schema};
 ghost use Rattle.bw_model.specs.Fault.{nowhere};
 ghost use Rattle.bw_model.specs.Groups.{groups_of};
 ghost use Rattle.bw_model.specs.Row.{Value};
-ghost use Rattle.bw_device.specs.Sink.{is_write_fault};
+ghost use Rattle.bw_device.specs.Sink.{Wrote, is_write_fault};
 ghost use Rattle.bw_device.specs.Source.{EndsWith};
 ghost use Rattle.bw_file.specs.declared.layout.Layout.{Layout};
 ghost use Rattle.bw_file.specs.FileText.{AreRows, IsFileText, text_of_version};
 ghost use Rattle.bw_file.specs.Reading.{state};
-ghost use Rattle.bw_info.specs.Info.{InfoGave, TellsFile, Wrote, file_size, is_no_verdict, segment_count};
+ghost use Rattle.bw_info.specs.Info.{InfoGave, TellsFile, file_size, is_no_verdict, segment_count};
 
 use crate::text::info_text;
 use bw_device::{Sink, Source, write_whole};

@@ -10,7 +10,7 @@ use Rattle.bw_model.specs.declared.schema.Schema.{Schema}
 use Rattle.bw_model.specs.Fault.{is_memory}
 use Rattle.bw_model.specs.Groups.{groups_of, together}
 use Rattle.bw_model.specs.Row.{Value}
-use Rattle.bw_device.specs.Sink.{GoesOut, is_write_fault}
+use Rattle.bw_device.specs.Sink.{GoesOut, Wrote, is_write_fault}
 use Rattle.bw_device.specs.Source.{is_input_fault, is_read_fault}
 use Rattle.bw_file.specs.FileText.{IsFileText}
 use Rattle.bw_file.specs.Reading.{State, Fails, GoesOn, failed_reads, give}
@@ -18,7 +18,7 @@ use Rattle.bw_file.specs.TableReading.{header}
 use Rattle.bw_file.specs.TableReader.{AnswersFault, schema_in, version_in, header_told}
 use Rattle.bw_file.specs.declared.table_reader.TableReader.{TableReader}
 use Rattle.bw_file.proofs.FileSpelling.{read_is_spelled_by}
-use Rattle.bw_query.specs.TableAnswer.{AnswersFile, HeaderRead, TableGave, TableText, Wrote, is_no_verdict}
+use Rattle.bw_query.specs.TableAnswer.{AnswersFile, HeaderRead, TableGave, TableText, is_no_verdict}
 use Rattle.bw_query.specs.declared.scan.Scan.{Scan}
 use Rattle.bw_query.specs.declared.table_text.Scanned.{Scanned}
 use Rattle.bw_query.specs.TableText.{IsScanOf, TextOver}
@@ -26,9 +26,16 @@ use Rattle.bw_query.specs.TableText.{IsScanOf, TextOver}
 abbrev pub Given : Type 0
 Given = Result (List ℕ) Fault
 
--- a source gave this, and what is given for it went W
+-- a source gave this
+abbrev pub Gives : (Schema → Result Query Fault → Type 0) → State → (ℕ → State) → Given → Type 0
+Gives asks start now given = (offset : ℕ) × TableGave asks start (now offset) given
+
+-- and what is given for it went W
 abbrev pub Ends : (Schema → Result Query Fault → Type 0) → State → (ℕ → State) → (Given → Type 0) → Type 0
-Ends asks start now W = (offset : ℕ) × (given : Result (List ℕ) Fault) × TableGave asks start (now offset) given × W given
+Ends asks start now W = (offset : ℕ) × (given : Given) × TableGave asks start (now offset) given × W given
+
+pub ends : (asks : Schema → Result Query Fault → Type 0) (start : State) (now : ℕ → State) (W : Given → Type 0) (given : Given) → Gives asks start now given → W given → Ends asks start now W
+ends asks start now W given gave w = (gave.0, given, gave.1, w)
 
 -- a reader tells of the header that it read
 abbrev pub Told : State → State → TableReader → Type 0
@@ -38,50 +45,42 @@ head_of : (start behind : State) (reader : TableReader) → Told start behind re
 head_of start behind reader told = record { told = header_told (version_in reader) reader; read = told; shape = refl }
 
 -- the header was refused
-pub header_exit : (asks : Schema → Result Query Fault → Type 0) (start : State) (now : ℕ → State) (W : Given → Type 0) (fault : Fault)
-    → ((offset : ℕ) × Fails header start (now offset) fault) → W (Err fault) → Ends asks start now W
-header_exit asks start now W fault fails w =
-    let given : Given = Err fault in
-    (fails.0, given, record { failures = fails.1.failures; answer = λ other. inl fails.1 }, w)
+pub header_exit : (asks : Schema → Result Query Fault → Type 0) (start : State) (now : ℕ → State) (fault : Fault)
+    → ((offset : ℕ) × Fails header start (now offset) fault) → Gives asks start now (Err fault)
+header_exit asks start now fault fails = (fails.0, record { failures = fails.1.failures; answer = inl fails.1 })
 
 -- what is asked was refused
-pub asked_exit : (asks : Schema → Result Query Fault → Type 0) (start : State) (now : ℕ → State) (offset : ℕ) (W : Given → Type 0) (reader : TableReader) (fault : Fault)
-    → Told start (now offset) reader → failed_reads fault ≡ 0 → (is_memory fault ≡ false → asks (schema_in reader) (Err fault)) → W (Err fault)
-    → Ends asks start now W
-asked_exit asks start now offset W reader fault told none asked w =
-    let given : Given = Err fault in (
-      offset,
-      given,
-      record {
-        failures = omega (arith, told.failures, none);
-        answer = λ other. inr (inl (record { schema = schema_in reader; head = head_of start (now offset) reader told; asked = asked other }));
-      },
-      w,
-    )
+pub asked_exit : (asks : Schema → Result Query Fault → Type 0) (start : State) (now : ℕ → State) (offset : ℕ) (reader : TableReader) (fault : Fault)
+    → Told start (now offset) reader → failed_reads fault ≡ 0 → (is_memory fault ≡ false → asks (schema_in reader) (Err fault)) → Gives asks start now (Err fault)
+asked_exit asks start now offset reader fault told none asked = (
+  offset,
+  record {
+    failures = omega (arith, told.failures, none);
+    answer = inr (inl (record { schema = schema_in reader; head = head_of start (now offset) reader told; asked = asked }));
+  },
+)
 
 -- a segment was refused, or a read of one failed
-pub segment_exit : (asks : Schema → Result Query Fault → Type 0) (start : State) (now : ℕ → State) (old : State) (offset : ℕ) (W : Given → Type 0) (reader : TableReader) (query : Query) (fault : Fault)
-    → Told start old reader → asks (schema_in reader) (Ok query) → AnswersFault start old (now offset) fault → W (Err fault) → Ends asks start now W
-segment_exit asks start now old offset W reader query fault told asked answers w =
-    let given : Given = Err fault in (
-      offset,
-      given,
-      record {
-        failures = answers.failures ∙ ap (λ (n : ℕ). n + failed_reads fault) told.failures;
-        answer = λ other. inr (inr (record {
-          schema = schema_in reader;
-          query = query;
-          behind = old;
-          head = head_of start old reader told;
-          asked = asked;
-          bytes = answers.bytes;
-          took = answers.took;
-          unfinished = answers.unfinished;
-          first = answers.first;
-        }));
-      },
-      w,
-    )
+pub segment_exit : (asks : Schema → Result Query Fault → Type 0) (start : State) (now : ℕ → State) (old : State) (offset : ℕ) (reader : TableReader) (query : Query) (fault : Fault)
+    → Told start old reader → asks (schema_in reader) (Ok query) → AnswersFault start old (now offset) fault → Gives asks start now (Err fault)
+segment_exit asks start now old offset reader query fault told asked answers = (
+  offset,
+  record {
+    failures = answers.failures ∙ ap (λ (n : ℕ). n + failed_reads fault) told.failures;
+    answer = inr (inr (record {
+      schema = schema_in reader;
+      query = query;
+      behind = old;
+      head = head_of start old reader told;
+      asked = asked;
+      bytes = answers.bytes;
+      took = answers.took;
+      needed = answers.needed;
+      unfinished = answers.unfinished;
+      first = answers.first;
+    }));
+  },
+)
 
 -- the text of the meaning, over a table's rows, and what is told of the scan over their groups
 pub text_over : (asks : Schema → Result Query Fault → Type 0) (start now : State) (schema : Schema) (query : Query) (scan : Scan) (text : List ℕ) (scanned : Scanned)
@@ -151,13 +150,12 @@ answered_or_not asks start now schema query scan text scanned asked over bytes k
     (file_answered asks start now schema query scan text scanned (λ s q r. Unit {0}) (λ rows counts. tt) asked over bytes known old new goes.0).0
 answered_or_not asks start now schema query scan text scanned asked over bytes known old new before after (Err fault) goes = tt
 
--- the text went out, or not
-pub text_exit : (asks : Schema → Result Query Fault → Type 0) (start : State) (now : ℕ → State) (offset : ℕ) (W : Given → Type 0) (schema : Schema) (query : Query) (scan : Scan) (text : List ℕ) (scanned : Scanned)
-    → asks schema (Ok query) → TextOver start (now offset) schema query scan text scanned → W (Ok text) → Ends asks start now W
-text_exit asks start now offset W schema query scan text scanned asked over w =
-    let given : Given = Ok text in
+-- the file was read whole
+pub text_exit : (asks : Schema → Result Query Fault → Type 0) (start : State) (now : ℕ → State) (offset : ℕ) (schema : Schema) (query : Query) (scan : Scan) (text : List ℕ) (scanned : Scanned)
+    → asks schema (Ok query) → TextOver start (now offset) schema query scan text scanned → Gives asks start now (Ok text)
+text_exit asks start now offset schema query scan text scanned asked over =
     let found = text_over asks start (now offset) schema query scan text scanned (λ s q r. Unit {0}) (λ rows counts. tt) asked over in
-    (offset, given, record { failures = omega (arith, over.read.failures); answer = found.0 }, w)
+    (offset, record { failures = omega (arith, over.read.failures); answer = found.0 })
 
 -- a call that wrote nothing
 keeps_itself : (old : Option (List ℕ)) → Keeps old old
@@ -165,7 +163,7 @@ keeps_itself None = tt
 keeps_itself (Some xs) = refl
 
 pub wrote_nothing : (T : Type 0) (old : Option (List ℕ)) (count : ℕ) (fault : Fault) → Wrote {T = T} old old count count (Err fault) (Err fault)
-wrote_nothing T old count fault = inr (record { kept = keeps_itself old; count = refl; is = λ other. refl })
+wrote_nothing T old count fault = inr (record { kept = keeps_itself old; count = refl; is = refl })
 
 -- the text went out whole, or up to a failed write
 pub wrote_text : (T : Type 0) (old new : Option (List ℕ)) (before after : ℕ) (text : List ℕ) (fault : Fault) → GoesOut {T = T} old new before after text (Err fault)
@@ -178,12 +176,15 @@ wrote_either T old new before after text (Ok x) goes = goes
 wrote_either T old new before after text (Err fault) goes = wrote_text T old new before after text fault goes
 
 -- a fault that isn't a failed read
-pub no_failed_read : (allowed : Fault → Bool) (fault : Fault) → allowed fault ≡ true → allowed (record { code = 701; place = fault.place }) ≡ false → failed_reads fault ≡ 0
+pub no_failed_read : (allowed : Fault → Bool) (fault : Fault) → allowed fault ≡ true → allowed (record { code = 701; place = fault.place }) ≡ false → is_read_fault fault ≡ false
 no_failed_read allowed fault is none = by_code (fault.code == 701) refl
   where
-    by_code : (b : Bool) → (fault.code == 701) ≡ b → failed_reads fault ≡ 0
+    by_code : (b : Bool) → (fault.code == 701) ≡ b → is_read_fault fault ≡ false
     by_code true e = absurd (cc (sym is ∙ ap (λ code. allowed (record { code = code; place = fault.place })) (eqb-true fault.code 701 e) ∙ none))
     by_code false e = rw e refl
+
+pub no_read : (fault : Fault) → is_read_fault fault ≡ false → failed_reads fault ≡ 0
+no_read fault e = rw e refl
 
 -- a failed read and want of memory are no verdicts
 pub input_verdict : (fault : Fault) → is_input_fault fault ≡ true → is_no_verdict fault ≡ true

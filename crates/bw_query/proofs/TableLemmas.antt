@@ -11,7 +11,7 @@ use Rattle.bw_answer.specs.Over.{GoesOver, IsOver}
 use Rattle.bw_answer.specs.declared.answer.Answer.{Answer}
 use Rattle.bw_device.specs.Source.{is_read_fault, is_input_fault}
 use Rattle.bw_file.specs.Reading.{State, Took, failed_reads}
-use Rattle.bw_file.specs.TableReader.{AnswersFault, SameTable}
+use Rattle.bw_file.specs.TableReader.{AnswersFault, NoneToSpare, SameTable}
 use Rattle.bw_file.specs.declared.table_reader.TableReader.{TableReader}
 
 -- an answer that takes nothing
@@ -36,12 +36,13 @@ goes_on start old new groups rows first next = record {
       (append_assoc before (together groups) rows ∙ ap (λ (l : List (List Value)). before ++ l) (sym (together_more groups rows))) then;
 }
 
--- want of memory, once bytes were taken and no read failed
-pub memory_answers : (start old now : State) (fault : Fault) → ((bytes : List ℕ) × Took start now bytes) → now.failures ≡ old.failures → fault ≡ no_memory
+-- want of memory, once bytes were taken, none of which could be spared, and no read failed
+pub memory_answers : (start old now : State) (fault : Fault) → ((bytes : List ℕ) × Took start now bytes × NoneToSpare bytes) → now.failures ≡ old.failures → fault ≡ no_memory
     → AnswersFault start old now fault
 memory_answers start old now fault taken failures memory = record {
   bytes = taken.0;
   took = taken.1;
+  needed = taken.2;
   unfinished = λ failed. let e : false ≡ true = sym (ap is_read_fault memory) ∙ failed in absurd (cc e);
   failures = rw memory (failures ∙ sym (add_zero old.failures));
   first = λ own. let e : true ≡ false = sym (ap is_input_fault memory) ∙ own in absurd (cc e);
@@ -55,6 +56,7 @@ pub later_answers : (start first old now : State) (fault : Fault) → old.failur
 later_answers start first old now fault same answers = record {
   bytes = answers.bytes;
   took = answers.took;
+  needed = answers.needed;
   unfinished = answers.unfinished;
   failures = answers.failures ∙ ap (λ (n : ℕ). n + failed_reads fault) same;
   first = answers.first;

@@ -1,3 +1,4 @@
+pub mod AnswerText
 pub mod Plan
 pub mod Scan
 pub mod Served

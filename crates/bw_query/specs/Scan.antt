@@ -1,15 +1,17 @@
 -- Who finds the rows that a query keeps, and how often planes are loaded and instructions are skipped.
-use Rattle.std.specs.Prelude.{◌≡◌, ℕ, List, Option, Some, None, option_map}
+use Rattle.std.specs.Prelude.{◌≡◌, ℕ, List, Option, Some, None, option_map, Result, Ok, Err, if◌then◌else◌}
 use Rattle.std.specs.Borrow.{Bor}
 use Rattle.bw_model.specs.declared.column.Column.{Column}
 use Rattle.bw_model.specs.declared.cond.Cond.{Cond}
 use Rattle.bw_model.specs.declared.fault.Fault.{Fault}
 use Rattle.bw_model.specs.CondTree.{tree_of}
+use Rattle.bw_model.specs.Fault.{is_memory}
 use Rattle.bw_model.specs.Groups.{lanes_of}
 use Rattle.bw_model.specs.Row.{Value}
 use Rattle.bw_program.specs.Machine.{State, end_state}
 use Rattle.bw_program.specs.Program.{ProgramShape}
 use Rattle.bw_cert_text.specs.CertificateShape.{CertificateShape}
+use Rattle.bw_cert.specs.declared.certified.Certified.{Certified}
 use Rattle.bw_cert.specs.Valid.{Valid}
 use Rattle.bw_check.specs.Judged.{Certifies, IsFileFault}
 use Rattle.bw_query.specs.declared.scan.Scan.{Scan}
@@ -27,6 +29,12 @@ IsChosen (Some file) columns cond (Program certified) = (certificate : Certifica
 IsChosen (Some file) columns cond Rows = ⊥
 IsChosen None columns cond (Program certified) = (certificate : CertificateShape) × Valid columns cond certified.program certificate
 IsChosen None columns cond Rows = Unit {0}
+
+-- The scan by what came of a search for a program: by the program; row by row, where none was found by a fault other than
+-- want of memory; and want of memory is no scan.
+abbrev pub scan_by : Result Certified Fault → Result Scan Fault
+scan_by (Ok certified) = Ok (Program certified)
+scan_by (Err fault) = if is_memory fault then Err fault else Ok Rows
 
 -- the bytes of a program file, where one is given
 abbrev pub given_file : Option (Bor (List ℕ)) → Option (List ℕ)

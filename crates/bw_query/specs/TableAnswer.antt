@@ -1,12 +1,12 @@
 -- What an answer from a table file is to be, by the bytes that came of it.
-use Rattle.std.specs.Prelude.{◌≡◌, ◌⊎◌, ℕ, ◌+◌, ◌||◌, Bool, true, false, IsTrue, List, length, map, Option, Result, Ok, Err, IsOkAnd}
-use Rattle.std.specs.Io.KnownBytes.{Appends, Keeps}
+use Rattle.std.specs.Prelude.{◌≡◌, ◌⊎◌, ℕ, ◌+◌, ◌||◌, Bool, true, false, IsTrue, List, length, map, Option, Result, Ok, Err}
+use Rattle.std.specs.Io.KnownBytes.{Appends}
 use Rattle.std.specs.List.{range_with_len}
 use Rattle.bw_model.specs.declared.fault.Fault.{Fault}
 use Rattle.bw_model.specs.declared.query.Item.TheVariants.{Plain}
 use Rattle.bw_model.specs.declared.query.Query.{Query}
 use Rattle.bw_model.specs.declared.schema.Schema.{Schema}
-use Rattle.bw_model.specs.Fault.{is_memory, nowhere}
+use Rattle.bw_model.specs.Fault.{is_memory}
 use Rattle.bw_model.specs.Column.{names_of}
 use Rattle.bw_model.specs.Cond.{is_kept}
 use Rattle.bw_model.specs.Groups.{groups_of}
@@ -14,13 +14,13 @@ use Rattle.bw_model.specs.Row.{Value}
 use Rattle.bw_model.specs.SchemaText.{schema_shape}
 use Rattle.bw_sql.specs.Statement.{IsReadAs}
 use Rattle.bw_answer.specs.Answer.{csv_text, meaning}
-use Rattle.bw_device.specs.Sink.{TookPart, is_write_fault}
+use Rattle.bw_device.specs.Sink.{is_write_fault}
 use Rattle.bw_device.specs.Source.{is_read_fault, is_input_fault}
 use Rattle.bw_file.specs.declared.layout.Layout.{Layout}
 use Rattle.bw_file.specs.FileText.{IsFileText}
 use Rattle.bw_file.specs.Reading.{State, Took, GoesOn, Fails, give}
 use Rattle.bw_file.specs.TableReading.{HeaderShape, Found, header}
-use Rattle.bw_file.specs.TableReader.{AreUnfinished, HasFirstFault, ReadWhole, failed_by}
+use Rattle.bw_file.specs.TableReader.{AreUnfinished, HasFirstFault, NoneToSpare, ReadWhole, failed_by}
 use Rattle.bw_query.specs.Scan.{IsScanFault, IsUsable}
 
 -- the header of the file was read, and tells of this schema
@@ -61,14 +61,15 @@ pub record AnswersFile (asks : Schema → Result Query Fault → Type 0) (bytes 
 abbrev pub group_count : List (List Value) → ℕ
 group_count rows = length (groups_of rows)
 
--- the header was read and nothing behind it, and what is asked was refused
+-- the header was read and nothing behind it, and what is asked was refused, or memory was wanting
 pub record AskedRefused (asks : Schema → Result Query Fault → Type 0) (start now : State) (fault : Fault) : Type 0 where
   pub schema : Schema
   pub head : HeaderRead start now schema
-  pub asked : asks schema (Err fault)
+  pub asked : is_memory fault ≡ false → asks schema (Err fault)
 
--- the header was read and what is asked is a query, and then a read failed, where another byte or
--- the end was to be seen, or the file has its first fault behind the header
+-- The header was read and what is asked is a query; and then, once bytes were taken none of which could be spared, a read
+-- failed, where another byte or the end was to be seen; or memory was wanting; or the file has its first fault behind the
+-- header.
 pub record SegmentRefused (asks : Schema → Result Query Fault → Type 0) (start now : State) (fault : Fault) : Type 0 where
   pub schema : Schema
   pub query : Query
@@ -77,15 +78,17 @@ pub record SegmentRefused (asks : Schema → Result Query Fault → Type 0) (sta
   pub asked : asks schema (Ok query)
   pub bytes : List ℕ
   pub took : Took start now bytes
+  pub needed : NoneToSpare bytes
   pub unfinished : is_read_fault fault ≡ true → AreUnfinished bytes
   pub first : is_input_fault fault ≡ false → HasFirstFault now bytes fault
 
 -- What is asked of a table file is answered by this text, or by the first fault in the order of the header, what is
--- asked, and the segments; a failed read is answered in its place in that order, and want of memory stands aside.
+-- asked, and the segments; a failed read is answered in its place in that order, and want of memory at any, where no more
+-- was taken than is needed until then.
 abbrev pub IsTableAnswer : (Schema → Result Query Fault → Type 0) → State → State → Result (List ℕ) Fault → Type 0
 IsTableAnswer asks start now (Ok text) = TableText asks start now text
 IsTableAnswer asks start now (Err fault) =
-    is_memory fault ≡ false → Fails header start now fault ⊎ AskedRefused asks start now fault ⊎ SegmentRefused asks start now fault
+    Fails header start now fault ⊎ AskedRefused asks start now fault ⊎ SegmentRefused asks start now fault
 
 -- so it is by what a source gave, whose failures rose where a failed read is answered
 pub record TableGave (asks : Schema → Result Query Fault → Type 0) (start now : State) (given : Result (List ℕ) Fault) : Type 0 where
@@ -117,19 +120,3 @@ by_dump schema (Err fault) = ⊥
 -- a refusal that no bytes and no statement call for: a failed read, a failed write, or want of memory
 abbrev pub is_no_verdict : Fault → Bool
 is_no_verdict fault = is_input_fault fault || is_write_fault fault
-
--- A call that is to write a text, or to refuse: the text went out; or up to a failed write; or the call wrote nothing and
--- refused as it was to, want of memory aside.
-pub record WriteFailed (old new : Option (List ℕ)) (before after : ℕ) (given : Result (List ℕ) Fault) (fault : Fault) : Type 0 where
-  pub is : fault ≡ nowhere 702
-  pub part : IsOkAnd given (TookPart old new)
-  pub count : after ≡ before + 1
-
-pub record WroteNothing (old new : Option (List ℕ)) (before after : ℕ) (given : Result (List ℕ) Fault) (fault : Fault) : Type 0 where
-  pub kept : Keeps old new
-  pub count : after ≡ before
-  pub is : is_memory fault ≡ false → given ≡ Err fault
-
-abbrev pub Wrote : {T : Type 0} → Option (List ℕ) → Option (List ℕ) → ℕ → ℕ → Result (List ℕ) Fault → Result T Fault → Type 0
-Wrote old new before after given (Ok x) = IsOkAnd given (λ text. Appends old new text) × (after ≡ before)
-Wrote old new before after given (Err fault) = WriteFailed old new before after given fault ⊎ WroteNothing old new before after given fault

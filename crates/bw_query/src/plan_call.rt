@@ -6,10 +6,9 @@ ghost use Rattle.bw_model.specs.Fault.{is_memory, nowhere};
 ghost use Rattle.bw_program.specs.Program.{ProgramShape, fits};
 ghost use Rattle.bw_cert_text.specs.CertificateShape.{CertificateShape};
 ghost use Rattle.bw_check.specs.Judged.{Certifies};
-ghost use Rattle.bw_device.specs.Sink.{is_write_fault};
+ghost use Rattle.bw_device.specs.Sink.{Wrote, is_write_fault};
 ghost use Rattle.bw_device.specs.Source.{EndsWith};
 ghost use Rattle.bw_query.specs.Plan.{IsPlanned, IsPrinted};
-ghost use Rattle.bw_query.specs.TableAnswer.{Wrote};
 
 use bw_check::certify;
 use bw_device::{Sink, write_whole};

@@ -1,12 +1,14 @@
 //! Who finds the rows that a query keeps.
-ghost use Rattle.std.specs.Prelude.{◌≡◌, false, IfOk, IfErr, IsTrue, None, length};
+ghost use Rattle.std.specs.Prelude.{◌≡◌, false, IfOk, IfErr, IsTrue, None, Result, length};
 ghost use Rattle.bw_model.specs.declared.cond.Cond.{Cond};
 ghost use Rattle.bw_model.specs.Cond.{names_within};
 ghost use Rattle.bw_model.specs.CondTree.{tree_of};
 ghost use Rattle.bw_model.specs.Fault.{is_memory};
 ghost use Rattle.bw_check.specs.Judged.{is_file_fault};
-ghost use Rattle.bw_query.specs.declared.scan.Scan.TheVariants.{Rows};
-ghost use Rattle.bw_query.specs.Scan.{IsFor, IsChosen, IsScanFault, IsUsable, given_file};
+ghost use Rattle.bw_cert.specs.declared.certified.Certified.{Certified};
+ghost use Rattle.bw_model.specs.declared.fault.Fault.{Fault};
+ghost use Rattle.bw_query.specs.declared.scan.Scan.TheVariants.{Program};
+ghost use Rattle.bw_query.specs.Scan.{IsFor, IsChosen, IsScanFault, IsUsable, given_file, scan_by};
 
 use bw_cert::{Certified, check};
 use bw_check::certify;
@@ -56,27 +58,35 @@ fn planned(alloc: Global, schema: &Schema, cond: &Cond) -> Result<Scan, Fault>
     ensures certified { IfOk result (IsFor schema.now.columns.items cond.now) }
     ensures chosen { IfOk result (IsChosen None schema.now.columns.items cond.now) }
     ensures only_memory { IfErr result (λ fault. IsTrue (is_memory fault)) }
+    ensures found { (found : Result Certified Fault) × (result ≡ scan_by found) }
 {
-    let proposal = match propose(alloc, schema, cond) {
-        Ok(proposal) => proposal,
-        Err(fault) => return rows_unless_memory(fault),
-    };
-    match check(alloc, schema, cond, proposal.program, &proposal.certificate) {
-        Ok(certified) => Ok(Scan::Program(certified)),
-        Err((_, fault)) => rows_unless_memory(fault),
-    }
+    scan_by(accepted(alloc, schema, cond))
 }
 
-/// Row by row, where there is no program by a fault other than want of memory.
-fn rows_unless_memory(fault: Fault) -> Result<Scan, Fault>
-    ensures rows { IfOk result (λ scan. (scan ≡ Rows) × (is_memory fault ≡ false)) }
-    ensures only_memory { IfErr result (λ found. (found ≡ fault) × IsTrue (is_memory fault)) }
+/// The planner's program, which the checker has accepted; else the fault that one of the two answered, the planner (651) or
+/// the checker (601 to 610), or want of memory (801).
+fn accepted(alloc: Global, schema: &Schema, cond: &Cond) -> Result<Certified, Fault>
+    requires { IsTrue (names_within (length schema.now.columns.items) cond.now) }
+    ensures certified { IfOk result (λ certified. IsFor schema.now.columns.items cond.now (Program certified)) }
+    ensures chosen { IfOk result (λ certified. IsChosen None schema.now.columns.items cond.now (Program certified)) }
 {
-    match fault {
-        Fault {
-            code: code::OUT_OF_MEMORY,
-            place: Place::Nowhere,
-        } => Err(fault),
-        _ => Ok(Scan::Rows),
+    let proposal = propose(alloc, schema, cond)?;
+    check(alloc, schema, cond, proposal.program, &proposal.certificate).map_err(|(_, fault)| fault)
+}
+
+/// The scan by a program that was found; row by row, where there is none by a fault other than want of memory; and want of
+/// memory as it is.
+fn scan_by(found: Result<Certified, Fault>) -> Result<Scan, Fault>
+    ensures { result ≡ scan_by found }
+{
+    match found {
+        Ok(certified) => Ok(Scan::Program(certified)),
+        Err(
+            memory @ Fault {
+                code: code::OUT_OF_MEMORY,
+                place: Place::Nowhere,
+            },
+        ) => Err(memory),
+        Err(_) => Ok(Scan::Rows),
     }
 }

@@ -1,5 +1,5 @@
 //! Queries answered from a table file.
-ghost use Rattle.std.specs.Prelude.{◌≡◌, ◌-◌, ◌^◌, ◌<◌, ◌≤◌, ℕ, List, Result, Some, false, length, vec_len, IsTrue, IfOk, IfErr, OnOk};
+ghost use Rattle.std.specs.Prelude.{◌≡◌, ◌-◌, ◌^◌, ◌<◌, ◌≤◌, ℕ, List, Option, Result, Ok, Err, Some, false, length, vec_len, IsTrue, IfOk, IfErr, OnOk};
 ghost use Rattle.std.specs.Io.KnownBytes.{Appends};
 ghost use Rattle.std.specs.List.{list_all};
 ghost use Rattle.bw_model.specs.declared.fault.Fault.{Fault};
@@ -10,16 +10,18 @@ ghost use Rattle.bw_model.specs.Total.{item_within};
 ghost use Rattle.bw_sql.specs.Asked.{Asked};
 ghost use Rattle.bw_sql.specs.Items.{AreOfOneKind};
 ghost use Rattle.bw_sql.specs.Statement.{Spells};
-ghost use Rattle.bw_model.specs.Fault.{nowhere, no_memory};
+ghost use Rattle.bw_model.specs.Fault.{nowhere, no_memory, is_memory};
 ghost use Rattle.bw_model.specs.Row.{Value};
+ghost use Rattle.bw_model.specs.SchemaText.{schema_shape};
 ghost use Rattle.bw_file.specs.declared.layout.Layout.{Layout};
 ghost use Rattle.bw_file.specs.FileText.{IsFileText};
 ghost use Rattle.bw_file.specs.Reading.{state};
-ghost use Rattle.bw_device.specs.Sink.{is_write_fault};
-ghost use Rattle.bw_device.specs.Source.{EndsWith};
-ghost use Rattle.bw_query.specs.Scan.{given_file};
+ghost use Rattle.bw_device.specs.Sink.{Wrote, is_write_fault};
+ghost use Rattle.bw_device.specs.Source.{EndsWith, is_read_fault};
+ghost use Rattle.bw_query.specs.AnswerText.{text_in};
+ghost use Rattle.bw_query.specs.Scan.{IsChosen, IsFor, given_file};
 ghost use Rattle.bw_query.specs.Served.{IsServed};
-ghost use Rattle.bw_query.specs.TableAnswer.{AnswersFile, IsEveryRow, TableGave, TableText, Wrote, by_dump, by_statement, is_no_verdict};
+ghost use Rattle.bw_query.specs.TableAnswer.{AnswersFile, IsEveryRow, TableGave, TableText, by_dump, by_statement, is_no_verdict};
 
 use crate::scan::{Scan, scan_for};
 use crate::served::{Served, served_by};
@@ -76,15 +78,92 @@ pub fn answer<S: Source, K: Sink>(
         → (K.taken sink.new ≡ K.taken sink.old) × (K.failures sink.new ≡ K.failures sink.old)) }
     ensures done { OnOk result (K.failures sink.new ≡ K.failures sink.old) }
 {
+    let answered = answered(alloc, table, sql, program)?;
+    write_whole(sink, &answered.text)?;
+    Ok(answered.served)
+}
+
+/// The text of an answer, and how it was found.
+#[derive(Drop)]
+struct AnswerText {
+    text: Vec<u8>,
+    served: Served,
+}
+
+/// The text of the answer to a statement over the rows of a table file, once the last segment was found good and the file
+/// has ended. Refuses as [`answer`] does, but for the sink.
+fn answered<S: Source>(
+    alloc: Global,
+    table: &mut S,
+    sql: &[u8],
+    program: Option<&[u8]>,
+) -> Result<AnswerText, Fault>
+    requires { S.failures table.old < 2 ^ 64 - 1 }
+    ensures answer { (offset : ℕ) × TableGave (by_statement (given_file program.entry) sql.now)
+        (state (S.to_come table.old) 0 (S.failures table.old))
+        (state (S.to_come table.new) offset (S.failures table.new)) (text_in result) }
+    ensures served { IfOk result (λ answered. (offset : ℕ)
+        × (found : TableText (by_statement (given_file program.entry) sql.now) (state (S.to_come table.old) 0 (S.failures table.old))
+        (state (S.to_come table.new) offset (S.failures table.new)) answered.text.items)
+        × IsServed (given_file program.entry) found.schema found.query found.rows answered.served) }
+    ensures file { (bytes : List ℕ) → S.to_come table.old ≡ Some bytes → IfOk result (λ answered.
+        (old new : Option (List ℕ)) → Appends old new answered.text.items
+        → (file : AnswersFile (by_statement (given_file program.entry) sql.now) bytes old new)
+        × IsServed (given_file program.entry) file.schema file.query file.rows answered.served) }
+    ensures accepted { (bytes : List ℕ) (layout : Layout) (schema : Schema) (rows : List (List Value)) (query : Query)
+        → S.to_come table.old ≡ Some bytes → IsFileText bytes layout schema rows
+        → by_statement (given_file program.entry) sql.now schema (Ok query)
+        → IfErr result (λ fault. IsTrue (is_no_verdict fault)) }
+    ensures failed { EndsWith (nowhere 701) (S.failures table.old) (S.failures table.new) result }
+{
     a_file_text_is_read_whole();
+    let mut reader = TableReader::begin(alloc, table)?;
+    let prepared = prepare(alloc, reader.schema(), sql, program)?;
+    let found = table_text(alloc, &mut reader, table, &prepared.query, &prepared.scan)?;
+    Ok(AnswerText {
+        served: served_by(&prepared.scan, found.scanned),
+        text: found.text,
+    })
+}
+
+/// What a statement asks, and who finds its rows.
+#[derive(Drop)]
+struct Prepared {
+    query: Query,
+    scan: Scan,
+}
+
+/// What a statement asks of the rows of a table of this schema, and who finds them. Refuses the statement (401 to 408), and
+/// then the program file, as [`scan_for`] does.
+fn prepare(
+    alloc: Global,
+    schema: &Schema,
+    sql: &[u8],
+    program: Option<&[u8]>,
+) -> Result<Prepared, Fault>
+    ensures asked { IfOk result (λ prepared. by_statement (given_file program.entry) sql.now schema.now (Ok prepared.query)) }
+    ensures chosen { IfOk result (λ prepared.
+        IsChosen (given_file program.entry) schema.now.columns.items prepared.query.cond prepared.scan) }
+    ensures certified { IfOk result (λ prepared. IsFor schema.now.columns.items prepared.query.cond prepared.scan) }
+    ensures names { IfOk result (λ prepared. IsTrue (names_within (vec_len schema.now.columns) prepared.query.cond)) }
+    ensures items { IfOk result (λ prepared.
+        IsTrue (list_all (item_within (vec_len schema.now.columns)) prepared.query.items.items)) }
+    ensures some { IfOk result (λ prepared. 1 ≤ length prepared.query.items.items) }
+    ensures kinds { IfOk result (λ prepared. AreOfOneKind prepared.query.items.items) }
+    ensures refused { IfErr result (λ fault. is_memory fault ≡ false
+        → by_statement (given_file program.entry) sql.now schema.now (Err fault)) }
+    ensures unread { IfErr result (λ fault. is_read_fault fault ≡ false) }
+    // A statement that spells a query under a schema of the same shape, with a program file that is accepted for its
+    // condition, is refused for want of memory alone.
+    ensures accepted { (other : Schema) (query : Query) → schema_shape schema.now ≡ schema_shape other
+        → by_statement (given_file program.entry) sql.now other (Ok query)
+        → IfErr result (λ fault. IsTrue (is_memory fault)) }
+{
     schemas_of_one_shape();
     one_query_of_a_text();
-    let mut reader = TableReader::begin(alloc, table)?;
-    let query = parse(alloc, reader.schema(), sql)?;
-    let scan = scan_for(alloc, reader.schema(), &query.cond, program)?;
-    let found = table_text(alloc, &mut reader, table, &query, &scan)?;
-    write_whole(sink, &found.text)?;
-    Ok(served_by(&scan, found.scanned))
+    let query = parse(alloc, schema, sql)?;
+    let scan = scan_for(alloc, schema, &query.cond, program)?;
+    Ok(Prepared { query, scan })
 }
 
 /// Writes every row of a table file in every column, as CSV text.

@@ -6,11 +6,12 @@ use Rattle.std.specs.Io.KnownBytes.{Appends, Keeps}
 use Rattle.std.proofs.lemmas.Bool.{eqb-true}
 use Rattle.bw_model.specs.declared.fault.Fault.{Fault}
 use Rattle.bw_model.specs.declared.schema.Schema.{Schema}
-use Rattle.bw_model.specs.Fault.{no_memory, is_memory, ◌>>=◌}
-use Rattle.bw_csv.specs.Rows.{is_aside, is_any_record, is_rows_fault, IsRowsFault}
+use Rattle.bw_model.specs.Fault.{no_memory, nowhere, is_memory, ◌>>=◌}
+use Rattle.bw_csv.specs.Bare.{records_of}
+use Rattle.bw_csv.specs.Rows.{StopsUnder, is_aside, is_any_record, is_rows_fault, IsRowsFault}
 use Rattle.bw_device.specs.Sink.{is_write_fault, TookPart, GoesOut, Went}
 use Rattle.bw_device.specs.Source.{Came}
-use Rattle.bw_shell.specs.Arrived.{IsSchemaFrom, SchemaTold, CsvTold, csv_from}
+use Rattle.bw_shell.specs.Arrived.{CsvStopped, SchemaCame, IsSchemaFrom, SchemaTold, CsvTold, csv_from}
 
 -- what came of a source, and the text that goes out, or a fault
 abbrev pub Arrival : Type 0
@@ -115,3 +116,18 @@ other_fault allowed fault false e is none = refl
 
 pub rows_write_nothing : (fault : Fault) → IsRowsFault fault → is_write_fault fault ≡ false
 rows_write_nothing fault is = other_fault is_rows_fault fault (is_write_fault fault) refl is refl
+
+-- a schema that was read came of a text that came whole
+pub came_of : (came : Arrival → Type 0) (schema : Schema) → ((arrived : Arrival) × came arrived × SchemaTold arrived (Ok schema)) → SchemaCame came schema
+came_of came schema told = by told.0 told.1 told.2
+  where
+    by : (arrived : Arrival) → came arrived → SchemaTold arrived (Ok schema) → SchemaCame came schema
+    by (Ok (Some text)) whole spelled = record { text = text; whole = whole; spelled = spelled }
+    by (Ok None) whole spelled = let e : ◌≡◌ {A = Result Schema Fault} (Ok schema) (Err (nowhere 106)) = spelled in absurd (cc e)
+    by (Err fault) whole spelled = let e : ◌≡◌ {A = Result Schema Fault} (Ok schema) (Err fault) = spelled in absurd (cc e)
+
+-- a CSV text in which the reader stopped came whole
+pub stopped_of : (came : Arrival → Type 0) (schema : Schema) (bytes text : List ℕ) (fault : Fault) → ((arrived : Arrival) × came arrived × (arrived ≡ Ok (Some bytes)))
+    → text ≡ bytes → StopsUnder schema.columns.items (records_of text) fault → CsvStopped came schema fault
+stopped_of came schema bytes text fault told same stops =
+    record { text = bytes; whole = subst came told.2 told.1; stops = subst (λ (t : List ℕ). StopsUnder schema.columns.items (records_of t) fault) same stops }

@@ -5,6 +5,8 @@ use Rattle.bw_model.specs.declared.fault.Fault.{Fault}
 use Rattle.bw_model.specs.declared.schema.Schema.{Schema}
 use Rattle.bw_model.specs.Fault.{nowhere, no_memory, is_memory}
 use Rattle.bw_model.specs.SchemaText.{schema_of, schema_shape, IsSchemaText}
+use Rattle.bw_csv.specs.Bare.{records_of}
+use Rattle.bw_csv.specs.Rows.{StopsUnder}
 
 -- the schema that what came spells, or the fault: a failed read, a text past the limit, or the text's first fault
 abbrev pub IsSchemaFrom : Result (Option (List ℕ)) Fault → Result Schema Fault → Type 0
@@ -18,6 +20,19 @@ IsSchemaFrom (Err fault) outcome = outcome ≡ Err fault
 abbrev pub SchemaTold : Result (Option (List ℕ)) Fault → Result Schema Fault → Type 0
 SchemaTold came (Ok schema) = IsSchemaFrom came (Ok schema)
 SchemaTold came (Err fault) = MatchBool (is_memory fault) (came ≡ Err no_memory) (IsSchemaFrom came (Err fault))
+
+-- a schema text came whole, and spells this schema
+pub record SchemaCame (came : Result (Option (List ℕ)) Fault → Type 0) (schema : Schema) : Type 0 where
+  pub text : List ℕ
+  pub whole : came (Ok (Some text))
+  pub spelled : IsSchemaText text (schema_shape schema)
+
+-- A CSV text came whole, and the reader's own error stands at the heading, or at the record behind those whose rows are
+-- good.
+pub record CsvStopped (came : Result (Option (List ℕ)) Fault → Type 0) (schema : Schema) (fault : Fault) : Type 0 where
+  pub text : List ℕ
+  pub whole : came (Ok (Some text))
+  pub stops : StopsUnder schema.columns.items (records_of text) fault
 
 -- the bytes that came of a CSV, or the fault: a failed read, or a text past the limit
 abbrev pub csv_from : Result (Option (List ℕ)) Fault → Result (List ℕ) Fault

@@ -1,7 +1,9 @@
 -- What a refused call tells its caller.
 use Rattle.std.specs.Prelude.{◌≡◌, ◌==◌, ℕ, Bool, false, nat_lt, if◌then◌else◌, List, ◌++◌, codes, Option, Result}
+use Rattle.std.specs.Fmt.{decimal}
 use Rattle.std.specs.List.{list_any}
 use Rattle.bw_model.specs.declared.fault.Fault.{Fault}
+use Rattle.bw_check.specs.declared.accepted.Accepted.{Accepted}
 use Rattle.bw_device.specs.Sink.{GoesOut}
 use Rattle.bw_query.specs.declared.served.By.{By}
 use Rattle.bw_query.specs.declared.served.By.TheVariants.{Program, Rows}
@@ -30,11 +32,26 @@ abbrev pub by_text : By → List ℕ
 by_text Program = codes "program"
 by_text Rows = codes "rows"
 
--- one line that tells who served a query, and then how: its only line feed is at its end
-abbrev pub IsStatsLine : Served → List ℕ → Type 0
-IsStatsLine served line =
-    (words : List ℕ) × (has_line_feed words ≡ false) × (line ≡ ((codes "served " ++ by_text served.by) ++ words) ++ codes "\n")
+-- words and then a number, in decimal
+abbrev pub with_count : List ℕ → ℕ → List ℕ
+with_count words count = words ++ decimal count
 
--- one line that tells of an accepted program file: its only line feed is at its end
-abbrev pub IsAcceptedLine : List ℕ → Type 0
-IsAcceptedLine line = (words : List ℕ) × (has_line_feed words ≡ false) × (line ≡ codes "accepted: " ++ (words ++ codes "\n"))
+-- The line that tells who served a query and how, as `served rows segments 1 loads 0 skips 0`, with its end.
+abbrev pub stats_line : Served → List ℕ
+stats_line served =
+    ((((codes "served " ++ by_text served.by)
+    ++ with_count (codes " segments ") served.segments)
+    ++ with_count (codes " loads ") served.loads)
+    ++ with_count (codes " skips ") served.skips)
+    ++ codes "\n"
+
+-- The line that tells of an accepted program file, as `accepted: 4 instructions, 1 skips, 6 nodes, 9 chains, 17 rows`, with
+-- its end.
+abbrev pub accepted_line : Accepted → List ℕ
+accepted_line accepted =
+    ((((with_count (codes "accepted: ") accepted.instructions
+    ++ with_count (codes " instructions, ") accepted.skips)
+    ++ with_count (codes " skips, ") accepted.nodes)
+    ++ with_count (codes " nodes, ") accepted.chains)
+    ++ with_count (codes " chains, ") accepted.rows)
+    ++ codes " rows\n"

@@ -1,7 +1,9 @@
 //! A query answered straight from a CSV text.
-ghost use Rattle.std.specs.Prelude.{◌≡◌, ◌+◌, ◌-◌, ◌^◌, ◌<◌, ◌≤◌, ℕ, List, Option, Result, false, length, vec_len, IfErr, IsTrue, OnOk};
+ghost use Rattle.std.specs.Prelude.{◌≡◌, ◌+◌, ◌-◌, ◌^◌, ◌<◌, ◌≤◌, ℕ, List, Option, Result, Ok, true, false, length, vec_len, IfErr, IsTrue, OnOk};
 ghost use Rattle.std.specs.List.{list_all};
 ghost use Rattle.bw_model.specs.declared.fault.Fault.{Fault};
+ghost use Rattle.bw_model.specs.declared.query.Query.{Query};
+ghost use Rattle.bw_model.specs.declared.schema.Schema.{Schema};
 ghost use Rattle.bw_device.specs.Sink.{is_write_fault, Went};
 ghost use Rattle.bw_model.specs.Fault.{nowhere};
 ghost use Rattle.bw_model.specs.Limits.{longest_schema, longest_csv};
@@ -9,7 +11,10 @@ ghost use Rattle.bw_device.specs.Source.{Came, TookAtMost, EndsWith};
 ghost use Rattle.bw_model.specs.Cond.{names_within};
 ghost use Rattle.bw_model.specs.Total.{item_within};
 ghost use Rattle.bw_sql.specs.Items.{AreOfOneKind};
-ghost use Rattle.bw_csv.specs.Rows.{is_aside, GivesButAside, IsRowsFault};
+ghost use Rattle.bw_sql.specs.Statement.{IsReadAs};
+ghost use Rattle.bw_shell.specs.Arrived.{CsvStopped, SchemaCame};
+ghost use Rattle.bw_csv.specs.Bare.{records_of};
+ghost use Rattle.bw_csv.specs.Rows.{is_aside, is_reader_fault, GivesButAside, IsRowsFault, StopsUnder};
 ghost use Rattle.bw_shell.specs.Direct.{IsAnswer, answer_of, is_before_csv};
 
 use crate::inputs::{read_csv, read_schema};
@@ -49,6 +54,15 @@ pub fn direct<S: Source, C: Source, K: Sink>(
         × IsAnswer schema sql.now csv given
         × Went is_aside (K.taken sink.old) (K.taken sink.new) (K.failures sink.old) (K.failures sink.new) given result }
 
+    // Where the CSV's reader has an error of its own, the schema and the statement were accepted, the CSV came whole, and
+    // the error's place is the heading, or the record behind those whose rows are good.
+    ensures reader { IfErr result (λ fault. is_reader_fault fault ≡ true → (schema : Schema) × (query : Query)
+        × SchemaCame (Came longest_schema (S.to_come schema_source.old) (S.to_come schema_source.new)
+        (S.failures schema_source.old) (S.failures schema_source.new)) schema
+        × IsReadAs schema sql.now (Ok query)
+        × CsvStopped (Came longest_csv (C.to_come csv_source.old) (C.to_come csv_source.new)
+        (C.failures csv_source.old) (C.failures csv_source.new)) schema fault) }
+
     // Where a device failed, the call ends with that; and no more is taken of a source than one byte past its limit.
     ensures schema_failed { EndsWith (nowhere 701) (S.failures schema_source.old) (S.failures schema_source.new) result }
     ensures csv_failed { EndsWith (nowhere 701) (C.failures csv_source.old) (C.failures csv_source.new) result }
@@ -80,6 +94,8 @@ fn answer_text(alloc: Global, schema: &Schema, query: &Query, csv: &[u8]) -> Res
     requires kinds { AreOfOneKind query.now.items.items }
     ensures text { GivesButAside (λ text. text.items) result (answer_of schema.now.columns.items query.now csv.now) }
     ensures fault { IfErr result IsRowsFault }
+    ensures reader { IfErr result (λ fault. is_reader_fault fault ≡ true
+        → StopsUnder schema.now.columns.items (records_of csv.now) fault) }
 {
     let mut answer = Answer::new(alloc, schema, query)?;
     read_rows(alloc, schema, csv, &mut answer)?;

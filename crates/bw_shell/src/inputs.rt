@@ -1,6 +1,7 @@
 //! The texts that a call reads whole: a schema's and a CSV's.
 ghost use Rattle.std.specs.Prelude.{◌≡◌, ◌+◌, ◌-◌, ◌^◌, ◌<◌, ℕ, List, Option, Result, false, IfErr};
 ghost use Rattle.bw_model.specs.declared.fault.Fault.{Fault};
+ghost use Rattle.bw_csv.specs.Rows.{is_reader_fault};
 ghost use Rattle.bw_device.specs.Sink.{is_write_fault};
 ghost use Rattle.bw_model.specs.Fault.{nowhere};
 ghost use Rattle.bw_model.specs.Limits.{longest_schema, longest_csv};
@@ -24,6 +25,7 @@ pub(crate) fn read_schema<S: Source>(alloc: Global, source: &mut S) -> Result<Sc
     ensures took { TookAtMost (longest_schema + 1) (S.to_come source.old) (S.to_come source.new) }
     ensures failed { EndsWith (nowhere 701) (S.failures source.old) (S.failures source.new) result }
     ensures fault { IfErr result (λ fault. is_write_fault fault ≡ false) }
+    ensures own { IfErr result (λ fault. is_reader_fault fault ≡ false) }
 {
     match read_limited(alloc, source, MAX_SCHEMA_LEN as u64)? {
         Input::Whole(text) => Schema::parse(alloc, &text),
@@ -41,6 +43,7 @@ pub(crate) fn read_csv<C: Source>(alloc: Global, source: &mut C) -> Result<Vec<u
     ensures failed { EndsWith (nowhere 701) (C.failures source.old) (C.failures source.new) result }
     ensures fault { IfErr result (λ fault. is_write_fault fault ≡ false) }
     ensures later { IfErr result (λ fault. is_before_csv fault ≡ false) }
+    ensures own { IfErr result (λ fault. is_reader_fault fault ≡ false) }
 {
     match read_limited(alloc, source, MAX_CSV_LEN)? {
         Input::Whole(text) => Ok(text),

@@ -8,6 +8,7 @@
 
 mod direct_call;
 mod inputs;
+mod joined;
 mod load_call;
 mod reports;
 
@@ -18,5 +19,6 @@ pub use bw_info::info;
 pub use bw_query::{By, Served, answer, dump, plan_text};
 pub use direct_call::direct;
 pub use inputs::MAX_CSV_LEN;
+pub use joined::what_is_loaded_is_answered;
 pub use load_call::load;
 pub use reports::{accepted_line, report, stats_line};

@@ -1,13 +1,16 @@
 //! A table file written from a CSV text.
-ghost use Rattle.std.specs.Prelude.{◌≡◌, ◌+◌, ◌-◌, ◌^◌, ◌<◌, ℕ, List, Option, Result, false, IfErr, IsTrue, OnOk};
+ghost use Rattle.std.specs.Prelude.{◌≡◌, ◌+◌, ◌-◌, ◌^◌, ◌<◌, ℕ, List, Option, Result, true, false, IfErr, IsTrue, OnOk};
 ghost use Rattle.bw_model.specs.declared.fault.Fault.{Fault};
+ghost use Rattle.bw_model.specs.declared.schema.Schema.{Schema};
 ghost use Rattle.bw_model.specs.Column.{admits_values};
 ghost use Rattle.bw_model.specs.Fault.{nowhere};
 ghost use Rattle.bw_model.specs.Limits.{longest_schema, longest_csv};
 ghost use Rattle.bw_file.specs.Encoder.{encoder_schema, rows_in};
 ghost use Rattle.bw_device.specs.Sink.{is_write_fault, Went};
 ghost use Rattle.bw_device.specs.Source.{Came, TookAtMost, EndsWith};
-ghost use Rattle.bw_csv.specs.Rows.{is_aside, GivesButAside, IsRowsFault};
+ghost use Rattle.bw_csv.specs.Bare.{records_of};
+ghost use Rattle.bw_csv.specs.Rows.{is_aside, is_reader_fault, GivesButAside, IsRowsFault, StopsUnder};
+ghost use Rattle.bw_shell.specs.Arrived.{CsvStopped, SchemaCame};
 ghost use Rattle.bw_shell.specs.Direct.{is_before_csv};
 ghost use Rattle.bw_shell.specs.Load.{IsFile, file_of};
 
@@ -45,6 +48,14 @@ pub fn load<S: Source, C: Source, K: Sink>(
         × IsFile layout schema csv given
         × Went is_aside (K.taken sink.old) (K.taken sink.new) (K.failures sink.old) (K.failures sink.new) given result }
 
+    // Where the CSV's reader has an error of its own, the schema was accepted, the CSV came whole, and the error's place is
+    // the heading, or the record behind those whose rows are good.
+    ensures reader { IfErr result (λ fault. is_reader_fault fault ≡ true → (schema : Schema)
+        × SchemaCame (Came longest_schema (S.to_come schema_source.old) (S.to_come schema_source.new)
+        (S.failures schema_source.old) (S.failures schema_source.new)) schema
+        × CsvStopped (Came longest_csv (C.to_come csv_source.old) (C.to_come csv_source.new)
+        (C.failures csv_source.old) (C.failures csv_source.new)) schema fault) }
+
     // Where a device failed, the call ends with that; and no more is taken of a source than one byte past its limit.
     ensures schema_failed { EndsWith (nowhere 701) (S.failures schema_source.old) (S.failures schema_source.new) result }
     ensures csv_failed { EndsWith (nowhere 701) (C.failures csv_source.old) (C.failures csv_source.new) result }
@@ -71,6 +82,8 @@ pub fn load<S: Source, C: Source, K: Sink>(
 fn file_text(alloc: Global, layout: Layout, schema: &Schema, csv: &[u8]) -> Result<Vec<u8>, Fault>
     ensures text { GivesButAside (λ file. file.items) result (file_of layout schema.now csv.now) }
     ensures fault { IfErr result IsRowsFault }
+    ensures reader { IfErr result (λ fault. is_reader_fault fault ≡ true
+        → StopsUnder schema.now.columns.items (records_of csv.now) fault) }
 {
     let mut loading = Loading {
         encoder: Encoder::new(alloc, layout, schema)?,

@@ -1,22 +1,21 @@
 //! Lines that a call prints beside its result, put together without memory.
-ghost use Rattle.std.specs.Prelude.{◌≡◌, ◌-◌, ◌^◌, ◌<◌, ◌≤◌, ℕ, List, false, length};
+ghost use Rattle.std.specs.Prelude.{◌≡◌, ◌+◌, ◌-◌, ◌^◌, ◌<◌, ◌≤◌, ◌++◌, false, length};
 ghost use Rattle.std.specs.Fmt.InlineText.{inline_text};
-ghost use Rattle.bw_shell.specs.Report.{status_of, has_line_feed, IsLine, PrintsLine, IsStatsLine, IsAcceptedLine, by_text};
+ghost use Rattle.bw_shell.specs.Report.{status_of, has_line_feed, IsLine, PrintsLine, accepted_line, by_text, stats_line, with_count};
 ghost use Rattle.bw_device.specs.Sink.{GoesOut};
 
 use bw_check::Accepted;
 use bw_device::{Sink, write_whole};
 use bw_model::Fault;
 use bw_query::{By, Served};
+use itoa::Buffer;
 use std::fmt::InlineText;
 
 /// How many bytes a line has room for.
 const LINE: usize = 128;
 
-/// How many bytes the line of an accepted file has room for, and the words in it may take.
+/// How many bytes the line of an accepted file has room for.
 const LONG_LINE: usize = 192;
-
-const LONG_WORDS: usize = 170;
 
 /// How many bytes of a line a fault may take: no fault is shown in as many.
 const WORDS: usize = 100;
@@ -70,22 +69,35 @@ pub fn report<K: Sink>(fault: &Fault, sink: &mut K) -> u8
     status_of(fault)
 }
 
+/// A line with words more. That there is room for them is the caller's condition.
+fn and_words<const N: usize>(line: InlineText<N>, words: &str) -> InlineText<N>
+    requires { length (inline_text line) + length words.now < N }
+    ensures { inline_text result ≡ inline_text line.entry ++ words.now }
+{
+    line.and_str(words, words.len())
+}
+
+/// A line with words and then a number more, in decimal, which takes 20 bytes at most. That there is room for them is the
+/// caller's condition.
+fn and_count<const N: usize>(line: InlineText<N>, words: &str, count: u64) -> InlineText<N>
+    requires { length (inline_text line) + length words.now + 20 < N }
+    ensures text { inline_text result ≡ inline_text line.entry ++ with_count words.now count }
+    ensures room { length (inline_text result) ≤ length (inline_text line.entry) + length words.now + 20 }
+{
+    let line = and_words(line, words);
+    and_words(line, Buffer::new().format(count))
+}
+
 /// Gives the line of how a query was served, as `served rows segments 1 loads 0 skips 0`, with its end.
 fn line_of_served(served: &Served) -> InlineText<LINE>
-    ensures { IsStatsLine served.now (inline_text result) }
+    ensures { inline_text result ≡ stats_line served.now }
 {
-    let counts = InlineText::<WORDS>::new()
-        .and_str(" segments ", 10)
-        .and(served.segments, 10)
-        .and_str(" loads ", 7)
-        .and(served.loads, 20)
-        .and_str(" skips ", 7)
-        .and(served.skips, 20);
-    InlineText::new()
-        .and_str("served ", 7)
-        .and_str(by_text(served.by), 7)
-        .and_str(on_one_line(counts.as_str()), WORDS)
-        .and_str("\n", 1)
+    let line = and_words(InlineText::new(), "served ");
+    let line = and_words(line, by_text(served.by));
+    let line = and_count(line, " segments ", u64::from(served.segments));
+    let line = and_count(line, " loads ", served.loads);
+    let line = and_count(line, " skips ", served.skips);
+    and_words(line, "\n")
 }
 
 /// Who served a query, in a word.
@@ -99,12 +111,12 @@ fn by_text(by: By) -> &'static str
     }
 }
 
-/// Writes the line of how a query was served. Refuses as 702 alone. That the sink's count of failures can rise is the
+/// Writes the line of how a query was served, as `served rows segments 1 loads 0 skips 0`. Refuses as 702 alone. That the sink's count of failures can rise is the
 /// caller's condition.
 pub fn stats_line<K: Sink>(served: &Served, sink: &mut K) -> Result<(), Fault>
     requires { K.failures sink.old < 2 ^ 64 - 1 }
-    ensures { (line : List ℕ) × IsStatsLine served.now line
-        × GoesOut (K.taken sink.old) (K.taken sink.new) (K.failures sink.old) (K.failures sink.new) line result }
+    ensures { GoesOut (K.taken sink.old) (K.taken sink.new) (K.failures sink.old) (K.failures sink.new)
+        (stats_line served.now) result }
 {
     let line = line_of_served(served);
     write_whole(sink, line.as_str().as_bytes())
@@ -113,31 +125,26 @@ pub fn stats_line<K: Sink>(served: &Served, sink: &mut K) -> Result<(), Fault>
 /// Gives the line of an accepted program file, as `accepted: 4 instructions, 1 skips, 6 nodes, 9 chains, 17 rows`, with
 /// its end.
 fn line_of_accepted(accepted: &Accepted) -> InlineText<LONG_LINE>
-    ensures { IsAcceptedLine (inline_text result) }
+    ensures { inline_text result ≡ accepted_line accepted.now }
 {
-    let counts = InlineText::<LONG_WORDS>::new()
-        .and(accepted.instructions, 20)
-        .and_str(" instructions, ", 15)
-        .and(accepted.skips, 20)
-        .and_str(" skips, ", 8)
-        .and(accepted.nodes, 20)
-        .and_str(" nodes, ", 8)
-        .and(accepted.chains, 20)
-        .and_str(" chains, ", 9)
-        .and(accepted.rows, 20)
-        .and_str(" rows", 5);
-    InlineText::new()
-        .and_str("accepted: ", 10)
-        .and_str(on_one_line(counts.as_str()), LONG_WORDS)
-        .and_str("\n", 1)
+    let line = and_count(
+        InlineText::new(),
+        "accepted: ",
+        accepted.instructions as u64,
+    );
+    let line = and_count(line, " instructions, ", accepted.skips as u64);
+    let line = and_count(line, " skips, ", accepted.nodes as u64);
+    let line = and_count(line, " nodes, ", accepted.chains as u64);
+    let line = and_count(line, " chains, ", accepted.rows as u64);
+    and_words(line, " rows\n")
 }
 
-/// Writes the line of an accepted program file. Refuses as 702 alone. That the sink's count of failures can rise is the
+/// Writes the line of an accepted program file, as `accepted: 4 instructions, 1 skips, 6 nodes, 9 chains, 17 rows`. Refuses as 702 alone. That the sink's count of failures can rise is the
 /// caller's condition.
 pub fn accepted_line<K: Sink>(accepted: &Accepted, sink: &mut K) -> Result<(), Fault>
     requires { K.failures sink.old < 2 ^ 64 - 1 }
-    ensures { (line : List ℕ) × IsAcceptedLine line
-        × GoesOut (K.taken sink.old) (K.taken sink.new) (K.failures sink.old) (K.failures sink.new) line result }
+    ensures { GoesOut (K.taken sink.old) (K.taken sink.new) (K.failures sink.old) (K.failures sink.new)
+        (accepted_line accepted.now) result }
 {
     let line = line_of_accepted(accepted);
     write_whole(sink, line.as_str().as_bytes())

@@ -1,6 +1,5 @@
 use Rattle.std.proofs.Common.{◌≡◌, ◌+◌, ◌-◌, ◌^◌, ◌≤◌}
 use Rattle.bw_csv.specs.Records.{IsOpen, coming}
-use Rattle.bw_csv.specs.Rows.{rows_from}
 use Rattle.bw_csv.proofs.RowLemmas.{LedSoFar}
 use Rattle.bw_csv.proofs.rows.hand_rows.Given as goal
 
@@ -11,7 +10,7 @@ invariant-rows g l = record {
   takes : g.K.RowTaker.takes l.taker ≡ g.K.RowTaker.takes l.initial.taker;
   count : g.K.RowTaker.rows l.taker + 1 ≡ l.number;
   within : l.number ≤ 2 ^ 24 + 1;
-  so_far : LedSoFar g.K.RowTaker.led l.initial.taker l.taker (rows_from l.columns 1 (coming l.initial.records)) l.columns l.number (coming l.records);
+  so_far : LedSoFar g.K.RowTaker.led l.initial.taker l.taker l.columns (coming l.initial.records) l.number (coming l.records);
 }
 
 abbrev pub decreases-rows : goal.decreases-rows

@@ -1,6 +1,9 @@
 use Rattle.csv.specs.Reading.{records, strip_bom, default_config}
-use Rattle.bw_csv.proofs.RowLemmas.{text_admitted}
+use Rattle.bw_csv.proofs.RowLemmas.{text_admitted, text_few}
 use Rattle.bw_csv.proofs.rows.rows_are_admitted.Goals as goal
 
 pub returns : goal.returns
-returns c = λ columns text. text_admitted columns (records default_config (strip_bom text))
+returns c = record {
+  admitted = λ columns text. text_admitted columns (records default_config (strip_bom text));
+  few = λ columns text. text_few columns (records default_config (strip_bom text));
+}

@@ -5,13 +5,13 @@ use Rattle.bw_file.specs.Reading.{State, failed_reads, state}
 use Rattle.bw_file.specs.TableReader.{bytes_taken, schema_in}
 use Rattle.bw_model.specs.Fault.{is_memory}
 use Rattle.bw_query.specs.TableAnswer.{by_dump}
-use Rattle.bw_query.proofs.TableExits.{answered_or_not, asked_exit, header_exit, input_verdict, segment_exit, text_exit, wrote_either, wrote_nothing}
+use Rattle.bw_query.proofs.TableExits.{answered_or_not, asked_exit, ends, header_exit, input_verdict, segment_exit, text_exit, wrote_either, wrote_nothing}
 use Rattle.bw_query.proofs.table_calls.dump.Goals as goal
 
 pub returns-in_err-reader-clause-answer : goal.returns-in_err-reader-clause-answer
 returns-in_err-reader-clause-answer g c =
     let p = err_from_is_err_and c.from_residual.result c.from_residual.ensures.1 in
-    rw (p.1, p.2) (header_exit by_dump _ _ _ c.in_err-reader.field-0.0 c.in_err-reader.ensures.head (wrote_nothing (Unit {0}) _ _ _))
+    rw (p.1, p.2) (ends by_dump _ _ _ _ (header_exit by_dump _ _ c.in_err-reader.field-0.0 c.in_err-reader.ensures.head) (wrote_nothing (Unit {0}) _ _ _))
 
 pub returns-in_err-query-clause-answer : goal.returns-in_err-query-clause-answer
 returns-in_err-query-clause-answer g c =
@@ -21,8 +21,8 @@ returns-in_err-query-clause-answer g c =
     let reader = c.in_ok-reader.reader in
     let told = c.in_ok-reader.ensures.told in
     let now : ℕ → State = λ offset. state (g.S.Source.to_come c.begin.new.source) offset (g.S.Source.failures c.begin.new.source) in
-    rw (p.1, p.2) (asked_exit by_dump _ now (bytes_taken reader) _ reader fault told (ap failed_reads memory)
-    (λ other. let e : true ≡ false = sym (ap is_memory memory) ∙ other in absurd (cc e)) (wrote_nothing (Unit {0}) _ _ _))
+    rw (p.1, p.2) (ends by_dump _ now _ _ (asked_exit by_dump _ now (bytes_taken reader) reader fault told (ap failed_reads memory)
+    (λ other. let e : true ≡ false = sym (ap is_memory memory) ∙ other in absurd (cc e))) (wrote_nothing (Unit {0}) _ _ _))
 
 pub returns-in_err-found-clause-answer : goal.returns-in_err-found-clause-answer
 returns-in_err-found-clause-answer g c =
@@ -32,8 +32,8 @@ returns-in_err-found-clause-answer g c =
     let told = c.in_ok-reader.ensures.told in
     let now : ℕ → State = λ offset. state (g.S.Source.to_come c.table_text.new.source) offset (g.S.Source.failures c.table_text.new.source) in
     let parsed = rw c.schema.ensures at c.in_ok-query.ensures.every in
-    rw (p.1, p.2) (segment_exit by_dump _ now _ (bytes_taken c.table_text.new.reader) _ reader c.in_ok-query.query fault told
-    parsed (c.in_err-found.ensures.refused _ c.in_ok-reader.ensures.began) (wrote_nothing (Unit {0}) _ _ _))
+    rw (p.1, p.2) (ends by_dump _ now _ _ (segment_exit by_dump _ now _ (bytes_taken c.table_text.new.reader) reader c.in_ok-query.query fault told
+    parsed (c.in_err-found.ensures.refused _ c.in_ok-reader.ensures.began)) (wrote_nothing (Unit {0}) _ _ _))
 
 pub returns-clause-answer : goal.returns-clause-answer
 returns-clause-answer g c =
@@ -42,8 +42,8 @@ returns-clause-answer g c =
     let parsed = rw c.schema.ensures at c.in_ok-query.ensures.every in
     let over = c.in_ok-found.ensures.text _ c.in_ok-reader.ensures.began in
     let goes = rw c.deref.ensures.value at c.write_whole.ensures in
-    text_exit by_dump _ now (bytes_taken c.table_text.new.reader) _ (schema_in c.in_ok-reader.reader) c.in_ok-query.query _ found.text.items found.scanned
-    parsed over (wrote_either (Unit {0}) _ _ _ _ _ _ goes)
+    ends by_dump _ now _ _ (text_exit by_dump _ now (bytes_taken c.table_text.new.reader) (schema_in c.in_ok-reader.reader) c.in_ok-query.query _ found.text.items found.scanned
+    parsed over) (wrote_either (Unit {0}) _ _ _ _ _ _ goes)
 
 pub returns-in_err-reader-clause-accepted : goal.returns-in_err-reader-clause-accepted
 returns-in_err-reader-clause-accepted g c =

@@ -23,7 +23,7 @@ returns-in_err-into_text-clause-refused g c =
     let all = c.in_ok-scanned.ensures.took in
     rw (p.1, p.2) (λ start read.
     let whole = all.read start read in
-    memory_answers start _ _ c.in_err-into_text.field-0.0 (whole.bytes, whole.took)
+    memory_answers start _ _ c.in_err-into_text.field-0.0 (whole.bytes, whole.took, whole.needed)
     (whole.failures ∙ sym (c.bytes_were_taken.ensures start _ c.args.reader.now [] read).1) c.in_err-into_text.ensures.only_memory)
 
 pub returns-clause-text : goal.returns-clause-text

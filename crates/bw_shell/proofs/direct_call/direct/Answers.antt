@@ -3,7 +3,7 @@ use Rattle.std.proofs.Common.{Ok, Some}
 use Rattle.std.proofs.lemmas.Result.{err_from_is_err_and}
 use Rattle.bw_model.specs.Limits.{longest_schema, longest_csv}
 use Rattle.bw_shell.specs.Direct.{answer_of}
-use Rattle.bw_shell.proofs.Exits.{schema_exit, csv_exit, text_exit, unread_schema, never_read, wrote_nothing, went_out, rows_write_nothing}
+use Rattle.bw_shell.proofs.Exits.{came_of, stopped_of, schema_exit, csv_exit, text_exit, unread_schema, never_read, wrote_nothing, went_out, rows_write_nothing}
 use Rattle.bw_shell.proofs.DirectExits.{AnswerTo, refused_schema, read_statement, statement_exit, statement_writes_nothing}
 use Rattle.bw_shell.proofs.direct_call.direct.Goals as goal
 
@@ -64,3 +64,15 @@ returns-clause-answer g c =
     text_exit _ _ (AnswerTo sql) _ told.0 csv.0 (answer_of schema.columns.items query) bytes
     (read_statement sql told.0 (Ok (Some bytes)) schema query told.2 c.in_ok-query.ensures.read) told.1 csv.1 (rw c.deref.ensures.value csv.2)
     (went_out _ _ _ _ c.in_ok-text.text.items _ c.write_whole.result c.in_ok-text.ensures.text (rw c.deref-2.ensures.value at c.write_whole.ensures))
+
+pub returns-in_err-text-clause-reader : goal.returns-in_err-text-clause-reader
+returns-in_err-text-clause-reader g c =
+    let p = err_from_is_err_and c.from_residual-in_err-text.result c.from_residual-in_err-text.ensures.1 in
+    let schema = c.in_ok-schema.schema in
+    rw (p.1, p.2) (λ own. (
+      schema,
+      c.in_ok-query.query,
+      came_of _ schema c.in_ok-schema.ensures.told,
+      c.in_ok-query.ensures.read,
+      stopped_of _ schema c.in_ok-csv.csv.items _ _ c.in_ok-csv.ensures.told c.deref.ensures.value (c.in_err-text.ensures.reader own),
+    ))

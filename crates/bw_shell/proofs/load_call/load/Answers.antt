@@ -8,7 +8,7 @@ use Rattle.bw_model.specs.Limits.{longest_csv}
 use Rattle.bw_file.specs.declared.layout.Layout.{Layout}
 use Rattle.bw_shell.specs.Arrived.{IsSchemaFrom, csv_from}
 use Rattle.bw_shell.specs.Load.{IsFile, file_of}
-use Rattle.bw_shell.proofs.Exits.{Arrival, Given, schema_exit, csv_exit, text_exit, never_read, unread, wrote_nothing, went_out, rows_write_nothing}
+use Rattle.bw_shell.proofs.Exits.{Arrival, Given, came_of, stopped_of, schema_exit, csv_exit, text_exit, never_read, unread, wrote_nothing, went_out, rows_write_nothing}
 use Rattle.bw_shell.proofs.load_call.load.Goals as goal
 
 -- the schema was refused, or read
@@ -69,3 +69,13 @@ returns-clause-file g c =
     text_exit _ _ (IsFile layout) _ told.0 csv.0 (file_of layout schema) bytes
     (read_schema layout told.0 (Ok (Some bytes)) schema told.2) told.1 csv.1 (rw c.deref.ensures.value csv.2)
     (went_out _ _ _ _ c.in_ok-file.file.items _ c.write_whole.result c.in_ok-file.ensures.text (rw c.deref-2.ensures.value at c.write_whole.ensures))
+
+pub returns-in_err-file-clause-reader : goal.returns-in_err-file-clause-reader
+returns-in_err-file-clause-reader g c =
+    let p = err_from_is_err_and c.from_residual-in_err-file.result c.from_residual-in_err-file.ensures.1 in
+    let schema = c.in_ok-schema.schema in
+    rw (p.1, p.2) (λ own. (
+      schema,
+      came_of _ schema c.in_ok-schema.ensures.told,
+      stopped_of _ schema c.in_ok-csv.csv.items _ _ c.in_ok-csv.ensures.told c.deref.ensures.value (c.in_err-file.ensures.reader own),
+    ))

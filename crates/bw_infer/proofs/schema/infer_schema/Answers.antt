@@ -1,1 +1,0 @@
--- The schema over the columns behind the heading is the one that is inferred.

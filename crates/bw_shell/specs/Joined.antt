@@ -1,0 +1,14 @@
+-- What a load wrote, and what is answered over it.
+use Rattle.std.specs.Prelude.{◌≡◌, ℕ, List, Option, Ok}
+use Rattle.std.specs.Io.KnownBytes.{Appends}
+use Rattle.bw_model.specs.declared.query.Query.{Query}
+use Rattle.bw_model.specs.declared.schema.Schema.{Schema}
+use Rattle.bw_shell.specs.Direct.{answer_of}
+
+-- a sink took the text of the answer, over the rows that a CSV text spells under a schema, to a query that is asked
+pub record AnswersCsv (asks : Query → Type 0) (schema : Schema) (csv : List ℕ) (old new : Option (List ℕ)) : Type 0 where
+  pub query : Query
+  pub asked : asks query
+  pub text : List ℕ
+  pub is : answer_of schema.columns.items query csv ≡ Ok text
+  pub took : Appends old new text
