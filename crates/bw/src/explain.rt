@@ -1,7 +1,12 @@
 //! What the place of a fault means, shown to a person at a terminal below the fault's own line.
-use crate::command_line::Words;
-use bw_model::{Fault, Place, code};
+use bw_device::FromRead;
+use bw_explain::{of_csv, of_program, of_statement};
+use bw_file::TableReader;
+use bw_model::{Fault, Place, Schema, code};
+use bw_shell::{Input, MAX_CSV_LEN, read_limited};
+use bw_words::Words;
 use std::fmt;
+use std::fs::File;
 
 /// How many bytes of a statement are shown on each side of a fault.
 const SIDE: usize = 60;
@@ -32,18 +37,81 @@ impl<'a> Ended<'a> {
     }
 }
 
-/// Shows on standard error what the place of a fault means, where there is something to say of it: the file that it is
-/// of, or the statement's part with a caret under the byte.
+/// Says on standard error what is wrong, where there is something to say of it: the statement's part with a caret under the
+/// byte, and what could stand there; or the line of the file, what stands on it, and what would have been right; or else the
+/// file that the fault is of.
 pub fn explain(rt: &HostRuntime, words: &Words<'_>, ended: &Ended<'_>) {
-    if let (400..500, Some(sql), Place::Byte(byte)) = (
-        ended.fault.code,
-        words.sql(),
-        ended.fault.place,
-    ) {
+    let fault = &ended.fault;
+    if let (400..500, Some(sql), Place::Byte(byte)) = (fault.code, words.sql(), fault.place) {
         explain_byte(rt, sql, byte);
+        say(rt, "", said_of_statement(rt, words, sql, fault));
     } else if let Some(file) = file_of(words, ended) {
-        explain_place(rt, &ended.fault, file);
+        if !say(rt, file, said_of_file(rt, words, file, fault)) {
+            explain_place(rt, fault, file);
+        }
     }
+}
+
+/// Writes what is to be said, a line each, behind the name of its file; and tells whether that was something.
+fn say(rt: &HostRuntime, file: &str, said: Option<String>) -> bool {
+    let Some(said) = said else {
+        return false;
+    };
+    let blank = if file.is_empty() { "" } else { " " };
+    for line in said.lines() {
+        let _ = eprintln!(rt; "    {}{}{}", file, blank, line);
+    }
+    !said.is_empty()
+}
+
+/// What is to be said of a statement's fault.
+fn said_of_statement(
+    rt: &HostRuntime,
+    words: &Words<'_>,
+    sql: &str,
+    fault: &Fault,
+) -> Option<String> {
+    let (alloc, sql) = (rt.alloc(), sql.as_bytes());
+    if let Some(path) = words.schema() {
+        let schema = Schema::parse(alloc, &read_again(rt, path)?).ok()?;
+        return of_statement(alloc, &schema, sql, fault).ok();
+    }
+    let mut table = FromRead::new(regular_file(rt, words.table()?)?);
+    let reader = TableReader::begin(alloc, &mut table).ok()?;
+    of_statement(alloc, reader.schema(), sql, fault).ok()
+}
+
+/// What is to be said of the fault of a file.
+fn said_of_file(rt: &HostRuntime, words: &Words<'_>, file: &str, fault: &Fault) -> Option<String> {
+    match fault.code {
+        500..651 => of_program(rt.alloc(), &read_again(rt, file)?, fault).ok(),
+        100..300 if words.csv() == Some(file) => {
+            let csv = read_again(rt, file)?;
+            match words.schema() {
+                Some(path) => {
+                    let schema = Schema::parse(rt.alloc(), &read_again(rt, path)?).ok()?;
+                    of_csv(rt.alloc(), &csv, Some(&schema), fault).ok()
+                }
+                None => of_csv(rt.alloc(), &csv, None, fault).ok(),
+            }
+        }
+        _ => None,
+    }
+}
+
+/// The bytes of a file that was read before.
+fn read_again(rt: &HostRuntime, path: &str) -> Option<Vec<u8>> {
+    let mut source = FromRead::new(regular_file(rt, path)?);
+    match read_limited(rt.alloc(), &mut source, MAX_CSV_LEN).ok()? {
+        Input::Whole(bytes) => Some(bytes),
+        Input::Over => None,
+    }
+}
+
+/// A file that can be read once more: what came of a pipe doesn't come again.
+fn regular_file(rt: &HostRuntime, path: &str) -> Option<File> {
+    let file = File::open(rt, path).ok()?;
+    file.metadata().ok()?.is_file().then_some(file)
 }
 
 /// Shows the part of a statement about a byte.

@@ -2,7 +2,7 @@
 ghost use Rattle.std.specs.Prelude.{◌≡◌, None};
 
 use bw_device::{Failed, Sink};
-use std::fs::File;
+use std::fs::{self, File};
 use std::io::Write;
 
 /// A file to write to. It's created, or emptied, at the first write, so that a call that writes nothing leaves it as it
@@ -25,6 +25,17 @@ impl<'a> OutFile<'a> {
             file: None,
             failures: 0,
         }
+    }
+}
+
+/// Whether two names are of one regular file, by the whole paths that they stand for.
+pub fn is_same_file(rt: &HostRuntime, one: &str, other: &str) -> bool {
+    if !fs::metadata(rt, one).is_ok_and(|found| found.is_file()) {
+        return false;
+    }
+    match (fs::canonicalize(rt, one), fs::canonicalize(rt, other)) {
+        (Ok(one), Ok(other)) => one == other,
+        _ => false,
     }
 }
 

@@ -2,15 +2,15 @@
 ghost use Rattle.std.specs.Prelude.{◌≡◌};
 
 use crate::calls::{answer, check, direct, dump, infer, info, load, plan};
-use crate::command_line::{Words, matches_of, words_of};
 use crate::explain::{Ended, explain};
-use crate::out_file::OutFile;
+use crate::out_file::{OutFile, is_same_file};
 use bw_device::{FromRead, Source, ToWrite};
 use bw_file::Layout;
 use bw_model::{Fault, MAX_SCHEMA_LEN, code};
 use bw_shell::{
     Input, MAX_PROGRAM_FILE_LEN, Served, accepted_line, read_limited, report, stats_line,
 };
+use bw_words::{Words, is_explained, matches_of, words_of};
 use clap::error::ErrorKind;
 use clap::{ArgMatches, Error};
 use std::env;
@@ -63,16 +63,31 @@ fn run_matched(rt: &HostRuntime, matches: &ArgMatches<'_>) -> u8 {
     let Some(words) = words_of(matches) else {
         return USAGE;
     };
+    if let Some(input) = input_as_output(rt, &words) {
+        let _ = eprintln!(rt; "error: {} is an input, and can't be OUT too", input);
+        return USAGE;
+    }
     match run_words(rt, words) {
         Ok(()) => 0,
-        Err(ended) => tell_fault(rt, &words, &ended),
+        Err(ended) => tell_fault(rt, &words, &ended, is_explained(matches)),
     }
 }
 
-/// Writes the line of what ended a command, and at a terminal what its place is of, and gives the status.
-fn tell_fault(rt: &HostRuntime, words: &Words<'_>, ended: &Ended<'_>) -> u8 {
+/// The input of a command that is the same file as what it is to write, by any name.
+fn input_as_output<'a>(rt: &HostRuntime, words: &Words<'a>) -> Option<&'a str> {
+    let out = words.out()?;
+    let inputs = [words.schema(), words.csv()];
+    inputs
+        .into_iter()
+        .flatten()
+        .find(|input| is_same_file(rt, input, out))
+}
+
+/// Writes the line of what ended a command, and what is to be said of it where that is asked for or standard error is a
+/// terminal, and gives the status.
+fn tell_fault(rt: &HostRuntime, words: &Words<'_>, ended: &Ended<'_>, asked: bool) -> u8 {
     let status = report(&ended.fault, &mut ToWrite::new(rt.stderr()));
-    if rt.stderr().is_terminal() {
+    if asked || rt.stderr().is_terminal() {
         explain(rt, words, ended);
     }
     status

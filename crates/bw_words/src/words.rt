@@ -1,6 +1,6 @@
 //! What the command line may be: `bw direct SCHEMA CSV SQL`, `bw infer [--table NAME] CSV`,
 //! `bw load [--layout planes|slices] SCHEMA CSV OUT`, `bw query [--program FILE] [--stats] TABLE SQL`, `bw plan SCHEMA SQL`,
-//! `bw check SCHEMA SQL FILE`, `bw info TABLE` or `bw dump TABLE`.
+//! `bw check SCHEMA SQL FILE`, `bw info TABLE` or `bw dump TABLE`, each with `--explain` before the command or behind it.
 use bw_file::Layout;
 use clap::{Arg, ArgAction, ArgMatches, Command, Error};
 use std::alloc::{AllocError, Global};
@@ -221,7 +221,7 @@ fn with_commands<'a>(alloc: Global) -> Result<Command<'a>, AllocError> {
     for told in &COMMANDS {
         program = with_command(program, command(alloc, told))?;
     }
-    Ok(program)
+    program.arg(explained(alloc))
 }
 
 fn with_command<'a>(
@@ -269,6 +269,11 @@ fn argument<'a>(alloc: Global, taken: Taken) -> Arg<'a> {
         Taken::Layout => layout(alloc),
         Taken::Stats => stats(alloc),
     }
+}
+
+/// Whether the command line asks for explanations.
+pub fn is_explained(matches: &ArgMatches<'_>) -> bool {
+    matches.get_flag("explain")
 }
 
 /// The words of the command that the command line has.
@@ -361,6 +366,15 @@ fn layout<'a>(alloc: Global) -> Arg<'a> {
         .action(ArgAction::Set)
         .value_parser(["planes", "slices"].as_slice())
         .help("How segments are kept: bit planes, unless told otherwise, or byte slices")
+}
+
+/// The option that each command takes, before its name or behind it.
+fn explained<'a>(alloc: Global) -> Arg<'a> {
+    Arg::new(alloc, "explain")
+        .long("explain")
+        .action(ArgAction::SetTrue)
+        .global(true)
+        .help("Says below a fault's line what is wrong there, as at a terminal")
 }
 
 fn stats<'a>(alloc: Global) -> Arg<'a> {

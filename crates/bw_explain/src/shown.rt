@@ -1,0 +1,64 @@
+//! Bytes of a person's file, shown so that each can be seen.
+use std::fmt;
+
+/// So many bytes of a field are shown.
+const MOST: usize = 40;
+
+/// Bytes in quotation marks, cut after the first 40, with what isn't a visible character as an escape.
+#[derive(Clone, Copy)]
+pub(crate) struct Shown<'a>(pub(crate) &'a [u8]);
+
+impl fmt::Display for Shown<'_> {
+    fn fmt<W: fmt::Write>(&self, f: &mut fmt::Formatter<W>) -> fmt::Result {
+        let part = cut(self.0);
+        f.write_str("\"")?;
+        match std::str::from_utf8(part) {
+            Ok(text) => show_text(text, f)?,
+            Err(_) => show_bytes(part, f)?,
+        }
+        f.write_str(if part.len() < self.0.len() {
+            "...\""
+        } else {
+            "\""
+        })
+    }
+}
+
+/// The first bytes of some, 40 at most, and no part of a character of UTF-8.
+fn cut(bytes: &[u8]) -> &[u8] {
+    if bytes.len() <= MOST {
+        return bytes;
+    }
+    for end in (0..=MOST).rev() {
+        if bytes[end] & 0xc0 != 0x80 {
+            return &bytes[..end];
+        }
+    }
+    &[]
+}
+
+fn show_text<W: fmt::Write>(text: &str, f: &mut fmt::Formatter<W>) -> fmt::Result {
+    for character in text.chars() {
+        match character {
+            '\t' => f.write_str("\\t")?,
+            '\n' => f.write_str("\\n")?,
+            '\r' => f.write_str("\\r")?,
+            '"' => f.write_str("\\\"")?,
+            '\\' => f.write_str("\\\\")?,
+            _ if character.is_control() => write!(f, "\\u{{{:x}}}", character as u32)?,
+            _ => write!(f, "{character}")?,
+        }
+    }
+    Ok(())
+}
+
+fn show_bytes<W: fmt::Write>(bytes: &[u8], f: &mut fmt::Formatter<W>) -> fmt::Result {
+    for byte in bytes {
+        if (b' '..=b'~').contains(byte) {
+            write!(f, "{}", *byte as char)?;
+        } else {
+            write!(f, "\\x{:02x}", *byte)?;
+        }
+    }
+    Ok(())
+}
