@@ -7,7 +7,6 @@
 #![tactic(auto)]
 
 mod calls;
-mod explain;
 mod out_file;
 mod run;
 

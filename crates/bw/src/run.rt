@@ -2,14 +2,14 @@
 ghost use Rattle.std.specs.Prelude.{◌≡◌};
 
 use crate::calls::{answer, check, direct, dump, infer, info, load, plan};
-use crate::explain::{Ended, explain};
 use crate::out_file::{OutFile, is_same_file};
-use bw_device::{FromRead, Source, ToWrite};
+use bw_check::MAX_PROGRAM_FILE_LEN;
+use bw_device::{FromRead, Input, Source, ToWrite, read_limited};
 use bw_file::Layout;
 use bw_model::{Fault, MAX_SCHEMA_LEN, code};
-use bw_shell::{
-    Input, MAX_PROGRAM_FILE_LEN, Served, accepted_line, read_limited, report, stats_line,
-};
+use bw_query::{By, Served};
+use bw_shell::{accepted_line, report, stats_line};
+use bw_tell::{Ended, explain, explain_rows};
 use bw_words::{Words, is_explained, matches_of, words_of};
 use clap::error::ErrorKind;
 use clap::{ArgMatches, Error};
@@ -67,9 +67,10 @@ fn run_matched(rt: &HostRuntime, matches: &ArgMatches<'_>) -> u8 {
         let _ = eprintln!(rt; "error: {} is an input, and can't be OUT too", input);
         return USAGE;
     }
-    match run_words(rt, words) {
+    let told = is_explained(matches) || rt.stderr().is_terminal();
+    match run_words(rt, words, told) {
         Ok(()) => 0,
-        Err(ended) => tell_fault(rt, &words, &ended, is_explained(matches)),
+        Err(ended) => tell_fault(rt, &words, &ended, told),
     }
 }
 
@@ -83,11 +84,10 @@ fn input_as_output<'a>(rt: &HostRuntime, words: &Words<'a>) -> Option<&'a str> {
         .find(|input| is_same_file(rt, input, out))
 }
 
-/// Writes the line of what ended a command, and what is to be said of it where that is asked for or standard error is a
-/// terminal, and gives the status.
-fn tell_fault(rt: &HostRuntime, words: &Words<'_>, ended: &Ended<'_>, asked: bool) -> u8 {
+/// Writes the line of what ended a command, and what is to be said of it where that is to be told, and gives the status.
+fn tell_fault(rt: &HostRuntime, words: &Words<'_>, ended: &Ended<'_>, told: bool) -> u8 {
     let status = report(&ended.fault, &mut ToWrite::new(rt.stderr()));
-    if asked || rt.stderr().is_terminal() {
+    if told {
         explain(rt, words, ended);
     }
     status
@@ -115,7 +115,8 @@ fn tell(rt: &HostRuntime, error: &Error) -> u8 {
     }
 }
 
-fn run_words<'a>(rt: &HostRuntime, words: Words<'a>) -> Result<(), Ended<'a>> {
+/// Runs a command, and tells what is to be told of how it was done where that is wanted.
+fn run_words<'a>(rt: &HostRuntime, words: Words<'a>, told: bool) -> Result<(), Ended<'a>> {
     match words {
         Words::Direct { schema, csv, sql } => run_direct(rt, schema, csv, sql),
         Words::Infer { name, csv } => run_infer(rt, name, csv),
@@ -130,7 +131,13 @@ fn run_words<'a>(rt: &HostRuntime, words: Words<'a>) -> Result<(), Ended<'a>> {
             stats,
             table,
             sql,
-        } => run_query(rt, program, stats, table, sql),
+        } => {
+            let served = run_query(rt, program, stats, table, sql)?;
+            if told && matches!(served.by, By::Rows) {
+                explain_rows(rt, table, sql);
+            }
+            Ok(())
+        }
         Words::Info { table } => run_info(rt, table),
         Words::Dump { table } => run_dump(rt, table),
         Words::Plan { schema, sql } => run_plan(rt, schema, sql),
@@ -179,22 +186,22 @@ fn run_load<'a>(
     or_ended(done, &files)
 }
 
-/// Runs `bw query`: the files are opened before any is read, and the program file is read first.
+/// Runs `bw query`: the files are opened before any is read, and the program file is read first. Tells how the query was
+/// served.
 fn run_query<'a>(
     rt: &HostRuntime,
     program: Option<&'a str>,
     stats: bool,
     table_path: &'a str,
     sql: &str,
-) -> Result<(), Ended<'a>> {
+) -> Result<Served, Ended<'a>> {
     let table = open_buffered(rt, table_path)?;
     let program = program_given(rt, program)?;
     let served = answer_from(rt, table_path, table, sql, program.as_deref())?;
     if stats {
-        let told = stats_line(&served, &mut ToWrite::new(rt.stderr()));
-        return or_ended(told, &[]);
+        or_ended(stats_line(&served, &mut ToWrite::new(rt.stderr())), &[])?;
     }
-    Ok(())
+    Ok(served)
 }
 
 /// The bytes of the program file that the command line names, if it names one.

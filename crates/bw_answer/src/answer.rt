@@ -2,7 +2,6 @@
 ghost use Rattle.std.specs.Prelude.{◌≡◌, ◌==◌, ◌≤◌, ◌+◌, ◌-◌, ◌++◌, ◌∷◌, List, [], ℕ, true, false, All, IsTrue, IfOk, IfErr, OnOk, length, replicate, vec_len};
 ghost use Rattle.std.specs.List.{list_all};
 ghost use Rattle.bw_model.specs.Column.{admits_values, names_of};
-ghost use Rattle.bw_model.specs.Cond.{names_within};
 ghost use Rattle.bw_model.specs.Fault.{no_memory};
 ghost use Rattle.bw_lanes.specs.Lanes.{lanes_of_words};
 ghost use Rattle.bw_model.specs.Groups.{group_size};
@@ -10,6 +9,7 @@ ghost use Rattle.bw_model.specs.Limits.{most_rows};
 ghost use Rattle.bw_model.specs.Row.{Value, values_of};
 ghost use Rattle.bw_model.specs.Selection.{selection};
 ghost use Rattle.bw_model.specs.Total.{is_aggregate, item_within};
+ghost use Rattle.bw_rowwise.specs.Prepared.{IsPreparedFrom};
 ghost use Rattle.bw_sql.specs.Items.{AreOfOneKind};
 ghost use Rattle.bw_answer.specs.Answer.{csv_text, is_count_all, lists_rows, meaning};
 ghost use Rattle.bw_answer.specs.AreOver.{AreOver, CountsRows};
@@ -23,7 +23,7 @@ use crate::totals::{add_count, add_kept, push_totals, totals_of};
 use bw_csv::RowTaker;
 use bw_lanes::Plane;
 use bw_model::{Fault, Item, Query, Row, Schema, admitted_rows_have_each_value, totals_join};
-use bw_rowwise::{Accumulator, keeps_all};
+use bw_rowwise::{Accumulator, Prepared, keeps_all};
 use bw_segment::Segment;
 use std::alloc::Global;
 
@@ -34,13 +34,15 @@ pub struct Answer<'a> {
     width: usize,
     rows: u32,
     query: &'a Query,
+    /// The query's condition, made ready for many rows.
+    cond: Prepared,
     /// Whether the query lists rows, and doesn't total them.
     lists: bool,
     /// The heading, and then the records of the rows that are kept, where the query lists them.
     text: CsvText,
     /// The total of each aggregate, over the rows that are kept.
     totals: Vec<Accumulator>,
-    ghost names: { IsTrue (names_within width query.now.cond) },
+    ghost prepared: { IsPreparedFrom query.now.cond cond },
     ghost items: { IsTrue (list_all (item_within width) query.now.items.items) },
     ghost some: { 1 ≤ length query.now.items.items },
     ghost listing: { lists ≡ lists_rows query.now.items.items },
@@ -56,9 +58,8 @@ impl<'a> Answer<'a> {
     /// The answer over no rows.
     ///
     /// That the query has an item, that its items are all columns or all aggregates, and that the schema has each
-    /// column that it names, is the caller's condition. Refuses as 801 alone.
+    /// column among them, is the caller's condition. Refuses as 801 alone.
     pub fn new(alloc: Global, schema: &Schema, query: &'a Query) -> Result<Self, Fault>
-        requires names { IsTrue (names_within (vec_len schema.now.columns) query.now.cond) }
         requires items { IsTrue (list_all (item_within (vec_len schema.now.columns)) query.now.items.items) }
         requires some { 1 ≤ length query.now.items.items }
         requires kinds { AreOfOneKind query.now.items.items }
@@ -77,6 +78,7 @@ impl<'a> Answer<'a> {
             width: schema.columns.len(),
             rows: 0,
             query,
+            cond: Prepared::new(alloc, &query.cond)?,
             lists: lists_rows(&query.items),
             text,
             totals: totals_of(alloc, &query.items)?,
@@ -145,6 +147,23 @@ impl<'a> Answer<'a> {
         Ok(())
     }
 
+    /// Takes the rows of a segment, each of which is looked at, in so far as the query names its columns. A row that is
+    /// listed is put into `row`. That there is room for the segment's rows, and that it is of the answer's table, is the
+    /// caller's condition. Refuses as 801 alone.
+    pub fn take_segment<S: Segment>(&mut self, segment: &S, row: &mut Row) -> Result<(), Fault>
+        requires wide { length (S.meaning segment.now).columns ≡ self.old.width }
+        requires room { self.old.rows + length (S.meaning segment.now).rows ≤ most_rows }
+        ensures over { OnOk result ((start : Answer) (before : List (List Value)) → GoesOver start before self.old
+            → GoesOver start (before ++ (S.meaning segment.now).rows) self.new) }
+        ensures asked { OnOk result (asked_by self.new ≡ asked_by self.old) }
+        ensures width { OnOk result (self.new.width ≡ self.old.width) }
+        ensures rows { OnOk result (self.new.rows ≡ self.old.rows + length (S.meaning segment.now).rows) }
+        ensures only_memory { IfErr result (λ fault. fault ≡ no_memory) }
+    {
+        let kept = self.cond.rows_kept(segment);
+        self.take_picked(segment, &kept, row)
+    }
+
     /// The text of the answer over the rows that were taken. Refuses as 801 alone.
     pub fn into_text(self) -> Result<Vec<u8>, Fault>
         ensures text { IfOk result (λ text. (names : List (List ℕ)) → (query : Query) → (rows : List (List Value))
@@ -155,6 +174,7 @@ impl<'a> Answer<'a> {
             width: _,
             rows: _,
             query: _,
+            cond: _,
             lists,
             mut text,
             totals,
@@ -180,6 +200,7 @@ impl RowTaker for Answer<'_> {
             &mut self.text,
             &mut self.totals,
             self.query,
+            &self.cond,
             self.lists,
             row,
         )?;
@@ -193,10 +214,11 @@ fn put_row(
     text: &mut CsvText,
     totals: &mut [Accumulator],
     query: &Query,
+    cond: &Prepared,
     lists: bool,
     row: &Row,
 ) -> Result<(), Fault>
-    requires names { IsTrue (names_within (length (values_of row.now)) query.now.cond) }
+    requires prepared { IsPreparedFrom query.now.cond cond.now }
     requires items { IsTrue (list_all (item_within (length (values_of row.now))) query.now.items.items) }
     requires lists { lists ≡ lists_rows query.now.items.items }
     requires room { IsTrue (list_all (has_room (length (values_of row.now))) totals.old) }
@@ -209,9 +231,9 @@ fn put_row(
     ensures only_memory { IfErr result (λ fault. fault ≡ no_memory) }
 {
     if lists {
-        push_kept(text, query, row)?;
+        push_kept(text, query, cond, row)?;
     } else {
-        add_kept(totals, query, row);
+        add_kept(totals, query, cond, row);
     }
     Ok(())
 }

@@ -1,15 +1,17 @@
 //! Which rows a query keeps.
-ghost use Rattle.std.specs.Prelude.{◌≡◌, IsTrue, length};
-ghost use Rattle.bw_model.specs.Cond.{is_kept, names_within};
+ghost use Rattle.std.specs.Prelude.{◌≡◌};
+ghost use Rattle.bw_model.specs.declared.cond.Cond.{Cond};
+ghost use Rattle.bw_model.specs.Cond.{is_kept};
 ghost use Rattle.bw_model.specs.Row.{values_of};
+ghost use Rattle.bw_rowwise.specs.Prepared.{IsPreparedFrom};
 
-use bw_model::{Cond, Row, Truth};
-use bw_rowwise::truth;
+use bw_model::{Row, Truth};
+use bw_rowwise::Prepared;
 
 /// Whether a condition is TRUE on a row: neither FALSE nor UNKNOWN will do.
-pub(crate) fn is_kept(cond: &Cond, row: &Row) -> bool
-    requires { IsTrue (names_within (length (values_of row.now)) cond.now) }
-    ensures { result ≡ is_kept cond.now (values_of row.now) }
+pub(crate) fn is_kept(cond: &Prepared, row: &Row) -> bool
+    ensures { (asked : Cond) → IsPreparedFrom asked cond.now
+        → result ≡ is_kept asked (values_of row.now) }
 {
-    truth(cond, row) == Truth::Yes
+    cond.truth(row) == Truth::Yes
 }

@@ -16,4 +16,3 @@ mod picked;
 mod totals;
 
 pub use answer::Answer;
-pub use picked::fetch_row;

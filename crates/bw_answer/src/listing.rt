@@ -1,28 +1,34 @@
 //! The rows that a query keeps, as records of its columns.
 ghost use Rattle.std.specs.Prelude.{◌≡◌, ◌<◌, ◌++◌, ◌∷◌, ℕ, List, [], IsTrue, IfErr, OnOk, length};
 ghost use Rattle.std.specs.List.{filter_map, list_all};
-ghost use Rattle.bw_model.specs.Cond.{names_within};
 ghost use Rattle.bw_model.specs.Fault.{no_memory};
 ghost use Rattle.bw_model.specs.Row.{value_in, values_of};
 ghost use Rattle.bw_model.specs.Total.{item_within};
+ghost use Rattle.bw_rowwise.specs.Prepared.{IsPreparedFrom};
 ghost use Rattle.bw_answer.specs.Answer.{csv_text, field_of, listed, lists_rows, record_text};
 ghost use Rattle.bw_answer.specs.Draft.{Holds};
 
 use crate::csv_text::CsvText;
 use crate::kept::is_kept;
 use bw_model::{Fault, Item, Query, Row};
+use bw_rowwise::Prepared;
 
 /// Adds the record of a row to a text, if the row is kept.
 #[tactic(auto, using(crate::proofs::Rows::one_row))]
-pub(crate) fn push_kept(text: &mut CsvText, query: &Query, row: &Row) -> Result<(), Fault>
-    requires names { IsTrue (names_within (length (values_of row.now)) query.now.cond) }
+pub(crate) fn push_kept(
+    text: &mut CsvText,
+    query: &Query,
+    cond: &Prepared,
+    row: &Row,
+) -> Result<(), Fault>
+    requires prepared { IsPreparedFrom query.now.cond cond.now }
     requires columns { IsTrue (list_all (item_within (length (values_of row.now))) query.now.items.items) }
     requires lists { IsTrue (lists_rows query.now.items.items) }
     ensures row { OnOk result ((ended : List ℕ) → Holds text.old ended []
         → Holds text.new (ended ++ csv_text (listed query.now (values_of row.now ∷ []))) []) }
     ensures only_memory { IfErr result (λ fault. fault ≡ no_memory) }
 {
-    if is_kept(&query.cond, row) {
+    if is_kept(cond, row) {
         push_row(text, &query.items, row)
     } else {
         Ok(())

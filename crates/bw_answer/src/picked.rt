@@ -19,7 +19,7 @@ use bw_rowwise::Accumulator;
 use bw_segment::Segment;
 
 /// Puts a row of a segment, from 0, into `row`, in the place of what that was. Refuses as 801 alone.
-pub fn fetch_row<S: Segment>(segment: &S, number: usize, row: &mut Row) -> Result<(), Fault>
+fn fetch_row<S: Segment>(segment: &S, number: usize, row: &mut Row) -> Result<(), Fault>
     requires { number < length (S.meaning segment.now).rows }
     ensures row { OnOk result (values_of row.new ≡ slice_index_or (S.meaning segment.now).rows number []) }
     ensures only_memory { IfErr result (λ fault. fault ≡ no_memory) }

@@ -1,7 +1,6 @@
 //! The totals that a query asks for.
 ghost use Rattle.std.specs.Prelude.{◌≡◌, ◌≤◌, ◌+◌, ◌++◌, ◌∷◌, ℕ, List, [], IsTrue, IfOk, IfErr, OnOk, length, map, filter, All};
 ghost use Rattle.std.specs.List.{list_all};
-ghost use Rattle.bw_model.specs.Cond.{names_within};
 ghost use Rattle.bw_model.specs.declared.query.Item.{Item};
 ghost use Rattle.bw_model.specs.Fault.{no_memory};
 ghost use Rattle.bw_model.specs.Limits.{most_rows};
@@ -9,6 +8,7 @@ ghost use Rattle.bw_model.specs.Row.{Value, values_of};
 ghost use Rattle.bw_model.specs.Selection.{kept};
 ghost use Rattle.bw_model.specs.Total.{is_aggregate};
 ghost use Rattle.bw_rowwise.specs.Accumulator.{counted, tally_of};
+ghost use Rattle.bw_rowwise.specs.Prepared.{IsPreparedFrom};
 ghost use Rattle.bw_answer.specs.Answer.{record_text, value_text};
 ghost use Rattle.bw_answer.specs.Draft.{Holds};
 ghost use Rattle.bw_answer.specs.Totals.{is_of, has_room};
@@ -16,7 +16,7 @@ ghost use Rattle.bw_answer.specs.Totals.{is_of, has_room};
 use crate::csv_text::CsvText;
 use crate::kept::is_kept;
 use bw_model::{Fault, Item, Query, Row};
-use bw_rowwise::Accumulator;
+use bw_rowwise::{Accumulator, Prepared};
 use std::alloc::Global;
 
 /// The totals over no rows, one for each aggregate among the items.
@@ -36,15 +36,15 @@ pub(crate) fn totals_of(alloc: Global, items: &[Item]) -> Result<Vec<Accumulator
 
 /// Adds a row to each total, if it is kept.
 #[tactic(auto, using(crate::proofs::TotalsLemmas::kept_steps))]
-pub(crate) fn add_kept(totals: &mut [Accumulator], query: &Query, row: &Row)
-    requires names { IsTrue (names_within (length (values_of row.now)) query.now.cond) }
+pub(crate) fn add_kept(totals: &mut [Accumulator], query: &Query, cond: &Prepared, row: &Row)
+    requires prepared { IsPreparedFrom query.now.cond cond.now }
     requires room { IsTrue (list_all (has_room (length (values_of row.now))) totals.old) }
     ensures counts { (rows : ℕ) → IsTrue (list_all (is_of (length (values_of row.now)) rows) totals.old)
         → IsTrue (list_all (is_of (length (values_of row.now)) (rows + 1)) totals.new) }
     ensures totals { (items : List Item) → (rows : List (List Value)) → totals.old ≡ map (λ item. tally_of item rows) items
         → totals.new ≡ map (λ item. tally_of item (rows ++ kept query.now.cond (values_of row.now ∷ []))) items }
 {
-    if !is_kept(&query.cond, row) {
+    if !is_kept(cond, row) {
         return;
     }
     add_row(totals, row);

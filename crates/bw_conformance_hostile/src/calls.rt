@@ -2,10 +2,14 @@
 ghost use Rattle.std.specs.Prelude.{◌<◌, ◌-◌, ◌^◌};
 
 use crate::devices::{Calls, Pieces, Taker};
+use bw_check::check_text;
 use bw_device::{FromRead, ToWrite};
 use bw_file::Layout;
+use bw_infer::infer;
+use bw_info::info;
 use bw_model::Fault;
-use bw_shell::{By, answer, check_text, direct, dump, infer, info, load, plan_text};
+use bw_query::{By, answer, dump, plan_text};
+use bw_shell::{direct, load};
 use std::alloc::Global;
 
 /// A table of bytes and of small numbers, some of them null.

@@ -1,10 +1,12 @@
 //! Texts that are as long or as deep as they may be, or longer.
 use crate::calls::{Call, LAYOUTS, Reads, SCHEMA, table_file};
 use crate::devices::{Calls, Taker};
+use bw_check::check_text;
 use bw_device::{FromRead, ToWrite};
 use bw_file::Layout;
 use bw_model::{Fault, code};
-use bw_shell::{answer, check_text, direct, load, plan_text};
+use bw_query::{answer, plan_text};
+use bw_shell::{direct, load};
 use std::alloc::Global;
 use std::process::Abort;
 use std::test::Fail;

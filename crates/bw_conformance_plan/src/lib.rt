@@ -9,4 +9,6 @@
 #[cfg(test)]
 mod generated;
 #[cfg(test)]
+mod related;
+#[cfg(test)]
 mod rows;

@@ -2,7 +2,7 @@
 use crate::segments::{SCHEMA, TABLE, compared, ones, rows_of};
 use bw_model::{Fault, Schema};
 use bw_planes::PlaneSegment;
-use bw_segment::{Segment, Shape, columns_of, is_group};
+use bw_segment::{Segment, Shape, columns_of, is_group, values_in_lanes};
 use std::alloc::Global;
 use std::test::Fail;
 
@@ -36,6 +36,14 @@ fn segment_answers(rt: HostRuntime) -> Result<(), Fail> {
     assert_eq!(rt; segment.value(0, 4), Some(8));
     assert_eq!(rt; segment.value(1, 0), Some(-10));
     assert_eq!(rt; segment.value(1, 3), None);
+    let mut values = [Some(0); 512];
+    values_in_lanes(&segment, 1, &mut values);
+    assert_eq!(rt; values[0], Some(-10));
+    assert_eq!(rt; values[3], None);
+    assert_eq!(rt; values[5], None);
+    values_in_lanes(&segment, 0, &mut values);
+    assert_eq!(rt; values[4], Some(8));
+    assert_eq!(rt; values[511], None);
     assert_eq!(rt; ones(&segment, 8), Some(2));
     assert_eq!(rt; compared(&segment, 0, 0, 8), Some((510, 1)));
     assert_eq!(rt; compared(&segment, 0, 0, 7), Some((508, 2)));

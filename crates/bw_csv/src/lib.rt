@@ -18,4 +18,4 @@ mod rows;
 pub use bare::{bare_rows_are_rows, bare_value_of, read_bare_row};
 pub use field::{value_of, without_blanks};
 pub use records::Records;
-pub use rows::{MAX_ROWS, RowTaker, read_rows, rows_are_admitted};
+pub use rows::{MAX_CSV_LEN, MAX_ROWS, RowTaker, read_rows, rows_are_admitted};

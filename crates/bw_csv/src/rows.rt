@@ -20,6 +20,9 @@ use crate::row::{read_heading, read_row};
 use bw_model::{Column, Fault, Row, Schema, Value};
 use std::alloc::Global;
 
+/// A CSV text has at most this many bytes.
+pub const MAX_CSV_LEN: u64 = 1 << 30;
+
 /// A table has at most this many rows.
 pub const MAX_ROWS: u32 = 1 << 24;
 

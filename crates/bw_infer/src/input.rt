@@ -8,12 +8,10 @@ ghost use Rattle.bw_model.specs.Limits.{longest_csv};
 ghost use Rattle.bw_device.specs.Source.{Came, TookAtMost, EndsWith};
 ghost use Rattle.bw_infer.specs.Infer.{CsvTold};
 
+use bw_csv::MAX_CSV_LEN;
 use bw_device::{Input, Source, read_limited};
 use bw_model::{Fault, code};
 use std::alloc::Global;
-
-/// A CSV text has at most this many bytes.
-const MAX_CSV_LEN: u64 = 1 << 30;
 
 /// A CSV text, whole. Refuses its source (701), and a text past its limit (208).
 pub(crate) fn read_csv<C: Source>(alloc: Global, source: &mut C) -> Result<Vec<u8>, Fault>

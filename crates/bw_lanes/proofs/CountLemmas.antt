@@ -12,11 +12,11 @@ use Rattle.bw_lanes.proofs.WordLemmas.{zip2-append, length-lanes_of_words, lanes
 abbrev pub both_in : ℕ → List ℕ → List ℕ → List Bool
 both_in word a b = zip2 (λ x y. x && y) (lanes_of_words (take word a)) (lanes_of_words (take word b))
 
-lanes_more : (word : ℕ) (words : List ℕ) → length words ≡ 8 → word < 8 → lanes_of_words (take (word + 1) words) ≡ lanes_of_words (take word words) ++ bits_from_least 64 (get_or words word 0)
+pub lanes_more : (word : ℕ) (words : List ℕ) → length words ≡ 8 → word < 8 → lanes_of_words (take (word + 1) words) ≡ lanes_of_words (take word words) ++ bits_from_least 64 (get_or words word 0)
 lanes_more word words eight lt =
     ap lanes_of_words (take_more words word 0 (omega (arith, eight))) ∙ lanes_of_words-append (take word words) (get_or words word 0 ∷ []) ∙ ap (λ l. lanes_of_words (take word words) ++ l) (lanes_of_word (get_or words word 0))
 
-length-first : (word : ℕ) (words : List ℕ) → length words ≡ 8 → word ≤ 8 → length (lanes_of_words (take word words)) ≡ 64 * word
+pub length-first : (word : ℕ) (words : List ℕ) → length words ≡ 8 → word ≤ 8 → length (lanes_of_words (take word words)) ≡ 64 * word
 length-first word words eight le = omega (arith, length-lanes_of_words (take word words), length-take word words, eight)
 
 pub few_both : (word : ℕ) (a b : List ℕ) → length a ≡ 8 → length b ≡ 8 → word ≤ 8 → count_by (λ lane. lane) (both_in word a b) ≤ 64 * word

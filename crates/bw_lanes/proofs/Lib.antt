@@ -5,5 +5,6 @@ pub mod CountLemmas
 pub mod MaskLemmas
 pub mod PartLemmas
 pub mod PickedLemmas
+pub mod ShiftLemmas
 pub mod StoredLemmas
 pub mod WordLemmas

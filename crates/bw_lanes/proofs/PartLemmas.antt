@@ -48,14 +48,22 @@ bytes_more word words bytes some eight all long lt before is =
     ∙ sym (map-append as_byte (lanes_of_words (take word words)) (lanes_of_words (here ∷ []))) ∙ ap (map as_byte) (sym (lanes_of_words-append (take word words) (here ∷ [])))
     ∙ ap (λ l. map as_byte (lanes_of_words l)) (sym (take_more words word 0 (omega (arith, eight))))
 
--- the rows that are kept of a part: those before it and it, and those behind it
-pub kept_more : (f : ℕ → ℕ → ℕ) (word : ℕ) (old rows bytes some : List ℕ) → length old ≡ 512 → length rows ≡ 512 → length bytes ≡ 512 → word < 8
+-- bytes that were zipped with something a row: those before a part and it, and those behind it
+pub zipped_more : {B : Type 0} (f : ℕ → B → ℕ) (word : ℕ) (old rows some : List ℕ) (before here : List B) → length old ≡ 512 → length rows ≡ 512 → length some ≡ 64 → length before ≡ 64 * word → word < 8
+    → take (64 * word) rows ≡ zip2 f (take (64 * word) old) before → drop (64 * word) rows ≡ drop (64 * word) old → some ≡ zip2 f (part word rows) here
+    → take (64 * (word + 1)) (put_chunk (64 * word) rows some) ≡ zip2 f (take (64 * (word + 1)) old) (before ++ here)
+zipped_more f word old rows some before here long all size count lt so_far behind is =
+    take_more_put_chunk (64 * word) rows some (64 * (word + 1)) (omega (arith, size)) (omega (arith, all))
+    ∙ ap₂ ◌++◌ so_far (is ∙ ap (λ l. zip2 f (take 64 (take (512 - 64 * word) l)) here) behind)
+    ∙ sym (ap (λ l. zip2 f l (before ++ here)) (before_and_part word old lt)
+    ∙ zip2-append f (take (64 * word) old) (part word old) before here (omega (arith, length-take (64 * word) old, long, count)))
+
+pub kept_more : (f : ℕ → ℕ → ℕ) (word : ℕ) (old rows bytes some : List ℕ) → length old ≡ 512 → length rows ≡ 512 → length bytes ≡ 512 → length some ≡ 64 → word < 8
     → take (64 * word) rows ≡ zip2 f (take (64 * word) old) (take (64 * word) bytes) → drop (64 * word) rows ≡ drop (64 * word) old → some ≡ zip2 f (part word rows) (part word bytes)
     → take (64 * (word + 1)) (put_chunk (64 * word) rows some) ≡ zip2 f (take (64 * (word + 1)) old) (take (64 * (word + 1)) bytes)
-kept_more f word old rows bytes some long all there lt before behind is =
-    let parts : some ≡ zip2 f (part word old) (part word bytes) = is ∙ ap (λ l. zip2 f (take 64 (take (512 - 64 * word) l)) (part word bytes)) behind in
-    let size : length some ≡ 64 = ap length parts ∙ length-zip2 f (part word old) (part word bytes) (length-part word old long lt ∙ sym (length-part word bytes there lt)) ∙ length-part word old long lt in
-    take_more_put_chunk (64 * word) rows some (64 * (word + 1)) (omega (arith, size)) (omega (arith, all)) ∙ ap₂ ◌++◌ before parts ∙ sym (pairs_more f word old bytes long there lt)
+kept_more f word old rows bytes some long all there size lt before behind is =
+    zipped_more f word old rows some (take (64 * word) bytes) (part word bytes) long all size (omega (arith, length-take (64 * word) bytes, there)) lt before behind is
+    ∙ ap (zip2 f (take (64 * (word + 1)) old)) (sym (before_and_part word bytes lt))
 
 pub left_behind : (word : ℕ) (old rows some : List ℕ) → length rows ≡ 512 → length some ≡ 64 → word < 8 → drop (64 * word) rows ≡ drop (64 * word) old
     → drop (64 * (word + 1)) (put_chunk (64 * word) rows some) ≡ drop (64 * (word + 1)) old
@@ -68,9 +76,10 @@ left_behind word old rows some all size lt behind =
     (λ i. drop (next i) (put_chunk_is at rows some (omega (arith, all, size)) i)) ∙ drop-append-add front (some ++ rest) (length some + 0) ∙ drop-append-add some rest 0
     ∙ ap (drop (length some)) behind ∙ drop-drop (length some) at old ∙ ap (λ n. drop n old) then
 
-pub length-kept : (f : ℕ → ℕ → ℕ) (word : ℕ) (rows bytes some : List ℕ) → length rows ≡ 512 → length bytes ≡ 512 → word < 8 → some ≡ zip2 f (part word rows) (part word bytes) → length some ≡ 64
-length-kept f word rows bytes some here there lt is =
-    ap length is ∙ length-zip2 f (part word rows) (part word bytes) (length-part word rows here lt ∙ sym (length-part word bytes there lt)) ∙ length-part word rows here lt
+pub length-zipped : {B : Type 0} (f : ℕ → B → ℕ) (word : ℕ) (rows some : List ℕ) (here : List B) → length rows ≡ 512 → length here ≡ 64 → word < 8 → some ≡ zip2 f (part word rows) here → length some ≡ 64
+length-zipped f word rows some here all size lt is =
+    let rest = length-part word rows all lt in
+    ap length is ∙ length-zip2 f (part word rows) here (rest ∙ sym size) ∙ rest
 
 -- one step of a sum
 pub sums_more : (so_far ys sums more : List ℕ) → length sums ≡ length more → sum_l sums ≡ sum_l so_far → sum_l more ≡ sum_l ys → sum_l (zip2 (λ a b. a + b) sums more) ≡ sum_l (so_far ++ ys)

@@ -4,15 +4,18 @@
 //! numbers of lanes that are 1. None takes memory, and none refuses.
 //!
 //! The layout is BitWeaving's vertical one (Li and Patel), whose words here are 64 bits, and ByteSlice's (Feng,
-//! Lo, Kao and Xu) for bytes. Read `plane.rt` first, then `bytes.rt` and `picked.rt`.
+//! Lo, Kao and Xu) for bytes. Read `plane.rt` first, then `bytes.rt`, `picked.rt` and
+//! `shifted.rt`.
 #![tactic(auto)]
 
 mod bytes;
 mod picked;
 mod plane;
+mod shifted;
 mod stored;
 
 pub use bytes::{bytes_bit, bytes_eq, bytes_lt, bytes_none};
 pub use picked::{bytes_of_plane, greatest_in, keep_in, least_in, sum_in};
 pub use plane::{Plane, and, count, count_and, is_zero, lane, mask, not, or, xor};
+pub use shifted::push_bit;
 pub use stored::{load, to_bytes};

@@ -33,7 +33,7 @@ pub fn bytes_of_plane(plane: &Plane) -> [u8; 512]
 }
 
 /// Puts the bytes of the 64 rows of a word in their place.
-fn put(bytes: &mut [u8; 512], word: usize, some: u8x64)
+pub(crate) fn put(bytes: &mut [u8; 512], word: usize, some: u8x64)
     requires { word < 8 }
     ensures { bytes.new ≡ put_chunk (64 * word) bytes.old some }
 {
@@ -41,7 +41,7 @@ fn put(bytes: &mut [u8; 512], word: usize, some: u8x64)
 }
 
 /// The same of one word.
-fn bytes_of_word(word: u64) -> u8x64
+pub(crate) fn bytes_of_word(word: u64) -> u8x64
     ensures { result ≡ map as_byte (bits_from_least 64 word) }
 {
     let bytes = u64x8::splat(word).to_le_bytes().swizzle(BYTE_OF_ROW);

@@ -16,11 +16,12 @@ pub(crate) struct Register {
     is_plane: bool,
 }
 
-/// A skip whose target is still to come: its number, the node of its register, and the nodes of
-/// all registers there.
+/// A skip whose target is still to come: its number, the place of its line, the node of its
+/// register, and the nodes of all registers there.
 #[derive(Clone, Copy)]
 pub(crate) struct Skip {
     number: usize,
+    line: usize,
     tested: u32,
     nodes: [Option<u32>; 64],
 }
@@ -269,7 +270,7 @@ impl<'a> Code<'a> {
         }
         self.meet()?;
         let tested = self.node(register)?;
-        let number = self.instrs.len();
+        let (number, line) = (self.instrs.len(), self.lines.len());
         self.put(Instr::Skip(register, 0), InstructionEntry::Skip)?;
         let mut nodes = [None; 64];
         for (node, register) in nodes.iter_mut().zip(self.registers.iter()) {
@@ -277,6 +278,7 @@ impl<'a> Code<'a> {
         }
         self.skips.push(Skip {
             number,
+            line,
             tested,
             nodes,
         })?;
@@ -288,10 +290,16 @@ impl<'a> Code<'a> {
         self.meeting = self.meeting.min(first);
     }
 
-    /// Lets skips meet here, if some are to.
+    /// Lets skips meet here, if some are to. One by which a register that is needed can't be shown
+    /// to hold what it holds from above is taken back.
     pub(crate) fn meet(&mut self) -> Result<(), Refusal> {
         let first = self.meeting;
         self.meeting = usize::MAX;
+        for at in (first..self.skips.len()).rev() {
+            if !self.can_meet(at)? {
+                self.take_back(at);
+            }
+        }
         if first >= self.skips.len() {
             return Ok(());
         }
@@ -305,6 +313,53 @@ impl<'a> Code<'a> {
         }
         self.skips.truncate(first);
         Ok(())
+    }
+
+    /// Whether by a skip each register that is needed is shown to hold what it holds from above.
+    fn can_meet(&mut self, at: usize) -> Result<bool, Refusal> {
+        for register in 0..64u8 {
+            let known = self.registers.get(register as usize).copied();
+            let needed = known.filter(|register| register.needed);
+            let Some(node) = needed.and_then(|register| register.node) else {
+                continue;
+            };
+            if self.edge(register, node, at)?.is_none() {
+                return Ok(false);
+            }
+        }
+        Ok(true)
+    }
+
+    /// Takes a skip back, with its instruction and its line: what stands behind it moves up by one.
+    fn take_back(&mut self, at: usize) {
+        let Some((number, line)) = self.skips.get(at).map(|skip| (skip.number, skip.line)) else {
+            return;
+        };
+        if at < self.skips.len() && number < self.instrs.len() && line < self.lines.len() {
+            self.skips.remove(at);
+            self.instrs.remove(number);
+            self.lines.remove(line);
+        }
+        for skip in self.skips.iter_mut() {
+            if skip.number > number {
+                skip.number -= 1;
+                skip.line = skip.line.saturating_sub(1);
+            }
+        }
+        for instr in self.instrs.iter_mut() {
+            if let Instr::Skip(register, target) = *instr {
+                if target > number {
+                    *instr = Instr::Skip(register, target - 1);
+                }
+            }
+        }
+        for entry in self.lines.iter_mut() {
+            if let Entry::Join(target) = entry {
+                if *target > number as u64 {
+                    *target -= 1;
+                }
+            }
+        }
     }
 
     /// Gives a skip its target.
@@ -336,7 +391,8 @@ impl<'a> Code<'a> {
         let through = self.facts.row(self.order, Logic::Xor, node, node)?;
         let mut edges = Vec::new(self.alloc);
         for at in first..self.skips.len() {
-            edges.push(self.edge(register, node, at)?)?;
+            let edge = self.edge(register, node, at)?;
+            edges.push(edge.ok_or(Refusal::Unjoined)?)?;
         }
         self.lines.push(Entry::Keep(Keep {
             register,
@@ -359,25 +415,29 @@ impl<'a> Code<'a> {
         true
     }
 
-    /// The rows of a register that is kept, for one skip.
-    fn edge(&mut self, register: u8, node: u32, at: usize) -> Result<EdgeRows, Refusal> {
-        let Some(skip) = self.skips.get(at).copied() else {
-            return Err(Refusal::Unjoined);
-        };
-        let Some(Some(held)) = skip.nodes.get(register as usize).copied() else {
-            return Err(Refusal::Unjoined);
+    /// The rows of a register that is to hold a node, for one skip, if they show so.
+    fn edge(&mut self, register: u8, node: u32, at: usize) -> Result<Option<EdgeRows>, Refusal> {
+        let Some((tested, held)) = self.at_skip(register, at) else {
+            return Ok(None);
         };
         let differs = self.facts.row(self.order, Logic::Xor, held, node)?;
         let within = self
             .facts
-            .row(self.order, Logic::Diff, differs.node, skip.tested)?;
+            .row(self.order, Logic::Diff, differs.node, tested)?;
         if within.node != 0 {
-            return Err(Refusal::Unjoined);
+            return Ok(None);
         }
-        Ok(EdgeRows {
+        Ok(Some(EdgeRows {
             differs: u64::from(differs.number),
             within: u64::from(within.number),
-        })
+        }))
+    }
+
+    /// The nodes of a skip's own register and of another one there, if that is known.
+    fn at_skip(&self, register: u8, at: usize) -> Option<(u32, u32)> {
+        let skip = self.skips.get(at)?;
+        let held = skip.nodes.get(register as usize).copied()?;
+        Some((skip.tested, held?))
     }
 
     /// Whether a skip stands among the instructions.

@@ -57,16 +57,26 @@ fn planned(
     ensures certificate { IfOk result (λ proposal.
         IsTrue (has_columns schema.now.columns.items (certificate_fields proposal.certificate))) }
 {
-    let mut facts = Facts::new(alloc, schema, cond)?;
-    let mut lines = Vec::new(alloc);
-    let pair = steps_of(&mut facts, &mut lines, cond)?;
-    let mut code = Code::new(alloc, facts, lines, with_skips);
-    let (program, row) = programmed(schema, cond, pair.yes, &mut code)?;
+    let (node, mut code) = begun(alloc, schema, cond, with_skips)?;
+    let (program, row) = programmed(schema, cond, node, &mut code)?;
     let certificate = certified(schema, code, row)?;
     Ok(Proposal {
         program,
         certificate,
     })
+}
+
+/// The node of a condition, and no instructions yet behind the lines that say so.
+fn begun<'a>(
+    alloc: Global,
+    schema: &'a Schema,
+    cond: &Cond,
+    with_skips: bool,
+) -> Result<(u32, Code<'a>), Refusal> {
+    let mut facts = Facts::new(alloc, schema, cond)?;
+    let mut lines = Vec::new(alloc);
+    let node = steps_of(&mut facts, &mut lines, cond)?.yes;
+    Ok((node, Code::new(alloc, facts, lines, with_skips)))
 }
 
 /// The program of a condition that has this node, and the row that says that its answer has it too.
@@ -119,11 +129,12 @@ fn written(code: &mut Code<'_>, cond: &Cond) -> Result<u8, Refusal> {
     };
     let made = code.truths(cond, wanted)?;
     let answer = made.yes.ok_or(Refusal::NoProgram)?;
+    code.meet()?;
     if !code.has_skips() {
         let first = code.waiting()?;
         code.skip(answer)?;
         code.meet_from(first);
+        code.meet()?;
     }
-    code.meet()?;
     Ok(answer)
 }

@@ -299,7 +299,8 @@ impl Code<'_> {
         Ok(Some(self.in_set(column, &set, wanted)?))
     }
 
-    /// The registers of a comparison of two columns.
+    /// The registers of a comparison of two columns. Its skips meet right behind its own
+    /// instructions: behind a NOT or a null plane, "less so far" would differ by them.
     fn related(&mut self, relation: Relation, wanted: Wanted) -> Result<Halves, Refusal> {
         let first = self.waiting()?;
         self.order = relation.order();
@@ -307,6 +308,8 @@ impl Code<'_> {
             Some(terminal) => self.fill(terminal == 1)?,
             None => self.relation(relation)?,
         };
+        self.meet_from(first);
+        self.meet()?;
         let [c, d] = relation.columns;
         let both = [c, d];
         let count = if c == d { 1 } else { 2 };

@@ -117,29 +117,32 @@ all_came bytes taken (Some xs) (Some ys) e consumes ends =
     sym (append-nil taken) ∙ ap (λ (l : List ℕ). taken ++ l) (sym ends) ∙ sym consumes ∙ same
 
 -- so the text went out for known bytes, which are a table file's text
-pub file_answered : (asks : Schema → Result Query Fault → Type 0) (start now : State) (schema : Schema) (query : Query) (scan : Scan) (text : List ℕ) (scanned : Scanned)
-    (Told : Schema → Query → List (List Value) → Type 0)
-    → ((rows : List (List Value)) → IsScanOf schema.columns.items scan (groups_of rows) scanned → Told schema query rows)
-    → asks schema (Ok query) → TextOver start now schema query scan text scanned → (bytes : List ℕ) → start.known ≡ Some bytes
+pub table_answered : (asks : Schema → Result Query Fault → Type 0) (start now : State) (text : List ℕ) (found : TableText asks start now text)
+    (Told : Schema → Query → List (List Value) → Type 0) → Told found.schema found.query found.rows → (bytes : List ℕ) → start.known ≡ Some bytes
     → (old new : Option (List ℕ)) → Appends old new text
     → (file : AnswersFile asks bytes old new) × Told file.schema file.query file.rows
-unfolding text_over
-file_answered asks start now schema query scan text scanned Told told asked over bytes known old new appends =
-    let found = text_over asks start now schema query scan text scanned Told told asked over in
-    let table = found.0.table in
+table_answered asks start now text found Told told bytes known old new appends =
+    let table = found.table in
     let same = all_came bytes table.read.bytes start.known now.known known table.read.took.consumed table.read.ended in (
       record {
         layout = table.found.layout;
-        schema = schema;
-        rows = found.0.rows;
-        query = query;
-        file = let F : List ℕ → Type 0 = λ taken. IsFileText taken table.found.layout schema found.0.rows in
+        schema = found.schema;
+        rows = found.rows;
+        query = found.query;
+        file = let F : List ℕ → Type 0 = λ taken. IsFileText taken table.found.layout found.schema found.rows in
             subst F same table.text;
-        asked = asked;
-        text = subst (λ (those : List ℕ). Appends old new those) found.0.is appends;
+        asked = found.asked;
+        text = subst (λ (those : List ℕ). Appends old new those) found.is appends;
       },
-      found.1,
+      told,
     )
+
+pub file_answered : (asks : Schema → Result Query Fault → Type 0) (start now : State) (schema : Schema) (query : Query) (scan : Scan) (text : List ℕ) (scanned : Scanned)
+    → asks schema (Ok query) → TextOver start now schema query scan text scanned → (bytes : List ℕ) → start.known ≡ Some bytes
+    → (old new : Option (List ℕ)) → Appends old new text → AnswersFile asks bytes old new
+file_answered asks start now schema query scan text scanned asked over bytes known old new appends =
+    let found = text_over asks start now schema query scan text scanned (λ s q r. Unit {0}) (λ rows counts. tt) asked over in
+    (table_answered asks start now text found.0 (λ s q r. Unit {0}) tt bytes known old new appends).0
 
 -- and so where it went out at all
 pub answered_or_not : (asks : Schema → Result Query Fault → Type 0) (start now : State) (schema : Schema) (query : Query) (scan : Scan) (text : List ℕ) (scanned : Scanned)
@@ -147,7 +150,7 @@ pub answered_or_not : (asks : Schema → Result Query Fault → Type 0) (start n
     → (old new : Option (List ℕ)) (before after : ℕ) (result : Result (Unit {0}) Fault) → GoesOut old new before after text result
     → OnOk result (AnswersFile asks bytes old new)
 answered_or_not asks start now schema query scan text scanned asked over bytes known old new before after (Ok x) goes =
-    (file_answered asks start now schema query scan text scanned (λ s q r. Unit {0}) (λ rows counts. tt) asked over bytes known old new goes.0).0
+    file_answered asks start now schema query scan text scanned asked over bytes known old new goes.0
 answered_or_not asks start now schema query scan text scanned asked over bytes known old new before after (Err fault) goes = tt
 
 -- the file was read whole

@@ -10,7 +10,6 @@ mod plan_call;
 mod scan;
 mod served;
 mod table_calls;
-mod table_rows;
 mod table_text;
 
 pub use plan_call::plan_text;

@@ -5,7 +5,6 @@ ghost use Rattle.std.specs.List.{list_all};
 ghost use Rattle.bw_model.specs.declared.fault.Fault.{Fault};
 ghost use Rattle.bw_model.specs.declared.query.Query.{Query};
 ghost use Rattle.bw_model.specs.declared.schema.Schema.{Schema};
-ghost use Rattle.bw_model.specs.Cond.{names_within};
 ghost use Rattle.bw_model.specs.Total.{item_within};
 ghost use Rattle.bw_sql.specs.Asked.{Asked};
 ghost use Rattle.bw_sql.specs.Items.{AreOfOneKind};
@@ -106,10 +105,6 @@ fn answered<S: Source>(
         × (found : TableText (by_statement (given_file program.entry) sql.now) (state (S.to_come table.old) 0 (S.failures table.old))
         (state (S.to_come table.new) offset (S.failures table.new)) answered.text.items)
         × IsServed (given_file program.entry) found.schema found.query found.rows answered.served) }
-    ensures file { (bytes : List ℕ) → S.to_come table.old ≡ Some bytes → IfOk result (λ answered.
-        (old new : Option (List ℕ)) → Appends old new answered.text.items
-        → (file : AnswersFile (by_statement (given_file program.entry) sql.now) bytes old new)
-        × IsServed (given_file program.entry) file.schema file.query file.rows answered.served) }
     ensures accepted { (bytes : List ℕ) (layout : Layout) (schema : Schema) (rows : List (List Value)) (query : Query)
         → S.to_come table.old ≡ Some bytes → IsFileText bytes layout schema rows
         → by_statement (given_file program.entry) sql.now schema (Ok query)
@@ -145,7 +140,6 @@ fn prepare(
     ensures chosen { IfOk result (λ prepared.
         IsChosen (given_file program.entry) schema.now.columns.items prepared.query.cond prepared.scan) }
     ensures certified { IfOk result (λ prepared. IsFor schema.now.columns.items prepared.query.cond prepared.scan) }
-    ensures names { IfOk result (λ prepared. IsTrue (names_within (vec_len schema.now.columns) prepared.query.cond)) }
     ensures items { IfOk result (λ prepared.
         IsTrue (list_all (item_within (vec_len schema.now.columns)) prepared.query.items.items)) }
     ensures some { IfOk result (λ prepared. 1 ≤ length prepared.query.items.items) }
@@ -199,10 +193,9 @@ pub fn dump<S: Source, K: Sink>(alloc: Global, table: &mut S, sink: &mut K) -> R
 }
 
 /// The query for every row in every column.
-#[tactic(auto, using(bw_model::proofs::CondLemmas::truths, bw_model::proofs::CondLemmas::names))]
+#[tactic(auto, using(bw_model::proofs::CondLemmas::truths))]
 fn every_row(alloc: Global, schema: &Schema) -> Result<Query, Fault>
     ensures every { IfOk result (IsEveryRow schema.now) }
-    ensures names { IfOk result (λ query. IsTrue (names_within (vec_len schema.now.columns) query.cond)) }
     ensures items { IfOk result (λ query. IsTrue (list_all (item_within (vec_len schema.now.columns)) query.items.items)) }
     ensures some { IfOk result (λ query. 1 ≤ length query.items.items) }
     ensures kinds { IfOk result (λ query. AreOfOneKind query.items.items) }

@@ -2,7 +2,6 @@
 ghost use Rattle.std.specs.Prelude.{◌≡◌, ◌+◌, ◌-◌, ◌^◌, ◌<◌, ◌≤◌, ◌++◌, ℕ, List, [], None, true, IsTrue, IfOk, IfErr, OnOk, length, vec_len};
 ghost use Rattle.std.specs.List.{list_all};
 ghost use Rattle.bw_model.specs.Column.{names_of};
-ghost use Rattle.bw_model.specs.Cond.{names_within};
 ghost use Rattle.bw_model.specs.Fault.{no_memory};
 ghost use Rattle.bw_model.specs.Limits.{most_rows};
 ghost use Rattle.bw_model.specs.Total.{item_within};
@@ -18,11 +17,10 @@ ghost use Rattle.bw_query.specs.Scan.{IsFor, loads_in, skips_in};
 ghost use Rattle.bw_query.specs.TableText.{TextOver, TookAll};
 
 use crate::scan::Scan;
-use crate::table_rows::hand_segment;
 use bw_answer::Answer;
 use bw_device::Source;
 use bw_file::{AnySegment, TableReader, bytes_were_taken};
-use bw_model::{Fault, Query, Row, admitted_rows_have_each_value};
+use bw_model::{Fault, Query, Row};
 use bw_run::Counts;
 use bw_segment::Segment;
 use std::alloc::Global;
@@ -53,7 +51,6 @@ pub(crate) fn table_text<S: Source>(
 ) -> Result<TableText, Fault>
     requires countable { S.failures source.old < 2 ^ 64 - 1 }
     requires fresh { (rows_given reader.old ≡ 0) × (settled reader.old ≡ None) }
-    requires names { IsTrue (names_within (vec_len (schema_in reader.old).columns) query.now.cond) }
     requires items { IsTrue (list_all (item_within (vec_len (schema_in reader.old).columns)) query.now.items.items) }
     requires some { 1 ≤ length query.now.items.items }
     requires kinds { AreOfOneKind query.now.items.items }
@@ -184,7 +181,7 @@ fn take_segment<S: Segment>(
     }
 }
 
-/// Takes each row of a segment, or their number where nothing else is asked for.
+/// Takes the rows of a segment, each of which is looked at, or their number where nothing else is asked for.
 fn take_by_rows<S: Segment>(
     segment: &S,
     counts: bool,
@@ -199,11 +196,10 @@ fn take_by_rows<S: Segment>(
     ensures rows { OnOk result (answer.new.rows ≡ answer.old.rows + length (S.meaning segment.now).rows) }
     ensures only_memory { IfErr result (λ fault. fault ≡ no_memory) }
 {
-    admitted_rows_have_each_value();
     if counts {
         answer.take_count(segment.rows_in());
         Ok(())
     } else {
-        hand_segment(segment, row, answer)
+        answer.take_segment(segment, row)
     }
 }

@@ -21,3 +21,14 @@ greatest_assoc Unknown No c = refl
 greatest_assoc Unknown Unknown No = refl
 greatest_assoc Unknown Unknown Unknown = refl
 greatest_assoc Unknown Unknown Yes = refl
+
+pub greatest_comm : (a b : Truth) → greatest a b ≡ greatest b a
+greatest_comm No No = refl
+greatest_comm No Unknown = refl
+greatest_comm No Yes = refl
+greatest_comm Unknown No = refl
+greatest_comm Unknown Unknown = refl
+greatest_comm Unknown Yes = refl
+greatest_comm Yes No = refl
+greatest_comm Yes Unknown = refl
+greatest_comm Yes Yes = refl

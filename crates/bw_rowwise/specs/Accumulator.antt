@@ -1,5 +1,5 @@
 -- What an accumulator has to show of the rows that it was given.
-use Rattle.std.specs.Prelude.{ℕ, ◌+◌, ℤ, pos, ◌+ℤ◌, ◌*◌, ◌^◌, ◌≤ℤ◌, neg_ℤ, List, Option, Some, None, length}
+use Rattle.std.specs.Prelude.{ℕ, ◌+◌, ℤ, pos, ◌*◌, ◌^◌, ◌≤ℤ◌, neg_ℤ, List, Option, Some, None, length}
 use Rattle.std.specs.Option.{ForSome, option_map}
 use Rattle.bw_model.specs.declared.query.Item.{Item}
 use Rattle.bw_model.specs.declared.query.Item.TheVariants.{Plain, CountAll, Count, Sum, Min, Max}

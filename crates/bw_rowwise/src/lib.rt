@@ -11,8 +11,15 @@
 
 mod accumulator;
 mod condition;
+mod kernels;
+mod lanes;
 mod logic;
+mod numbers;
+mod prepared;
+mod prepared_row;
 mod total;
 
 pub use accumulator::{Accumulator, aggregate};
 pub use condition::{keeps_all, select, truth};
+pub use numbers::Numbers;
+pub use prepared::Prepared;

@@ -1,5 +1,5 @@
 -- Rows that are kept column by column.
-use Rattle.std.proofs.Common.{◌≡◌, ◌∙◌, sym, ap, ap₂, subst, ℕ, suc, ◌+◌, ◌-◌, ◌<◌, ◌≢◌, refl, cond, Bool, true, false, not, None, Some, is_some, List, [], ◌∷◌, ◌++◌, map, length, take, drop, set, replicate, append_assoc, length-append, get_or-set_same, get_or-set_other, below_more, arith}
+use Rattle.std.proofs.Common.{◌≡◌, ◌∙◌, sym, ap, ap₂, subst, ℕ, suc, ◌+◌, ◌-◌, ◌<◌, ◌≢◌, refl, cond, Bool, true, false, not, None, Some, is_some, List, [], ◌∷◌, ◌++◌, map, length, take, drop, set, replicate, append_assoc, length-append, get_or, get_or-set_same, get_or-set_other, below_more, arith}
 use Rattle.std.proofs.lemmas.List.{set-append_right, length-map, map-append, take-append-le, take_all}
 use Rattle.bw_model.specs.declared.column.Column.{Column}
 use Rattle.bw_model.specs.Row.{Value, value_in}
@@ -18,13 +18,12 @@ pub empty_kept : (columns : List Column) (kept : List ColumnCodes) → length ke
 unfolding stored_codes stored_nulls group_size
 empty_kept columns kept all each = record { all = all; codes = λ col lt. (each col lt).0; nulls = λ col lt. (each col lt).1 }
 
--- what holds of the columns so far, and of a column that is put there, holds of one more
-pub each_more : (P : ℕ → ColumnCodes → Type 0) (kept : List ColumnCodes) (i : ℕ) (column : ColumnCodes) → i < length kept
-    → ((col : ℕ) → col < i → P col (kept_at kept col)) → P i column → (col : ℕ) → col < i + 1 → P col (kept_at (set kept i column) col)
-each_more P kept i column lt before here =
-    below_more (λ col. P col (kept_at (set kept i column) col)) i
-    (λ col below. let other : col ≢ i = omega arith in subst (P col) (sym (get_or-set_other kept i col column (kept_at [] 0) other)) (before col below))
-    (subst (P i) (sym (get_or-set_same kept i column (kept_at [] 0) lt)) here)
+-- what holds of the items so far, and of an item that is put behind them, holds of one more
+pub each_more : {A : Type 0} (P : ℕ → A → Type 0) (d : A) (xs : List A) (i : ℕ) (x : A) → i < length xs → ((k : ℕ) → k < i → P k (get_or xs k d)) → P i x → (k : ℕ) → k < i + 1 → P k (get_or (set xs i x) k d)
+each_more P d xs i x lt before here =
+    below_more (λ k. P k (get_or (set xs i x) k d)) i
+    (λ k below. let other : k ≢ i = omega arith in subst (P k) (sym (get_or-set_other xs i k x d other)) (before k below))
+    (subst (P i) (sym (get_or-set_same xs i x d lt)) here)
 
 -- a column keeps a row more, in a lane
 abbrev pub HasPut : List Column → List Value → ℕ → ℕ → ColumnCodes → ColumnCodes → Type 0

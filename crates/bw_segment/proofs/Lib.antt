@@ -3,6 +3,7 @@ pub mod ColumnLemmas
 pub mod DescentLemmas
 pub mod FaultLemmas
 pub mod LaneLemmas
+pub mod LaneValues
 pub mod LayoutLemmas
 pub mod PickedCodes
 pub mod PickedLemmas
@@ -10,4 +11,5 @@ pub mod ShapeLemmas
 pub mod SoundLemmas
 pub mod SpanLemmas
 pub mod TextLemmas
+pub mod TransposeLemmas
 pub mod ValueLemmas

@@ -2,7 +2,8 @@
 //!
 //! The contract that the crates above use: a [`Segment`] means the columns of a schema and 1 to 512 rows that
 //! they admit, and each of its methods answers from that meaning alone, whatever the layout. Bit i of
-//! `plane(v)` is row i's bit of the variable v, and 0 past the last row.
+//! `plane(v)` is row i's bit of the variable v, and 0 past the last row. [`codes_in_lanes`] and [`values_in_lanes`] give a
+//! column in all 512 lanes at once, out of its planes.
 //!
 //! Segments as bytes, and the first fault of such bytes, are said once for both layouts in `specs/Layout.antt` and
 //! `specs/BlockFault.antt`. What variables, codes and lanes are stands in the `specs/` of `bw_model`; the layouts are those of
@@ -17,6 +18,7 @@ mod lanes;
 mod layout;
 mod segment;
 mod shape;
+mod values;
 
 pub use block::fault_of_lanes;
 pub use codes::{bytes_of, slices_of};
@@ -26,3 +28,4 @@ pub use lanes::lanes_hold_codes;
 pub use layout::{blocks_are_added, sound_bytes_spell_a_group, text_of_a_group_is_sound};
 pub use segment::Segment;
 pub use shape::Shape;
+pub use values::{codes_in_lanes, values_in_lanes};

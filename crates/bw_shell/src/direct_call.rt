@@ -8,7 +8,6 @@ ghost use Rattle.bw_device.specs.Sink.{is_write_fault, Went};
 ghost use Rattle.bw_model.specs.Fault.{nowhere};
 ghost use Rattle.bw_model.specs.Limits.{longest_schema, longest_csv};
 ghost use Rattle.bw_device.specs.Source.{Came, TookAtMost, EndsWith};
-ghost use Rattle.bw_model.specs.Cond.{names_within};
 ghost use Rattle.bw_model.specs.Total.{item_within};
 ghost use Rattle.bw_sql.specs.Items.{AreOfOneKind};
 ghost use Rattle.bw_sql.specs.Statement.{IsReadAs};
@@ -88,7 +87,6 @@ pub fn direct<S: Source, C: Source, K: Sink>(
 
 /// The text of the answer over the rows of a CSV text. Refuses as [`read_rows`] does.
 fn answer_text(alloc: Global, schema: &Schema, query: &Query, csv: &[u8]) -> Result<Vec<u8>, Fault>
-    requires names { IsTrue (names_within (vec_len schema.now.columns) query.now.cond) }
     requires items { IsTrue (list_all (item_within (vec_len schema.now.columns)) query.now.items.items) }
     requires some { 1 ≤ length query.now.items.items }
     requires kinds { AreOfOneKind query.now.items.items }

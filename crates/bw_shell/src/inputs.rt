@@ -9,12 +9,10 @@ ghost use Rattle.bw_device.specs.Source.{Came, TookAtMost, EndsWith};
 ghost use Rattle.bw_shell.specs.Arrived.{SchemaTold, CsvTold};
 ghost use Rattle.bw_shell.specs.Direct.{is_before_csv};
 
+use bw_csv::MAX_CSV_LEN;
 use bw_device::{Input, Source, read_limited};
 use bw_model::{Fault, MAX_SCHEMA_LEN, Schema, code};
 use std::alloc::Global;
-
-/// A CSV text has at most this many bytes.
-pub const MAX_CSV_LEN: u64 = 1 << 30;
 
 /// The schema of a schema text. Refuses its source (701) and then the text (106, 101 to 105).
 pub(crate) fn read_schema<S: Source>(alloc: Global, source: &mut S) -> Result<Schema, Fault>

@@ -1,7 +1,7 @@
 -- What is picked is kept: more records in the text, or more rows in the totals.
 use Rattle.std.proofs.Common.{◌≡◌, ◌∙◌, ◌-◌, ◌≤◌, ◌++◌, sym, subst, List, [], ℕ, map, filter, ap, length, arith}
 use Rattle.std.proofs.lemmas.List.Elements.{filter-append}
-use Rattle.std.specs.List.{filter_map, list_all}
+use Rattle.std.specs.List.{filter_map}
 use Rattle.bw_lanes.specs.Lanes.{lanes_of_words}
 use Rattle.bw_model.specs.Cond.{is_kept}
 use Rattle.bw_model.specs.Groups.{group_size}

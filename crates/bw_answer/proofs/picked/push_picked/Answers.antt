@@ -6,7 +6,7 @@ use Rattle.bw_lanes.specs.Lanes.{lanes_of_words}
 use Rattle.bw_model.specs.Groups.{group_size}
 use Rattle.bw_model.specs.Row.{Value}
 use Rattle.bw_model.specs.Selection.{picked}
-use Rattle.bw_answer.specs.Answer.{csv_text, field_of, record_text}
+use Rattle.bw_answer.specs.Answer.{csv_text, field_of}
 use Rattle.bw_answer.specs.Draft.{Holds}
 use Rattle.bw_answer.proofs.PickedLemmas.{all_picked, none_picked, picked_more, picked_no_more}
 use Rattle.bw_answer.proofs.Rows.{no_records, record_more}

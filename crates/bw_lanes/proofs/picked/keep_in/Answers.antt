@@ -1,7 +1,7 @@
 use Rattle.std.proofs.Common.{◌∙◌, sym, ap, ◌+◌, ◌*◌, ◌==◌, ℕ, cond, take, drop, take_all, length, arith}
 use Rattle.std.proofs.lemmas.Simd.{length-put_chunk}
 use lib.Lanes.{zip2}
-use Rattle.bw_lanes.proofs.PartLemmas.{kept_more, left_behind, length-kept, pairs_all, kept_lanes}
+use Rattle.bw_lanes.proofs.PartLemmas.{part, kept_more, left_behind, length-part, length-zipped, pairs_all, kept_lanes}
 use Rattle.bw_lanes.proofs.picked.keep_in.Goals as goal
 
 pub loop-word-preserved : goal.loop-word-preserved
@@ -13,10 +13,10 @@ loop-word-preserved c =
     let some = c.kept-kept.result in
     let so_far = c.loop-word.invariant in
     let keep = λ (row byte : ℕ). cond (byte == c.args.c) row 0 in
-    let long = length-kept keep word rows bytes some so_far.all c.told-bytes (omega arith) c.kept-kept.ensures in
+    let long = length-zipped keep word rows some (part word bytes) so_far.all (length-part word bytes c.told-bytes (omega arith)) (omega arith) c.kept-kept.ensures in
     record {
       all = ap length c.put.ensures ∙ length-put_chunk (64 * word) rows some ∙ so_far.all;
-      kept = ap (take (64 * (word + 1))) c.put.ensures ∙ kept_more keep word old rows bytes some c.told-rows so_far.all c.told-bytes (omega arith) so_far.kept so_far.others c.kept-kept.ensures;
+      kept = ap (take (64 * (word + 1))) c.put.ensures ∙ kept_more keep word old rows bytes some c.told-rows so_far.all c.told-bytes long (omega arith) so_far.kept so_far.others c.kept-kept.ensures;
       others = ap (drop (64 * (word + 1))) c.put.ensures ∙ left_behind word old rows some so_far.all long (omega arith) so_far.others;
     }
 

@@ -1,7 +1,10 @@
 -- Each exit, by what its calls told.
 use Rattle.std.proofs.lemmas.Result.{err_from_is_err_and}
 use Rattle.bw_query.specs.declared.served.Served.{Served}
-use Rattle.bw_query.proofs.TableExits.{ends, wrote_nothing, wrote_text}
+use Rattle.bw_query.specs.Scan.{given_file}
+use Rattle.bw_query.specs.Served.{IsServed}
+use Rattle.bw_query.specs.TableAnswer.{by_statement}
+use Rattle.bw_query.proofs.TableExits.{ends, table_answered, wrote_nothing, wrote_text}
 use Rattle.bw_query.proofs.table_calls.answer.Goals as goal
 
 pub returns-in_err-answered-clause-answer : goal.returns-in_err-answered-clause-answer
@@ -30,7 +33,10 @@ returns-clause-served g c =
 pub returns-clause-file : goal.returns-clause-file
 returns-clause-file g c = λ bytes known.
     let goes = rw c.deref.ensures.value at c.in_ok-write_whole.ensures in
-    c.in_ok-answered.ensures.file bytes known _ _ goes.0
+    let served = c.in_ok-answered.ensures.served in
+    let file = given_file c.args.program in
+    table_answered (by_statement file c.args.sql.now) _ _ c.in_ok-answered.answered.text.items served.1
+    (λ schema query rows. IsServed file schema query rows c.in_ok-answered.answered.served) served.2 bytes known _ _ goes.0
 
 pub returns-in_err-answered-clause-accepted : goal.returns-in_err-answered-clause-accepted
 returns-in_err-answered-clause-accepted g c =

@@ -6,7 +6,7 @@ use Rattle.bw_file.specs.TableReader.{bytes_taken, schema_in}
 use Rattle.bw_query.specs.Scan.{given_file}
 use Rattle.bw_query.specs.TableAnswer.{by_statement}
 use Rattle.bw_query.proofs.ScanLemmas.{served, serves}
-use Rattle.bw_query.proofs.TableExits.{asked_exit, file_answered, header_exit, input_verdict, memory_verdict, no_read, segment_exit, text_exit, text_over}
+use Rattle.bw_query.proofs.TableExits.{asked_exit, header_exit, input_verdict, memory_verdict, no_read, segment_exit, text_exit, text_over}
 use Rattle.bw_query.proofs.table_calls.answered.Goals as goal
 
 pub returns-in_err-reader-clause-answer : goal.returns-in_err-reader-clause-answer
@@ -56,18 +56,6 @@ returns-clause-served g c =
     (served (given_file c.args.program) prepared.scan found.scanned) (λ rows. serves (given_file c.args.program) schema prepared.query rows prepared.scan found.scanned chosen) asked
     (c.in_ok-found.ensures.text _ c.in_ok-reader.ensures.began) in
     rw c.served_by.ensures (bytes_taken c.table_text.new.reader, told.0, told.1)
-
-pub returns-clause-file : goal.returns-clause-file
-returns-clause-file g c = λ bytes known.
-    let found = c.in_ok-found.found in
-    let prepared = c.in_ok-prepared.prepared in
-    let schema = schema_in c.in_ok-reader.reader in
-    let asked = rw c.schema.ensures at c.in_ok-prepared.ensures.asked in
-    let chosen = rw c.schema.ensures at c.in_ok-prepared.ensures.chosen in
-    rw c.served_by.ensures (λ old new appends.
-    file_answered (by_statement (given_file c.args.program) c.args.sql.now) _ _ schema prepared.query prepared.scan found.text.items found.scanned
-    (served (given_file c.args.program) prepared.scan found.scanned) (λ rows. serves (given_file c.args.program) schema prepared.query rows prepared.scan found.scanned chosen) asked
-    (c.in_ok-found.ensures.text _ c.in_ok-reader.ensures.began) bytes known old new appends)
 
 pub returns-in_err-reader-clause-accepted : goal.returns-in_err-reader-clause-accepted
 returns-in_err-reader-clause-accepted g c =

@@ -1,5 +1,5 @@
-use Rattle.std.proofs.Common.{arith, refl}
-use Rattle.std.proofs.lemmas.Int.{ints, clamps}
+use Rattle.std.proofs.Common.{arith}
+use Rattle.std.proofs.lemmas.Int.{ints}
 use Rattle.bw_rowwise.proofs.TotalLemmas.{adds, small_both}
 use Rattle.bw_rowwise.proofs.total.total_of_both.Goals as goal
 

@@ -23,7 +23,7 @@ loop-col-preserved c =
     (c.put.ensures.codes ∙ ap (λ (column : ColumnCodes). set column.codes c.args.lane c.unwrap_or-code.result) is)
     (c.put.ensures.nulls ∙ ap (λ (column : ColumnCodes). set column.nulls c.args.lane (cond c.is_none.result 1 0)) is) in
     record {
-      put = each_more (λ k new. HasPut columns row c.args.lane k (kept_at c.args.kept.now k) new) c.loop-col.kept col c.put.new.self (omega arith) c.loop-col.invariant.put put;
+      put = each_more (λ k new. HasPut columns row c.args.lane k (kept_at c.args.kept.now k) new) (kept_at [] 0) c.loop-col.kept col c.put.new.self (omega arith) c.loop-col.invariant.put put;
       rest = λ k above.
           let other : k ≢ col = omega arith in
           get_or-set_other c.loop-col.kept col k c.put.new.self (kept_at [] 0) other ∙ c.loop-col.invariant.rest k (omega arith);

@@ -1,5 +1,4 @@
-use Rattle.std.proofs.Common.{arith, ap, ◌≤◌, ◌+◌, sym}
-use Rattle.bw_rowwise.specs.Accumulator.{Tally}
+use Rattle.std.proofs.Common.{arith, ◌≤◌}
 use Rattle.bw_rowwise.proofs.TotalLemmas.{small_below}
 use Rattle.bw_rowwise.proofs.accumulator.Accumulator.add_total.Goals as goal
 

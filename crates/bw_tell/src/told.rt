@@ -1,9 +1,10 @@
-//! What the place of a fault means, shown to a person at a terminal below the fault's own line.
-use bw_device::FromRead;
+//! The lines below a fault's own line.
+use crate::by_rows::of_rows;
+use bw_csv::MAX_CSV_LEN;
+use bw_device::{FromRead, Input, read_limited};
 use bw_explain::{of_csv, of_program, of_statement};
 use bw_file::TableReader;
 use bw_model::{Fault, Place, Schema, code};
-use bw_shell::{Input, MAX_CSV_LEN, read_limited};
 use bw_words::Words;
 use std::fmt;
 use std::fs::File;
@@ -50,6 +51,18 @@ pub fn explain(rt: &HostRuntime, words: &Words<'_>, ended: &Ended<'_>) {
             explain_place(rt, fault, file);
         }
     }
+}
+
+/// Says on standard error why the rows that a statement asks for were looked up one by one, where the table can be read again.
+pub fn explain_rows(rt: &HostRuntime, table: &str, sql: &str) {
+    say(rt, "", said_of_rows(rt, table, sql));
+}
+
+/// What is to be said of a statement that was answered row by row.
+fn said_of_rows(rt: &HostRuntime, table: &str, sql: &str) -> Option<String> {
+    let mut table = FromRead::new(regular_file(rt, table)?);
+    let reader = TableReader::begin(rt.alloc(), &mut table).ok()?;
+    of_rows(rt.alloc(), reader.schema(), sql.as_bytes()).ok()
 }
 
 /// Writes what is to be said, a line each, behind the name of its file; and tells whether that was something.

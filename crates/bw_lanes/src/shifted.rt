@@ -1,0 +1,28 @@
+//! A bit of each of 512 rows, shifted into a byte of each, by vectors of 64 bytes.
+ghost use Rattle.std.specs.Prelude.{◌≡◌};
+ghost use lib.Lanes.{zip2};
+ghost use Rattle.bw_lanes.specs.Lanes.{bits_from_least, lanes_of_words};
+ghost use Rattle.bw_lanes.specs.Shifted.{with_bit};
+
+use crate::picked::{bytes_of_word, put};
+use crate::plane::Plane;
+use std::simd::prelude::*;
+
+/// Shifts one more bit into a byte of each lane: each byte becomes its double, and 1 more where the plane's lane is 1,
+/// modulo 256. Byte i is row i's. So the planes of numbers' bits, as BitWeaving's vertical layout has them, become bytes
+/// of the numbers, from the most significant bit down.
+pub fn push_bit(bytes: &mut [u8; 512], plane: &Plane)
+    ensures { bytes.new ≡ zip2 with_bit bytes.old (lanes_of_words plane.now) }
+{
+    for word in 0..8 {
+        let some = with_bits(u8x64::from_slice(&bytes[64 * word..]), plane[word]);
+        put(bytes, word, some);
+    }
+}
+
+/// The same of the bytes of 64 rows and their word.
+fn with_bits(bytes: u8x64, word: u64) -> u8x64
+    ensures { result ≡ zip2 with_bit bytes (bits_from_least 64 word) }
+{
+    bytes + bytes - bytes_of_word(word)
+}

@@ -1,0 +1,87 @@
+-- The values of a column in the lanes of a group, by its nulls and its codes.
+use Rattle.std.proofs.Common.{◌≡◌, ◌∙◌, refl, sym, ap, ap₂, ℕ, zero, suc, ℤ, ◌+◌, ◌-◌, ◌<◌, ◌≤◌, pos, Bool, true, false, not, cond, ◌==◌, ◌||◌, List, [], ◌∷◌, ◌++◌, map, length, replicate, get_or, Some, None, All, arith}
+use Rattle.std.specs.List.{list_all}
+use Rattle.std.proofs.lemmas.List.{get_or-map, get_or-replicate}
+use Rattle.std.proofs.lemmas.List.Elements.{All-append, All-map, All-replicate}
+use lib.Lanes.{zip2}
+use Rattle.bw_lanes.specs.Picked.{as_byte}
+use Rattle.bw_model.specs.declared.column.Column.{Column}
+use Rattle.bw_model.specs.Row.{Value, value_in}
+use Rattle.bw_model.specs.Code.{span_of, span_at, value_of_code, value_at}
+use Rattle.bw_model.specs.Column.{admits_values}
+use Rattle.bw_model.specs.Groups.{group_size}
+use Rattle.bw_model.specs.Stored.{stored_at}
+use Rattle.bw_model.specs.Truth.{is_null}
+use Rattle.bw_model.specs.Variable.{first_variable, null_variable, is_nullable}
+use Rattle.bw_model.proofs.BitsLemmas.{both}
+use Rattle.bw_segment.specs.Layout.{null_bits, value_held}
+use Rattle.bw_segment.specs.Meaning.{Meaning, IsGroup, variable_lanes, stored_codes, code_lanes}
+use Rattle.bw_segment.proofs.LaneLemmas.{nulls_in_lanes, bits_of_nulls}
+use Rattle.bw_segment.proofs.ValueLemmas.{null_admitted, held_admitted, stored_within}
+
+-- the lanes past the last row, and those in which there is no value
+abbrev pub past_lanes : ℕ → List Bool
+past_lanes count = map not (replicate count true ++ replicate (512 - count) false)
+
+abbrev pub empty_lanes : List (List Value) → ℕ → List Bool
+empty_lanes rows col = map (λ row. is_null (value_in row col)) rows ++ replicate (512 - length rows) true
+
+nulls_or_past : (null : List Value → Bool) (m : ℕ) (rows : List (List Value))
+    → zip2 (λ x y. x || y) (map not (replicate (length rows) true ++ replicate m false)) (map null rows ++ replicate m false) ≡ map null rows ++ replicate m true
+nulls_or_past null zero [] = refl
+nulls_or_past null (suc m) [] = ap (λ l. true ∷ l) (nulls_or_past null m [])
+nulls_or_past null m (row ∷ rows) = ap (λ l. null row ∷ l) (nulls_or_past null m rows)
+
+pub empty_where_nullable : (meaning : Meaning) (col : ℕ) (past plane : List Bool) → IsGroup meaning → col < length meaning.columns → is_nullable meaning.columns col ≡ true
+    → past ≡ past_lanes (length meaning.rows) → plane ≡ variable_lanes meaning (first_variable meaning.columns col) → zip2 (λ x y. x || y) past plane ≡ empty_lanes meaning.rows col
+unfolding null_bits group_size
+empty_where_nullable meaning col past plane group lt nullable is plane_is =
+    let first = first_variable meaning.columns col in
+    let there : null_variable meaning.columns col ≡ Some first = ap (λ b. cond b (Some first) None) nullable in
+    let nulls : plane ≡ null_bits meaning.rows col = plane_is ∙ sym (nulls_in_lanes meaning col first group lt there) ∙ bits_of_nulls meaning.rows col in
+    ap₂ (zip2 (λ x y. x || y)) is nulls ∙ nulls_or_past (λ row. is_null (value_in row col)) (512 - length meaning.rows) meaning.rows
+
+pub empty_where_not : (columns : List Column) (col m : ℕ) (rows : List (List Value)) → list_all (admits_values columns) rows ≡ true → col < length columns → is_nullable columns col ≡ false
+    → map not (replicate (length rows) true ++ replicate m false) ≡ map (λ row. is_null (value_in row col)) rows ++ replicate m true
+empty_where_not columns col zero [] all lt never = refl
+empty_where_not columns col (suc m) [] all lt never = ap (λ l. true ∷ l) (empty_where_not columns col m [] all lt never)
+empty_where_not columns col m (row ∷ rows) all lt never =
+    let each = both (admits_values columns row) (list_all (admits_values columns) rows) all in
+    ap₂ ◌∷◌ (sym (null_admitted columns row col each.0 lt never)) (empty_where_not columns col m rows each.1 lt never)
+
+-- each code is one of the column's
+pub codes_within : (meaning : Meaning) (col : ℕ) (column : Column) → col < length meaning.columns → column ≡ get_or meaning.columns col column → All (λ code. code ≤ span_of column) (code_lanes meaning col)
+unfolding stored_codes
+codes_within meaning col column lt is =
+    let within = λ (code : ℕ). code ≤ span_of column in
+    let stored = λ (row : List Value). stored_at meaning.columns col (value_in row col) in
+    let span : span_at meaning.columns col ≡ span_of column = get_or-map span_of meaning.columns col column 0 lt ∙ ap span_of (sym is) in
+    let padding = group_size - length meaning.rows in
+    All-append within (map stored meaning.rows) (replicate padding 0)
+    (All-map within stored meaning.rows (λ k d there. omega (arith, stored_within meaning.columns col (value_in (get_or meaning.rows k d) col) lt, span)))
+    (All-replicate within padding 0 (omega arith))
+
+-- the values that the nulls and the codes are
+held_in_lanes : (columns : List Column) (col m : ℕ) (rows : List (List Value)) (lane : ℕ) → list_all (admits_values columns) rows ≡ true → col < length columns → lane < length rows + m
+    → value_held columns col (get_or (map (λ row. is_null (value_in row col)) rows ++ replicate m true) lane false) (get_or (map (λ row. stored_at columns col (value_in row col)) rows ++ replicate m 0) lane 0)
+    ≡ value_in (get_or rows lane []) col
+held_in_lanes columns col m [] lane all lt there = ap (λ null. value_held columns col null (get_or (replicate m 0) lane 0)) (get_or-replicate m lane true false (omega arith))
+held_in_lanes columns col m (row ∷ rows) zero all lt there = held_admitted columns row col (both (admits_values columns row) (list_all (admits_values columns) rows) all).0 lt
+held_in_lanes columns col m (row ∷ rows) (suc lane) all lt there = held_in_lanes columns col m rows lane (both (admits_values columns row) (list_all (admits_values columns) rows) all).1 lt (omega arith)
+
+chosen : (lanes : List Bool) (lane : ℕ) (n : ℤ) → cond (get_or (map as_byte lanes) lane 0 == 0) (Some n) None ≡ cond (get_or lanes lane false) None (Some n)
+chosen [] lane n = refl
+chosen (true ∷ lanes) zero n = refl
+chosen (false ∷ lanes) zero n = refl
+chosen (empty ∷ lanes) (suc lane) n = chosen lanes lane n
+
+-- the value that is put into a lane
+pub put_in_lane : (meaning : Meaning) (col lane : ℕ) (column : Column) → IsGroup meaning → col < length meaning.columns → lane < 512 → column ≡ get_or meaning.columns col column
+    → cond (get_or (map as_byte (empty_lanes meaning.rows col)) lane 0 == 0) (Some (value_of_code column (get_or (code_lanes meaning col) lane 0))) None ≡ value_in (get_or meaning.rows lane []) col
+unfolding stored_codes group_size
+put_in_lane meaning col lane column group lt there is =
+    let empty = empty_lanes meaning.rows col in
+    let code = get_or (code_lanes meaning col) lane 0 in
+    let value : value_of_code column code ≡ value_at meaning.columns col code = ap (λ c. value_of_code c code) is ∙ sym (get_or-map (λ c. value_of_code c code) meaning.columns col column (pos 0) lt) in
+    chosen empty lane (value_of_code column code) ∙ ap (λ n. cond (get_or empty lane false) None (Some n)) value
+    ∙ held_in_lanes meaning.columns col (512 - length meaning.rows) meaning.rows lane group.admitted lt (omega arith)

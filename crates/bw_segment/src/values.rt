@@ -1,0 +1,107 @@
+//! A column in all 512 lanes of a group at once, out of its planes: they are transposed.
+ghost use Rattle.std.specs.Prelude.{◌≡◌, ◌==◌, ◌<◌, ◌≤◌, ◌+◌, ◌-◌, ◌*◌, ◌%◌, ◌^◌, ℕ, true, [], ◌++◌, Some, None, All, length, map, replicate, slice_index, slice_index_or, if◌then◌else◌};
+ghost use lib.Lanes.{zip2};
+ghost use Rattle.bw_lanes.specs.Lanes.{lanes_of_words};
+ghost use Rattle.bw_model.specs.Code.{span_of, value_of_code, width_at};
+ghost use Rattle.bw_model.specs.Row.{value_in};
+ghost use Rattle.bw_model.specs.Truth.{is_null};
+ghost use Rattle.bw_segment.specs.Meaning.{code_lanes};
+ghost use Rattle.bw_segment.specs.Picked.{bit_lanes};
+
+use crate::segment::Segment;
+use bw_lanes::{Plane, bytes_of_plane, mask, not, or, push_bit};
+use bw_model::{Column, Value};
+
+/// The codes of a column in the 512 lanes, as they are stored: that of row i in lane i, and 0 where the row is null and
+/// past the last row. The planes of the column's bits, as BitWeaving's vertical layout has them, are shifted into a byte
+/// of each lane, from the top bit down, and each byte that is whole is shifted into the codes.
+pub fn codes_in_lanes<S: Segment>(segment: &S, col: usize, codes: &mut [u64; 512])
+    requires { col < length (S.meaning segment.now).columns }
+    ensures { codes.new ≡ code_lanes (S.meaning segment.now) col }
+{
+    *codes = [0; 512];
+    let mut bytes = [0; 512];
+    let mut bit = segment.schema().width(col);
+    while bit > 0 {
+        bit -= 1;
+        push_bit(&mut bytes, &bit_plane(segment, col, bit));
+        if bit % 8 == 0 {
+            push_byte(codes, &bytes);
+        }
+    }
+}
+
+/// The values of a column in the 512 lanes: that of row i in lane i, and null past the last row.
+pub fn values_in_lanes<S: Segment>(segment: &S, col: usize, values: &mut [Value; 512])
+    requires { col < length (S.meaning segment.now).columns }
+    ensures { (lane : ℕ) → lane < 512 → slice_index_or values.new lane None
+        ≡ value_in (slice_index_or (S.meaning segment.now).rows lane []) col }
+{
+    let mut codes = [0; 512];
+    codes_in_lanes(segment, col, &mut codes);
+    let nulls = bytes_of_plane(&no_values(segment, col));
+    put_values(&segment.schema().columns[col], &codes, &nulls, values);
+}
+
+/// The lanes in which a bit of a column's code is 1. Bit 0 is the least.
+fn bit_plane<S: Segment>(segment: &S, col: usize, bit: u32) -> Plane
+    requires column { col < length (S.meaning segment.now).columns }
+    requires bit { bit < width_at (S.meaning segment.now).columns col }
+    ensures { lanes_of_words result ≡ bit_lanes (S.meaning segment.now) col bit }
+{
+    segment.plane(segment.shape().bit_variable(col, bit))
+}
+
+/// Shifts one more byte into the code of each lane.
+fn push_byte(codes: &mut [u64; 512], bytes: &[u8; 512])
+    ensures { codes.new ≡ zip2 (λ code byte. (256 * code + byte) % 2 ^ 64) codes.old bytes.now }
+{
+    for lane in 0..512 {
+        codes[lane] = with_byte(codes[lane], bytes[lane]);
+    }
+}
+
+/// A code becomes 256 times itself plus a byte, modulo 2^64.
+#[tactic(auto, using(crate::proofs::TransposeLemmas::byte_shifted))]
+fn with_byte(code: u64, byte: u8) -> u64
+    ensures { result ≡ (256 * code + byte) % 2 ^ 64 }
+{
+    code << 8 | u64::from(byte)
+}
+
+/// The lanes in which a column has no value: those of the rows that are null in it, and those past the last row.
+fn no_values<S: Segment>(segment: &S, col: usize) -> Plane
+    requires { col < length (S.meaning segment.now).columns }
+    ensures { lanes_of_words result
+        ≡ map (λ row. is_null (value_in row col)) (S.meaning segment.now).rows
+        ++ replicate (512 - length (S.meaning segment.now).rows) true }
+{
+    let past = not(&mask(segment.rows_in()));
+    if segment.schema().columns[col].nullable {
+        or(&past, &segment.plane(segment.shape().first_variable(col)))
+    } else {
+        past
+    }
+}
+
+/// Puts the value of each lane's code in the lane where its byte in `nulls` is 0, and null in the others.
+fn put_values(column: &Column, codes: &[u64; 512], nulls: &[u8; 512], values: &mut [Value; 512])
+    requires { All (λ code. code ≤ span_of column.now) codes.now }
+    ensures { (lane : ℕ) → lane < 512 → slice_index_or values.new lane None
+        ≡ (if slice_index nulls.now lane == 0
+        then Some (value_of_code column.now (slice_index codes.now lane)) else None) }
+{
+    for lane in 0..512 {
+        values[lane] = value_or_null(column, codes[lane], nulls[lane]);
+    }
+}
+
+/// The value of a code where a byte is 0, and else null.
+fn value_or_null(column: &Column, code: u64, null: u8) -> Value
+    requires { code ≤ span_of column.now }
+    ensures { result ≡ (if null == 0 then Some (value_of_code column.now code) else None) }
+{
+    prove!(column.lo <= column.hi);
+    let value = column.lo + code as i64;
+    if null == 0 { Some(value) } else { None }
+}

@@ -1,0 +1,181 @@
+//! Why the rows of a statement are looked up one by one.
+ghost use Rattle.std.specs.Prelude.{length, IsTrue};
+ghost use Rattle.std.specs.List.{list_all};
+ghost use Rattle.bw_model.specs.Cond.{names_within};
+
+use bw_model::{Column, Cond, Op, Operand, Schema};
+use bw_plan::propose;
+use bw_sql::parse;
+use std::alloc::{AllocError, Global};
+use std::fmt::{self, Write};
+
+/// Says which part of a statement's condition has no scan program by itself, and why; nothing where the condition has one,
+/// or the statement is refused.
+pub(crate) fn of_rows(alloc: Global, schema: &Schema, sql: &[u8]) -> Result<String, AllocError> {
+    let mut text = String::new(alloc);
+    let Ok(query) = parse(alloc, schema, sql) else {
+        return Ok(text);
+    };
+    if has_program(alloc, schema, &query.cond) {
+        return Ok(text);
+    }
+    let part = smallest(alloc, schema, &query.cond);
+    let columns = &schema.columns;
+    writeln!(text, "each row was looked at: there is no program for {}", Spelled { part, columns })?;
+    writeln!(text, "{}", Reason { part, columns })?;
+    Ok(text)
+}
+
+/// Whether the planner has a program for a condition.
+fn has_program(alloc: Global, schema: &Schema, cond: &Cond) -> bool
+    requires { IsTrue (names_within (length schema.now.columns.items) cond.now) }
+{
+    propose(alloc, schema, cond).is_ok()
+}
+
+/// The smallest part of a condition that has no program by itself: within the first such part, or the condition where each
+/// of its parts has one.
+#[tactic(auto, using(bw_model::proofs::CondLemmas::names))]
+#[cycle(smallest)]
+fn smallest<'a>(alloc: Global, schema: &Schema, cond: &'a Cond) -> &'a Cond
+    requires { IsTrue (names_within (length schema.now.columns.items) cond.now) }
+{
+    match cond {
+        Cond::And(parts) => smallest_of(alloc, schema, parts).unwrap_or(cond),
+        Cond::Or(parts) => smallest_of(alloc, schema, parts).unwrap_or(cond),
+        Cond::Not(part) => smallest(alloc, schema, part),
+        Cond::Test(part, _) => smallest(alloc, schema, part),
+        _ => cond,
+    }
+}
+
+/// The same within the first of some parts that has no program.
+#[cycle(smallest)]
+fn smallest_of<'a>(alloc: Global, schema: &Schema, parts: &'a [Cond]) -> Option<&'a Cond>
+    requires { IsTrue (list_all (names_within (length schema.now.columns.items)) parts.now) }
+{
+    for part in parts {
+        if !has_program(alloc, schema, part) {
+            return Some(smallest(alloc, schema, part));
+        }
+    }
+    None
+}
+
+/// A condition, as a statement has it but for long lists.
+#[derive(Clone, Copy)]
+struct Spelled<'a> {
+    part: &'a Cond,
+    columns: &'a [Column],
+}
+
+impl fmt::Display for Spelled<'_> {
+    fn fmt<W: fmt::Write>(&self, f: &mut fmt::Formatter<W>) -> fmt::Result {
+        let columns = self.columns;
+        let named = |operand: &Operand| Named {
+            operand: *operand,
+            columns,
+        };
+        match self.part {
+            Cond::Cmp(op, x, y) => write!(f, "{} {} {}", named(x), sign(*op), named(y)),
+            Cond::Between(x, y, z) => {
+                write!(f, "{} BETWEEN {} AND {}", named(x), named(y), named(z))
+            }
+            Cond::Among(x, items) => write!(f, "{} IN a list of {}", named(x), items.len()),
+            Cond::And(parts) => write!(f, "the AND of {} parts", parts.len()),
+            Cond::Or(parts) => write!(f, "the OR of {} parts", parts.len()),
+            _ => f.write_str("the condition"),
+        }
+    }
+}
+
+/// The sign of a comparison.
+fn sign(op: Op) -> &'static str {
+    match op {
+        Op::Eq => "=",
+        Op::Ne => "<>",
+        Op::Lt => "<",
+        Op::Gt => ">",
+        Op::Le => "<=",
+        Op::Ge => ">=",
+    }
+}
+
+/// An operand, as a statement has it.
+#[derive(Clone, Copy)]
+struct Named<'a> {
+    operand: Operand,
+    columns: &'a [Column],
+}
+
+impl fmt::Display for Named<'_> {
+    fn fmt<W: fmt::Write>(&self, f: &mut fmt::Formatter<W>) -> fmt::Result {
+        match self.operand {
+            Operand::Col(number) => match self.columns.get(number) {
+                Some(column) => f.write_str(text_of(column)),
+                None => Ok(()),
+            },
+            Operand::Lit(n) => write!(f, "{n}"),
+            Operand::Null => f.write_str("NULL"),
+        }
+    }
+}
+
+/// A column's name.
+fn text_of(column: &Column) -> &str {
+    std::str::from_utf8(column.name.as_bytes()).unwrap_or("")
+}
+
+/// Why a condition that has no smaller part without a program has none.
+#[derive(Clone, Copy)]
+struct Reason<'a> {
+    part: &'a Cond,
+    columns: &'a [Column],
+}
+
+impl fmt::Display for Reason<'_> {
+    fn fmt<W: fmt::Write>(&self, f: &mut fmt::Formatter<W>) -> fmt::Result {
+        if let Some((one, other)) = apart(self.part, self.columns) {
+            return write!(
+                f,
+                "a program compares columns of one least value, and {} begins at {}, {} at {}",
+                text_of(one),
+                one.lo,
+                text_of(other),
+                other.lo
+            );
+        }
+        f.write_str(match self.part {
+            Cond::Among(..) => "so long a list is looked up faster, or takes more than 4096 instructions",
+            Cond::And(_) | Cond::Or(_) => {
+                "each part has one, but together they take more instructions, registers or nodes than there may be"
+            }
+            _ => "it takes more instructions, registers or nodes than there may be",
+        })
+    }
+}
+
+/// Two columns that a comparison names, whose least values differ.
+fn apart<'a>(part: &Cond, columns: &'a [Column]) -> Option<(&'a Column, &'a Column)> {
+    let pairs = match part {
+        Cond::Cmp(_, x, y) => [(*x, *y), (*x, *y)],
+        Cond::Between(x, y, z) => [(*x, *y), (*x, *z)],
+        _ => return None,
+    };
+    pairs
+        .into_iter()
+        .find_map(|(one, other)| both_of(one, other, columns))
+}
+
+/// The columns that two operands name, where both name one, and their least values differ.
+fn both_of<'a>(
+    one: Operand,
+    other: Operand,
+    columns: &'a [Column],
+) -> Option<(&'a Column, &'a Column)> {
+    let (Operand::Col(one), Operand::Col(other)) = (one, other) else {
+        return None;
+    };
+    let (one, other) = (columns.get(one)?, columns.get(other)?);
+    (one.lo != other.lo).then_some((one, other))
+}
