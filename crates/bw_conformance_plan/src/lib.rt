@@ -9,6 +9,8 @@
 #[cfg(test)]
 mod generated;
 #[cfg(test)]
+mod lists;
+#[cfg(test)]
 mod related;
 #[cfg(test)]
 mod rows;

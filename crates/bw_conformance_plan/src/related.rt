@@ -1,6 +1,6 @@
 //! Comparisons of columns with one another: skips, where no row has the two equal so far.
-use crate::rows::cost_of;
-use bw_model::{Row, Schema};
+use crate::rows::{Numbers, cost_of, judged, rows_of};
+use bw_model::{Row, Schema, code};
 use std::alloc::Global;
 use std::process::Abort;
 use std::test::Fail;
@@ -124,4 +124,64 @@ fn ranges_and_lists_of_columns_end_early(rt: HostRuntime) -> Result<(), Fail> {
         }
     }
     Ok(())
+}
+
+/// The columns `c0`, `c1` and so on of a table, from 0 to a greatest number, and the condition that each is less than the next.
+fn chain(alloc: Global, count: usize, most: i64) -> Result<(Schema, String), Fail> {
+    let mut table = String::from_str(alloc, "TABLE t\n")?;
+    let mut text = String::from_str(alloc, "c0 < c1")?;
+    for column in 0..count.saturating_add(1) {
+        let line = format!(in alloc; "COLUMN c{column} 0 {most} NOT NULL\n")?;
+        table.push_str(line.as_str())?;
+    }
+    for column in 1..count {
+        let next = column + 1;
+        let part = format!(in alloc; " AND c{column} < c{next}")?;
+        text.push_str(part.as_str())?;
+    }
+    Ok((Schema::parse(alloc, table.as_bytes())?, text))
+}
+
+/// Ends the test where a chain of so many comparisons isn't served, or the one of one more is.
+fn assert_longest(rt: &(impl Abort + AllocGlobal), count: usize, most: i64) -> Result<(), Fail> {
+    let alloc = rt.alloc();
+    let (schema, text) = chain(alloc, count, most)?;
+    let mut numbers = Numbers::new(7);
+    let rows = rows_of(alloc, &mut numbers, &schema, &[0, 1, 500, most], 700)?;
+    cost_of(rt, alloc, &schema, text.as_str(), &rows)?;
+    let (schema, text) = chain(alloc, count.saturating_add(1), most)?;
+    let none: Vec<Row> = Vec::new(alloc);
+    match judged(rt, alloc, &schema, text.as_str(), &none)? {
+        Ok(cost) => panic!(rt; "{text}: {cost:?}"),
+        Err(fault) => assert_eq!(rt; fault.code, code::NO_PROGRAM, "{text}"),
+    }
+    Ok(())
+}
+
+#[test]
+fn comparisons_that_share_columns_are_served(rt: HostRuntime) -> Result<(), Fail> {
+    let alloc = rt.alloc();
+    let most = i64::MAX - 1;
+    let (schema, _) = chain(alloc, 3, most)?;
+    let mut numbers = Numbers::new(9);
+    let rows = rows_of(alloc, &mut numbers, &schema, &[0, 1, 500, most], 700)?;
+    for text in [
+        "c0 < c1 AND c1 < c2 AND c2 < c3",
+        "c0 <= c1 OR c1 >= c2 OR c2 <> c3",
+        "NOT (c0 < c1 AND c2 = c3)",
+        "c0 BETWEEN c1 AND c2",
+    ] {
+        cost_of(&rt, alloc, &schema, text, &rows)?;
+    }
+    Ok(())
+}
+
+#[test]
+fn seven_columns_of_63_bits_in_order_are_served(rt: HostRuntime) -> Result<(), Fail> {
+    assert_longest(&rt, 6, 9_223_372_036_854_775_806)
+}
+
+#[test]
+fn seven_columns_of_32_bits_in_order_are_served(rt: HostRuntime) -> Result<(), Fail> {
+    assert_longest(&rt, 6, 4_294_967_295)
 }

@@ -101,6 +101,11 @@ impl<'a> Facts<'a> {
         }
     }
 
+    /// How many comparisons of two different columns the condition has.
+    pub fn relations(&self) -> usize {
+        self.ranks.relations
+    }
+
     /// How many bits a column's codes have: none, where there is no such column.
     pub fn width(&self, column: u8) -> u32 {
         chains::width(self.schema, column)

@@ -30,6 +30,8 @@ struct Standing {
 #[derive(Drop)]
 pub(crate) struct Ranks {
     standings: Vec<Standing>,
+    /// How many comparisons of two columns there are.
+    pub(crate) relations: usize,
 }
 
 impl Ranks {
@@ -50,7 +52,10 @@ impl Ranks {
                 standings.push(groups.standing(number, bit))?;
             }
         }
-        Ok(Ranks { standings })
+        Ok(Ranks {
+            standings,
+            relations: compared.len(),
+        })
     }
 
     /// How early a variable is tested.

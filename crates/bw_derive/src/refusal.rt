@@ -9,8 +9,8 @@ use std::alloc::{AllocError, AllocFailed};
 pub enum Refusal {
     /// A limit of certificates or programs would be passed, or a form has no rule.
     NoProgram,
-    /// A register isn't known to hold one node behind the skips that meet.
-    Unjoined,
+    /// The same of the condition's own lines, so that no other program helps.
+    NoLines,
     /// Memory was refused.
     NoMemory,
 }
@@ -33,7 +33,7 @@ impl Refusal {
         ensures { IsRefusal result }
     {
         match self {
-            Refusal::NoProgram | Refusal::Unjoined => Fault::new(code::NO_PROGRAM),
+            Refusal::NoProgram | Refusal::NoLines => Fault::new(code::NO_PROGRAM),
             Refusal::NoMemory => Fault::new(code::OUT_OF_MEMORY),
         }
     }

@@ -1,4 +1,5 @@
 //! Instructions, with the node of each register.
+use crate::digits::Digits;
 use bw_cert_text::{EdgeRows, Entry, InstructionEntry, Keep};
 use bw_derive::{Facts, Kind, Logic, Order, Refusal};
 use bw_program::Instr;
@@ -6,6 +7,10 @@ use std::alloc::Global;
 
 /// A program has at most this many instructions.
 const MAX_INSTRUCTIONS: usize = 4096;
+
+/// All comparisons of two columns from the top down take six times as many nodes at most. A comparison takes six
+/// times the square of the number of its bits.
+const MAX_SQUARES: usize = 4000;
 
 /// A register: the node that it is known to hold, whether it's needed, and whether it holds a plane
 /// as it was loaded, which may be wanted again.
@@ -35,6 +40,12 @@ pub(crate) struct Code<'a> {
     pub(crate) instrs: Vec<Instr>,
     /// The order of variables in which registers' nodes are worked out.
     pub(crate) order: Order,
+    /// The digits of a byte of the column whose codes are compared, and those of its top byte, where
+    /// they are kept.
+    pub(crate) digits: Option<Digits>,
+    pub(crate) top_digit: Option<Digits>,
+    /// Whether skips that leave out but a few instructions are left out themselves.
+    pub(crate) has_few_skips: bool,
     registers: [Register; 64],
     skips: Vec<Skip>,
     /// The skips from this one on meet before the next instruction.
@@ -62,6 +73,9 @@ impl<'a> Code<'a> {
             lines,
             instrs: Vec::new(alloc),
             order: Order::Whole,
+            digits: None,
+            top_digit: None,
+            has_few_skips: false,
             registers: [register; 64],
             skips: Vec::new(alloc),
             meeting: usize::MAX,
@@ -113,6 +127,19 @@ impl<'a> Code<'a> {
         }
         let number = found.ok_or(Refusal::NoProgram)?;
         u8::try_from(number).map_err(|_| Refusal::NoProgram)
+    }
+
+    /// How many instructions there is room for.
+    pub(crate) fn room(&self) -> usize {
+        MAX_INSTRUCTIONS.saturating_sub(self.instrs.len())
+    }
+
+    /// How many registers aren't needed.
+    pub(crate) fn free_registers(&self) -> usize {
+        self.registers
+            .iter()
+            .filter(|register| !register.needed)
+            .count()
     }
 
     /// A register that isn't needed and holds a plane of this node, from now on needed.
@@ -232,6 +259,13 @@ impl<'a> Code<'a> {
         Ok(())
     }
 
+    /// A new register, which is made a connective of two.
+    pub(crate) fn joined(&mut self, op: Logic, x: u8, y: u8) -> Result<u8, Refusal> {
+        let register = self.claim()?;
+        self.join(op, register, x, y)?;
+        Ok(register)
+    }
+
     /// Makes a register a connective of itself and another, which is let go.
     pub(crate) fn join_into(&mut self, op: Logic, to: u8, y: u8) -> Result<(), Refusal> {
         self.join(op, to, to, y)?;
@@ -283,6 +317,21 @@ impl<'a> Code<'a> {
             nodes,
         })?;
         Ok(())
+    }
+
+    /// So many top bits of two columns are compared from the top down, with skips.
+    pub(crate) fn skipped_bits(&self) -> u32 {
+        if !self.with_skips {
+            return 0;
+        }
+        let each = MAX_SQUARES / self.facts.relations().max(1);
+        let mut most = 0;
+        for bits in 0..64u32 {
+            if (bits * bits) as usize <= each {
+                most = bits;
+            }
+        }
+        most
     }
 
     /// Lets the skips from this one on meet before the next instruction.
@@ -392,7 +441,7 @@ impl<'a> Code<'a> {
         let mut edges = Vec::new(self.alloc);
         for at in first..self.skips.len() {
             let edge = self.edge(register, node, at)?;
-            edges.push(edge.ok_or(Refusal::Unjoined)?)?;
+            edges.push(edge.ok_or(Refusal::NoProgram)?)?;
         }
         self.lines.push(Entry::Keep(Keep {
             register,
@@ -438,6 +487,14 @@ impl<'a> Code<'a> {
         let skip = self.skips.get(at)?;
         let held = skip.nodes.get(register as usize).copied()?;
         Some((skip.tested, held?))
+    }
+
+    /// How many instructions look at a byte.
+    pub(crate) fn looks(&self) -> usize {
+        self.instrs
+            .iter()
+            .filter(|instr| matches!(instr, Instr::ByteLt(..) | Instr::ByteEq(..)))
+            .count()
     }
 
     /// Whether a skip stands among the instructions.

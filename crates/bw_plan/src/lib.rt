@@ -6,13 +6,17 @@
 //! checker says so, or else the proposal isn't used.
 //!
 //! Codes are compared byte by byte from the top, as in ByteSlice (Feng, Lo, Kao and Xu), and skips
-//! stop a comparison early, as in BitWeaving (Li and Patel). Read `planner.rt` first, and then
-//! `truths.rt`.
+//! stop a comparison early, as in BitWeaving (Li and Patel). For a long list of numbers the digits of
+//! a byte are kept in registers. Columns are compared with one another bit by bit: the top bits from
+//! the top down, with skips, and the others, of many or wide columns, from the lowest one up, which
+//! takes fewer nodes. Read `planner.rt` first, and then `truths.rt`.
 #![tactic(auto)]
 
 mod code;
+mod digits;
 mod emit;
 mod planner;
+mod relations;
 mod room;
 mod select;
 mod sets;

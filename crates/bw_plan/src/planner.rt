@@ -15,6 +15,11 @@ use bw_model::{Cond, Fault, Schema};
 use bw_program::Program;
 use std::alloc::Global;
 
+/// A program without skips looks at so many bytes at most. A look takes some 40 ns a segment, another
+/// instruction 3, and to look up the 512 rows of a segment some 50 microseconds: with more looks that
+/// is faster. With skips an instruction takes 10 ns, so that no program that fits is slower than that.
+const MOST_LOOKS: usize = 1000;
+
 /// A program for a condition, and a certificate that is to show that it selects the right rows.
 #[derive(Debug, Drop)]
 pub struct Proposal {
@@ -23,9 +28,9 @@ pub struct Proposal {
 }
 
 /// Proposes a program for a condition, and a certificate for it. Both fit the schema; that they are right is the checker's to
-/// say. Refuses at no place: 651 where a limit of instructions, registers, nodes, chains or rows would be passed or two columns
-/// of unequal lowest values are compared, and want of memory (801). That the condition names columns of the schema is the
-/// caller's condition.
+/// say. Refuses at no place: 651 where a limit of instructions, registers, nodes, chains or rows would be passed, two columns of
+/// unequal lowest values are compared, or looking up the rows one by one takes no longer, and want of memory (801). That the
+/// condition names columns of the schema is the caller's condition.
 pub fn propose(alloc: Global, schema: &Schema, cond: &Cond) -> Result<Proposal, Fault>
     requires { IsTrue (names_within (length schema.now.columns.items) cond.now) }
     ensures program { IfOk result (λ proposal.
@@ -34,10 +39,9 @@ pub fn propose(alloc: Global, schema: &Schema, cond: &Cond) -> Result<Proposal, 
         IsTrue (has_columns schema.now.columns.items (certificate_fields proposal.certificate))) }
     ensures fault { IfErr result IsRefusal }
 {
-    let first = planned(alloc, schema, cond, true);
-    let made = match first {
-        Err(Refusal::Unjoined) => planned(alloc, schema, cond, false),
-        _ => first,
+    let made = match planned(alloc, schema, cond, true) {
+        Err(Refusal::NoProgram) => planned(alloc, schema, cond, false),
+        made => made,
     };
     match made {
         Ok(proposal) => Ok(proposal),
@@ -45,7 +49,7 @@ pub fn propose(alloc: Global, schema: &Schema, cond: &Cond) -> Result<Proposal, 
     }
 }
 
-/// A program for a condition, with skips or without.
+/// A program for a condition, with skips or without, when it takes fewer instructions and nodes.
 fn planned(
     alloc: Global,
     schema: &Schema,
@@ -59,6 +63,9 @@ fn planned(
 {
     let (node, mut code) = begun(alloc, schema, cond, with_skips)?;
     let (program, row) = programmed(schema, cond, node, &mut code)?;
+    if !with_skips && code.looks() > MOST_LOOKS {
+        return Err(Refusal::NoProgram);
+    }
     let certificate = certified(schema, code, row)?;
     Ok(Proposal {
         program,
@@ -75,8 +82,11 @@ fn begun<'a>(
 ) -> Result<(u32, Code<'a>), Refusal> {
     let mut facts = Facts::new(alloc, schema, cond)?;
     let mut lines = Vec::new(alloc);
-    let node = steps_of(&mut facts, &mut lines, cond)?.yes;
-    Ok((node, Code::new(alloc, facts, lines, with_skips)))
+    let pair = match steps_of(&mut facts, &mut lines, cond) {
+        Err(Refusal::NoProgram) => return Err(Refusal::NoLines),
+        made => made?,
+    };
+    Ok((pair.yes, Code::new(alloc, facts, lines, with_skips)))
 }
 
 /// The program of a condition that has this node, and the row that says that its answer has it too.
@@ -101,7 +111,7 @@ fn agreeing(code: &mut Code<'_>, register: u8, wanted: u32) -> Result<u32, Refus
     if row.node == 0 {
         Ok(row.number)
     } else {
-        Err(Refusal::Unjoined)
+        Err(Refusal::NoProgram)
     }
 }
 

@@ -1,6 +1,7 @@
 //! Instructions that compare a column's codes with numbers, from the most significant byte down.
 use crate::code::Code;
-use crate::sets::{byte_of, first_group, going_on};
+use crate::digits::Upper;
+use crate::sets::{byte_of, first_group, going_on, is_soon_done, most_instructions};
 use bw_derive::{Kind, Logic, Refusal};
 
 impl Code<'_> {
@@ -16,7 +17,14 @@ impl Code<'_> {
             [code, next] if top > 0 && code.checked_add(1) == Some(*next) => {
                 self.code(column, top, *code)
             }
-            _ => self.within(column, top, bounds, None, None),
+            _ => {
+                self.split_bytes(column, bounds)?;
+                self.has_few_skips = most_instructions(bounds, top, self.split_slice())
+                    > self.room();
+                let made = self.within(column, top, bounds, None, None)?;
+                self.forget_digits();
+                Ok(made)
+            }
         }
     }
 
@@ -48,11 +56,13 @@ impl Code<'_> {
         let mut out = self.added(here, mask, out)?;
         if slice > 0 {
             let mut rest = bounds;
+            let mut before = None;
             for _ in 0..bounds.len() {
                 let (group, others) = first_group(rest, slice);
-                out = self.below(column, slice, group, mask, out)?;
+                out = self.below(column, slice, group, mask, out, &mut before)?;
                 rest = others;
             }
+            self.let_go(before);
         }
         match out {
             Some(register) => Ok(register),
@@ -69,6 +79,7 @@ impl Code<'_> {
         group: &[u64],
         mask: Option<u8>,
         out: Option<u8>,
+        before: &mut Option<Upper>,
     ) -> Result<Option<u8>, Refusal> {
         let inner = going_on(group, slice);
         let Some(byte) = inner.first().map(|bound| byte_of(*bound, slice)) else {
@@ -82,11 +93,10 @@ impl Code<'_> {
             None => self.fill(false)?,
         };
         let first = self.waiting()?;
-        let same = self.byte(Kind::Equal, column, slice, byte)?;
-        if let Some(mask) = mask {
-            self.join(Logic::And, same, same, mask)?;
+        let same = self.same_byte(column, slice, byte, mask, before)?;
+        if !(self.has_few_skips && is_soon_done(inner, slice)) {
+            self.skip(same)?;
         }
-        self.skip(same)?;
         let out = self.within(column, slice - 1, inner, Some(same), Some(out))?;
         self.release(same);
         self.meet_from(first);
@@ -97,6 +107,7 @@ impl Code<'_> {
     fn bytes(&mut self, column: u8, slice: u8, bounds: &[u64]) -> Result<Option<u8>, Refusal> {
         let mut made = None;
         let mut before: Option<u8> = None;
+        let mut upper = None;
         let mut rest = bounds;
         for _ in 0..bounds.len() {
             let (group, others) = first_group(rest, slice);
@@ -109,7 +120,7 @@ impl Code<'_> {
             }
             before = match before {
                 Some(last) if last.checked_add(1) == Some(byte) => {
-                    let next = self.byte(Kind::Equal, column, slice, last)?;
+                    let next = self.same_byte(column, slice, last, None, &mut upper)?;
                     made = self.added(Some(next), None, made)?;
                     None
                 }

@@ -98,6 +98,44 @@ pub(crate) fn first_group(bounds: &[u64], slice: u8) -> (&[u64], &[u64]) {
     (bounds, &others[others.len()..])
 }
 
+/// How many groups of sorted bounds have the bits from one on up in common.
+pub(crate) fn groups_from(bounds: &[u64], start: u32) -> usize {
+    let mut groups = 0usize;
+    let mut before = None;
+    for bound in bounds {
+        let top = *bound >> start.min(63);
+        if before != Some(top) {
+            groups = groups.saturating_add(1);
+        }
+        before = Some(top);
+    }
+    groups
+}
+
+/// How many instructions it takes, or a few more, to tell codes that have an odd number of bounds
+/// above them, from a byte down: for each byte that is compared the comparison, an AND and a skip, or
+/// an AND and a skip by its digits, and for each range a comparison, an AND and a XOR.
+pub(crate) fn most_instructions(bounds: &[u64], top: u8, split: Option<u8>) -> usize {
+    let mut most = bounds.len().saturating_mul(3) / 2;
+    for slice in 1..=top {
+        let start = u32::from(slice) * 8;
+        let groups = groups_from(bounds, start);
+        let more = if split == Some(slice) {
+            let upper = groups_from(bounds, start + 4);
+            groups.saturating_mul(2).saturating_add(upper)
+        } else {
+            groups.saturating_mul(3)
+        };
+        most = most.saturating_add(more);
+    }
+    most
+}
+
+/// Whether bounds that go on below a byte are those of one number, whose last byte is the next.
+pub(crate) fn is_soon_done(inner: &[u64], slice: u8) -> bool {
+    slice == 1 && inner.len() <= 2
+}
+
 /// The bounds of a group that go on below a byte.
 pub(crate) fn going_on(group: &[u64], slice: u8) -> &[u64] {
     match group {

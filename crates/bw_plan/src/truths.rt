@@ -2,7 +2,7 @@
 use crate::code::Code;
 use crate::room::leading;
 use crate::sets::Set;
-use bw_derive::{Bound, Comparison, Kind, Logic, Order, Refusal, Relation, compare};
+use bw_derive::{Bound, Comparison, Logic, Order, Refusal, Relation, compare};
 use bw_model::{Cond, Op, Operand, Truth};
 
 /// Which truths are wanted.
@@ -100,7 +100,7 @@ impl Code<'_> {
                 self.skip_if_settled(any, before)?;
             }
             let next = self.truths(part, wanted)?;
-            self.joined(any, before, next)?;
+            self.join_parts(any, before, next)?;
         }
         self.meet_from(first);
         made.ok_or(Refusal::NoProgram)
@@ -122,7 +122,7 @@ impl Code<'_> {
     }
 
     /// Joins the registers of one part with those of another, which are let go.
-    fn joined(&mut self, any: bool, made: Halves, next: Halves) -> Result<(), Refusal> {
+    fn join_parts(&mut self, any: bool, made: Halves, next: Halves) -> Result<(), Refusal> {
         let (made, next) = (made.turned(any), next.turned(any));
         if let (Some(to), Some(y)) = (made.yes, next.yes) {
             self.join_into(Logic::And, to, y)?;
@@ -237,7 +237,7 @@ impl Code<'_> {
         let made = self.compared(Op::Ge, x, y, wanted)?;
         self.skip_if_settled(false, made)?;
         let next = self.compared(Op::Le, x, z, wanted)?;
-        self.joined(false, made, next)?;
+        self.join_parts(false, made, next)?;
         self.meet_from(first);
         Ok(made)
     }
@@ -256,7 +256,7 @@ impl Code<'_> {
             }
             let next = self.compared(Op::Eq, x, *item, wanted)?;
             match made {
-                Some(made) => self.joined(true, made, next)?,
+                Some(made) => self.join_parts(true, made, next)?,
                 None => made = Some(next),
             }
         }
@@ -354,81 +354,9 @@ impl Code<'_> {
     }
 
     /// A register with the same lanes as another.
-    fn copied(&mut self, register: u8) -> Result<u8, Refusal> {
+    pub(crate) fn copied(&mut self, register: u8) -> Result<u8, Refusal> {
         let copy = self.fill(false)?;
         self.join(Logic::Or, copy, copy, register)?;
         Ok(copy)
-    }
-
-    /// A register that is 1 where the code of a column is less than (equal to) that of another, by
-    /// their bits from the top down.
-    fn relation(&mut self, relation: Relation) -> Result<u8, Refusal> {
-        let bits = self
-            .facts
-            .width(relation.left)
-            .max(self.facts.width(relation.right));
-        let mut less = match relation.kind {
-            Kind::Less => Some(self.fill(false)?),
-            Kind::Equal => None,
-        };
-        let mut same = None;
-        for bit in (0..bits).rev() {
-            let (differs, below) = self.bits(relation, bit)?;
-            if let (Some(less), Some(below)) = (less, below) {
-                if let Some(same) = same {
-                    self.join(Logic::And, below, below, same)?;
-                }
-                self.join_into(Logic::Or, less, below)?;
-            }
-            self.oppose(differs, differs)?;
-            same = match same {
-                Some(same) => {
-                    self.join_into(Logic::And, same, differs)?;
-                    Some(same)
-                }
-                None => Some(differs),
-            };
-            if let Some(same) = same {
-                if bit > 0 {
-                    self.skip(same)?;
-                }
-            }
-        }
-        match (less.take(), same) {
-            (Some(less), Some(same)) => {
-                self.release(same);
-                Ok(less)
-            }
-            (None, Some(same)) => Ok(same),
-            _ => Err(Refusal::NoProgram),
-        }
-    }
-
-    /// Registers that are 1 where two columns differ in a bit, and where the left one's is 0 then,
-    /// if that is wanted and can be.
-    fn bits(&mut self, relation: Relation, bit: u32) -> Result<(u8, Option<u8>), Refusal> {
-        let on_left = bit < self.facts.width(relation.left);
-        let on_right = bit < self.facts.width(relation.right);
-        let is_less = relation.kind == Kind::Less;
-        if !on_right {
-            return Ok((self.bit(relation.left, bit)?, None));
-        }
-        let right = self.bit(relation.right, bit)?;
-        if !on_left {
-            let below = if is_less {
-                Some(self.copied(right)?)
-            } else {
-                None
-            };
-            return Ok((right, below));
-        }
-        let left = self.bit(relation.left, bit)?;
-        self.join(Logic::Xor, left, left, right)?;
-        if !is_less {
-            self.release(right);
-            return Ok((left, None));
-        }
-        self.join(Logic::And, right, right, left)?;
-        Ok((left, Some(right)))
     }
 }

@@ -21,7 +21,11 @@ pub(crate) fn of_rows(alloc: Global, schema: &Schema, sql: &[u8]) -> Result<Stri
     }
     let part = smallest(alloc, schema, &query.cond);
     let columns = &schema.columns;
-    writeln!(text, "each row was looked at: there is no program for {}", Spelled { part, columns })?;
+    writeln!(
+        text,
+        "each row was looked at: there is no program for {}",
+        Spelled { part, columns }
+    )?;
     writeln!(text, "{}", Reason { part, columns })?;
     Ok(text)
 }
@@ -146,7 +150,8 @@ impl fmt::Display for Reason<'_> {
             );
         }
         f.write_str(match self.part {
-            Cond::Among(..) => "so long a list is looked up faster, or takes more than 4096 instructions",
+            Cond::Among(..) =>
+                "so long a list is looked up faster, or takes more than 4096 instructions",
             Cond::And(_) | Cond::Or(_) => {
                 "each part has one, but together they take more instructions, registers or nodes than there may be"
             }

@@ -1,0 +1,182 @@
+//! The digits of a byte, of four bits each, for long lists of numbers: whether a byte is a number is
+//! then one AND of two registers, and needs no look at the byte.
+use crate::code::Code;
+use crate::sets::groups_from;
+use bw_derive::{Kind, Logic, Refusal};
+
+/// Registers that are 1 where the upper digit of a byte is 0, 1 and so on, and where the lower one is. A byte of four bits or
+/// fewer has no upper digit.
+#[derive(Clone, Copy)]
+pub(crate) struct Digits {
+    slice: u8,
+    upper: Option<[u8; 16]>,
+    lower: [u8; 16],
+}
+
+/// A register that is 1 where the upper digit of a byte is this one, and a mask is 1.
+#[derive(Clone, Copy)]
+pub(crate) struct Upper {
+    digit: u8,
+    register: u8,
+}
+
+/// Two digits take 64 instructions, and pay where a byte is compared with so many numbers: a look at it takes ten times as
+/// long as an AND.
+const MANY_NUMBERS: usize = 48;
+
+/// The same of the digit of a byte of four bits.
+const SOME_NUMBERS: usize = 10;
+
+/// Two digits are kept where so many registers are free, a third one where all but a few are.
+const ROOM_FOR_TWO: usize = 48;
+
+const ROOM_FOR_THREE: usize = 60;
+
+impl Code<'_> {
+    /// Makes the digits of the byte that is compared most often where rows are in no order, if that is often: the lowest one
+    /// with at most nine bits above it that aren't the same in all bounds. Those bits may have digits too.
+    pub(crate) fn split_bytes(&mut self, column: u8, bounds: &[u64]) -> Result<(), Refusal> {
+        let (Some(first), Some(last)) = (bounds.first(), bounds.last()) else {
+            return Ok(());
+        };
+        let width = self.facts.width(column);
+        let varying = 64 - (*first ^ *last).leading_zeros();
+        let slice = varying.saturating_sub(17).div_ceil(8) as u8;
+        let start = u32::from(slice) * 8;
+        let free = self.free_registers();
+        if width < start + 8 || free < ROOM_FOR_TWO || groups_from(bounds, start) < MANY_NUMBERS {
+            return Ok(());
+        }
+        let above = slice.saturating_add(1);
+        let is_digit = width == start + 12;
+        if is_digit && free >= ROOM_FOR_THREE && groups_from(bounds, start + 8) >= SOME_NUMBERS {
+            self.top_digit = Some(Digits {
+                slice: above,
+                upper: None,
+                lower: self.digit(column, start + 8)?,
+            });
+        }
+        let upper = self.digit(column, start + 4)?;
+        let lower = self.digit(column, start)?;
+        self.digits = Some(Digits {
+            slice,
+            upper: Some(upper),
+            lower,
+        });
+        Ok(())
+    }
+
+    /// The byte of which both digits are kept.
+    pub(crate) fn split_slice(&self) -> Option<u8> {
+        self.digits.map(|digits| digits.slice)
+    }
+
+    /// Registers that are 1 where the four bits from one on are 0, 1 and so on.
+    fn digit(&mut self, column: u8, start: u32) -> Result<[u8; 16], Refusal> {
+        let low = self.two_bits(column, start)?;
+        let high = self.two_bits(column, start.saturating_add(2))?;
+        let mut made = [0; 16];
+        for (number, slot) in made.iter_mut().enumerate() {
+            *slot = self.joined(Logic::And, high[number / 4], low[number % 4])?;
+        }
+        for register in low.iter().chain(high.iter()) {
+            self.release(*register);
+        }
+        Ok(made)
+    }
+
+    /// Registers that are 1 where the two bits from one on are 0, 1, 2 and 3.
+    fn two_bits(&mut self, column: u8, start: u32) -> Result<[u8; 4], Refusal> {
+        let low = self.bit(column, start)?;
+        let high = self.bit(column, start.saturating_add(1))?;
+        let none = self.joined(Logic::Or, low, high)?;
+        self.oppose(none, none)?;
+        let both = self.joined(Logic::And, low, high)?;
+        let first = self.joined(Logic::Xor, low, both)?;
+        let second = self.joined(Logic::Xor, high, both)?;
+        self.release(low);
+        self.release(high);
+        Ok([none, first, second, both])
+    }
+
+    /// Lets the registers of all digits go.
+    pub(crate) fn forget_digits(&mut self) {
+        for digits in [self.digits, self.top_digit] {
+            let Some(digits) = digits else {
+                continue;
+            };
+            for register in &digits.lower {
+                self.release(*register);
+            }
+            if let Some(upper) = digits.upper {
+                for register in &upper {
+                    self.release(*register);
+                }
+            }
+        }
+        self.digits = None;
+        self.top_digit = None;
+    }
+
+    /// A register that is 1 where a byte is a number, and so is a mask, if there is one. `before` is
+    /// kept from number to number, in their order, and let go behind them.
+    pub(crate) fn same_byte(
+        &mut self,
+        column: u8,
+        slice: u8,
+        byte: u8,
+        mask: Option<u8>,
+        before: &mut Option<Upper>,
+    ) -> Result<u8, Refusal> {
+        if let Some(digits) = self.digits_of(slice) {
+            return self.same_digits(digits, byte, mask, before);
+        }
+        let same = self.byte(Kind::Equal, column, slice, byte)?;
+        if let Some(mask) = mask {
+            self.join(Logic::And, same, same, mask)?;
+        }
+        Ok(same)
+    }
+
+    /// The digits of a byte, if they are kept.
+    fn digits_of(&self, slice: u8) -> Option<Digits> {
+        let top = self.top_digit.filter(|digits| digits.slice == slice);
+        top.or(self.digits.filter(|digits| digits.slice == slice))
+    }
+
+    /// The same by the digits of the byte.
+    fn same_digits(
+        &mut self,
+        digits: Digits,
+        byte: u8,
+        mask: Option<u8>,
+        before: &mut Option<Upper>,
+    ) -> Result<u8, Refusal> {
+        let lower = digits.lower[usize::from(byte & 15)];
+        let upper = digits.upper.map(|upper| upper[usize::from(byte >> 4)]);
+        let (Some(mask), Some(upper)) = (mask, upper) else {
+            let other = mask.or(upper).unwrap_or(lower);
+            return self.joined(Logic::And, lower, other);
+        };
+        let register = match *before {
+            Some(known) if known.digit == byte >> 4 => known.register,
+            _ => {
+                self.let_go(*before);
+                let register = self.joined(Logic::And, upper, mask)?;
+                *before = Some(Upper {
+                    digit: byte >> 4,
+                    register,
+                });
+                register
+            }
+        };
+        self.joined(Logic::And, register, lower)
+    }
+
+    /// Lets the register of an upper digit go.
+    pub(crate) fn let_go(&mut self, before: Option<Upper>) {
+        if let Some(upper) = before {
+            self.release(upper.register);
+        }
+    }
+}

@@ -1,0 +1,159 @@
+//! Instructions that compare the codes of two columns with one another, bit by bit.
+use crate::code::Code;
+use bw_derive::{Kind, Logic, Refusal, Relation};
+
+/// Registers of one bit of two columns.
+#[derive(Clone, Copy)]
+struct Bits {
+    /// It is 1 where the bits differ.
+    differs: u8,
+    /// Where the bits differ, it is 1 where the left one is 0. It is `differs` itself where only the
+    /// right column has the bit, and none where only the left one has it, or where nothing is asked
+    /// but whether the columns are equal.
+    below: Option<u8>,
+}
+
+/// What the top bits of two columns say: where the left code is less by them, if that is asked, and
+/// where they are equal.
+#[derive(Clone, Copy)]
+struct Tops {
+    less: Option<u8>,
+    same: u8,
+}
+
+impl Code<'_> {
+    /// A register that is 1 where the code of a column is less than (equal to) that of another. Their
+    /// top bits are compared from the top down, with skips to where this ends if no row has them
+    /// equal so far, and the bits below from the lowest one up.
+    pub(crate) fn relation(&mut self, relation: Relation) -> Result<u8, Refusal> {
+        let left = self.facts.width(relation.left);
+        let bits = left.max(self.facts.width(relation.right));
+        let low = bits.saturating_sub(self.skipped_bits());
+        let Some(tops) = self.tops(relation, low, bits)? else {
+            return self.lows(relation, low);
+        };
+        let Tops { less, same } = tops;
+        let rest = if low > 0 {
+            Some(self.lows(relation, low)?)
+        } else {
+            None
+        };
+        match (less, rest) {
+            (Some(less), Some(rest)) => {
+                self.join_into(Logic::And, rest, same)?;
+                self.join_into(Logic::Or, less, rest)?;
+            }
+            (None, Some(rest)) => self.join_into(Logic::And, same, rest)?,
+            _ => {}
+        }
+        let Some(less) = less else {
+            return Ok(same);
+        };
+        self.release(same);
+        Ok(less)
+    }
+
+    /// What the bits of two columns say from the top down to one of them, if there are any.
+    fn tops(&mut self, relation: Relation, low: u32, bits: u32) -> Result<Option<Tops>, Refusal> {
+        if low >= bits {
+            return Ok(None);
+        }
+        let less = match relation.kind {
+            Kind::Less => Some(self.fill(false)?),
+            Kind::Equal => None,
+        };
+        let mut same = None;
+        for bit in (low..bits).rev() {
+            let now = self.next_below(relation, bit, less, same)?;
+            if bit > 0 {
+                self.skip(now)?;
+            }
+            same = Some(now);
+        }
+        Ok(same.map(|same| Tops { less, same }))
+    }
+
+    /// Takes the next bit below into a comparison from the top down: where the code is less by the
+    /// bits so far, if that is asked, and, as the result, where the codes have them equal.
+    fn next_below(
+        &mut self,
+        relation: Relation,
+        bit: u32,
+        less: Option<u8>,
+        same: Option<u8>,
+    ) -> Result<u8, Refusal> {
+        let Bits { differs, below } = self.bits(relation, bit)?;
+        if let (Some(less), Some(below)) = (less, below) {
+            let below = if below == differs {
+                self.copied(differs)?
+            } else {
+                self.join(Logic::And, below, below, differs)?;
+                below
+            };
+            if let Some(same) = same {
+                self.join(Logic::And, below, below, same)?;
+            }
+            self.join_into(Logic::Or, less, below)?;
+        }
+        self.oppose(differs, differs)?;
+        let Some(same) = same else {
+            return Ok(differs);
+        };
+        self.join_into(Logic::And, same, differs)?;
+        Ok(same)
+    }
+
+    /// A register that is 1 where so many low bits of a column spell a number that is less than
+    /// (equal to) that of another's.
+    fn lows(&mut self, relation: Relation, bits: u32) -> Result<u8, Refusal> {
+        let made = self.fill(relation.kind == Kind::Equal)?;
+        for bit in 0..bits {
+            let Bits { differs, below } = self.bits(relation, bit)?;
+            match below {
+                Some(below) if below != differs => {
+                    self.join(Logic::Xor, below, below, made)?;
+                    self.join(Logic::And, below, below, differs)?;
+                    self.join_into(Logic::Xor, made, below)?;
+                    self.release(differs);
+                }
+                Some(_) => self.join_into(Logic::Or, made, differs)?,
+                None => {
+                    self.oppose(differs, differs)?;
+                    self.join_into(Logic::And, made, differs)?;
+                }
+            }
+        }
+        Ok(made)
+    }
+
+    /// The registers of one bit of two columns, of which one has it.
+    fn bits(&mut self, relation: Relation, bit: u32) -> Result<Bits, Refusal> {
+        let on_left = bit < self.facts.width(relation.left);
+        let on_right = bit < self.facts.width(relation.right);
+        let is_less = relation.kind == Kind::Less;
+        if !on_right {
+            let differs = self.bit(relation.left, bit)?;
+            return Ok(Bits {
+                differs,
+                below: None,
+            });
+        }
+        let right = self.bit(relation.right, bit)?;
+        if !on_left {
+            let below = if is_less { Some(right) } else { None };
+            return Ok(Bits {
+                differs: right,
+                below,
+            });
+        }
+        let left = self.bit(relation.left, bit)?;
+        self.join(Logic::Xor, left, left, right)?;
+        if !is_less {
+            self.release(right);
+        }
+        Ok(Bits {
+            differs: left,
+            below: if is_less { Some(right) } else { None },
+        })
+    }
+}
