@@ -3,7 +3,7 @@
 #![tactic(auto)]
 
 use bw_cert::check;
-use bw_cert_text::Certificate;
+use bw_cert_text::parse_certificate;
 use bw_model::{Cond, Fault, Schema};
 use bw_program::Program;
 use std::alloc::{AllocError, Global};
@@ -49,7 +49,7 @@ fn measure(rt: &(impl AllocGlobal + Print + Eprint + Clock)) -> Result<(), Failu
         return Err(Failure::Memory);
     };
     let start = Instant::now(rt)?;
-    let certificate = Certificate::parse(rt.alloc(), 4, text.as_bytes())?;
+    let certificate = parse_certificate(rt.alloc(), 4, text.as_bytes())?;
     let parsed = start.elapsed(rt)?.as_micros();
     let start = Instant::now(rt)?;
     let verdict = check(rt.alloc(), &schema, &Cond::Always, program, &certificate);

@@ -1,11 +1,10 @@
 //! The calls of `bw` without what they promise, which nothing here rests on: so what calls them is proved sooner.
 ghost use Rattle.std.specs.Prelude.{◌-◌, ◌^◌, ◌<◌};
 
-use bw_check::Accepted;
 use bw_device::{Sink, Source};
 use bw_file::Layout;
 use bw_model::Fault;
-use bw_query::Served;
+use bw_report::{Accepted, Served};
 use std::alloc::Global;
 
 pub fn direct<S: Source, C: Source, K: Sink>(

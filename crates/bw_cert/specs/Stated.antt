@@ -6,12 +6,12 @@ use Rattle.bw_model.specs.Fault.{at_line, ◌>>=◌}
 use Rattle.bw_diagram.specs.declared.chain.Chain.{Chain}
 use Rattle.bw_diagram.specs.Chain.{one_named, two_named}
 use Rattle.bw_diagram.specs.Facts.{Facts, no_facts, with_node, with_chain, with_row}
-use Rattle.bw_cert_text.specs.declared.lines.NodeLine.{NodeLine}
-use Rattle.bw_cert_text.specs.declared.lines.ChainLine.{ChainLine}
-use Rattle.bw_cert_text.specs.declared.lines.ChainColumns.{ChainColumns}
-use Rattle.bw_cert_text.specs.declared.lines.ChainColumns.TheVariants.{One, Two}
-use Rattle.bw_cert_text.specs.declared.lines.RowLine.{RowLine}
-use Rattle.bw_cert_text.specs.CertificateShape.{CertificateShape}
+use Rattle.bw_cert_lines.specs.declared.lines.NodeLine.{NodeLine}
+use Rattle.bw_cert_lines.specs.declared.lines.ChainLine.{ChainLine}
+use Rattle.bw_cert_lines.specs.declared.lines.ChainColumns.{ChainColumns}
+use Rattle.bw_cert_lines.specs.declared.lines.ChainColumns.TheVariants.{One, Two}
+use Rattle.bw_cert_lines.specs.declared.lines.RowLine.{RowLine}
+use Rattle.bw_cert_lines.specs.CertificateShape.{CertificateShape}
 
 -- a fault is one of the line of this number
 abbrev pub on_line : {A : Type 0} → ℕ → Result A Fault → Result A Fault

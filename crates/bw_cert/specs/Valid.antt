@@ -9,8 +9,8 @@ use Rattle.bw_diagram.specs.Cited.{cited}
 use Rattle.bw_diagram.specs.Facts.{Facts, is_diagram_fault}
 use Rattle.bw_program.specs.Program.{ProgramShape}
 use Rattle.bw_program.specs.ProgramText.{found_on}
-use Rattle.bw_cert_text.specs.declared.lines.BodyLine.{BodyLine}
-use Rattle.bw_cert_text.specs.CertificateShape.{CertificateShape}
+use Rattle.bw_cert_lines.specs.declared.lines.BodyLine.{BodyLine}
+use Rattle.bw_cert_lines.specs.CertificateShape.{CertificateShape}
 use Rattle.bw_pair.specs.declared.nodes.Pair.{Pair}
 use Rattle.bw_pair.specs.Pair.{pair_of}
 use Rattle.bw_known.specs.Accepted.{Part, Obeys, before, lines_of}

@@ -6,7 +6,7 @@ ghost use Rattle.bw_diagram.specs.Chain.{chain_named};
 ghost use Rattle.bw_diagram.specs.Facts.{is_diagram_fault};
 ghost use Rattle.bw_cert.specs.Stated.{chain_of, facts_stated, with_lines, with_node_line, with_chain_line, with_row_line};
 
-use bw_cert_text::{Certificate, ChainColumns, ChainLine, NodeLine, RowLine};
+use bw_cert_lines::{Certificate, ChainColumns, ChainLine, NodeLine, RowLine};
 use bw_diagram::Diagram;
 use bw_model::{Fault, Place, Schema, code};
 use std::alloc::Global;

@@ -14,14 +14,14 @@ use Rattle.bw_cert_text.specs.declared.kind.InstructionKind.{InstructionKind}
 use Rattle.bw_cert_text.specs.declared.kind.InstructionKind.TheVariants as instruction
 use Rattle.bw_cert_text.specs.declared.kind.Form.{Form}
 use Rattle.bw_cert_text.specs.declared.kind.Form.TheVariants as form
-use Rattle.bw_cert_text.specs.declared.lines.NodeLine.{NodeLine}
-use Rattle.bw_cert_text.specs.declared.lines.RowLine.{RowLine}
-use Rattle.bw_cert_text.specs.declared.lines.ConditionEntry.{ConditionEntry}
-use Rattle.bw_cert_text.specs.declared.lines.ConditionEntry.TheVariants.{Compare, CompareColumns, Fixed, NullTest, And, Or, Not, Is, IsUnknown}
-use Rattle.bw_cert_text.specs.declared.lines.InstructionEntry.{InstructionEntry}
-use Rattle.bw_cert_text.specs.declared.lines.InstructionEntry.TheVariants.{Load, Fill, Op, Byte, Skip}
-use Rattle.bw_cert_text.specs.declared.lines.EdgeRows.{EdgeRows}
-use Rattle.bw_cert_text.specs.CertificateFields.{ColumnFields, One, Two, ChainFields, KeepFields, Condition, Instruction, Join, Kept}
+use Rattle.bw_cert_lines.specs.declared.lines.NodeLine.{NodeLine}
+use Rattle.bw_cert_lines.specs.declared.lines.RowLine.{RowLine}
+use Rattle.bw_cert_lines.specs.declared.lines.ConditionEntry.{ConditionEntry}
+use Rattle.bw_cert_lines.specs.declared.lines.ConditionEntry.TheVariants.{Compare, CompareColumns, Fixed, NullTest, And, Or, Not, Is, IsUnknown}
+use Rattle.bw_cert_lines.specs.declared.lines.InstructionEntry.{InstructionEntry}
+use Rattle.bw_cert_lines.specs.declared.lines.InstructionEntry.TheVariants.{Load, Fill, Op, Byte, Skip}
+use Rattle.bw_cert_lines.specs.declared.lines.EdgeRows.{EdgeRows}
+use Rattle.bw_cert_lines.specs.CertificateFields.{ColumnFields, One, Two, ChainFields, KeepFields, Condition, Instruction, Join, Kept}
 use Rattle.bw_cert_text.specs.LineText.{Node, Chain, Row, Body, Said, Before, End, node_in, one_column_in, two_columns_in, columns_behind, chain_in, reason_in, row_in, compare_in, compare_columns_in, is_in, condition_in, instruction_in, edges_in, keep_in, said_behind, said_by}
 use Rattle.bw_cert_text.specs.Operand.{◌>?◌, optional_of, register_of, nothing_in, number_in, two_in}
 use Rattle.bw_cert_text.specs.Token.{Number, IsSpelled, AreSpelled, one_key, two_key, none, next, column_tokens, reason_tokens, condition_tokens, instruction_tokens, edge_tokens, keep_tokens, end_tokens, part_tokens, part_line}

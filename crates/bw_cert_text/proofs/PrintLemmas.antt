@@ -3,9 +3,9 @@ use Rattle.std.proofs.Common.{◌≡◌, ◌∙◌, refl, sym, ap, ℕ, suc, ◌
 use Rattle.std.proofs.lemmas.List.{append-nil, drop_all}
 use Rattle.std.proofs.Math.Seq.{drop-cons}
 use Rattle.bw_model.specs.declared.column.Column.{Column}
-use Rattle.bw_cert_text.specs.declared.lines.EdgeRows.{EdgeRows}
-use Rattle.bw_cert_text.specs.CertificateFields.{chain_fields, body_fields, certificate_fields, ChainFields}
-use Rattle.bw_cert_text.specs.CertificateShape.{CertificateShape}
+use Rattle.bw_cert_lines.specs.declared.lines.EdgeRows.{EdgeRows}
+use Rattle.bw_cert_lines.specs.CertificateFields.{chain_fields, body_fields, certificate_fields, ChainFields}
+use Rattle.bw_cert_lines.specs.CertificateShape.{CertificateShape}
 use Rattle.bw_cert_text.specs.declared.print.Token as declared
 use Rattle.bw_cert_text.specs.PrintText.{token_text, behind_text, line_text, lines_text, body_tokens, respelled_chain, print_text}
 use Rattle.bw_cert_text.specs.Printed.{token_of}

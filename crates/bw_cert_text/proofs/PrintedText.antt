@@ -16,19 +16,20 @@ use Rattle.bw_model.specs.Column.{names_of, column_named}
 use Rattle.bw_model.specs.Lines.{NumberedWords, begins_comment, cut_lines, numbered, numbered_from}
 use Rattle.bw_model.specs.Name.{is_name}
 use Rattle.bw_model.specs.Text.{same_text}
-use Rattle.bw_cert_text.specs.declared.lines.NodeLine.{NodeLine}
-use Rattle.bw_cert_text.specs.declared.lines.RowLine.{RowLine}
-use Rattle.bw_cert_text.specs.declared.lines.EndLine.{EndLine}
-use Rattle.bw_cert_text.specs.declared.lines.EdgeRows.{EdgeRows}
-use Rattle.bw_cert_text.specs.declared.lines.ConditionEntry.{ConditionEntry}
-use Rattle.bw_cert_text.specs.declared.lines.ConditionEntry.TheVariants.{Compare, CompareColumns, Fixed, NullTest, And, Or, Not, Is, IsUnknown}
-use Rattle.bw_cert_text.specs.declared.lines.InstructionEntry.{InstructionEntry}
-use Rattle.bw_cert_text.specs.declared.lines.InstructionEntry.TheVariants.{Load, Fill, Op, Byte, Skip}
-use Rattle.bw_cert_text.specs.CertificateFields.{ColumnFields, One, Two, ChainFields, EntryFields, Condition, Instruction, Join, Kept, BodyFields, CertificateFields}
+use Rattle.bw_cert_lines.specs.declared.lines.NodeLine.{NodeLine}
+use Rattle.bw_cert_lines.specs.declared.lines.RowLine.{RowLine}
+use Rattle.bw_cert_lines.specs.declared.lines.EndLine.{EndLine}
+use Rattle.bw_cert_lines.specs.declared.lines.EdgeRows.{EdgeRows}
+use Rattle.bw_cert_lines.specs.declared.lines.ConditionEntry.{ConditionEntry}
+use Rattle.bw_cert_lines.specs.declared.lines.ConditionEntry.TheVariants.{Compare, CompareColumns, Fixed, NullTest, And, Or, Not, Is, IsUnknown}
+use Rattle.bw_cert_lines.specs.declared.lines.InstructionEntry.{InstructionEntry}
+use Rattle.bw_cert_lines.specs.declared.lines.InstructionEntry.TheVariants.{Load, Fill, Op, Byte, Skip}
+use Rattle.bw_cert_lines.specs.CertificateFields.{ColumnFields, One, Two, ChainFields, EntryFields, Condition, Instruction, Join, Kept, BodyFields, CertificateFields}
+use Rattle.bw_cert_lines.specs.Columns.{is_found, are_columns, has_columns}
 use Rattle.bw_cert_text.specs.CertificateText.{section_of, with_part, end_alone, SpellsFrom, before_end, at_end, IsCertificateText}
 use Rattle.bw_cert_text.specs.LineText.{Part, Node, Chain, Row, Body}
 use Rattle.bw_cert_text.specs.PrintText.{token_text, line_text, lines_text, body_tokens, schema_spelling, spelling_at, respelled_columns, respelled_chain, respelled, certificate_text, print_text}
-use Rattle.bw_cert_text.specs.Reprint.{node_at, chain_at, row_at, body_at, numbered_on, renumbered, is_small, is_found, is_named, numbers_fit, has_columns}
+use Rattle.bw_cert_text.specs.Reprint.{node_at, chain_at, row_at, body_at, numbered_on, renumbered, is_small, numbers_fit}
 use Rattle.bw_cert_text.specs.Token.{Token, Key, Number, Perhaps, Column, Register, IsSpelled, AreSpelled, none, next, node_tokens, column_tokens, chain_tokens, reason_tokens, row_tokens, condition_tokens, instruction_tokens, edge_tokens, entry_tokens, end_tokens, part_tokens, part_line}
 use Rattle.bw_cert_text.specs.Word.{connective_spelling}
 use Rattle.bw_model.proofs.BitsLemmas.{both}
@@ -219,28 +220,28 @@ module _ (columns : List stored.Column) (names : list_all is_name (names_of colu
       go None h = h
       go (Some n) h = h
 
-  columns_clear : (x : ColumnFields) → list_all is_small (column_tokens x) ≡ true → list_all (is_named columns) (column_tokens x) ≡ true → list_all is_clear (column_tokens (respelled_columns columns x)) ≡ true
-  columns_clear (One compared.Less word start len bound node prev) h g = one_clear word start len bound node prev h (both (is_found (column_named columns word)) true g).0
-  columns_clear (One compared.Equal word start len bound node prev) h g = one_clear word start len bound node prev h (both (is_found (column_named columns word)) true g).0
+  columns_clear : (x : ColumnFields) → list_all is_small (column_tokens x) ≡ true → are_columns columns x ≡ true → list_all is_clear (column_tokens (respelled_columns columns x)) ≡ true
+  columns_clear (One compared.Less word start len bound node prev) h g = one_clear word start len bound node prev h g
+  columns_clear (One compared.Equal word start len bound node prev) h g = one_clear word start len bound node prev h g
   columns_clear (Two compared.Less left right len node prev) h g =
-      let first = both (is_found (column_named columns left)) (is_found (column_named columns right) && true) g in
-      two_clear left right len node prev h first.0 (both (is_found (column_named columns right)) true first.1).0
+      let named = both (is_found (column_named columns left)) (is_found (column_named columns right)) g in
+      two_clear left right len node prev h named.0 named.1
   columns_clear (Two compared.Equal left right len node prev) h g =
-      let first = both (is_found (column_named columns left)) (is_found (column_named columns right) && true) g in
-      two_clear left right len node prev h first.0 (both (is_found (column_named columns right)) true first.1).0
+      let named = both (is_found (column_named columns left)) (is_found (column_named columns right)) g in
+      two_clear left right len node prev h named.0 named.1
 
-  chain_clear : (x : ChainFields) → list_all is_small (chain_tokens x) ≡ true → list_all (is_named columns) (chain_tokens x) ≡ true → list_all is_clear (chain_tokens (respelled_chain columns x)) ≡ true
+  chain_clear : (x : ChainFields) → list_all is_small (chain_tokens x) ≡ true → are_columns columns x.columns ≡ true → list_all is_clear (chain_tokens (respelled_chain columns x)) ≡ true
   chain_clear x h g =
       let first = both (nat_lt x.n (2 ^ 64)) (list_all is_small (column_tokens x.columns)) h in
       rw first.0 (columns_clear x.columns first.1 g)
 
   -- all lines of a section
-  chains_clear : (xs : List ChainFields) → list_all (λ x. list_all is_small (chain_tokens x)) xs ≡ true → list_all (λ x. list_all (is_named columns) (chain_tokens x)) xs ≡ true →
+  chains_clear : (xs : List ChainFields) → list_all (λ x. list_all is_small (chain_tokens x)) xs ≡ true → list_all (λ x. are_columns columns x.columns) xs ≡ true →
       list_all (λ x. list_all is_clear (chain_tokens x)) (map (respelled_chain columns) xs) ≡ true
   chains_clear [] h g = refl
   chains_clear (x ∷ xs) h g =
       let small = both (list_all is_small (chain_tokens x)) (list_all (λ x. list_all is_small (chain_tokens x)) xs) h in
-      let there = both (list_all (is_named columns) (chain_tokens x)) (list_all (λ x. list_all (is_named columns) (chain_tokens x)) xs) g in
+      let there = both (are_columns columns x.columns) (list_all (λ x. are_columns columns x.columns) xs) g in
       and_true (list_all is_clear (chain_tokens (respelled_chain columns x))) (list_all (λ x. list_all is_clear (chain_tokens x)) (map (respelled_chain columns) xs))
       (chain_clear x small.0 there.0) (chains_clear xs small.1 there.1)
 
@@ -360,6 +361,5 @@ text_spells columns first c names small there =
     let k = both (list_all (λ x. list_all is_small (chain_tokens x)) c.chains) _ n.1 in
     let r = both (list_all (λ x. list_all is_small (row_tokens x)) c.rows) _ k.1 in
     let b = both (list_all (λ x. list_all is_small (body_tokens x)) c.body) (list_all is_small (end_tokens c.end)) r.1 in
-    let named = both (list_all (λ x. list_all (is_named columns) (chain_tokens x)) c.chains) _ (both (list_all (λ x. list_all (is_named columns) (node_tokens x)) c.nodes) _ there).1 in
-    certificate_spelled first (respelled columns c) (all_clear node_tokens (λ x h. h) c.nodes n.0) (chains_clear columns names c.chains k.0 named.0) (all_clear row_tokens row_all c.rows r.0)
+    certificate_spelled first (respelled columns c) (all_clear node_tokens (λ x h. h) c.nodes n.0) (chains_clear columns names c.chains k.0 there) (all_clear row_tokens row_all c.rows r.0)
     (all_clear body_tokens (λ x h. entry_clear x.entry h) c.body b.0) b.1

@@ -3,8 +3,8 @@ use Rattle.std.specs.Prelude.{◌≤◌, ℕ, Bool, false, ◌||◌, ◌==◌, L
 use Rattle.bw_model.specs.declared.fault.Fault.{Fault}
 use Rattle.bw_model.specs.Fault.{at_line, is_memory, ◌>>=◌, refused_if}
 use Rattle.bw_model.specs.Lines.{NumberedWords, lines_in, end_in, from_line}
-use Rattle.bw_cert_text.specs.declared.lines.EndLine.{EndLine}
-use Rattle.bw_cert_text.specs.CertificateFields.{CertificateFields}
+use Rattle.bw_cert_lines.specs.declared.lines.EndLine.{EndLine}
+use Rattle.bw_cert_lines.specs.CertificateFields.{CertificateFields}
 use Rattle.bw_cert_text.specs.LineText.{Part, Node, Chain, Row, Body, Said, Before, End, said_in}
 use Rattle.bw_cert_text.specs.Token.{Says, part_line, part_tokens, end_tokens}
 

@@ -1,5 +1,3 @@
-pub mod CertificateFields
-pub mod CertificateShape
 pub mod CertificateText
 pub mod LineText
 pub mod Operand

@@ -15,15 +15,15 @@ use Rattle.bw_cert_text.specs.declared.kind.InstructionKind.{InstructionKind}
 use Rattle.bw_cert_text.specs.declared.kind.InstructionKind.TheVariants as instruction
 use Rattle.bw_cert_text.specs.declared.kind.Form.{Form}
 use Rattle.bw_cert_text.specs.declared.kind.Form.TheVariants as form
-use Rattle.bw_cert_text.specs.declared.lines.NodeLine.{NodeLine}
-use Rattle.bw_cert_text.specs.declared.lines.RowLine.{RowLine}
-use Rattle.bw_cert_text.specs.declared.lines.ConditionEntry.{ConditionEntry}
-use Rattle.bw_cert_text.specs.declared.lines.ConditionEntry.TheVariants.{Compare, CompareColumns, Fixed, NullTest, And, Or, Not, Is, IsUnknown}
-use Rattle.bw_cert_text.specs.declared.lines.InstructionEntry.{InstructionEntry}
-use Rattle.bw_cert_text.specs.declared.lines.InstructionEntry.TheVariants.{Load, Fill, Op, Byte, Skip}
-use Rattle.bw_cert_text.specs.declared.lines.EdgeRows.{EdgeRows}
-use Rattle.bw_cert_text.specs.declared.lines.EndLine.{EndLine}
-use Rattle.bw_cert_text.specs.CertificateFields.{ColumnFields, One, Two, ChainFields, KeepFields, EntryFields, Condition, Instruction, Join, Kept, BodyFields}
+use Rattle.bw_cert_lines.specs.declared.lines.NodeLine.{NodeLine}
+use Rattle.bw_cert_lines.specs.declared.lines.RowLine.{RowLine}
+use Rattle.bw_cert_lines.specs.declared.lines.ConditionEntry.{ConditionEntry}
+use Rattle.bw_cert_lines.specs.declared.lines.ConditionEntry.TheVariants.{Compare, CompareColumns, Fixed, NullTest, And, Or, Not, Is, IsUnknown}
+use Rattle.bw_cert_lines.specs.declared.lines.InstructionEntry.{InstructionEntry}
+use Rattle.bw_cert_lines.specs.declared.lines.InstructionEntry.TheVariants.{Load, Fill, Op, Byte, Skip}
+use Rattle.bw_cert_lines.specs.declared.lines.EdgeRows.{EdgeRows}
+use Rattle.bw_cert_lines.specs.declared.lines.EndLine.{EndLine}
+use Rattle.bw_cert_lines.specs.CertificateFields.{ColumnFields, One, Two, ChainFields, KeepFields, EntryFields, Condition, Instruction, Join, Kept, BodyFields}
 use Rattle.bw_cert_text.specs.Operand.{◌>?◌, optional_of, register_of, nothing_in, number_in, two_in}
 use Rattle.bw_cert_text.specs.Word.{kind_of, connective_of, form_of}
 

@@ -1,11 +1,9 @@
 -- What a canonical text is read as: the certificate in the schema's spelling, its lines numbered one after another.
-use Rattle.std.specs.Prelude.{ℕ, ◌+◌, ◌^◌, Bool, true, false, ◌&&◌, List, [], ◌∷◌, length, Option, Some, None, nat_lt}
+use Rattle.std.specs.Prelude.{ℕ, ◌+◌, ◌^◌, Bool, true, ◌&&◌, List, [], ◌∷◌, length, Option, Some, None, nat_lt}
 use Rattle.std.specs.List.{list_all}
-use Rattle.bw_model.specs.declared.column.Column as column
-use Rattle.bw_model.specs.Column.{column_named}
-use Rattle.bw_cert_text.specs.declared.lines.NodeLine.{NodeLine}
-use Rattle.bw_cert_text.specs.declared.lines.RowLine.{RowLine}
-use Rattle.bw_cert_text.specs.CertificateFields.{ChainFields, BodyFields, CertificateFields}
+use Rattle.bw_cert_lines.specs.declared.lines.NodeLine.{NodeLine}
+use Rattle.bw_cert_lines.specs.declared.lines.RowLine.{RowLine}
+use Rattle.bw_cert_lines.specs.CertificateFields.{ChainFields, BodyFields, CertificateFields}
 use Rattle.bw_cert_text.specs.PrintText.{body_tokens}
 use Rattle.bw_cert_text.specs.Token.{Token, Key, Number, Perhaps, Column, Register, node_tokens, chain_tokens, row_tokens, end_tokens}
 
@@ -59,21 +57,6 @@ is_small (Perhaps (Some n)) = nat_lt n (2 ^ 64)
 is_small (Column word) = true
 is_small (Register r) = nat_lt r 64
 
--- a column's word names a column
-abbrev pub is_found : Option ℕ → Bool
-is_found None = false
-is_found (Some c) = true
-
-abbrev pub is_named : List column.Column → Token → Bool
-is_named columns (Key key) = true
-is_named columns (Number n) = true
-is_named columns (Perhaps n) = true
-is_named columns (Column word) = is_found (column_named columns word)
-is_named columns (Register r) = true
-
--- so with each of a certificate
+-- so with each place of a certificate
 abbrev pub numbers_fit : CertificateFields → Bool
 numbers_fit c = all_tokens is_small c
-
-abbrev pub has_columns : List column.Column → CertificateFields → Bool
-has_columns columns c = all_tokens (is_named columns) c

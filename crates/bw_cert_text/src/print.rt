@@ -8,47 +8,49 @@ ghost use Rattle.bw_model.specs.Column.{names_of};
 ghost use Rattle.bw_model.specs.Fault.{no_memory};
 ghost use Rattle.bw_model.specs.Name.{is_name};
 ghost use Rattle.bw_cert_text.specs.CertificateText.{IsCertificateText};
-ghost use Rattle.bw_cert_text.specs.Reprint.{numbers_fit, has_columns, renumbered};
-ghost use Rattle.bw_cert_text.specs.CertificateFields.{CertificateFields, certificate_fields, chain_fields, keep_fields, entry_fields, body_fields};
+ghost use Rattle.bw_cert_lines.specs.Columns.{has_columns};
+ghost use Rattle.bw_cert_text.specs.Reprint.{numbers_fit, renumbered};
+ghost use Rattle.bw_cert_lines.specs.CertificateFields.{CertificateFields, certificate_fields, chain_fields, keep_fields, entry_fields, body_fields};
 ghost use Rattle.bw_cert_text.specs.PrintText.{token_text, behind_text, line_text, lines_text, body_tokens, schema_spelling, respelled_chain, respelled, print_text};
 ghost use Rattle.bw_cert_text.specs.Printed.{token_of};
 ghost use Rattle.bw_cert_text.specs.Token.{Key, one_key, two_key, node_tokens, chain_tokens, row_tokens, condition_tokens, instruction_tokens, edge_tokens, keep_tokens, entry_tokens, end_tokens};
 
-use crate::certificate::Certificate;
 use crate::kind::connective_spelling;
-use crate::lines::{
-    BodyLine, ChainColumns, ChainLine, ConditionEntry, EdgeRows, Entry, InstructionEntry, Keep,
-    NodeLine, RowLine,
+use bw_cert_lines::{
+    BodyLine, Certificate, ChainColumns, ChainLine, ConditionEntry, EdgeRows, Entry,
+    InstructionEntry, Keep, NodeLine, RowLine,
 };
 use bw_diagram::{ChainKind, Reason};
 use bw_model::{Fault, Schema};
 use std::alloc::{AllocError, Global};
 
-impl Certificate {
-    /// The certificate's canonical text: words of the language in capitals, single blanks, columns
-    /// in the schema's spelling, numbers without leading zeros, `-` for none, and one line feed
-    /// after each line. A word that names no column of the schema stands as it is; where each names
-    /// one and the registers are r0 to r63, the text spells the certificate, its lines numbered one
-    /// after another from any number on. Refused is want of memory alone (801).
-    pub fn print(&self, alloc: Global, schema: &Schema) -> Result<Vec<u8>, Fault>
-        ensures text { IfOk result
-            (λ text. text.items ≡ print_text schema.now.columns.items (certificate_fields self.now)) }
-        ensures spelled { IsTrue (numbers_fit (certificate_fields self.now))
-            → IsTrue (has_columns schema.now.columns.items (certificate_fields self.now))
-            → IfOk result (λ text. (first : ℕ) → IsCertificateText first text.items
-            (renumbered first (respelled schema.now.columns.items (certificate_fields self.now)))) }
-        ensures only_memory { IsOkUnless result no_memory }
-    {
-        schema.has_names_and_bounds();
-        let mut text = Vec::new(alloc);
-        put_nodes(alloc, &self.nodes, &mut text)?;
-        put_chains(alloc, schema, &self.chains, &mut text)?;
-        put_rows(alloc, &self.rows, &mut text)?;
-        put_body(alloc, &self.body, &mut text)?;
-        let end = [Token::Number(self.end.row)];
-        put_line(alloc, b"END", &end, &mut text)?;
-        Ok(text)
-    }
+/// A certificate's canonical text: words of the language in capitals, single blanks, columns
+/// in the schema's spelling, numbers without leading zeros, `-` for none, and one line feed
+/// after each line. A word that names no column of the schema stands as it is; where each names
+/// one and the registers are r0 to r63, the text spells the certificate, its lines numbered one
+/// after another from any number on. Refused is want of memory alone (801).
+pub fn print_certificate(
+    alloc: Global,
+    schema: &Schema,
+    certificate: &Certificate,
+) -> Result<Vec<u8>, Fault>
+    ensures text { IfOk result
+        (λ text. text.items ≡ print_text schema.now.columns.items (certificate_fields certificate.now)) }
+    ensures spelled { IsTrue (numbers_fit (certificate_fields certificate.now))
+        → IsTrue (has_columns schema.now.columns.items (certificate_fields certificate.now))
+        → IfOk result (λ text. (first : ℕ) → IsCertificateText first text.items
+        (renumbered first (respelled schema.now.columns.items (certificate_fields certificate.now)))) }
+    ensures only_memory { IsOkUnless result no_memory }
+{
+    schema.has_names_and_bounds();
+    let mut text = Vec::new(alloc);
+    put_nodes(alloc, certificate.node_lines(), &mut text)?;
+    put_chains(alloc, schema, certificate.chain_lines(), &mut text)?;
+    put_rows(alloc, certificate.row_lines(), &mut text)?;
+    put_body(alloc, certificate.body(), &mut text)?;
+    let end = [Token::Number(certificate.end().row)];
+    put_line(alloc, b"END", &end, &mut text)?;
+    Ok(text)
 }
 
 /// A law: the canonical text of a certificate spells it, in the schema's spelling and with its lines

@@ -9,10 +9,10 @@ use Rattle.bw_model.specs.CondTree.{tree_of}
 use Rattle.bw_model.specs.Fault.{Gives}
 use Rattle.bw_model.specs.SchemaText.{SchemaShape, schema_shape, IsSchemaText}
 use Rattle.bw_program.specs.Program.{ProgramShape}
-use Rattle.bw_cert_text.specs.CertificateShape.{CertificateShape}
+use Rattle.bw_cert_lines.specs.CertificateShape.{CertificateShape}
 use Rattle.bw_sql.specs.Asked.{Asked, asked}
 use Rattle.bw_sql.specs.Statement.{Spells}
-use Rattle.bw_check.specs.declared.accepted.Accepted.{Accepted}
+use Rattle.bw_report.specs.declared.accepted.Accepted.{Accepted}
 use Rattle.bw_check.specs.declared.certified_file.CertifiedFile.{CertifiedFile}
 use Rattle.bw_check.specs.CheckText.{IsAccepted}
 use Rattle.bw_check.specs.Judged.{Certifies, counted, told, told_of}

@@ -6,11 +6,11 @@ use Rattle.bw_model.specs.declared.fault.Fault.{Fault}
 use Rattle.bw_model.specs.Fault.{is_memory, nowhere}
 use Rattle.bw_program.specs.Program.{ProgramShape, is_skip}
 use Rattle.bw_program.specs.ProgramText.{program_of, IsProgramText}
-use Rattle.bw_cert_text.specs.CertificateFields.{certificate_fields}
-use Rattle.bw_cert_text.specs.CertificateShape.{CertificateShape}
+use Rattle.bw_cert_lines.specs.CertificateFields.{certificate_fields}
+use Rattle.bw_cert_lines.specs.CertificateShape.{CertificateShape}
 use Rattle.bw_cert_text.specs.CertificateText.{certificate_of, IsCertificateText}
 use Rattle.bw_cert.specs.Valid.{Valid, checked}
-use Rattle.bw_check.specs.declared.accepted.Accepted.{Accepted}
+use Rattle.bw_report.specs.declared.accepted.Accepted.{Accepted}
 use Rattle.bw_check.specs.declared.certified_file.CertifiedFile.{CertifiedFile}
 use Rattle.bw_check.specs.ProgramFile.{IsCut, longest_program_file}
 

@@ -4,14 +4,14 @@ ghost use Rattle.bw_model.specs.Cond.{names_within};
 ghost use Rattle.bw_model.specs.CondTree.{tree_of};
 ghost use Rattle.bw_model.specs.Fault.{Gives, is_memory};
 ghost use Rattle.bw_program.specs.Program.{ProgramShape};
-ghost use Rattle.bw_cert_text.specs.CertificateShape.{CertificateShape};
+ghost use Rattle.bw_cert_lines.specs.CertificateShape.{CertificateShape};
 ghost use Rattle.bw_check.specs.CheckText.{IsAccepted, IsCheckFault};
-ghost use Rattle.bw_check.specs.declared.accepted.Accepted.{Accepted as Numbers};
+ghost use Rattle.bw_report.specs.declared.accepted.Accepted.{Accepted as Numbers};
 ghost use Rattle.bw_check.specs.Judged.{Certifies, IsFileFault, counted};
 
-use crate::accepted::Accepted;
 use crate::certified_file::certify;
 use bw_model::{Cond, Fault, Schema};
+use bw_report::Accepted;
 use bw_sql::{one_query_of_a_text, parse, schemas_of_one_shape};
 use std::alloc::Global;
 

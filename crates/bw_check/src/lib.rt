@@ -7,13 +7,11 @@
 //! Read `specs/ProgramFile.antt` and `specs/Judged.antt` first, and then `certified_file.rt`.
 #![tactic(auto)]
 
-mod accepted;
 mod certified_file;
 mod check_call;
 mod laws;
 mod program_file;
 
-pub use accepted::Accepted;
 pub use certified_file::{CertifiedFile, certify};
 pub use check_call::check_text;
 pub use laws::one_verdict;

@@ -8,7 +8,8 @@ use bw_file::Layout;
 use bw_infer::infer;
 use bw_info::info;
 use bw_model::Fault;
-use bw_query::{By, answer, dump, plan_text};
+use bw_query::{answer, dump, plan_text};
+use bw_report::By;
 use bw_shell::{direct, load};
 use std::alloc::Global;
 

@@ -6,14 +6,14 @@ use crate::calls::{
     table_file,
 };
 use crate::devices::{Calls, Endless, Taker};
-use bw_check::Accepted;
 use bw_csv::MAX_CSV_LEN;
 use bw_device::{FromRead, Input, ToWrite, read_limited};
 use bw_file::Layout;
 use bw_infer::infer;
 use bw_model::{Fault, code};
-use bw_query::{By, Served, answer, dump};
-use bw_shell::{accepted_line, direct, load, report, stats_line};
+use bw_query::{answer, dump};
+use bw_report::{Accepted, By, Served, accepted_line, report, stats_line};
+use bw_shell::{direct, load};
 use std::process::Abort;
 use std::test::Fail;
 

@@ -5,7 +5,7 @@ use crate::facts::Facts;
 use crate::order::Order;
 use crate::products::Logic;
 use crate::refusal::Refusal;
-use bw_cert_text::{ConditionEntry, Entry};
+use bw_cert_lines::{ConditionEntry, Entry};
 use bw_model::{Cond, Op, Operand, Truth};
 
 /// The numbers of a condition's nodes: where it is TRUE, and where it is FALSE.

@@ -14,8 +14,8 @@ use Rattle.bw_program.specs.declared.instr.Instr.{Instr}
 use Rattle.bw_program.specs.declared.instr.Instr.TheVariants.{Load, Nulls, Fill, And, Or, Xor, Not, ByteLt, ByteEq, Skip}
 use Rattle.bw_program.specs.Program.{instr_fits}
 use Rattle.bw_program.specs.ProgramText.{found_on}
-use Rattle.bw_cert_text.specs.declared.lines.InstructionEntry.{InstructionEntry}
-use Rattle.bw_cert_text.specs.declared.lines.InstructionEntry.TheVariants as entry
+use Rattle.bw_cert_lines.specs.declared.lines.InstructionEntry.{InstructionEntry}
+use Rattle.bw_cert_lines.specs.declared.lines.InstructionEntry.TheVariants as entry
 use Rattle.bw_known.specs.Known.{Known, node_of, with_node}
 
 -- what a line of each kind gives: the node of a plane, the row of an operation, the chain of a byte comparison, if it

@@ -8,7 +8,7 @@ ghost use Rattle.bw_known.specs.Instruction.{behind, put, fill, look, plane_on, 
 ghost use Rattle.bw_known.specs.Known.{is_known_fault};
 
 use crate::known::Known;
-use bw_cert_text::InstructionEntry;
+use bw_cert_lines::InstructionEntry;
 use bw_diagram::{ChainKind, Connective, Diagram};
 use bw_model::{Fault, Schema, code};
 use bw_program::Instr;

@@ -30,8 +30,8 @@ use Rattle.bw_diagram.specs.Node.{IsNode, node_value}
 use Rattle.bw_diagram.specs.Chain.{compares, same_kind, padded_number, IsChain, node_of_one, node_of_two, first_node}
 use Rattle.bw_diagram.specs.Facts.{Facts, AreTrue}
 use Rattle.bw_diagram.proofs.ChainLemmas.{padded_number-whole, number_spelled-whole}
-use Rattle.bw_cert_text.specs.declared.lines.ConditionEntry.{ConditionEntry}
-use Rattle.bw_cert_text.specs.declared.lines.ConditionEntry.TheVariants.{Compare, CompareColumns, Fixed}
+use Rattle.bw_cert_lines.specs.declared.lines.ConditionEntry.{ConditionEntry}
+use Rattle.bw_cert_lines.specs.declared.lines.ConditionEntry.TheVariants.{Compare, CompareColumns, Fixed}
 use Rattle.bw_pair.specs.declared.nodes.Pair.{Pair}
 use Rattle.bw_pair.specs.declared.comparison.Bound.{Bound}
 use Rattle.bw_pair.specs.declared.comparison.Order.{Order}

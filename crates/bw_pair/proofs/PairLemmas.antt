@@ -10,7 +10,7 @@ use Rattle.bw_model.specs.declared.cond.Cond.{Cond, Cond-F, fold-roll-Cond}
 use Rattle.bw_model.specs.declared.cond.Cond.TheVariants.{Always, Cmp, Between, Among, IsNull, And, Or, Not, Test, rolls-Always, rolls-Cmp, rolls-Between, rolls-Among, rolls-IsNull, rolls-And, rolls-Or, rolls-Not, rolls-Test}
 use Rattle.bw_model.specs.Fault.{◌>>=◌}
 use Rattle.bw_diagram.specs.Facts.{Facts}
-use Rattle.bw_cert_text.specs.declared.lines.BodyLine.{BodyLine}
+use Rattle.bw_cert_lines.specs.declared.lines.BodyLine.{BodyLine}
 use Rattle.bw_pair.specs.declared.steps.Junction.TheVariants.{All, Any}
 use Rattle.bw_pair.specs.Comparison.{fixed, comparison}
 use Rattle.bw_pair.specs.Pair.{Reading, by_line, is_null_test, negated_pair, tested_pair, joined_parts, equations, pair_step, pair_of}

@@ -16,7 +16,7 @@ use Rattle.bw_model.specs.Truth.{compared, least, among, any_of}
 use Rattle.bw_model.specs.Variable.{Assignment, row_of}
 use Rattle.bw_model.proofs.BitsLemmas.{both}
 use Rattle.bw_diagram.specs.Facts.{Facts, AreTrue}
-use Rattle.bw_cert_text.specs.declared.lines.BodyLine.{BodyLine}
+use Rattle.bw_cert_lines.specs.declared.lines.BodyLine.{BodyLine}
 use Rattle.bw_pair.specs.declared.nodes.Pair.{Pair}
 use Rattle.bw_pair.specs.declared.steps.Junction.{Junction}
 use Rattle.bw_pair.specs.declared.steps.Junction.TheVariants.{All, Any}

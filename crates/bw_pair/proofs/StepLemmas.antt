@@ -18,9 +18,9 @@ use Rattle.bw_model.specs.Variable.{Assignment, first_variable, is_nullable, nul
 use Rattle.bw_model.proofs.BitsLemmas.{both}
 use Rattle.bw_diagram.specs.declared.product.Connective.TheVariants as connective
 use Rattle.bw_diagram.specs.Facts.{Facts, AreTrue}
-use Rattle.bw_cert_text.specs.declared.lines.BodyLine.{BodyLine}
-use Rattle.bw_cert_text.specs.declared.lines.ConditionEntry.{ConditionEntry}
-use Rattle.bw_cert_text.specs.declared.lines.ConditionEntry.TheVariants.{NullTest, And, Or, Not, Is, IsUnknown}
+use Rattle.bw_cert_lines.specs.declared.lines.BodyLine.{BodyLine}
+use Rattle.bw_cert_lines.specs.declared.lines.ConditionEntry.{ConditionEntry}
+use Rattle.bw_cert_lines.specs.declared.lines.ConditionEntry.TheVariants.{NullTest, And, Or, Not, Is, IsUnknown}
 use Rattle.bw_pair.specs.declared.nodes.Pair.{Pair}
 use Rattle.bw_pair.specs.declared.steps.Junction.{Junction}
 use Rattle.bw_pair.specs.declared.steps.Junction.TheVariants.{All, Any}

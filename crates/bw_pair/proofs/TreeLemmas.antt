@@ -12,11 +12,11 @@ use Rattle.bw_model.specs.CondTree as tree
 use Rattle.bw_model.specs.Fault.{at_line, ◌>>=◌}
 use Rattle.bw_model.proofs.SameLemmas.{Known, bare, of_tree}
 use Rattle.bw_diagram.specs.Facts.{Facts}
-use Rattle.bw_cert_text.specs.declared.lines.BodyLine.{BodyLine}
-use Rattle.bw_cert_text.specs.declared.lines.ConditionEntry.{ConditionEntry}
-use Rattle.bw_cert_text.specs.declared.lines.Entry.{Entry}
-use Rattle.bw_cert_text.specs.declared.lines.Entry.TheVariants as entry
-use Rattle.bw_cert_text.specs.CertificateFields.{BodyFields, EntryFields, Condition, Instruction, Join, Kept, body_fields, entry_fields}
+use Rattle.bw_cert_lines.specs.declared.lines.BodyLine.{BodyLine}
+use Rattle.bw_cert_lines.specs.declared.lines.ConditionEntry.{ConditionEntry}
+use Rattle.bw_cert_lines.specs.declared.lines.Entry.{Entry}
+use Rattle.bw_cert_lines.specs.declared.lines.Entry.TheVariants as entry
+use Rattle.bw_cert_lines.specs.CertificateFields.{BodyFields, EntryFields, Condition, Instruction, Join, Kept, body_fields, entry_fields}
 use Rattle.bw_pair.specs.declared.nodes.Pair.{Pair}
 use Rattle.bw_pair.specs.declared.steps.Junction.{Junction}
 use Rattle.bw_pair.specs.declared.steps.Junction.TheVariants.{All, Any}

@@ -17,12 +17,12 @@ use Rattle.bw_model.specs.Variable.{null_variable}
 use Rattle.bw_diagram.specs.declared.product.Connective.TheVariants as connective
 use Rattle.bw_diagram.specs.declared.product.Product.{Product}
 use Rattle.bw_diagram.specs.Facts.{Facts}
-use Rattle.bw_cert_text.specs.declared.lines.BodyLine.{BodyLine}
-use Rattle.bw_cert_text.specs.declared.lines.Entry.{Entry}
-use Rattle.bw_cert_text.specs.declared.lines.Entry.TheVariants.{Condition}
-use Rattle.bw_cert_text.specs.declared.lines.ConditionEntry.{ConditionEntry}
-use Rattle.bw_cert_text.specs.CertificateFields.{BodyFields, body_fields}
-use Rattle.bw_cert_text.specs.declared.lines.ConditionEntry.TheVariants.{NullTest, And, Or, Not, Is, IsUnknown}
+use Rattle.bw_cert_lines.specs.declared.lines.BodyLine.{BodyLine}
+use Rattle.bw_cert_lines.specs.declared.lines.Entry.{Entry}
+use Rattle.bw_cert_lines.specs.declared.lines.Entry.TheVariants.{Condition}
+use Rattle.bw_cert_lines.specs.declared.lines.ConditionEntry.{ConditionEntry}
+use Rattle.bw_cert_lines.specs.CertificateFields.{BodyFields, body_fields}
+use Rattle.bw_cert_lines.specs.declared.lines.ConditionEntry.TheVariants.{NullTest, And, Or, Not, Is, IsUnknown}
 use Rattle.bw_pair.specs.declared.nodes.Pair.{Pair}
 use Rattle.bw_pair.specs.declared.steps.Junction.{Junction}
 use Rattle.bw_pair.specs.declared.steps.Junction.TheVariants.{All, Any}

@@ -9,7 +9,7 @@ ghost use Rattle.bw_diagram.specs.Chain.{first_node, node_of_one, node_of_two};
 ghost use Rattle.bw_pair.specs.Comparison.{lo_at, fixed, split, turned_if, bound_of, terminal_of, bound_node, with_literal, turned, order_of, order_node, both_node, with_column, comparison};
 
 use crate::nodes::{Pair, cited, value_node};
-use bw_cert_text::ConditionEntry;
+use bw_cert_lines::ConditionEntry;
 use bw_diagram::{Chain, ChainKind, Connective, Diagram};
 use bw_model::{Op, Operand, Schema, Truth};
 

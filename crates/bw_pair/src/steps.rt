@@ -10,7 +10,7 @@ ghost use Rattle.bw_pair.specs.Pair.{Answers, next_entry, next_number, taken, by
 
 use crate::comparison::{comparison, fixed};
 use crate::nodes::{Pair, cited, null_cited};
-use bw_cert_text::{BodyLine, ConditionEntry, Entry};
+use bw_cert_lines::{BodyLine, ConditionEntry, Entry};
 use bw_diagram::{Connective, Diagram};
 use bw_model::{Cond, Fault, Op, Operand, Schema, Truth, code};
 

@@ -1,6 +1,6 @@
 //! Instructions, with the node of each register.
 use crate::digits::Digits;
-use bw_cert_text::{EdgeRows, Entry, InstructionEntry, Keep};
+use bw_cert_lines::{EdgeRows, Entry, InstructionEntry, Keep};
 use bw_derive::{Facts, Kind, Logic, Order, Refusal};
 use bw_program::Instr;
 use std::alloc::Global;

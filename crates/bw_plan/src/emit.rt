@@ -1,12 +1,11 @@
 //! Programs and certificates, from instructions, facts and lines.
 ghost use Rattle.std.specs.Prelude.{IsTrue, IfOk};
-ghost use Rattle.bw_model.specs.Column.{column_named};
 ghost use Rattle.bw_program.specs.Program.{fits};
-ghost use Rattle.bw_cert_text.specs.CertificateFields.{certificate_fields};
-ghost use Rattle.bw_cert_text.specs.Reprint.{has_columns, is_found};
+ghost use Rattle.bw_cert_lines.specs.CertificateFields.{certificate_fields};
+ghost use Rattle.bw_cert_lines.specs.Columns.{has_columns, is_column};
 ghost use Rattle.bw_plan.specs.Named.{is_chain_named, are_chains_named};
 
-use bw_cert_text::{
+use bw_cert_lines::{
     BodyLine, Certificate, ChainColumns, ChainLine, EndLine, Entry, NodeLine, RowLine,
 };
 use bw_derive::{Answer, Compared, Facts, Link, Node, Question, Refusal};
@@ -304,7 +303,7 @@ fn chain_line(
 
 /// The name of a column, which the schema finds again.
 fn name(alloc: Global, schema: &Schema, column: u8) -> Result<Vec<u8>, Refusal>
-    ensures { IfOk result (λ word. IsTrue (is_found (column_named schema.now.columns.items word.items))) }
+    ensures { IfOk result (λ word. IsTrue (is_column schema.now.columns.items word.items)) }
 {
     let Some(column) = schema.columns.get(column as usize) else {
         return Err(Refusal::NoProgram);

@@ -2,14 +2,14 @@
 ghost use Rattle.std.specs.Prelude.{IsTrue, IfOk, IfErr, length};
 ghost use Rattle.bw_model.specs.Cond.{names_within};
 ghost use Rattle.bw_program.specs.Program.{fits};
-ghost use Rattle.bw_cert_text.specs.CertificateFields.{certificate_fields};
-ghost use Rattle.bw_cert_text.specs.Reprint.{has_columns};
+ghost use Rattle.bw_cert_lines.specs.CertificateFields.{certificate_fields};
+ghost use Rattle.bw_cert_lines.specs.Columns.{has_columns};
 ghost use Rattle.bw_derive.specs.Refused.{IsRefusal};
 
 use crate::code::Code;
 use crate::emit;
 use crate::truths::Wanted;
-use bw_cert_text::Certificate;
+use bw_cert_lines::Certificate;
 use bw_derive::{Facts, Logic, Order, Refusal, steps_of};
 use bw_model::{Cond, Fault, Schema};
 use bw_program::Program;

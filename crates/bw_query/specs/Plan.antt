@@ -8,8 +8,8 @@ use Rattle.bw_model.specs.Fault.{is_memory, nowhere}
 use Rattle.bw_model.specs.SchemaText.{schema_of, schema_shape, IsSchemaText}
 use Rattle.bw_program.specs.PrintText as program_text
 use Rattle.bw_program.specs.Program.{ProgramShape}
-use Rattle.bw_cert_text.specs.CertificateFields.{CertificateFields}
-use Rattle.bw_cert_text.specs.CertificateShape.{CertificateShape}
+use Rattle.bw_cert_lines.specs.CertificateFields.{CertificateFields}
+use Rattle.bw_cert_lines.specs.CertificateShape.{CertificateShape}
 use Rattle.bw_cert_text.specs.PrintText as certificate_text
 use Rattle.bw_check.specs.Judged.{Certifies}
 use Rattle.bw_sql.specs.Statement.{IsReadAs}

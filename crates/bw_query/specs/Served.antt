@@ -8,13 +8,13 @@ use Rattle.bw_model.specs.declared.schema.Schema.{Schema}
 use Rattle.bw_model.specs.Groups.{groups_of}
 use Rattle.bw_model.specs.Row.{Value}
 use Rattle.bw_program.specs.Program.{ProgramShape}
-use Rattle.bw_cert_text.specs.CertificateShape.{CertificateShape}
+use Rattle.bw_cert_lines.specs.CertificateShape.{CertificateShape}
 use Rattle.bw_cert.specs.Valid.{Valid}
 use Rattle.bw_check.specs.Judged.{Certifies}
 use Rattle.bw_query.specs.declared.scan.Scan.{Scan}
 use Rattle.bw_query.specs.declared.scan.Scan.TheVariants.{Program, Rows}
-use Rattle.bw_query.specs.declared.served.By.{By}
-use Rattle.bw_query.specs.declared.served.Served.{Served}
+use Rattle.bw_report.specs.declared.served.By.{By}
+use Rattle.bw_report.specs.declared.served.Served.{Served}
 use Rattle.bw_query.specs.declared.table_text.Scanned.{Scanned}
 use Rattle.bw_query.specs.Scan.{run_over}
 use Rattle.bw_query.specs.TableAnswer.{group_count}

@@ -13,5 +13,4 @@ mod table_calls;
 mod table_text;
 
 pub use plan_call::plan_text;
-pub use served::{By, Served};
 pub use table_calls::{answer, dump};

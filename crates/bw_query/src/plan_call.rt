@@ -4,12 +4,13 @@ ghost use Rattle.bw_model.specs.declared.fault.Fault.{Fault};
 ghost use Rattle.bw_model.specs.Cond.{names_within};
 ghost use Rattle.bw_model.specs.Fault.{is_memory, nowhere};
 ghost use Rattle.bw_program.specs.Program.{ProgramShape, fits};
-ghost use Rattle.bw_cert_text.specs.CertificateShape.{CertificateShape};
+ghost use Rattle.bw_cert_lines.specs.CertificateShape.{CertificateShape};
 ghost use Rattle.bw_check.specs.Judged.{Certifies};
 ghost use Rattle.bw_device.specs.Sink.{Wrote, is_write_fault};
 ghost use Rattle.bw_device.specs.Source.{EndsWith};
 ghost use Rattle.bw_query.specs.Plan.{IsPlanned, IsPrinted};
 
+use bw_cert_text::print_certificate;
 use bw_check::certify;
 use bw_device::{Sink, write_whole};
 use bw_model::{Cond, Fault, Place, Schema, code};
@@ -78,7 +79,7 @@ fn file_of(alloc: Global, schema: &Schema, proposal: &Proposal) -> Result<Vec<u8
 {
     let mut file = proposal.program.print(alloc, schema)?;
     file.extend_from_slice(b"CERTIFICATE\n")?;
-    file.extend_from_slice(&proposal.certificate.print(alloc, schema)?)?;
+    file.extend_from_slice(&print_certificate(alloc, schema, &proposal.certificate)?)?;
     Ok(file)
 }
 

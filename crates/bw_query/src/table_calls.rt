@@ -23,11 +23,12 @@ ghost use Rattle.bw_query.specs.Served.{IsServed};
 ghost use Rattle.bw_query.specs.TableAnswer.{AnswersFile, IsEveryRow, TableGave, TableText, by_dump, by_statement, is_no_verdict};
 
 use crate::scan::{Scan, scan_for};
-use crate::served::{Served, served_by};
+use crate::served::served_by;
 use crate::table_text::table_text;
 use bw_device::{Sink, Source, write_whole};
 use bw_file::{TableReader, a_file_text_is_read_whole};
 use bw_model::{Cond, Fault, Item, Query, Schema};
+use bw_report::Served;
 use bw_sql::{one_query_of_a_text, parse, schemas_of_one_shape};
 use std::alloc::Global;
 

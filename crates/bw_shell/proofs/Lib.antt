@@ -1,5 +1,3 @@
 pub mod DirectExits
 pub mod Directs
 pub mod Exits
-pub mod JoinedLemmas
-pub mod Texts

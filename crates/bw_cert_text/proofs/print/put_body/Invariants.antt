@@ -1,5 +1,5 @@
 use Rattle.std.proofs.Common.{◌≡◌, ◌++◌, drop}
-use Rattle.bw_cert_text.specs.CertificateFields.{body_fields}
+use Rattle.bw_cert_lines.specs.CertificateFields.{body_fields}
 use Rattle.bw_cert_text.specs.PrintText.{lines_text, body_tokens}
 use Rattle.bw_cert_text.proofs.print.put_body.Given as goal
 

@@ -1,5 +1,5 @@
 -- Each line that is written goes over from what is left.
-use Rattle.bw_cert_text.specs.CertificateFields.{chain_fields}
+use Rattle.bw_cert_lines.specs.CertificateFields.{chain_fields}
 use Rattle.bw_cert_text.specs.PrintText.{respelled_chain}
 use Rattle.bw_cert_text.specs.Token.{chain_tokens}
 use Rattle.bw_cert_text.proofs.PrintLemmas.{lines-found, lines-end, written, all_written}

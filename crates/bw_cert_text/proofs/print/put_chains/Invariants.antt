@@ -1,5 +1,5 @@
 use Rattle.std.proofs.Common.{◌≡◌, ◌++◌, drop}
-use Rattle.bw_cert_text.specs.CertificateFields.{chain_fields}
+use Rattle.bw_cert_lines.specs.CertificateFields.{chain_fields}
 use Rattle.bw_cert_text.specs.PrintText.{lines_text, respelled_chain}
 use Rattle.bw_cert_text.specs.Token.{chain_tokens}
 use Rattle.bw_cert_text.proofs.print.put_chains.Given as goal

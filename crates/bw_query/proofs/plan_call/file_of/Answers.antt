@@ -1,6 +1,6 @@
 -- The file is what was printed.
 use Rattle.std.proofs.Common.{refl}
-use Rattle.bw_cert_text.specs.CertificateFields.{certificate_fields}
+use Rattle.bw_cert_lines.specs.CertificateFields.{certificate_fields}
 use Rattle.bw_query.proofs.plan_call.file_of.Goals as goal
 
 pub returns-clause-printed : goal.returns-clause-printed

@@ -1,6 +1,6 @@
 -- Each exit, by what its calls told.
 use Rattle.std.proofs.lemmas.Result.{err_from_is_err_and}
-use Rattle.bw_query.specs.declared.served.Served.{Served}
+use Rattle.bw_report.specs.declared.served.Served.{Served}
 use Rattle.bw_query.specs.Scan.{given_file}
 use Rattle.bw_query.specs.Served.{IsServed}
 use Rattle.bw_query.specs.TableAnswer.{by_statement}

@@ -1,0 +1,3 @@
+pub mod CertificateFields
+pub mod CertificateShape
+pub mod Columns

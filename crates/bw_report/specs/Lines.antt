@@ -1,0 +1,57 @@
+-- What a refused call tells its caller.
+use Rattle.std.specs.Prelude.{◌≡◌, ◌==◌, ℕ, Bool, false, nat_lt, if◌then◌else◌, List, ◌++◌, codes, Option, Result}
+use Rattle.std.specs.Fmt.{decimal}
+use Rattle.std.specs.List.{list_any}
+use Rattle.bw_model.specs.declared.fault.Fault.{Fault}
+use Rattle.bw_report.specs.declared.accepted.Accepted.{Accepted}
+use Rattle.bw_device.specs.Sink.{GoesOut}
+use Rattle.bw_report.specs.declared.served.By.{By}
+use Rattle.bw_report.specs.declared.served.By.TheVariants.{Program, Rows}
+use Rattle.bw_report.specs.declared.served.Served.{Served}
+
+-- the exit status of a fault, by the hundred that its number is of: 6xx is the certificate's, 7xx a
+-- device's and 8xx memory's
+abbrev pub status_of : Fault → ℕ
+status_of fault =
+    if nat_lt fault.code 600 then 3 else (if nat_lt fault.code 700 then 4 else (if nat_lt fault.code 800 then 5 else 6))
+
+-- one line that begins with `bw: `: its only line feed, byte 10, is at its end
+abbrev pub has_line_feed : List ℕ → Bool
+has_line_feed text = list_any (λ c. c == 10) text
+
+abbrev pub IsLine : List ℕ → Type 0
+IsLine line = (words : List ℕ) × (has_line_feed words ≡ false) × (line ≡ codes "bw: " ++ (words ++ codes "\n"))
+
+-- a line went out to a sink, or a part of it up to a failed write
+abbrev pub PrintsLine : Option (List ℕ) → Option (List ℕ) → ℕ → ℕ → Type 0
+PrintsLine old new before after =
+    (line : List ℕ) × IsLine line × ((outcome : Result (Unit {0}) Fault) × GoesOut old new before after line outcome)
+
+-- who served a query
+abbrev pub by_text : By → List ℕ
+by_text Program = codes "program"
+by_text Rows = codes "rows"
+
+-- words and then a number, in decimal
+abbrev pub with_count : List ℕ → ℕ → List ℕ
+with_count words count = words ++ decimal count
+
+-- The line that tells who served a query and how, as `served rows segments 1 loads 0 skips 0`, with its end.
+abbrev pub stats_line : Served → List ℕ
+stats_line served =
+    ((((codes "served " ++ by_text served.by)
+    ++ with_count (codes " segments ") served.segments)
+    ++ with_count (codes " loads ") served.loads)
+    ++ with_count (codes " skips ") served.skips)
+    ++ codes "\n"
+
+-- The line that tells of an accepted program file, as `accepted: 4 instructions, 1 skips, 6 nodes, 9 chains, 17 rows`, with
+-- its end.
+abbrev pub accepted_line : Accepted → List ℕ
+accepted_line accepted =
+    ((((with_count (codes "accepted: ") accepted.instructions
+    ++ with_count (codes " instructions, ") accepted.skips)
+    ++ with_count (codes " skips, ") accepted.nodes)
+    ++ with_count (codes " nodes, ") accepted.chains)
+    ++ with_count (codes " chains, ") accepted.rows)
+    ++ codes " rows\n"

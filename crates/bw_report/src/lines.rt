@@ -1,0 +1,151 @@
+//! Lines that a call prints beside its result, put together without memory.
+ghost use Rattle.std.specs.Prelude.{◌≡◌, ◌+◌, ◌-◌, ◌^◌, ◌<◌, ◌≤◌, ◌++◌, false, length};
+ghost use Rattle.std.specs.Fmt.InlineText.{inline_text};
+ghost use Rattle.bw_report.specs.Lines.{status_of, has_line_feed, IsLine, PrintsLine, accepted_line, by_text, stats_line, with_count};
+ghost use Rattle.bw_device.specs.Sink.{GoesOut};
+
+use crate::accepted::Accepted;
+use crate::served::{By, Served};
+use bw_device::{Sink, write_whole};
+use bw_model::Fault;
+use itoa::Buffer;
+use std::fmt::InlineText;
+
+/// How many bytes a line has room for.
+const LINE: usize = 128;
+
+/// How many bytes the line of an accepted file has room for.
+const LONG_LINE: usize = 192;
+
+/// How many bytes of a line a fault may take: no fault is shown in as many.
+const WORDS: usize = 100;
+
+/// Gives the exit status of a fault: 3 for one of the schema, the CSV, the table file, the statement or the
+/// program text, 4 for one of the certificate, 5 for one of a device, 6 for want of memory.
+fn status_of(fault: &Fault) -> u8
+    ensures { result ≡ status_of fault.now }
+{
+    match fault.code {
+        0..600 => 3,
+        600..700 => 4,
+        700..800 => 5,
+        _ => 6,
+    }
+}
+
+/// Gives the line of a fault, as `bw: 404 unknown column at byte 7`, with its end.
+fn line_of(fault: &Fault) -> InlineText<LINE>
+    ensures { IsLine (inline_text result) }
+{
+    let words = InlineText::<WORDS>::of(*fault);
+    InlineText::new()
+        .and_str("bw: ", 4)
+        .and_str(on_one_line(words.as_str()), WORDS)
+        .and_str("\n", 1)
+}
+
+/// A text that has no line feed as it is, and nothing of any other, of which no fault is shown.
+fn on_one_line(words: &str) -> &str
+    ensures feed { has_line_feed result.now ≡ false }
+    ensures shorter { length result.now ≤ length words.now }
+{
+    if words.as_bytes().contains(&b'\n') {
+        ""
+    } else {
+        words
+    }
+}
+
+/// Writes the line of a fault, as `bw: 404 unknown column at byte 7`, and gives the exit status, which a
+/// failed write doesn't change. That the sink's count of failures can rise is the caller's condition.
+pub fn report<K: Sink>(fault: &Fault, sink: &mut K) -> u8
+    requires { K.failures sink.old < 2 ^ 64 - 1 }
+    ensures status { result ≡ status_of fault.now }
+    ensures line { PrintsLine (K.taken sink.old) (K.taken sink.new)
+        (K.failures sink.old) (K.failures sink.new) }
+{
+    let line = line_of(fault);
+    let _ = write_whole(sink, line.as_str().as_bytes());
+    status_of(fault)
+}
+
+/// A line with words more. That there is room for them is the caller's condition.
+fn and_words<const N: usize>(line: InlineText<N>, words: &str) -> InlineText<N>
+    requires { length (inline_text line) + length words.now < N }
+    ensures { inline_text result ≡ inline_text line.entry ++ words.now }
+{
+    line.and_str(words, words.len())
+}
+
+/// A line with words and then a number more, in decimal, which takes 20 bytes at most. That there is room for them is the
+/// caller's condition.
+fn and_count<const N: usize>(line: InlineText<N>, words: &str, count: u64) -> InlineText<N>
+    requires { length (inline_text line) + length words.now + 20 < N }
+    ensures text { inline_text result ≡ inline_text line.entry ++ with_count words.now count }
+    ensures room { length (inline_text result) ≤ length (inline_text line.entry) + length words.now + 20 }
+{
+    let line = and_words(line, words);
+    and_words(line, Buffer::new().format(count))
+}
+
+/// Gives the line of how a query was served, as `served rows segments 1 loads 0 skips 0`, with its end.
+fn line_of_served(served: &Served) -> InlineText<LINE>
+    ensures { inline_text result ≡ stats_line served.now }
+{
+    let line = and_words(InlineText::new(), "served ");
+    let line = and_words(line, by_text(served.by));
+    let line = and_count(line, " segments ", u64::from(served.segments));
+    let line = and_count(line, " loads ", served.loads);
+    let line = and_count(line, " skips ", served.skips);
+    and_words(line, "\n")
+}
+
+/// Who served a query, in a word.
+fn by_text(by: By) -> &'static str
+    ensures words { result.now ≡ by_text by }
+    ensures short { length result.now ≤ 7 }
+{
+    match by {
+        By::Program => "program",
+        By::Rows => "rows",
+    }
+}
+
+/// Writes the line of how a query was served, as `served rows segments 1 loads 0 skips 0`. Refuses as 702 alone. That the sink's count of failures can rise is the
+/// caller's condition.
+pub fn stats_line<K: Sink>(served: &Served, sink: &mut K) -> Result<(), Fault>
+    requires { K.failures sink.old < 2 ^ 64 - 1 }
+    ensures { GoesOut (K.taken sink.old) (K.taken sink.new) (K.failures sink.old) (K.failures sink.new)
+        (stats_line served.now) result }
+{
+    let line = line_of_served(served);
+    write_whole(sink, line.as_str().as_bytes())
+}
+
+/// Gives the line of an accepted program file, as `accepted: 4 instructions, 1 skips, 6 nodes, 9 chains, 17 rows`, with
+/// its end.
+fn line_of_accepted(accepted: &Accepted) -> InlineText<LONG_LINE>
+    ensures { inline_text result ≡ accepted_line accepted.now }
+{
+    let line = and_count(
+        InlineText::new(),
+        "accepted: ",
+        accepted.instructions as u64,
+    );
+    let line = and_count(line, " instructions, ", accepted.skips as u64);
+    let line = and_count(line, " skips, ", accepted.nodes as u64);
+    let line = and_count(line, " nodes, ", accepted.chains as u64);
+    let line = and_count(line, " chains, ", accepted.rows as u64);
+    and_words(line, " rows\n")
+}
+
+/// Writes the line of an accepted program file, as `accepted: 4 instructions, 1 skips, 6 nodes, 9 chains, 17 rows`. Refuses as 702 alone. That the sink's count of failures can rise is the
+/// caller's condition.
+pub fn accepted_line<K: Sink>(accepted: &Accepted, sink: &mut K) -> Result<(), Fault>
+    requires { K.failures sink.old < 2 ^ 64 - 1 }
+    ensures { GoesOut (K.taken sink.old) (K.taken sink.new) (K.failures sink.old) (K.failures sink.new)
+        (accepted_line accepted.now) result }
+{
+    let line = line_of_accepted(accepted);
+    write_whole(sink, line.as_str().as_bytes())
+}
