@@ -1,7 +1,11 @@
 pub mod AnswerLemmas
+pub mod ColumnLemmas
 pub mod CountLemmas
+pub mod FetchLemmas
 pub mod PickedLemmas
 pub mod PlainFields
 pub mod PlainNames
+pub mod PositionLemmas
+pub mod RecordLemmas
 pub mod Rows
 pub mod TotalsLemmas

@@ -8,8 +8,6 @@ use Rattle.bw_model.specs.Selection.{kept}
 use Rattle.bw_model.specs.Total.{is_aggregate}
 use Rattle.bw_rowwise.specs.Accumulator.{Tally, tally_of}
 use Rattle.bw_answer.specs.Answer.{csv_text, heading_of, is_count_all, listed, lists_rows, record_text}
-use Rattle.bw_answer.specs.Draft.{Holds}
-use Rattle.bw_answer.specs.declared.csv_text.CsvText.{CsvText}
 
 -- the heading record of a query over columns of these names, and behind it the records of the rows that are kept, where
 -- the query lists them
@@ -18,8 +16,8 @@ text_over names query rows =
     record_text (map (heading_of names) query.items.items) ++ (if lists_rows query.items.items then csv_text (listed query rows) else [])
 
 -- a text and totals are those of a query, over a table of columns of these names, of which these rows were taken
-pub record AreOver (names : List (List ℕ)) (query : Query) (rows : List (List Value)) (text : CsvText) (totals : List Tally) : Type 0 where
-  pub written : Holds text (text_over names query rows) []
+pub record AreOver (names : List (List ℕ)) (query : Query) (rows : List (List Value)) (text : List ℕ) (totals : List Tally) : Type 0 where
+  pub written : text ≡ text_over names query rows
   pub totalled : lists_rows query.items.items ≡ false
       → totals ≡ map (λ item. tally_of item (kept query.cond rows)) (filter is_aggregate query.items.items)
 

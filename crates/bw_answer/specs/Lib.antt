@@ -1,6 +1,9 @@
 pub mod Answer
 pub mod AreOver
+pub mod Columns
 pub mod Draft
+pub mod Fetched
 pub mod Field
+pub mod Listing
 pub mod Over
 pub mod Totals

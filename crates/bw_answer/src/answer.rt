@@ -1,5 +1,5 @@
 //! The answer to a query over rows that come one at a time, as CSV text.
-ghost use Rattle.std.specs.Prelude.{◌≡◌, ◌==◌, ◌≤◌, ◌+◌, ◌-◌, ◌++◌, ◌∷◌, List, [], ℕ, true, false, All, IsTrue, IfOk, IfErr, OnOk, length, replicate, vec_len};
+ghost use Rattle.std.specs.Prelude.{◌≡◌, ◌==◌, ◌<◌, ◌≤◌, ◌+◌, ◌-◌, ◌++◌, ◌∷◌, List, [], ℕ, true, false, All, IsTrue, IfOk, IfErr, OnOk, length, replicate, vec_len};
 ghost use Rattle.std.specs.List.{list_all};
 ghost use Rattle.bw_model.specs.Column.{admits_values, names_of};
 ghost use Rattle.bw_model.specs.Fault.{no_memory};
@@ -13,13 +13,15 @@ ghost use Rattle.bw_rowwise.specs.Prepared.{IsPreparedFrom};
 ghost use Rattle.bw_sql.specs.Items.{AreOfOneKind};
 ghost use Rattle.bw_answer.specs.Answer.{csv_text, is_count_all, lists_rows, meaning};
 ghost use Rattle.bw_answer.specs.AreOver.{AreOver, CountsRows};
+ghost use Rattle.bw_answer.specs.Listing.{IsListing};
+ghost use Rattle.bw_model.specs.declared.query.Item.{Item};
 ghost use Rattle.bw_answer.specs.Totals.{is_of, has_room};
 
-use crate::csv_text::CsvText;
-use crate::heading::push_heading;
-use crate::listing::push_kept;
-use crate::picked::{push_picked, total_picked};
-use crate::totals::{add_count, add_kept, push_totals, totals_of};
+use crate::heading::heading_text;
+use crate::kept::is_kept;
+use crate::listing::Listing;
+use crate::picked::total_picked;
+use crate::totals::{add_count, add_kept, totals_of, with_totals};
 use bw_csv::RowTaker;
 use bw_lanes::Plane;
 use bw_model::{Fault, Item, Query, Row, Schema, admitted_rows_have_each_value, totals_join};
@@ -38,14 +40,17 @@ pub struct Answer<'a> {
     cond: Prepared,
     /// Whether the query lists rows, and doesn't total them.
     lists: bool,
+    /// The columns that it lists.
+    records: Listing,
     /// The heading, and then the records of the rows that are kept, where the query lists them.
-    text: CsvText,
+    text: Vec<u8>,
     /// The total of each aggregate, over the rows that are kept.
     totals: Vec<Accumulator>,
     ghost prepared: { IsPreparedFrom query.now.cond cond },
     ghost items: { IsTrue (list_all (item_within width) query.now.items.items) },
     ghost some: { 1 ≤ length query.now.items.items },
     ghost listing: { lists ≡ lists_rows query.now.items.items },
+    ghost names: { lists ≡ true → IsListing records width query.now.items.items },
     ghost totalling: { lists ≡ false → IsTrue (list_all is_aggregate query.now.items.items) },
     ghost totalled: { lists ≡ false → 1 ≤ vec_len totals },
     ghost room: { IsTrue (list_all (is_of width rows) totals.items) },
@@ -72,15 +77,15 @@ impl<'a> Answer<'a> {
         ensures only_memory { IfErr result (λ fault. fault ≡ no_memory) }
     {
         admitted_rows_have_each_value();
-        let mut text = CsvText::new(alloc);
-        push_heading(alloc, &schema.columns, &query.items, &mut text)?;
+        let width = schema.columns.len();
         Ok(Answer {
-            width: schema.columns.len(),
+            width,
             rows: 0,
             query,
             cond: Prepared::new(alloc, &query.cond)?,
             lists: lists_rows(&query.items),
-            text,
+            records: Listing::new(alloc, width, &query.items)?,
+            text: heading_text(alloc, &schema.columns, &query.items)?,
             totals: totals_of(alloc, &query.items)?,
         })
     }
@@ -113,15 +118,10 @@ impl<'a> Answer<'a> {
         self.rows += count;
     }
 
-    /// Takes the rows of a segment, of which a plane picks those that the query keeps. A row that is listed is put into
-    /// `row`. That there is room for the segment's rows, and that it is of the answer's table, is the caller's
+    /// Takes the rows of a segment, of which a plane picks those that the query keeps. Only the columns that the query
+    /// names are fetched. That there is room for the segment's rows, and that it is of the answer's table, is the caller's
     /// condition. Refuses as 801 alone.
-    pub fn take_picked<S: Segment>(
-        &mut self,
-        segment: &S,
-        plane: &Plane,
-        row: &mut Row,
-    ) -> Result<(), Fault>
+    pub fn take_picked<S: Segment>(&mut self, segment: &S, plane: &Plane) -> Result<(), Fault>
         requires picks { lanes_of_words plane.now
             ≡ selection (asked_by self.old).cond (S.meaning segment.now).rows
             ++ replicate (group_size - length (S.meaning segment.now).rows) false }
@@ -137,20 +137,19 @@ impl<'a> Answer<'a> {
         put_picked(
             &mut self.text,
             &mut self.totals,
+            &mut self.records,
             self.query,
             self.lists,
             segment,
             plane,
-            row,
         )?;
         self.rows += segment.rows_in();
         Ok(())
     }
 
-    /// Takes the rows of a segment, each of which is looked at, in so far as the query names its columns. A row that is
-    /// listed is put into `row`. That there is room for the segment's rows, and that it is of the answer's table, is the
-    /// caller's condition. Refuses as 801 alone.
-    pub fn take_segment<S: Segment>(&mut self, segment: &S, row: &mut Row) -> Result<(), Fault>
+    /// Takes the rows of a segment, each of which is looked at, in so far as the query names its columns. That there is
+    /// room for the segment's rows, and that it is of the answer's table, is the caller's condition. Refuses as 801 alone.
+    pub fn take_segment<S: Segment>(&mut self, segment: &S) -> Result<(), Fault>
         requires wide { length (S.meaning segment.now).columns ≡ self.old.width }
         requires room { self.old.rows + length (S.meaning segment.now).rows ≤ most_rows }
         ensures over { OnOk result ((start : Answer) (before : List (List Value)) → GoesOver start before self.old
@@ -161,7 +160,31 @@ impl<'a> Answer<'a> {
         ensures only_memory { IfErr result (λ fault. fault ≡ no_memory) }
     {
         let kept = self.cond.rows_kept(segment);
-        self.take_picked(segment, &kept, row)
+        self.take_picked(segment, &kept)
+    }
+
+    /// Takes a row. That there is room for it, and that it has a value in each of the table's columns, is the caller's
+    /// condition. Refuses as 801 alone.
+    fn take_row(&mut self, row: &Row) -> Result<(), Fault>
+        requires wide { length (values_of row.now) ≡ self.old.width }
+        requires room { self.old.rows < most_rows }
+        ensures over { OnOk result ((start : Answer) (before : List (List Value)) → GoesOver start before self.old
+            → GoesOver start (before ++ values_of row.now ∷ []) self.new) }
+        ensures width { OnOk result (self.new.width ≡ self.old.width) }
+        ensures rows { OnOk result (self.new.rows ≡ self.old.rows + 1) }
+        ensures only_memory { IfErr result (λ fault. fault ≡ no_memory) }
+    {
+        put_row(
+            &mut self.text,
+            &mut self.totals,
+            &mut self.records,
+            self.query,
+            &self.cond,
+            self.lists,
+            row,
+        )?;
+        self.rows += 1;
+        Ok(())
     }
 
     /// The text of the answer over the rows that were taken. Refuses as 801 alone.
@@ -176,13 +199,15 @@ impl<'a> Answer<'a> {
             query: _,
             cond: _,
             lists,
-            mut text,
+            records: _,
+            text,
             totals,
         } = self;
-        if !lists {
-            push_totals(&mut text, &totals)?;
+        if lists {
+            Ok(text)
+        } else {
+            with_totals(text, &totals)
         }
-        text.into_bytes()
     }
 }
 
@@ -196,23 +221,15 @@ impl RowTaker for Answer<'_> {
     ghost led = { GoesOver };
 
     fn take(&mut self, row: &Row) -> Result<(), Fault> {
-        put_row(
-            &mut self.text,
-            &mut self.totals,
-            self.query,
-            &self.cond,
-            self.lists,
-            row,
-        )?;
-        self.rows += 1;
-        Ok(())
+        self.take_row(row)
     }
 }
 
 /// Adds a row to the text or to the totals, if it is kept.
 fn put_row(
-    text: &mut CsvText,
+    text: &mut Vec<u8>,
     totals: &mut [Accumulator],
+    records: &mut Listing,
     query: &Query,
     cond: &Prepared,
     lists: bool,
@@ -221,50 +238,57 @@ fn put_row(
     requires prepared { IsPreparedFrom query.now.cond cond.now }
     requires items { IsTrue (list_all (item_within (length (values_of row.now))) query.now.items.items) }
     requires lists { lists ≡ lists_rows query.now.items.items }
+    requires names { lists ≡ true → IsListing records.old (length (values_of row.now)) query.now.items.items }
     requires room { IsTrue (list_all (has_room (length (values_of row.now))) totals.old) }
     ensures over { OnOk result ((names : List (List ℕ)) → (rows : List (List Value))
-        → AreOver names query.now rows text.old totals.old
-        → AreOver names query.now (rows ++ values_of row.now ∷ []) text.new totals.new) }
+        → AreOver names query.now rows text.old.items totals.old
+        → AreOver names query.now (rows ++ values_of row.now ∷ []) text.new.items totals.new) }
     ensures counts { OnOk result ((rows : ℕ) → IsTrue (list_all (is_of (length (values_of row.now)) rows) totals.old)
         → IsTrue (list_all (is_of (length (values_of row.now)) (rows + 1)) totals.new)) }
     ensures left { IfErr result (λ _. totals.new ≡ totals.old) }
+    ensures names { (width : ℕ) (items : List Item) → IsListing records.old width items → IsListing records.new width items }
     ensures only_memory { IfErr result (λ fault. fault ≡ no_memory) }
 {
-    if lists {
-        push_kept(text, query, cond, row)?;
-    } else {
+    if !lists {
         add_kept(totals, query, cond, row);
+        return Ok(());
+    }
+    if is_kept(cond, row) {
+        records.push_row(text, row)?;
     }
     Ok(())
 }
 
 /// Adds the rows of a segment that are kept, and that a plane picks, to the text or to the totals.
 fn put_picked<S: Segment>(
-    text: &mut CsvText,
+    text: &mut Vec<u8>,
     totals: &mut [Accumulator],
+    records: &mut Listing,
     query: &Query,
     lists: bool,
     segment: &S,
     plane: &Plane,
-    row: &mut Row,
 ) -> Result<(), Fault>
     requires picks { lanes_of_words plane.now ≡ selection query.now.cond (S.meaning segment.now).rows
         ++ replicate (group_size - length (S.meaning segment.now).rows) false }
     requires items { IsTrue (list_all (item_within (length (S.meaning segment.now).columns)) query.now.items.items) }
     requires lists { lists ≡ lists_rows query.now.items.items }
+    requires names { lists ≡ true
+        → IsListing records.old (length (S.meaning segment.now).columns) query.now.items.items }
     requires columns { All (λ tally. IsTrue (item_within (length (S.meaning segment.now).columns) tally.item)) totals.old }
     requires room { All (λ tally. tally.count + length (S.meaning segment.now).rows ≤ most_rows) totals.old }
     ensures over { OnOk result ((names : List (List ℕ)) → (rows : List (List Value))
-        → AreOver names query.now rows text.old totals.old
-        → AreOver names query.now (rows ++ (S.meaning segment.now).rows) text.new totals.new) }
+        → AreOver names query.now rows text.old.items totals.old
+        → AreOver names query.now (rows ++ (S.meaning segment.now).rows) text.new.items totals.new) }
     ensures counts { OnOk result ((width rows : ℕ) → IsTrue (list_all (is_of width rows) totals.old)
         → IsTrue (list_all (is_of width (rows + length (S.meaning segment.now).rows)) totals.new)) }
     ensures left { IfErr result (λ _. totals.new ≡ totals.old) }
+    ensures names { (width : ℕ) (items : List Item) → IsListing records.old width items → IsListing records.new width items }
     ensures only_memory { IfErr result (λ fault. fault ≡ no_memory) }
 {
     totals_join();
     if lists {
-        push_picked(text, &query.items, segment, plane, row)?;
+        records.push_picked(text, segment, plane)?;
     } else {
         total_picked(totals, segment, plane);
     }

@@ -8,26 +8,21 @@ ghost use Rattle.bw_answer.specs.Draft.{Drafts, Holds, is_begun};
 
 use bw_model::{Fault, code};
 use csv::{Error, Writer, WriterBuilder};
-use std::alloc::Global;
+use itoa::Buffer;
 
 /// The records so far, and the fields so far of the next one.
 #[derive(Drop)]
 pub struct CsvText {
     writer: Writer<Vec<u8>>,
-    /// The digits of a number, in the same memory for each.
-    digits: String,
 }
 
 impl CsvText {
-    /// A text without records.
-    pub fn new(alloc: Global) -> Self
-        ensures { Holds result [] [] }
+    /// A text that begins with the records of bytes.
+    pub fn onto(bytes: Vec<u8>) -> Self
+        ensures { Holds result bytes.items [] }
     {
         CsvText {
-            writer: WriterBuilder::new()
-                .flexible(true)
-                .from_writer(Vec::new(alloc)),
-            digits: String::new(alloc),
+            writer: WriterBuilder::new().flexible(true).from_writer(bytes),
         }
     }
 
@@ -50,11 +45,7 @@ impl CsvText {
     {
         match number {
             None => write_field(&mut self.writer, b"NULL"),
-            Some(n) => {
-                self.digits.clear();
-                write!(self.digits, "{n}")?;
-                write_field(&mut self.writer, self.digits.as_bytes())
-            }
+            Some(n) => write_field(&mut self.writer, Buffer::new().format(n).as_bytes()),
         }
     }
 
@@ -75,8 +66,7 @@ impl CsvText {
         ensures text { IfOk result (λ text. (ended : List ℕ) → Holds self ended [] → text.items ≡ ended) }
         ensures only_memory { IfErr result (λ fault. fault ≡ no_memory) }
     {
-        let CsvText { writer, digits: _ } = self;
-        match writer.into_inner() {
+        match self.writer.into_inner() {
             Ok(text) => Ok(text),
             Err(_) => Err(Fault::new(code::OUT_OF_MEMORY)),
         }

@@ -1,5 +1,5 @@
 //! The heading record of an answer.
-ghost use Rattle.std.specs.Prelude.{◌≡◌, ◌≤◌, ◌++◌, List, [], ℕ, IsTrue, IfErr, OnOk, length, map};
+ghost use Rattle.std.specs.Prelude.{◌≡◌, ◌≤◌, ◌++◌, List, [], ℕ, IsTrue, IfErr, IfOk, OnOk, length, map};
 ghost use Rattle.std.specs.List.{list_all};
 ghost use Rattle.bw_model.specs.Column.{names_of};
 ghost use Rattle.bw_model.specs.Fault.{no_memory};
@@ -12,8 +12,24 @@ use crate::csv_text::CsvText;
 use bw_model::{Column, Fault, Item};
 use std::alloc::Global;
 
+/// The text of the heading record alone.
+pub(crate) fn heading_text(
+    alloc: Global,
+    columns: &[Column],
+    items: &[Item],
+) -> Result<Vec<u8>, Fault>
+    requires columns { IsTrue (list_all (item_within (length columns.now)) items.now) }
+    requires some { 1 ≤ length items.now }
+    ensures heading { IfOk result (λ text. text.items ≡ record_text (map (heading_of (names_of columns.now)) items.now)) }
+    ensures only_memory { IfErr result (λ fault. fault ≡ no_memory) }
+{
+    let mut text = CsvText::onto(Vec::new(alloc));
+    push_heading(alloc, columns, items, &mut text)?;
+    text.into_bytes()
+}
+
 /// Adds the heading record: columns in the schema's spelling, and aggregates as `SUM(a)` or `COUNT(*)`.
-pub(crate) fn push_heading(
+fn push_heading(
     alloc: Global,
     columns: &[Column],
     items: &[Item],

@@ -11,8 +11,11 @@ mod answer;
 mod csv_text;
 mod heading;
 mod kept;
+mod lanes;
 mod listing;
 mod picked;
+mod record;
+mod records;
 mod totals;
 
 pub use answer::Answer;

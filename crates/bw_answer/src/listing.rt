@@ -1,63 +1,135 @@
-//! The rows that a query keeps, as records of its columns.
-ghost use Rattle.std.specs.Prelude.{◌≡◌, ◌<◌, ◌++◌, ◌∷◌, ℕ, List, [], IsTrue, IfErr, OnOk, length};
-ghost use Rattle.std.specs.List.{filter_map, list_all};
+//! The rows that a query lists, as records of the columns that its items name.
+ghost use Rattle.std.specs.Prelude.{◌≡◌, ◌+◌, ◌*◌, ◌<◌, ◌≤◌, ◌++◌, All, IsTrue, IfErr, IfOk, OnOk, length, map, vec_len};
+ghost use Rattle.std.specs.List.{list_all};
+ghost use Rattle.bw_aggregate.specs.Picked.{IsWithin, picked_rows};
+ghost use Rattle.bw_lanes.specs.Lanes.{lanes_of_words};
 ghost use Rattle.bw_model.specs.Fault.{no_memory};
-ghost use Rattle.bw_model.specs.Row.{value_in, values_of};
+ghost use Rattle.bw_model.specs.Row.{values_of};
 ghost use Rattle.bw_model.specs.Total.{item_within};
-ghost use Rattle.bw_rowwise.specs.Prepared.{IsPreparedFrom};
-ghost use Rattle.bw_answer.specs.Answer.{csv_text, field_of, listed, lists_rows, record_text};
-ghost use Rattle.bw_answer.specs.Draft.{Holds};
+ghost use Rattle.bw_answer.specs.Answer.{csv_text, record_text};
+ghost use Rattle.bw_answer.specs.Columns.{columns_of, fields_of};
 
-use crate::csv_text::CsvText;
-use crate::kept::is_kept;
-use bw_model::{Fault, Item, Query, Row};
-use bw_rowwise::Prepared;
+use crate::lanes::{ColumnValues, fetch_picked, no_values, put_row};
+use crate::record::{FIELD, push_record};
+use crate::records::push_records;
+use bw_lanes::{Plane, is_zero};
+use bw_model::{Fault, Item, Row, code};
+use bw_segment::Segment;
+use std::alloc::Global;
 
-/// Adds the record of a row to a text, if the row is kept.
-#[tactic(auto, using(crate::proofs::Rows::one_row))]
-pub(crate) fn push_kept(
-    text: &mut CsvText,
-    query: &Query,
-    cond: &Prepared,
-    row: &Row,
-) -> Result<(), Fault>
-    requires prepared { IsPreparedFrom query.now.cond cond.now }
-    requires columns { IsTrue (list_all (item_within (length (values_of row.now))) query.now.items.items) }
-    requires lists { IsTrue (lists_rows query.now.items.items) }
-    ensures row { OnOk result ((ended : List ℕ) → Holds text.old ended []
-        → Holds text.new (ended ++ csv_text (listed query.now (values_of row.now ∷ []))) []) }
-    ensures only_memory { IfErr result (λ fault. fault ≡ no_memory) }
-{
-    if is_kept(cond, row) {
-        push_row(text, &query.items, row)
-    } else {
-        Ok(())
+/// How many bytes of records are written at once, where one record has no more.
+const DRAFT: usize = 32768;
+
+/// The columns that a query lists, and memory for their values and their text, the same for each segment and each row.
+#[derive(Drop)]
+pub(crate) struct Listing {
+    /// The columns that the items name, in the items' order.
+    columns: Vec<usize>,
+    /// The values of the table's columns in the rows at hand: those of the columns above are fetched.
+    lanes: Vec<ColumnValues>,
+    /// Room for the records of some rows.
+    draft: Vec<u8>,
+    /// Of how many rows.
+    at_once: usize,
+    ghost within: { All (λ column. column < vec_len lanes) columns.items },
+    ghost rows: { (1 ≤ at_once) × (at_once ≤ 512) },
+    ghost room: { 21 * vec_len columns * at_once ≤ vec_len draft },
+}
+
+impl Listing {
+    /// The columns that items name, of a table of so many columns.
+    pub(crate) fn new(alloc: Global, width: usize, items: &[Item]) -> Result<Self, Fault>
+        requires { IsTrue (list_all (item_within width) items.now) }
+        ensures columns { IfOk result (λ listing. listing.columns.items ≡ columns_of items.now) }
+        ensures lanes { IfOk result (λ listing. 1 ≤ vec_len listing.columns → vec_len listing.lanes ≡ width) }
+        ensures only_memory { IfErr result (λ fault. fault ≡ no_memory) }
+    {
+        let columns = columns_of(alloc, items)?;
+        let at_once = rows_at_once(columns.len());
+        Ok(Listing {
+            lanes: no_values(alloc, if columns.is_empty() { 0 } else { width })?,
+            draft: room_for(alloc, columns.len(), at_once)?,
+            columns,
+            at_once,
+        })
+    }
+
+    /// Adds the record of a row to a text.
+    pub(crate) fn push_row(&mut self, text: &mut Vec<u8>, row: &Row) -> Result<(), Fault>
+        requires some { 1 ≤ vec_len self.old.columns }
+        requires wide { vec_len self.old.lanes ≡ length (values_of row.now) }
+        ensures record { OnOk result (text.new.items
+            ≡ text.old.items ++ record_text (fields_of self.old.columns.items (values_of row.now))) }
+        ensures columns { self.new.columns.items ≡ self.old.columns.items }
+        ensures lanes { vec_len self.new.lanes ≡ vec_len self.old.lanes }
+        ensures only_memory { IfErr result (λ fault. fault ≡ no_memory) }
+    {
+        put_row(&mut self.lanes, &self.columns, row);
+        push_record(text, &mut self.draft, &self.lanes, &self.columns)
+    }
+
+    /// Adds the records of the rows of a segment that a plane picks to a text. Where it picks none, no row is looked at.
+    pub(crate) fn push_picked<S: Segment>(
+        &mut self,
+        text: &mut Vec<u8>,
+        segment: &S,
+        plane: &Plane,
+    ) -> Result<(), Fault>
+        requires some { 1 ≤ vec_len self.old.columns }
+        requires wide { vec_len self.old.lanes ≡ length (S.meaning segment.now).columns }
+        requires plane { IsWithin (length (S.meaning segment.now).rows) (lanes_of_words plane.now) }
+        ensures records { OnOk result (text.new.items ≡ text.old.items ++ csv_text (map (fields_of self.old.columns.items)
+            (picked_rows (S.meaning segment.now) (lanes_of_words plane.now)))) }
+        ensures columns { self.new.columns.items ≡ self.old.columns.items }
+        ensures lanes { vec_len self.new.lanes ≡ vec_len self.old.lanes }
+        ensures only_memory { IfErr result (λ fault. fault ≡ no_memory) }
+    {
+        if is_zero(plane) {
+            return Ok(());
+        }
+        fetch_picked(&mut self.lanes, &self.columns, segment, plane);
+        push_records(
+            text,
+            &mut self.draft,
+            &self.lanes,
+            &self.columns,
+            plane,
+            self.at_once,
+        )
     }
 }
 
-/// Adds the record of a row to a text: its values in the columns among the items.
-pub(crate) fn push_row(text: &mut CsvText, items: &[Item], row: &Row) -> Result<(), Fault>
-    requires columns { IsTrue (list_all (item_within (length (values_of row.now))) items.now) }
-    requires lists { IsTrue (lists_rows items.now) }
-    ensures row { OnOk result ((ended : List ℕ) → Holds text.old ended []
-        → Holds text.new (ended ++ record_text (filter_map (field_of (values_of row.now)) items.now)) []) }
+/// The columns that items name.
+fn columns_of(alloc: Global, items: &[Item]) -> Result<Vec<usize>, Fault>
+    ensures columns { IfOk result (λ columns. columns.items ≡ columns_of items.now) }
     ensures only_memory { IfErr result (λ fault. fault ≡ no_memory) }
 {
+    let mut columns = Vec::new(alloc);
     for item in items {
         if let Item::Plain(column) = item {
-            text.push_number(number_in(row, *column))?;
+            columns.push(*column)?;
         }
     }
-    text.end_record()
+    Ok(columns)
 }
 
-/// The number in a column of a row, or null.
-fn number_in(row: &Row, column: usize) -> Option<i128>
-    requires { column < length (values_of row.now) }
-    ensures { result ≡ value_in (values_of row.now) column }
+/// Of how many rows the records of so many fields are written at once.
+fn rows_at_once(columns: usize) -> usize
+    ensures { (1 ≤ result) × (result ≤ 512) }
 {
-    match row.values[column] {
-        None => None,
-        Some(n) => Some(i128::from(n)),
-    }
+    (DRAFT / FIELD / columns.max(1)).max(1).min(512)
+}
+
+/// Room for the records of so many columns in so many rows.
+fn room_for(alloc: Global, columns: usize, rows: usize) -> Result<Vec<u8>, Fault>
+    requires { rows ≤ 512 }
+    ensures room { IfOk result (λ room. 21 * columns * rows ≤ vec_len room) }
+    ensures only_memory { IfErr result (λ fault. fault ≡ no_memory) }
+{
+    let Some(size) = (FIELD * rows).checked_mul(columns) else {
+        return Err(Fault::new(code::OUT_OF_MEMORY));
+    };
+    let mut room = Vec::new(alloc);
+    room.resize(size, 0)?;
+    Ok(room)
 }

@@ -73,8 +73,20 @@ pub(crate) fn add_count(totals: &mut [Accumulator], count: u32)
     }
 }
 
+/// The text with totals more, as a record.
+pub(crate) fn with_totals(bytes: Vec<u8>, totals: &[Accumulator]) -> Result<Vec<u8>, Fault>
+    requires { 1 ≤ length totals.now }
+    ensures record { IfOk result (λ text. text.items
+        ≡ bytes.items ++ record_text (map (λ tally. value_text tally.answer) totals.now)) }
+    ensures only_memory { IfErr result (λ fault. fault ≡ no_memory) }
+{
+    let mut text = CsvText::onto(bytes);
+    push_totals(&mut text, totals)?;
+    text.into_bytes()
+}
+
 /// Adds totals to a text, as a record.
-pub(crate) fn push_totals(text: &mut CsvText, totals: &[Accumulator]) -> Result<(), Fault>
+fn push_totals(text: &mut CsvText, totals: &[Accumulator]) -> Result<(), Fault>
     requires { 1 ≤ length totals.now }
     ensures record { OnOk result ((ended : List ℕ) → Holds text.old ended []
         → Holds text.new (ended ++ record_text (map (λ tally. value_text tally.answer) totals.now)) []) }

@@ -20,7 +20,7 @@ use crate::scan::Scan;
 use bw_answer::Answer;
 use bw_device::Source;
 use bw_file::{AnySegment, TableReader, bytes_were_taken};
-use bw_model::{Fault, Query, Row};
+use bw_model::{Fault, Query};
 use bw_run::Counts;
 use bw_segment::Segment;
 use std::alloc::Global;
@@ -66,10 +66,7 @@ pub(crate) fn table_text<S: Source>(
 {
     bytes_were_taken();
     let mut answer = Answer::new(alloc, reader.schema(), query)?;
-    let mut row = Row {
-        values: Vec::with_capacity(alloc, reader.schema().columns.len())?,
-    };
-    let scanned = take_rows(reader, source, scan, &mut row, &mut answer)?;
+    let scanned = take_rows(reader, source, scan, &mut answer)?;
     Ok(TableText {
         text: answer.into_text()?,
         scanned,
@@ -81,7 +78,6 @@ fn take_rows<S: Source>(
     reader: &mut TableReader,
     source: &mut S,
     scan: &Scan,
-    row: &mut Row,
     answer: &mut Answer<'_>,
 ) -> Result<Scanned, Fault>
     requires countable { S.failures source.old < 2 ^ 64 - 1 }
@@ -107,7 +103,7 @@ fn take_rows<S: Source>(
     };
     let mut spare = None;
     while let Some(segment) = reader.refill(source, spare)? {
-        let more = take_either(&segment, scan, counts, row, answer)?;
+        let more = take_either(&segment, scan, counts, answer)?;
         scanned.segments += 1;
         scanned.loads += more.loads as u64;
         scanned.skips += more.skips as u64;
@@ -122,7 +118,6 @@ fn take_either(
     segment: &AnySegment,
     scan: &Scan,
     counts: bool,
-    row: &mut Row,
     answer: &mut Answer<'_>,
 ) -> Result<Counts, Fault>
     requires scan { IsFor (any_meaning segment.now).columns (asked_by answer.old).cond scan.now }
@@ -140,8 +135,8 @@ fn take_either(
     ensures only_memory { IfErr result (λ fault. fault ≡ no_memory) }
 {
     match segment {
-        AnySegment::Planes(segment) => take_segment(segment, scan, counts, row, answer),
-        AnySegment::Slices(segment) => take_segment(segment, scan, counts, row, answer),
+        AnySegment::Planes(segment) => take_segment(segment, scan, counts, answer),
+        AnySegment::Slices(segment) => take_segment(segment, scan, counts, answer),
     }
 }
 
@@ -150,7 +145,6 @@ fn take_segment<S: Segment>(
     segment: &S,
     scan: &Scan,
     counts: bool,
-    row: &mut Row,
     answer: &mut Answer<'_>,
 ) -> Result<Counts, Fault>
     requires scan { IsFor (S.meaning segment.now).columns (asked_by answer.old).cond scan.now }
@@ -171,11 +165,11 @@ fn take_segment<S: Segment>(
         Scan::Program(certified) => {
             let (picked, counts) = certified.run_segment(segment);
             certified.condition().same_meaning(&answer.query().cond);
-            answer.take_picked(segment, &picked, row)?;
+            answer.take_picked(segment, &picked)?;
             Ok(counts)
         }
         Scan::Rows => {
-            take_by_rows(segment, counts, row, answer)?;
+            take_by_rows(segment, counts, answer)?;
             Ok(Counts { loads: 0, skips: 0 })
         }
     }
@@ -185,7 +179,6 @@ fn take_segment<S: Segment>(
 fn take_by_rows<S: Segment>(
     segment: &S,
     counts: bool,
-    row: &mut Row,
     answer: &mut Answer<'_>,
 ) -> Result<(), Fault>
     requires counts { counts ≡ true → CountsRows (asked_by answer.old) }
@@ -200,6 +193,6 @@ fn take_by_rows<S: Segment>(
         answer.take_count(segment.rows_in());
         Ok(())
     } else {
-        answer.take_segment(segment, row)
+        answer.take_segment(segment)
     }
 }

@@ -1,5 +1,5 @@
 -- What is picked is kept: more records in the text, or more rows in the totals.
-use Rattle.std.proofs.Common.{◌≡◌, ◌∙◌, ◌-◌, ◌≤◌, ◌++◌, sym, subst, List, [], ℕ, map, filter, ap, length, arith}
+use Rattle.std.proofs.Common.{◌≡◌, ◌∙◌, ◌-◌, ◌≤◌, ◌++◌, sym, List, ℕ, map, filter, ap, length, arith}
 use Rattle.std.proofs.lemmas.List.Elements.{filter-append}
 use Rattle.std.specs.List.{filter_map}
 use Rattle.bw_lanes.specs.Lanes.{lanes_of_words}
@@ -12,10 +12,17 @@ use Rattle.bw_rowwise.specs.Accumulator.{Tally, tally_of}
 use Rattle.bw_aggregate.specs.Picked.{with_picked}
 use Rattle.bw_answer.specs.Answer.{csv_text, field_of}
 use Rattle.bw_answer.specs.AreOver.{text_over}
-use Rattle.bw_answer.specs.Draft.{Holds}
+use Rattle.bw_answer.specs.Columns.{fields_of}
 use Rattle.bw_answer.proofs.AnswerLemmas.{text_over_more, text_over_same}
+use Rattle.bw_answer.proofs.ColumnLemmas.{map_listed, some_column}
 use Rattle.bw_answer.proofs.PickedLemmas.{all_totals, few_kept, is_of-later, is_of-picked, picked_as_kept}
 use Rattle.bw_answer.proofs.answer.put_picked.Goals as goal
+
+pub push_picked-requires-clause-some : goal.push_picked-requires-clause-some
+push_picked-requires-clause-some g c =
+    let named = c.requires.names c.if-lists.true in
+    let some = some_column c.args.query.now.items.items (sym c.requires.lists ∙ c.if-lists.true) in
+    omega (arith, some, ap length named.0, c.args.records.now.columns.ok.0)
 
 pub returns-in_ok-push_picked-clause-over : goal.returns-in_ok-push_picked-clause-over
 returns-in_ok-push_picked-clause-over g c = λ names rows over.
@@ -24,10 +31,14 @@ returns-in_ok-push_picked-clause-over g c = λ names rows over.
     let lists = sym c.requires.lists ∙ c.if-lists.true in
     let kept_all : picked (lanes_of_words c.args.plane.now) more ≡ kept query.cond more =
     ap (λ lanes. picked lanes more) c.requires.picks ∙ picked_as_kept query.cond more (group_size - length more) in
-    let fields = λ (row : List Value). filter_map (field_of row) query.items.items in
-    let text = ap (λ (those : List (List Value)). text_over names query rows ++ csv_text (map fields those)) kept_all ∙ text_over_more names query rows more lists in
+    let items = query.items.items in
+    let named = (c.requires.names c.if-lists.true).0 in
+    let fields : map (fields_of c.args.records.now.columns.items) (kept query.cond more) ≡ map (λ row. filter_map (field_of row) items) (kept query.cond more) =
+    rw named (map_listed items (kept query.cond more)) in
+    let records = ap (map (fields_of c.args.records.now.columns.items)) kept_all ∙ fields in
     record {
-      written = subst (λ (l : List ℕ). Holds c.push_picked.new.text l []) text (rw c.deref.ensures.value at (c.in_ok-push_picked.ensures.rows _ over.written));
+      written = c.in_ok-push_picked.ensures.records ∙ ap (λ (l : List ℕ). l ++ csv_text (map (fields_of c.args.records.now.columns.items) (picked (lanes_of_words c.args.plane.now) more))) over.written
+          ∙ ap (λ (those : List (List (List ℕ))). text_over names query rows ++ csv_text those) records ∙ text_over_more names query rows more lists;
       totalled = λ totals. absurd (cc (lists, totals));
     }
 
@@ -47,7 +58,7 @@ returns-else-lists-clause-over g c = λ names rows over.
     let kept_more : kept query.cond rows ++ those ≡ kept query.cond (rows ++ more) =
     ap (λ (l : List (List Value)). kept query.cond rows ++ l) kept_all ∙ sym (filter-append (is_kept query.cond) rows more) in
     record {
-      written = subst (λ (text : List ℕ). Holds c.args.text.now text []) (text_over_same names query rows (rows ++ more) lists) over.written;
+      written = over.written ∙ text_over_same names query rows (rows ++ more) lists;
       totalled = λ _. c.total_picked.ensures ∙ ap (map (λ (tally : Tally). with_picked tally those)) (over.totalled lists)
           ∙ all_totals items (kept query.cond rows) those c.totals_join.ensures
           ∙ ap (λ (all : List (List Value)). map (λ item. tally_of item all) items) kept_more;

@@ -1,44 +1,42 @@
 -- An answer over no rows.
-use Rattle.std.proofs.Common.{◌≡◌, ◌∙◌, sym, ap, subst, List, [], ℕ, refl, true, length, arith}
+use Rattle.std.proofs.Common.{◌≡◌, ◌∙◌, sym, ap, subst, List, ℕ, refl, true, length, arith}
 use Rattle.std.specs.List.{list_all}
 use Rattle.bw_model.specs.declared.query.Item.{Item}
 use Rattle.bw_model.specs.Total.{item_within}
 use Rattle.bw_model.specs.Column.{names_of}
 use Rattle.bw_answer.specs.Answer.{lists_rows}
-use Rattle.bw_answer.specs.Draft.{Holds}
 use Rattle.bw_answer.proofs.AnswerLemmas.{aggregates, heading_first}
 use Rattle.std.proofs.lemmas.Bool.{eq-eqb}
 use Rattle.bw_answer.proofs.TotalsLemmas.{is_of-new}
 use Rattle.bw_answer.proofs.answer.Answer.new.Goals as goal
 
 pub invariant_of-result-clause-totalling : goal.invariant_of-result-clause-totalling
-invariant_of-result-clause-totalling c = λ e. aggregates c.args.query.now.items.items c.requires.kinds (ap lists_rows (sym c.deref-3.ensures.value) ∙ sym c.lists_rows.ensures ∙ e)
+invariant_of-result-clause-totalling c = λ e. aggregates c.args.query.now.items.items c.requires.kinds (ap lists_rows (sym c.deref.ensures.value) ∙ sym c.lists_rows.ensures ∙ e)
 
 -- each item is within so many columns
 within : (width columns : ℕ) (items : List Item) → width ≡ columns → list_all (item_within columns) items ≡ true → list_all (item_within width) items ≡ true
 within width columns items same = subst (λ (n : ℕ). list_all (item_within n) items ≡ true) (sym same)
 
 pub invariant_of-result-clause-items : goal.invariant_of-result-clause-items
-invariant_of-result-clause-items c = within _ _ c.args.query.now.items.items c.len.ensures c.requires.items
+invariant_of-result-clause-items c = within _ _ c.args.query.now.items.items c.len-width.ensures c.requires.items
 
 pub invariant_of-result-clause-room : goal.invariant_of-result-clause-room
 invariant_of-result-clause-room c =
-    rw (c.in_ok-totals_of.ensures.totals, c.deref-4.ensures.value)
-    (is_of-new c.len.result c.args.query.now.items.items (within _ _ c.args.query.now.items.items c.len.ensures c.requires.items))
+    rw (c.in_ok-totals_of.ensures.totals, c.deref-5.ensures.value)
+    (is_of-new c.len-width.result c.args.query.now.items.items (within _ _ c.args.query.now.items.items c.len-width.ensures c.requires.items))
 
 pub returns-clause-takes : goal.returns-clause-takes
 returns-clause-takes c = λ row admitted.
     let long = c.admitted_rows_have_each_value.ensures c.args.schema.now.columns.items row admitted in
-    eq-eqb (length row) c.len.result (omega (arith, long, c.args.schema.now.columns.ok.0, c.len.ensures))
+    eq-eqb (length row) c.len-width.result (omega (arith, long, c.args.schema.now.columns.ok.0, c.len-width.ensures))
 
 pub returns-clause-over : goal.returns-clause-over
 returns-clause-over c =
     let names = names_of c.args.schema.now.columns.items in
-    let query = c.args.query.now in
-    let heading = rw (c.deref.ensures.value, c.deref-2.ensures.value) at (c.in_ok-push_heading.ensures.heading [] c.new-text.ensures) in (
+    let query = c.args.query.now in (
       refl,
       record {
-        written = subst (λ (text : List ℕ). Holds c.push_heading.new.text text []) (heading_first names query) heading;
-        totalled = λ e. rw c.deref-4.ensures.value at c.in_ok-totals_of.ensures.totals;
+        written = rw (c.deref-3.ensures.value, c.deref-4.ensures.value) at c.in_ok-heading_text.ensures.heading ∙ heading_first names query;
+        totalled = λ e. rw c.deref-5.ensures.value at c.in_ok-totals_of.ensures.totals;
       },
     )

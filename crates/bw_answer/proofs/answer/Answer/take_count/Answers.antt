@@ -1,12 +1,11 @@
 -- Each total counts the rows, and the text stays.
-use Rattle.std.proofs.Common.{◌≡◌, ◌∙◌, ◌+◌, ◌≤◌, ℕ, List, [], ◌++◌, true, length, length-append, map, filter, subst, sym, ap, arith}
+use Rattle.std.proofs.Common.{◌≡◌, ◌∙◌, ◌+◌, ◌≤◌, List, ◌++◌, true, length, length-append, map, filter, subst, sym, ap, arith}
 use Rattle.std.specs.List.{list_all}
 use Rattle.std.proofs.lemmas.List.{with_items_is}
 use Rattle.bw_model.specs.Selection.{kept}
 use Rattle.bw_model.specs.Total.{is_aggregate}
 use Rattle.bw_rowwise.specs.Accumulator.{Tally, counted, tally_of}
 use Rattle.bw_answer.specs.Answer.{is_count_all}
-use Rattle.bw_answer.specs.Draft.{Holds}
 use Rattle.bw_answer.specs.Totals.{is_of}
 use Rattle.bw_answer.proofs.AnswerLemmas.{text_over_same}
 use Rattle.bw_answer.proofs.CountLemmas.{all_counted, counts_list_nothing, every_kept, is_of-counted}
@@ -44,7 +43,7 @@ returns-clause-over c = λ start before rows long led. record {
       ∙ all_counted items (kept query.cond old) (kept query.cond new) c.args.count long_new all in (
         so_far.0,
         record {
-          written = subst (λ (text : List ℕ). Holds self.text text []) (text_over_same names query old new none) so_far.1.written;
+          written = so_far.1.written ∙ text_over_same names query old new none;
           totalled = λ _. with_items_is self.totals after size ∙ totals;
         },
       );

@@ -14,9 +14,9 @@ returns-clause-over g c = λ start before led. record {
       let after = c.put_picked.new.totals in
       let size : length after ≡ self.totals.len = c.put_picked.auto.totals ∙ c.deref_mut.ensures.len in
       let so_far = led.over names query first over in
-      let old : AreOver names self.query.now (first ++ before) self.text c.deref_mut.result.now = rw (so_far.0, c.deref_mut.ensures.value) so_far.1 in
+      let old : AreOver names self.query.now (first ++ before) self.text.items c.deref_mut.result.now = rw (so_far.0, c.deref_mut.ensures.value) so_far.1 in
       let put = c.in_ok-put_picked.ensures.over names (first ++ before) old in
-      let there : AreOver names query (first ++ (before ++ more)) c.put_picked.new.text after =
+      let there : AreOver names query (first ++ (before ++ more)) c.put_picked.new.text.items after =
       rw (sym so_far.0, sym (append_assoc first before more)) put in
-      (so_far.0, subst (λ (tallies : List Tally). AreOver names query (first ++ (before ++ more)) c.put_picked.new.text tallies) (sym (with_items_is self.totals after size)) there);
+      (so_far.0, subst (λ (tallies : List Tally). AreOver names query (first ++ (before ++ more)) c.put_picked.new.text.items tallies) (sym (with_items_is self.totals after size)) there);
 }

@@ -1,21 +1,20 @@
 -- One more row, behind those that the answer had taken.
 use Rattle.std.proofs.Common.{◌≡◌, ◌∙◌, List, [], ◌∷◌, ◌++◌, length, subst, sym, append_assoc}
-use Rattle.std.proofs.lemmas.Bool.{eqb-true}
 use Rattle.std.proofs.lemmas.List.{with_items_is}
 use Rattle.bw_model.specs.Row.{values_of}
 use Rattle.bw_rowwise.specs.Accumulator.{Tally}
 use Rattle.bw_answer.specs.AreOver.{AreOver}
 use Rattle.bw_answer.proofs.TotalsLemmas.{has_room-from}
-use Rattle.bw_answer.proofs.answer.AnswerRowTaker.take.Goals as goal
+use Rattle.bw_answer.proofs.answer.Answer.take_row.Goals as goal
 
 pub put_row-requires-clause-room : goal.put_row-requires-clause-room
 put_row-requires-clause-room c =
     let self = c.args.self.now in
-    let wide : length (values_of c.args.row.now) ≡ self.width = eqb-true _ _ c.requires.fits in
+    let wide : length (values_of c.args.row.now) ≡ self.width = c.requires.wide in
     rw (c.deref_mut.ensures.value, wide) (has_room-from self.width self.rows self.totals.items c.requires.room self.room)
 
-pub returns-clause-led : goal.returns-clause-led
-returns-clause-led c = λ start before led. record {
+pub returns-clause-over : goal.returns-clause-over
+returns-clause-over c = λ start before led. record {
   same = led.same;
   over = λ names query first over.
       let self = c.args.self.now in
@@ -23,9 +22,9 @@ returns-clause-led c = λ start before led. record {
       let after = c.put_row.new.totals in
       let size : length after ≡ self.totals.len = c.put_row.auto.totals ∙ c.deref_mut.ensures.len in
       let so_far = led.over names query first over in
-      let old : AreOver names self.query.now (first ++ before) self.text c.deref_mut.result.now = rw (so_far.0, c.deref_mut.ensures.value) so_far.1 in
+      let old : AreOver names self.query.now (first ++ before) self.text.items c.deref_mut.result.now = rw (so_far.0, c.deref_mut.ensures.value) so_far.1 in
       let put = c.in_ok-put_row.ensures.over names (first ++ before) old in
-      let there : AreOver names query (first ++ (before ++ row ∷ [])) c.put_row.new.text after =
+      let there : AreOver names query (first ++ (before ++ row ∷ [])) c.put_row.new.text.items after =
       rw (sym so_far.0, sym (append_assoc first before (row ∷ []))) put in
-      (so_far.0, subst (λ (tallies : List Tally). AreOver names query (first ++ (before ++ row ∷ [])) c.put_row.new.text tallies) (sym (with_items_is self.totals after size)) there);
+      (so_far.0, subst (λ (tallies : List Tally). AreOver names query (first ++ (before ++ row ∷ [])) c.put_row.new.text.items tallies) (sym (with_items_is self.totals after size)) there);
 }

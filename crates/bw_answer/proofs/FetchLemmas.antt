@@ -1,0 +1,42 @@
+-- The values of columns in the lanes of a segment.
+use Rattle.std.proofs.Common.{◌≡◌, ◌≢◌, ℕ, zero, suc, ◌∷◌, ◌+◌, ◌<◌, List, [], refl, sym, ap, length, get_or, set, subst, arith, below_more, get_or-set_other, get_or-set_same, inl, inr}
+use Rattle.std.proofs.lemmas.Bool.{cases_eq}
+use Rattle.bw_model.specs.Row.{Value}
+use Rattle.bw_answer.specs.Fetched.{values_in}
+use Rattle.bw_answer.specs.declared.lanes.ColumnValues.{ColumnValues}
+
+-- what holds of the items so far, and of one that is put behind them, holds of one more
+pub put_more : {A : Type 0} (P : ℕ → A → Type 0) (d : A) (xs : List A) (i : ℕ) (x : A) → i < length xs → ((k : ℕ) → k < i → P k (get_or xs k d)) → P i x
+    → (k : ℕ) → k < i + 1 → P k (get_or (set xs i x) k d)
+put_more P d xs i x lt before here =
+    below_more (λ k. P k (get_or (set xs i x) k d)) i
+    (λ k below. let other : k ≢ i = omega arith in subst (P k) (sym (get_or-set_other xs i k x d other)) (before k below))
+    (subst (P i) (sym (get_or-set_same xs i x d lt)) here)
+
+-- the values of the column that is fetched, and of the others
+values_put : (lanes : List ColumnValues) (column : ℕ) (kept : ColumnValues) → column < length lanes → values_in (set lanes column kept) column ≡ kept.values
+values_put [] column kept lt = absurd (omega arith)
+values_put (lane ∷ lanes) zero kept lt = refl
+values_put (lane ∷ lanes) (suc column) kept lt = values_put lanes column kept (omega arith)
+
+values_of_others : (lanes : List ColumnValues) (column other : ℕ) (kept : ColumnValues) → other ≢ column → values_in (set lanes column kept) other ≡ values_in lanes other
+values_of_others [] column other kept ne = refl
+values_of_others (lane ∷ lanes) zero zero kept ne = absurd (ne refl)
+values_of_others (lane ∷ lanes) zero (suc other) kept ne = refl
+values_of_others (lane ∷ lanes) (suc column) zero kept ne = refl
+values_of_others (lane ∷ lanes) (suc column) (suc other) kept ne = values_of_others lanes column other kept (λ e. ne (ap suc e))
+
+-- a column that is fetched, also if it was before, and those before it
+pub column_more : (P : ℕ → List Value → Type 0) (columns : List ℕ) (lanes : List ColumnValues) (i : ℕ) (kept : ColumnValues) → get_or columns i 0 < length lanes
+    → ((k : ℕ) → k < i → P (get_or columns k 0) (values_in lanes (get_or columns k 0))) → P (get_or columns i 0) kept.values
+    → (k : ℕ) → k < i + 1 → P (get_or columns k 0) (values_in (set lanes (get_or columns i 0) kept) (get_or columns k 0))
+column_more P columns lanes i kept lt before here =
+    below_more (λ k. P (get_or columns k 0) (values_in (set lanes (get_or columns i 0) kept) (get_or columns k 0))) i
+    (λ k below. elim (cases_eq (get_or columns k 0) (get_or columns i 0)) [
+      | inl same ↦ subst (λ column. P column (values_in (set lanes (get_or columns i 0) kept) column)) (sym same) now
+      | inr other ↦ subst (P (get_or columns k 0)) (sym (values_of_others lanes (get_or columns i 0) (get_or columns k 0) kept other)) (before k below)
+    ])
+    now
+  where
+    now : P (get_or columns i 0) (values_in (set lanes (get_or columns i 0) kept) (get_or columns i 0))
+    now = subst (P (get_or columns i 0)) (sym (values_put lanes (get_or columns i 0) kept lt)) here

@@ -1,0 +1,122 @@
+//! A record of values, written from its last byte to its first, as digits come.
+ghost use Rattle.std.specs.Prelude.{◌≡◌, ◌+◌, ◌*◌, ◌<◌, ◌≤◌, ◌++◌, ◌∷◌, All, IfErr, OnOk, drop, length, map};
+ghost use Rattle.std.specs.Fmt.{signed_decimal};
+ghost use Rattle.bw_model.specs.Fault.{no_memory};
+ghost use Rattle.bw_answer.specs.Answer.{record_text, value_text};
+ghost use Rattle.bw_answer.specs.Fetched.{fields_in_lane, value_in_lane};
+
+use crate::lanes::ColumnValues;
+use bw_model::{Fault, Value};
+use itoa::write_digits;
+
+/// How many bytes a field takes at most: a sign, 19 digits, and the comma or the line feed behind it.
+pub(crate) const FIELD: usize = 21;
+
+/// Adds the record of the values that columns have in the first lane to a text. It is written into a draft first, which has
+/// room for it.
+pub(crate) fn push_record(
+    text: &mut Vec<u8>,
+    draft: &mut [u8],
+    lanes: &[ColumnValues],
+    columns: &[usize],
+) -> Result<(), Fault>
+    requires some { 1 ≤ length columns.now }
+    requires columns { All (λ column. column < length lanes.now) columns.now }
+    requires room { 21 * length columns.now ≤ length draft.old }
+    ensures record { OnOk result (text.new.items
+        ≡ text.old.items ++ record_text (fields_in_lane lanes.now columns.now 0)) }
+    ensures only_memory { IfErr result (λ fault. fault ≡ no_memory) }
+{
+    let end = draft.len();
+    let start = put_record(draft, end, lanes, columns, 0);
+    text.extend_from_slice(&draft[start..])?;
+    Ok(())
+}
+
+/// Writes the record of the values that columns have in a lane, so that it ends at `end`, and gives where it starts.
+pub(crate) fn put_record(
+    text: &mut [u8],
+    end: usize,
+    lanes: &[ColumnValues],
+    columns: &[usize],
+    number: usize,
+) -> usize
+    requires some { 1 ≤ length columns.now }
+    requires columns { All (λ column. column < length lanes.now) columns.now }
+    requires number { number < 512 }
+    requires room { (21 * length columns.now ≤ end) × (end ≤ length text.old) }
+    ensures room { (result ≤ end) × (end ≤ result + 21 * length columns.now) }
+    ensures written { drop result text.new
+        ≡ record_text (fields_in_lane lanes.now columns.now number) ++ drop end text.old }
+{
+    let mut left = columns.len() - 1;
+    let mut start = put_byte(text, end, b'\n');
+    start = put_value(text, start, value_in_lane(lanes, number, columns[left]));
+    while left > 0 {
+        left -= 1;
+        start = put_byte(text, start, b',');
+        start = put_value(text, start, value_in_lane(lanes, number, columns[left]));
+    }
+    start
+}
+
+/// The value that a column has in a lane.
+#[inline]
+fn value_in_lane(lanes: &[ColumnValues], number: usize, column: usize) -> Value
+    requires { (number < 512) × (column < length lanes.now) }
+    ensures { result ≡ value_in_lane lanes.now number column }
+{
+    lanes[column].value(number)
+}
+
+/// Writes a number, or null, so that it ends at `end`, and gives where it starts.
+#[inline]
+fn put_value(text: &mut [u8], end: usize, value: Value) -> usize
+    requires { (20 ≤ end) × (end ≤ length text.old) }
+    ensures room { (result ≤ end) × (end ≤ result + 20) }
+    ensures written { drop result text.new ≡ value_text value ++ drop end text.old }
+{
+    match value {
+        None => put_null(text, end),
+        Some(n) => put_number(text, end, n),
+    }
+}
+
+/// Writes null so that it ends at `end`, and gives where it starts.
+#[inline]
+fn put_null(text: &mut [u8], end: usize) -> usize
+    requires { (4 ≤ end) × (end ≤ length text.old) }
+    ensures room { result + 4 ≡ end }
+    ensures written { drop result text.new ≡ 78 ∷ 85 ∷ 76 ∷ 76 ∷ drop end text.old }
+{
+    let end = put_byte(text, end, b'L');
+    let end = put_byte(text, end, b'L');
+    let end = put_byte(text, end, b'U');
+    put_byte(text, end, b'N')
+}
+
+/// Writes a number so that it ends at `end`, and gives where it starts.
+#[inline]
+fn put_number(text: &mut [u8], end: usize, n: i64) -> usize
+    requires { (20 ≤ end) × (end ≤ length text.old) }
+    ensures room { (result ≤ end) × (end ≤ result + 20) }
+    ensures written { drop result text.new ≡ signed_decimal n ++ drop end text.old }
+{
+    let start = write_digits(n.unsigned_abs(), text, end);
+    if n < 0 {
+        put_byte(text, start, b'-')
+    } else {
+        start
+    }
+}
+
+/// Writes a byte in front of `end`, and gives where it stands.
+#[inline]
+fn put_byte(text: &mut [u8], end: usize, byte: u8) -> usize
+    requires { (1 ≤ end) × (end ≤ length text.old) }
+    ensures room { result + 1 ≡ end }
+    ensures written { drop result text.new ≡ byte ∷ drop end text.old }
+{
+    text[end - 1] = byte;
+    end - 1
+}

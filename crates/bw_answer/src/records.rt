@@ -1,0 +1,69 @@
+//! The records of the rows that a plane picks.
+ghost use Rattle.std.specs.Prelude.{◌≡◌, ◌-◌, ◌*◌, ◌<◌, ◌≤◌, ◌++◌, All, IfErr, OnOk, drop, length, map};
+ghost use Rattle.bw_lanes.specs.Lanes.{lanes_of_words};
+ghost use Rattle.bw_model.specs.Fault.{no_memory};
+ghost use Rattle.bw_model.specs.Selection.{positions_of};
+ghost use Rattle.bw_answer.specs.Answer.{csv_text};
+ghost use Rattle.bw_answer.specs.Fetched.{fields_in_lane, positions_between};
+
+use crate::lanes::ColumnValues;
+use crate::record::put_record;
+use bw_lanes::{Plane, lane};
+use bw_model::Fault;
+
+/// Adds the records of the rows that a plane picks to a text. They are written into a draft first, so many rows at once,
+/// for which it has room.
+pub(crate) fn push_records(
+    text: &mut Vec<u8>,
+    draft: &mut [u8],
+    lanes: &[ColumnValues],
+    columns: &[usize],
+    plane: &Plane,
+    rows: usize,
+) -> Result<(), Fault>
+    requires some { 1 ≤ length columns.now }
+    requires columns { All (λ column. column < length lanes.now) columns.now }
+    requires rows { (1 ≤ rows) × (rows ≤ 512) }
+    requires room { 21 * length columns.now * rows ≤ length draft.old }
+    ensures records { OnOk result (text.new.items ≡ text.old.items
+        ++ csv_text (map (fields_in_lane lanes.now columns.now) (positions_of (lanes_of_words plane.now)))) }
+    ensures only_memory { IfErr result (λ fault. fault ≡ no_memory) }
+{
+    let mut first = 0;
+    while first < 512 {
+        let past = (first + rows).min(512);
+        let start = put_records(draft, lanes, columns, plane, first, past);
+        text.extend_from_slice(&draft[start..])?;
+        first = past;
+    }
+    Ok(())
+}
+
+/// Writes the records of the rows from `first` up to `past` that a plane picks so that they end with the draft, and gives
+/// where they start.
+fn put_records(
+    draft: &mut [u8],
+    lanes: &[ColumnValues],
+    columns: &[usize],
+    plane: &Plane,
+    first: usize,
+    past: usize,
+) -> usize
+    requires some { 1 ≤ length columns.now }
+    requires columns { All (λ column. column < length lanes.now) columns.now }
+    requires rows { (first ≤ past) × (past ≤ 512) }
+    requires room { 21 * length columns.now * (past - first) ≤ length draft.old }
+    ensures within { result ≤ length draft.new }
+    ensures written { drop result draft.new ≡ csv_text (map (fields_in_lane lanes.now columns.now)
+        (positions_between first past (lanes_of_words plane.now))) }
+{
+    let mut start = draft.len();
+    let mut number = past;
+    while number > first {
+        number -= 1;
+        if lane(plane, number) {
+            start = put_record(draft, start, lanes, columns, number);
+        }
+    }
+    start
+}
