@@ -15,7 +15,7 @@ use bw_segment::Segment;
 use std::marker::Model;
 
 /// The total of an aggregate over the picked rows of the segments so far, which have at most 2^24 rows together.
-#[derive(Clone, Copy, Debug)]
+#[derive(Clone, Copy)]
 pub struct Totals {
     picked: Accumulator,
     rows: u32,

@@ -22,7 +22,7 @@ use std::alloc::Global;
 
 /// A scan program that selects exactly the rows for which a condition is TRUE, on every table of a
 /// schema. Only [`check`](crate::check) makes one.
-#[derive(Debug, Drop)]
+#[derive(Drop)]
 pub struct Certified {
     pub(crate) schema: Schema,
     pub(crate) condition: Cond,

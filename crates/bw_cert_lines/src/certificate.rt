@@ -5,7 +5,7 @@ use crate::lines::{BodyLine, ChainLine, EndLine, NodeLine, RowLine};
 use std::marker::Model;
 
 /// A certificate as its lines.
-#[derive(Debug, Drop)]
+#[derive(Drop)]
 pub struct Certificate {
     pub(crate) nodes: Vec<NodeLine>,
     pub(crate) chains: Vec<ChainLine>,

@@ -3,7 +3,7 @@
 use bw_diagram::{ChainKind, Connective, Reason};
 
 /// `NODE n v low high`: node `n` tests variable `v`.
-#[derive(Clone, Copy, Debug, PartialEq, Eq)]
+#[derive(Clone, Copy)]
 pub struct NodeLine {
     pub line: u64,
     pub n: u64,
@@ -13,7 +13,7 @@ pub struct NodeLine {
 }
 
 /// `CHAIN n LT|EQ ..` or `CHAIN n LT2|EQ2 ..`: chain `n`.
-#[derive(Debug, Drop)]
+#[derive(Drop)]
 pub struct ChainLine {
     pub line: u64,
     pub n: u64,
@@ -21,7 +21,7 @@ pub struct ChainLine {
 }
 
 /// What stands behind a chain's number. Columns are words, which may name none.
-#[derive(Debug, Drop)]
+#[derive(Drop)]
 pub enum ChainColumns {
     /// `LT|EQ column start len bound node prev`, the last a number or `-`.
     One {
@@ -45,7 +45,7 @@ pub enum ChainColumns {
 }
 
 /// `ROW n AND|OR|XOR|DIFF a b c S`, or `.. V v i j` in place of `S`: product row `n`.
-#[derive(Clone, Copy, Debug, PartialEq, Eq)]
+#[derive(Clone, Copy)]
 pub struct RowLine {
     pub line: u64,
     pub n: u64,
@@ -57,14 +57,14 @@ pub struct RowLine {
 }
 
 /// A line behind the product rows and before the end.
-#[derive(Debug, Drop)]
+#[derive(Drop)]
 pub struct BodyLine {
     pub line: u64,
     pub entry: Entry,
 }
 
 /// What such a line says.
-#[derive(Debug, Drop)]
+#[derive(Drop)]
 pub enum Entry {
     Condition(ConditionEntry),
     Instruction(InstructionEntry),
@@ -74,7 +74,7 @@ pub enum Entry {
 }
 
 /// The line of one step of the condition. The numbers are those of a chain or of product rows.
-#[derive(Clone, Copy, Debug, PartialEq, Eq)]
+#[derive(Clone, Copy)]
 pub enum ConditionEntry {
     /// `CMP chain rn rp rq`: a column against a literal. The first two may be `-`.
     Compare {
@@ -109,7 +109,7 @@ pub enum ConditionEntry {
 }
 
 /// The line of one instruction.
-#[derive(Clone, Copy, Debug, PartialEq, Eq)]
+#[derive(Clone, Copy, PartialEq, Eq)]
 pub enum InstructionEntry {
     /// `LOAD node`: of `LOAD` and `NULLS`.
     Load(u64),
@@ -125,7 +125,7 @@ pub enum InstructionEntry {
 
 /// `KEEP r h x { i j }`: behind a join register `r` has node `h`, which row `x` shows of falling through, and a pair of
 /// rows of each skip.
-#[derive(Debug, Drop)]
+#[derive(Drop)]
 pub struct Keep {
     pub register: u8,
     pub node: u64,
@@ -135,14 +135,14 @@ pub struct Keep {
 
 /// The rows of one skip to a join: where the register's node there differs from the kept one, and that it does so
 /// nowhere but where the skip's register is 1.
-#[derive(Clone, Copy, Debug, PartialEq, Eq)]
+#[derive(Clone, Copy)]
 pub struct EdgeRows {
     pub differs: u64,
     pub within: u64,
 }
 
 /// `END i`.
-#[derive(Clone, Copy, Debug, PartialEq, Eq)]
+#[derive(Clone, Copy)]
 pub struct EndLine {
     pub line: u64,
     pub row: u64,

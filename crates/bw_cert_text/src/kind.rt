@@ -6,7 +6,7 @@ use bw_diagram::Connective;
 use bw_model::is_same_text;
 
 /// What kind of line a word begins.
-#[derive(Clone, Copy, Debug)]
+#[derive(Clone, Copy)]
 pub(crate) enum LineKind {
     Node,
     Chain,
@@ -19,7 +19,7 @@ pub(crate) enum LineKind {
 }
 
 /// The lines of a condition's steps.
-#[derive(Clone, Copy, Debug)]
+#[derive(Clone, Copy)]
 pub(crate) enum ConditionKind {
     Compare,
     CompareColumns,
@@ -32,7 +32,7 @@ pub(crate) enum ConditionKind {
 }
 
 /// The lines of instructions.
-#[derive(Clone, Copy, Debug)]
+#[derive(Clone, Copy)]
 pub(crate) enum InstructionKind {
     Load,
     Fill,
@@ -42,7 +42,7 @@ pub(crate) enum InstructionKind {
 }
 
 /// What a chain compares, and with what: a column with a number, or with a column.
-#[derive(Clone, Copy, Debug)]
+#[derive(Clone, Copy)]
 pub(crate) enum Form {
     Less,
     Equal,

@@ -17,7 +17,7 @@ use bw_model::{Line, is_same_text, natural_number};
 use std::alloc::{AllocError, Global};
 
 /// A line before the end.
-#[derive(Debug, Drop)]
+#[derive(Drop)]
 pub(crate) enum Part {
     Node(NodeLine),
     Chain(ChainLine),
@@ -26,7 +26,7 @@ pub(crate) enum Part {
 }
 
 /// A line.
-#[derive(Debug, Drop)]
+#[derive(Drop)]
 pub(crate) enum Said {
     Before(Part),
     End(EndLine),

@@ -72,7 +72,7 @@ pub fn spelled_numbers_fit()
 {}
 
 /// What stands at a place of a line.
-#[derive(Clone, Copy, Debug)]
+#[derive(Clone, Copy)]
 pub(crate) enum Token<'a> {
     Key(&'a [u8]),
     Number(u64),

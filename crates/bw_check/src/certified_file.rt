@@ -17,7 +17,7 @@ use bw_report::Accepted;
 use std::alloc::Global;
 
 /// A certified program, and the numbers of the file that it came from.
-#[derive(Debug, Drop)]
+#[derive(Drop)]
 pub struct CertifiedFile {
     pub certified: Certified,
     pub accepted: Accepted,

@@ -9,7 +9,7 @@ pub const MAX_PROGRAM_FILE_LEN: usize = 1 << 26;
 
 /// The parts of a program file: a program text, a certificate text, and the number in the file of the certificate
 /// text's first line.
-#[derive(Clone, Copy, Debug)]
+#[derive(Clone, Copy)]
 pub struct ProgramFile<'a> {
     pub program: &'a [u8],
     pub certificate: &'a [u8],

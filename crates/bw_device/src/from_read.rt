@@ -8,7 +8,7 @@ use std::io::Read;
 
 /// A reader of std as a source. Each of its errors, that of an interrupted call too, counts as a
 /// failure.
-#[derive(Debug, Drop)]
+#[derive(Drop)]
 pub struct FromRead<R> {
     inner: R,
     failures: u64,

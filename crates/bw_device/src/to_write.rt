@@ -8,7 +8,7 @@ use std::io::Write;
 
 /// A writer of std as a sink. Each of its errors, that of an interrupted call too, counts as a
 /// failure, and so does a write that takes nothing of a slice that isn't empty.
-#[derive(Debug, Drop)]
+#[derive(Drop)]
 pub struct ToWrite<W> {
     inner: W,
     failures: u64,

@@ -6,14 +6,14 @@ ghost use Rattle.bw_diagram.specs.Chain.{outcome, first_node, node_of, prev_of, 
 use crate::node::{Node, cofactor, node_at};
 
 /// What a chain's node compares: `Less` is "less than", `Equal` is "equal to".
-#[derive(Clone, Copy, Debug, PartialEq, Eq)]
+#[derive(Clone, Copy, PartialEq, Eq)]
 pub enum ChainKind {
     Less,
     Equal,
 }
 
 /// A chain row: a node that compares numbers. `prev` is the chain of one bit less.
-#[derive(Clone, Copy, Debug, PartialEq, Eq)]
+#[derive(Clone, Copy)]
 pub enum Chain {
     /// The node is 1 exactly where the number that bits `start` to `start + len - 1` of the column spell is
     /// less than (equal to) `bound`.
@@ -177,7 +177,7 @@ pub(crate) fn is_choice(nodes: &[Node], v: u32, low: u32, high: u32, node: u32) 
 }
 
 /// The fields of a chain's line, but its number. A column is given by its word.
-#[derive(Clone, Copy, Debug)]
+#[derive(Clone, Copy)]
 pub enum ChainLine<'a> {
     OneColumn {
         kind: ChainKind,

@@ -29,7 +29,7 @@ const MAX_PRODUCTS: usize = 1_048_576;
 
 /// Nodes, chains and product rows over the variables of a schema, each added by the rule of its line, so
 /// that each is true of every assignment. It is seen as what it holds.
-#[derive(Debug, Drop)]
+#[derive(Drop)]
 pub struct Diagram<'a> {
     schema: &'a Schema,
     variables: u32,

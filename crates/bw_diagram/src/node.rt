@@ -4,7 +4,7 @@ ghost use Rattle.bw_diagram.specs.Node.{node_at, child, cofactor};
 
 /// A node of the diagram: it is worth its high child where variable `v` is 1, else its low child. Children
 /// are nodes of smaller numbers, of which 0 and 1 are the terminals.
-#[derive(Clone, Copy, Debug, PartialEq, Eq)]
+#[derive(Clone, Copy)]
 pub struct Node {
     pub v: u32,
     pub low: u32,

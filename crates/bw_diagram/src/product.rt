@@ -5,7 +5,7 @@ ghost use Rattle.bw_diagram.specs.Product.{is_shortcut, is_row, same_product, co
 use crate::node::{Node, cofactor};
 
 /// A connective of two bits. `Diff` is "and not".
-#[derive(Clone, Copy, Debug, PartialEq, Eq)]
+#[derive(Clone, Copy, PartialEq, Eq)]
 pub enum Connective {
     And,
     Or,
@@ -14,7 +14,7 @@ pub enum Connective {
 }
 
 /// A product row: node `c` is the connective of nodes `a` and `b`.
-#[derive(Clone, Copy, Debug, PartialEq, Eq)]
+#[derive(Clone, Copy, PartialEq, Eq)]
 pub struct Product {
     pub op: Connective,
     pub a: u32,
@@ -23,7 +23,7 @@ pub struct Product {
 }
 
 /// Why a product row is true.
-#[derive(Clone, Copy, Debug, PartialEq, Eq)]
+#[derive(Clone, Copy)]
 pub enum Reason {
     /// It is one of the shortcuts of its connective, as `x AND x` is `x`.
     Shortcut,

@@ -90,7 +90,7 @@ pub(crate) fn rows_say(bytes: [u8; 4]) -> Result<u32, u16>
 }
 
 /// The least and the greatest number that a column takes.
-#[derive(Clone, Copy, Debug, PartialEq, Eq)]
+#[derive(Clone, Copy, PartialEq, Eq)]
 pub(crate) struct Bounds {
     pub(crate) lo: i64,
     pub(crate) hi: i64,

@@ -232,7 +232,7 @@ fn read_columns<S: Source>(
 }
 
 /// The first sixteen bytes of a table file.
-#[derive(Clone, Copy, Debug, PartialEq, Eq)]
+#[derive(Clone, Copy, PartialEq, Eq)]
 struct Front {
     version: u8,
     layout: Layout,

@@ -2,7 +2,7 @@
 use bw_model::Fault;
 
 /// Whether a reader goes on, and what it answers where it doesn't.
-#[derive(Clone, Copy, Debug, PartialEq, Eq)]
+#[derive(Clone, Copy, PartialEq, Eq)]
 pub(crate) enum Phase {
     /// It reads.
     Reading,

@@ -9,7 +9,7 @@ use std::alloc::{AllocError, Global};
 use std::marker::Model;
 
 /// The edge of a skip to its target: it's taken where its register is 0 in every lane.
-#[derive(Clone, Copy, Debug)]
+#[derive(Clone, Copy)]
 pub struct Edge {
     pub target: usize,
     pub register: u8,
@@ -18,7 +18,7 @@ pub struct Edge {
 }
 
 /// The edges of the skips so far, by their targets.
-#[derive(Debug, Drop)]
+#[derive(Drop)]
 pub(crate) struct Edges {
     by_target: Vec<Vec<Edge>>,
 }

@@ -16,7 +16,7 @@ use std::alloc::Global;
 
 /// What is known where a program ends, and the lines that follow those of its instructions and
 /// joins.
-#[derive(Clone, Copy, Debug)]
+#[derive(Clone, Copy)]
 pub struct AtEnd<'a> {
     pub known: Known,
     pub rest: &'a [BodyLine],

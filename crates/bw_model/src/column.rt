@@ -4,7 +4,7 @@ ghost use Rattle.std.specs.Prelude.{◌<ℤ◌, ◌≤ℤ◌, ◌-ℤ◌, ◌^�
 use crate::name::Name;
 
 /// A column: its name, the least and the greatest number that it takes, and whether it takes null.
-#[derive(Debug, Drop)]
+#[derive(Drop)]
 pub struct Column {
     pub name: Name,
     pub lo: i64,

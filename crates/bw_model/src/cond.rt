@@ -28,7 +28,7 @@ pub enum Operand {
 }
 
 /// A search condition of SQL-92. `And` and `Or` hold two or more parts, and `Among` one item or more.
-#[derive(Debug, Drop)]
+#[derive(Drop)]
 pub enum Cond {
     /// No condition: every row is kept.
     Always,

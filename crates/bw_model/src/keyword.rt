@@ -6,7 +6,7 @@ ghost use Rattle.bw_model.specs.Keyword.{spelling, keyword_of};
 use crate::text::is_same_text;
 
 /// A reserved word of the query language, which is never a name.
-#[derive(Clone, Copy, Debug, PartialEq, Eq)]
+#[derive(Clone, Copy, PartialEq, Eq)]
 pub enum Keyword {
     And,
     Between,

@@ -10,7 +10,7 @@ use std::alloc::{AllocError, Global};
 use std::marker::Model;
 
 /// A line that says something: its number, from 1, and its words.
-#[derive(Debug, Drop)]
+#[derive(Drop)]
 pub struct Line<'a> {
     pub number: u64,
     pub words: Vec<&'a [u8]>,
@@ -18,7 +18,7 @@ pub struct Line<'a> {
 
 /// The lines of a text, from the first to the last. It is seen as the text that is still to be read, and the
 /// number of that text's first line.
-#[derive(Debug, Drop)]
+#[derive(Drop)]
 pub struct Lines<'a> {
     text: &'a [u8],
     number: u64,

@@ -10,7 +10,7 @@ use std::marker::Model;
 
 /// The name of a table or a column, in its own spelling: a letter or `_`, followed by letters, digits and
 /// `_`, at most 63 bytes, and no reserved word of the query language.
-#[derive(Debug, Drop)]
+#[derive(Drop)]
 pub struct Name {
     bytes: Vec<u8>,
 }

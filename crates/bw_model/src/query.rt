@@ -15,7 +15,7 @@ pub enum Item {
 }
 
 /// A query over one table: its items, all columns or all aggregates, and which rows are kept.
-#[derive(Debug, Drop)]
+#[derive(Drop)]
 pub struct Query {
     pub items: Vec<Item>,
     pub cond: Cond,

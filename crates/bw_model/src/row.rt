@@ -6,7 +6,7 @@ use std::alloc::Global;
 pub type Value = Option<i64>;
 
 /// The values of one row, one a column, in the order of the schema's columns.
-#[derive(Debug, Drop)]
+#[derive(Drop)]
 pub struct Row {
     pub values: Vec<Value>,
 }

@@ -8,7 +8,7 @@ use crate::column::Column;
 use crate::name::Name;
 
 /// A table's name and its columns: at least one and at most 64, with names that differ, ignoring case.
-#[derive(Debug, Drop)]
+#[derive(Drop)]
 pub struct Schema {
     pub name: Name,
     pub columns: Vec<Column>,

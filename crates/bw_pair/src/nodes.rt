@@ -7,7 +7,7 @@ use bw_diagram::{Connective, Diagram, Product};
 use bw_model::Truth;
 
 /// The nodes of a condition: where it is TRUE, and where it is FALSE.
-#[derive(Clone, Copy, Debug, PartialEq, Eq)]
+#[derive(Clone, Copy)]
 pub struct Pair {
     pub yes: u32,
     pub no: u32,

@@ -21,7 +21,7 @@ use std::alloc::Global;
 const MOST_LOOKS: usize = 1000;
 
 /// A program for a condition, and a certificate that is to show that it selects the right rows.
-#[derive(Debug, Drop)]
+#[derive(Drop)]
 pub struct Proposal {
     pub program: Program,
     pub certificate: Certificate,

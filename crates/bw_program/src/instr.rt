@@ -2,7 +2,7 @@
 
 /// One instruction. A register r0 to r63 holds a bit for each of a segment's 512 lanes; columns, bits and slices
 /// are numbered from 0, bit 0 and slice 0 being the least, and instructions too.
-#[derive(Clone, Copy, Debug)]
+#[derive(Clone, Copy)]
 pub enum Instr {
     /// The register, the column and the bit whose plane it becomes.
     Load(u8, u8, u8),

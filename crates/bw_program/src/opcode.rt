@@ -5,7 +5,7 @@ ghost use Rattle.bw_program.specs.Opcode.{opcode_spelling, opcode_of};
 use bw_model::is_same_text;
 
 /// What a line of a program text says to do: an instruction's kind, or which register is the result.
-#[derive(Clone, Copy, Debug)]
+#[derive(Clone, Copy)]
 pub enum Opcode {
     Load,
     Nulls,

@@ -39,7 +39,7 @@ impl Program {
 }
 
 /// An instruction and the number of its line.
-#[derive(Clone, Copy, Debug)]
+#[derive(Clone, Copy)]
 pub(crate) struct Placed {
     line: u64,
     instr: Instr,

@@ -51,7 +51,7 @@ pub fn canonical_texts_spell_programs()
 {}
 
 /// What stands behind an opcode.
-#[derive(Clone, Copy, Debug)]
+#[derive(Clone, Copy)]
 pub(crate) enum Operand {
     Register(u8),
     Column(u8),

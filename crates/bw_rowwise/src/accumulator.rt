@@ -11,7 +11,7 @@ use bw_model::{Item, Row, totals_join};
 use std::marker::Model;
 
 /// The total of an aggregate over the rows that it has been given so far, of which there are at most 2^24.
-#[derive(Clone, Copy, Debug)]
+#[derive(Clone, Copy)]
 pub struct Accumulator {
     item: Item,
     rows: u32,

@@ -10,7 +10,7 @@ use crate::logic::truth_from;
 use bw_model::{Truth, Value};
 
 /// Whole numbers, ascending, in which a number is found by halving.
-#[derive(Debug, Drop)]
+#[derive(Drop)]
 pub struct Numbers {
     sorted: Vec<i64>,
     ghost ascending: { IsSorted int_cmp sorted.items },

@@ -12,7 +12,7 @@ use bw_model::{Cond, Fault, Op, Operand, Truth};
 use std::alloc::Global;
 
 /// A condition in the form that rows are tested by. It has the truth of the condition that it was made from on every row.
-#[derive(Debug, Drop)]
+#[derive(Drop)]
 pub enum Prepared {
     Always,
     Cmp(Op, Operand, Operand),

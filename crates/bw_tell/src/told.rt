@@ -13,7 +13,7 @@ use std::fs::File;
 const SIDE: usize = 60;
 
 /// What ended a command: its fault, and the file that couldn't be opened or read where that is the fault.
-#[derive(Clone, Copy, Debug)]
+#[derive(Clone, Copy)]
 pub struct Ended<'a> {
     pub fault: Fault,
     unread: Option<&'a str>,

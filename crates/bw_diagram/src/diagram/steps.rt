@@ -3,7 +3,7 @@ ghost use Rattle.std.specs.Prelude.{◌≡◌, ◌+◌, ◌<◌, ◌≤◌, ◌^
 ghost use Rattle.std.specs.Option.{ForSome};
 ghost use Rattle.std.specs.Bool.{OnTrue};
 ghost use Rattle.bw_diagram.specs.Node.{is_node};
-ghost use Rattle.bw_diagram.specs.Chain.{chain_named, variable_at, in_range, is_within, is_step, is_earlier, node_before, chooses, leads_always, step, occurs, length_of, end_of};
+ghost use Rattle.bw_diagram.specs.Chain.{chain_named, variable_at, in_range, is_within, is_step, is_earlier, node_before, chooses, leads, leads_always, step, occurs, length_of, end_of};
 
 use super::Diagram;
 use crate::chain::{Chain, ChainKind, ChainLine, is_choice};
@@ -183,11 +183,27 @@ fn leads_always(
 ) -> bool
     ensures { result ≡ leads_always nodes.now kind left right e node }
 {
-    let leads = |x: bool, y: bool| {
-        !(occurs(left, x) && occurs(right, y))
-            || step(nodes, right, y, step(nodes, left, x, node)) == kind.outcome(x, y, e)
-    };
-    leads(false, false) && leads(false, true) && leads(true, false) && leads(true, true)
+    leads(nodes, kind, left, right, e, node, (false, false))
+        && leads(nodes, kind, left, right, e, node, (false, true))
+        && leads(nodes, kind, left, right, e, node, (true, false))
+        && leads(nodes, kind, left, right, e, node, (true, true))
+}
+
+/// Whether a node leads by these bits, if they can occur at the two variables, to what they make of `e`.
+fn leads(
+    nodes: &[Node],
+    kind: ChainKind,
+    left: Option<u32>,
+    right: Option<u32>,
+    e: u32,
+    node: u32,
+    bits: (bool, bool),
+) -> bool
+    ensures { result ≡ leads nodes.now kind left right e node bits.0 bits.1 }
+{
+    let (x, y) = bits;
+    !(occurs(left, x) && occurs(right, y))
+        || step(nodes, right, y, step(nodes, left, x, node)) == kind.outcome(x, y, e)
 }
 
 /// Whether a bit can occur: that of no variable is 0.

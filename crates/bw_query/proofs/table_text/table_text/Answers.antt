@@ -12,11 +12,6 @@ returns-in_err-answer-clause-refused g c =
     let p = err_from_is_err_and c.from_residual.result c.from_residual.ensures.1 in
     rw (p.1, p.2) (λ start read. memory_answers start _ _ c.in_err-answer.field-0.0 (c.bytes_were_taken.ensures start _ c.args.reader.now [] read).0 refl c.in_err-answer.ensures.only_memory)
 
-pub returns-in_err-with_capacity-clause-refused : goal.returns-in_err-with_capacity-clause-refused
-returns-in_err-with_capacity-clause-refused g c =
-    let p = err_from_is_err_and c.from_residual-in_err-with_capacity.result c.from_residual-in_err-with_capacity.ensures.1 in
-    rw (p.1, p.2) (λ start read. memory_answers start _ _ _ (c.bytes_were_taken.ensures start _ c.args.reader.now [] read).0 refl refl)
-
 pub returns-in_err-into_text-clause-refused : goal.returns-in_err-into_text-clause-refused
 returns-in_err-into_text-clause-refused g c =
     let p = err_from_is_err_and c.from_residual-in_err-into_text.result c.from_residual-in_err-into_text.ensures.1 in

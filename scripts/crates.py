@@ -1,0 +1,49 @@
+"""What prove and wrong-bodies share: which crates there are, what each stands on, and rooms, in which one crate is proved beside
+others. `rt` keeps all others out of a crate and of all that it stands on while it works there; in a room there are the crate's
+files and the libraries that it stands on as they were built, under second names, so that nobody waits."""
+import os
+import pathlib
+import shutil
+
+ROOT = pathlib.Path(__file__).resolve().parent.parent
+PARTS = ("src", "specs", "proofs")
+
+
+def libraries():
+    """The libraries of the repository that each crate names."""
+    lines = (line.split("#")[0] for line in (ROOT / "crates.txt").read_text(encoding="utf-8").splitlines())
+    named = {name: rest.split() for name, found, rest in (line.partition(":") for line in lines) if found}
+    return {name: [each for each in below if each in named] for name, below in named.items()}
+
+
+def below(name, named):
+    """A crate and all that it stands on."""
+    found = {name}
+    for each in named[name]:
+        found |= below(each, named)
+    return found
+
+
+def cost(name):
+    """What a check of a crate costs, roughly: its lines."""
+    files = (path for part in PARTS for path in (ROOT / "crates" / name / part).rglob("*.*"))
+    return sum(path.read_bytes().count(b"\n") for path in files)
+
+
+def link(source, target):
+    """Has a file under a second name, or a copy of it where that can't be."""
+    try:
+        os.link(source, target)
+    except OSError:
+        shutil.copy2(source, target)
+
+
+def furnish(room, name, named):
+    """Puts into a folder what it takes to prove a crate there."""
+    crates = sorted(below(name, named))
+    listed = dict(line.split(":", 1) for line in (ROOT / "crates.txt").read_text(encoding="utf-8").splitlines() if ":" in line)
+    (room / "crates.txt").write_text("".join(f"{each}:{listed[each]}\n" for each in crates), encoding="utf-8")
+    for each in crates:
+        for part in (*PARTS, *["out/rlib"] * (each != name)):
+            if (ROOT / "crates" / each / part).is_dir():
+                shutil.copytree(ROOT / "crates" / each / part, room / "crates" / each / part, copy_function=link)
