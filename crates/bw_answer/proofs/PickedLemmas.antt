@@ -1,5 +1,5 @@
 -- Rows that a plane picks.
-use Rattle.std.proofs.Common.{◌≡◌, ◌∙◌, refl, sym, ap, ℕ, zero, suc, ◌+◌, ◌<◌, ◌≤◌, Bool, true, false, not, List, [], ◌∷◌, ◌++◌, map, take, length, replicate, get_or, append-nil, length-append, cond, arith, nat_le}
+use Rattle.std.proofs.Common.{◌≡◌, ◌∙◌, refl, sym, ap, ℕ, zero, suc, ◌+◌, ◌≤◌, Bool, true, false, not, List, [], ◌∷◌, ◌++◌, map, length, replicate, append-nil, length-append, cond, arith, nat_le}
 use Rattle.std.specs.List.{list_all}
 use Rattle.std.proofs.lemmas.Bool.{leb-true, le-leb}
 use Rattle.std.proofs.lemmas.List.Sums.{count_by-le-length, length-filter}
@@ -32,47 +32,7 @@ pub picked_as_kept : (c : Cond) (rows : List (List Value)) (n : ℕ) → picked 
 picked_as_kept c [] n = zeros_pick_none n []
 picked_as_kept c (row ∷ rows) n = kept_by (is_kept c row) row (selection c rows ++ replicate n false) rows (kept c rows) (picked_as_kept c rows n)
 
--- one row after another
-picked_next : (lanes : List Bool) (rows : List (List Value)) (i : ℕ) → i < length rows → get_or lanes i false ≡ true
-    → picked (take (suc i) lanes) (take (suc i) rows) ≡ picked (take i lanes) (take i rows) ++ get_or rows i [] ∷ []
-picked_next [] rows i h e = absurd (cc e)
-picked_next (lane ∷ lanes) [] i h e = absurd (omega arith)
-picked_next (true ∷ lanes) (row ∷ rows) zero h e = refl
-picked_next (false ∷ lanes) (row ∷ rows) zero h e = absurd (cc e)
-picked_next (true ∷ lanes) (row ∷ rows) (suc i) h e = ap (λ (l : List (List Value)). row ∷ l) (picked_next lanes rows i (omega arith) e)
-picked_next (false ∷ lanes) (row ∷ rows) (suc i) h e = picked_next lanes rows i (omega arith) e
-
-passed_next : (lanes : List Bool) (rows : List (List Value)) (i : ℕ) → i < length rows → get_or lanes i false ≡ false
-    → picked (take (suc i) lanes) (take (suc i) rows) ≡ picked (take i lanes) (take i rows)
-passed_next [] rows zero h e = refl
-passed_next [] rows (suc i) h e = refl
-passed_next (lane ∷ lanes) [] i h e = absurd (omega arith)
-passed_next (true ∷ lanes) (row ∷ rows) zero h e = absurd (cc e)
-passed_next (false ∷ lanes) (row ∷ rows) zero h e = refl
-passed_next (true ∷ lanes) (row ∷ rows) (suc i) h e = ap (λ (l : List (List Value)). row ∷ l) (passed_next lanes rows i (omega arith) e)
-passed_next (false ∷ lanes) (row ∷ rows) (suc i) h e = passed_next lanes rows i (omega arith) e
-
-pub picked_more : (lanes : List Bool) (rows : List (List Value)) (i : ℕ) → i < length rows → get_or lanes i false ≡ true
-    → picked (take (i + 1) lanes) (take (i + 1) rows) ≡ picked (take i lanes) (take i rows) ++ get_or rows i [] ∷ []
-picked_more lanes rows i h e =
-    let one : i + 1 ≡ suc i = omega arith in
-    ap (λ n. picked (take n lanes) (take n rows)) one ∙ picked_next lanes rows i h e
-
-pub picked_no_more : (lanes : List Bool) (rows : List (List Value)) (i : ℕ) → i < length rows → get_or lanes i false ≡ false
-    → picked (take (i + 1) lanes) (take (i + 1) rows) ≡ picked (take i lanes) (take i rows)
-picked_no_more lanes rows i h e =
-    let one : i + 1 ≡ suc i = omega arith in
-    ap (λ n. picked (take n lanes) (take n rows)) one ∙ passed_next lanes rows i h e
-
-pub all_picked : (lanes : List Bool) (rows : List (List Value)) (n : ℕ) → length rows ≤ n → picked (take n lanes) (take n rows) ≡ picked lanes rows
-all_picked [] rows zero h = refl
-all_picked [] rows (suc n) h = refl
-all_picked (lane ∷ lanes) [] zero h = refl
-all_picked (lane ∷ lanes) [] (suc n) h = refl
-all_picked (lane ∷ lanes) (row ∷ rows) zero h = absurd (omega arith)
-all_picked (true ∷ lanes) (row ∷ rows) (suc n) h = ap (λ (l : List (List Value)). row ∷ l) (all_picked lanes rows n (omega arith))
-all_picked (false ∷ lanes) (row ∷ rows) (suc n) h = all_picked lanes rows n (omega arith)
-
+-- where no lane is 1, no row is picked
 pub none_picked : (lanes : List Bool) (rows : List (List Value)) → list_all not lanes ≡ true → picked lanes rows ≡ []
 none_picked [] rows e = refl
 none_picked (lane ∷ lanes) [] e = refl

@@ -9,12 +9,12 @@ ghost use Rattle.bw_model.specs.Limits.{most_rows};
 ghost use Rattle.bw_model.specs.Row.{Value, values_of};
 ghost use Rattle.bw_model.specs.Selection.{selection};
 ghost use Rattle.bw_model.specs.Total.{is_aggregate, item_within};
+ghost use Rattle.bw_model.specs.declared.query.Item.{Item};
 ghost use Rattle.bw_rowwise.specs.Prepared.{IsPreparedFrom};
 ghost use Rattle.bw_sql.specs.Items.{AreOfOneKind};
 ghost use Rattle.bw_answer.specs.Answer.{csv_text, is_count_all, lists_rows, meaning};
 ghost use Rattle.bw_answer.specs.AreOver.{AreOver, CountsRows};
 ghost use Rattle.bw_answer.specs.Listing.{IsListing};
-ghost use Rattle.bw_model.specs.declared.query.Item.{Item};
 ghost use Rattle.bw_answer.specs.Totals.{is_of, has_room};
 
 use crate::heading::heading_text;
