@@ -9,16 +9,10 @@ use bw_file::Layout;
 use bw_model::{Fault, MAX_SCHEMA_LEN, code};
 use bw_report::{By, Served, accepted_line, report, stats_line};
 use bw_tell::{Ended, explain, explain_rows};
-use bw_words::{Words, is_explained, matches_of, words_of};
-use clap::error::ErrorKind;
-use clap::{ArgMatches, Error};
-use std::env;
+use bw_words::{Asked, USAGE, Words, asked_by, words_given};
 use std::fs::File;
-use std::io::{self, BufReader, IsTerminal};
+use std::io::{BufReader, IsTerminal};
 use std::rt::{Env, Files};
-
-/// The status of a command line that is no use, a call for help among them.
-const USAGE: u8 = 2;
 
 /// How many bytes of a table file are asked for at once.
 const PIECE: usize = 64 * 1024;
@@ -31,42 +25,23 @@ pub fn run(rt: &HostRuntime) -> u8 {
     }
 }
 
-/// The words of the process's command line, or the status without them.
-fn words_given(rt: &HostRuntime) -> Result<Vec<String>, u8> {
-    match env::args(rt) {
-        Err(error) if error.kind() == io::ErrorKind::OutOfMemory => Err(out_of_memory(rt)),
-        Err(_) => {
-            let _ = eprintln!(rt; "error: a word of the command line is not UTF-8");
-            Err(USAGE)
-        }
-        Ok(words) => words.collect(rt.alloc()).map_err(|_| out_of_memory(rt)),
-    }
-}
-
-/// Tells that there is no memory for the command line, and gives the status.
-fn out_of_memory(rt: &HostRuntime) -> u8 {
-    report(
-        &Fault::new(code::OUT_OF_MEMORY),
-        &mut ToWrite::new(rt.stderr()),
-    )
-}
-
 fn run_given(rt: &HostRuntime, words: &[String]) -> u8 {
-    match matches_of(rt.alloc(), words) {
-        Ok(matches) => run_matched(rt, &matches),
-        Err(error) => tell(rt, &error),
+    match asked_by(rt, words) {
+        Ok(asked) => run_asked(rt, asked),
+        Err(status) => status,
     }
 }
 
-fn run_matched(rt: &HostRuntime, matches: &ArgMatches<'_>) -> u8 {
-    let Some(words) = words_of(matches) else {
-        return USAGE;
-    };
+fn run_asked(rt: &HostRuntime, asked: Asked<'_>) -> u8 {
+    let Asked {
+        words,
+        is_explained,
+    } = asked;
     if let Some(input) = input_as_output(rt, &words) {
         let _ = eprintln!(rt; "error: {} is an input, and can't be OUT too", input);
         return USAGE;
     }
-    let told = is_explained(matches) || rt.stderr().is_terminal();
+    let told = is_explained || rt.stderr().is_terminal();
     match run_words(rt, words, told) {
         Ok(()) => 0,
         Err(ended) => tell_fault(rt, &words, &ended, told),
@@ -90,28 +65,6 @@ fn tell_fault(rt: &HostRuntime, words: &Words<'_>, ended: &Ended<'_>, told: bool
         explain(rt, words, ended);
     }
     status
-}
-
-/// Says what the command line asked for in place of a command, and gives the status: the version goes to standard output
-/// with status 0, and all else, a call for help too, to standard error.
-fn tell(rt: &HostRuntime, error: &Error) -> u8 {
-    match error.kind() {
-        ErrorKind::DisplayVersion => {
-            if rt.print(error).is_ok() {
-                0
-            } else {
-                report(
-                    &Fault::new(code::WRITE_FAILED),
-                    &mut ToWrite::new(rt.stderr()),
-                )
-            }
-        }
-        ErrorKind::OutOfMemory => out_of_memory(rt),
-        _ => {
-            let _ = rt.eprint(error);
-            USAGE
-        }
-    }
 }
 
 /// Runs a command, and tells what is to be told of how it was done where that is wanted.

@@ -3,7 +3,7 @@ use Rattle.std.specs.Prelude.{ℕ, Bool, true, false, ◌&&◌, List, Option, So
 use Rattle.std.specs.List.{list_all}
 use Rattle.bw_model.specs.declared.column.Column.{Column}
 use Rattle.bw_model.specs.Column.{column_named}
-use Rattle.bw_cert_lines.specs.CertificateFields.{ColumnFields, One, Two, ChainFields, CertificateFields}
+use Rattle.bw_cert_lines.specs.CertificateFields.{ColumnFields, One, Two, CertificateFields}
 
 -- a word names one of these columns
 abbrev pub is_found : Option ℕ → Bool

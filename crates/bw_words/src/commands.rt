@@ -1,0 +1,292 @@
+//! What the command line may be: `bw direct SCHEMA CSV SQL`, `bw infer [--table NAME] CSV`,
+//! `bw load [--layout planes|slices] SCHEMA CSV OUT`, `bw query [--program FILE] [--stats] TABLE SQL`, `bw plan SCHEMA SQL`,
+//! `bw check SCHEMA SQL FILE`, `bw info TABLE` or `bw dump TABLE`, each with `--explain` before the command or behind it.
+use crate::words::Words;
+use bw_file::Layout;
+use clap::{Arg, ArgAction, ArgMatches, Command, Error};
+use std::alloc::{AllocError, Global};
+
+/// The version of this program and, below it, the kit's that proved and built it, as `rt version` prints it.
+const VERSION: &str = "0.1.0\nrattle-kit-13b logic dac8208d650f15bf";
+
+/// A word or an option that a command takes.
+#[derive(Clone, Copy)]
+enum Taken {
+    /// A name of a file, and what the file is.
+    File(&'static str, &'static str),
+    Statement,
+    /// An option with a value: its name, the value's, and what it is.
+    Valued(&'static str, &'static str, &'static str),
+    Layout,
+    Stats,
+}
+
+const SCHEMA: Taken = Taken::File(
+    "SCHEMA",
+    "A file of TABLE and COLUMN lines, as `bw infer` writes one",
+);
+
+const CSV: Taken = Taken::File(
+    "CSV",
+    "A CSV file of whole numbers with a heading; an empty field is null",
+);
+
+const TABLE: Taken = Taken::File("TABLE", "A table file, as `bw load` writes one");
+
+const OUT: Taken = Taken::File("OUT", "The table file, which is created or replaced");
+
+const FILE: Taken = Taken::File("FILE", "A program file, as `bw plan` writes one");
+
+const NAME: Taken = Taken::Valued(
+    "table",
+    "NAME",
+    "The name of the table, which is t unless told otherwise",
+);
+
+const PROGRAM: Taken = Taken::Valued(
+    "program",
+    "FILE",
+    "A program file to scan by, in place of the planner's program",
+);
+
+/// A command: its name, what it does, an example of it, and what it takes.
+#[derive(Clone, Copy)]
+struct Told {
+    name: &'static str,
+    about: &'static str,
+    example: &'static str,
+    takes: &'static [Taken],
+}
+
+/// The commands, in the order of the help.
+const COMMANDS: [Told; 8] = [
+    Told {
+        name: "direct",
+        about: "Answers a statement over the rows of a CSV file",
+        example: "Example: bw direct trips.schema trips.csv 'SELECT COUNT(*) FROM trips WHERE cents > 2000'",
+        takes: &[SCHEMA, CSV, Taken::Statement],
+    },
+    Told {
+        name: "infer",
+        about: "Writes a schema for the rows of a CSV file",
+        example: "Example: bw infer --table trips trips.csv > trips.schema",
+        takes: &[NAME, CSV],
+    },
+    Told {
+        name: "load",
+        about: "Writes the table file of the rows of a CSV file",
+        example: "Example: bw load trips.schema trips.csv trips.bw",
+        takes: &[Taken::Layout, SCHEMA, CSV, OUT],
+    },
+    Told {
+        name: "query",
+        about: "Answers a statement over the rows of a table file",
+        example: "Example: bw query --stats trips.bw 'SELECT MAX(cents) FROM trips WHERE minutes < 10'",
+        takes: &[PROGRAM, Taken::Stats, TABLE, Taken::Statement],
+    },
+    Told {
+        name: "plan",
+        about: "Writes a scan program and its certificate for the condition of a statement",
+        example: "Example: bw plan trips.schema 'SELECT COUNT(*) FROM trips WHERE cents > 2000' > cents.prog",
+        takes: &[SCHEMA, Taken::Statement],
+    },
+    Told {
+        name: "check",
+        about: "Checks a scan program and its certificate for the condition of a statement",
+        example: "Example: bw check trips.schema 'SELECT COUNT(*) FROM trips WHERE cents > 2000' cents.prog",
+        takes: &[SCHEMA, Taken::Statement, FILE],
+    },
+    Told {
+        name: "info",
+        about: "Writes the schema of a table file, and its numbers as comments",
+        example: "Example: bw info trips.bw",
+        takes: &[TABLE],
+    },
+    Told {
+        name: "dump",
+        about: "Writes all rows of a table file as CSV",
+        example: "Example: bw dump trips.bw > trips.csv",
+        takes: &[TABLE],
+    },
+];
+
+/// Reads the command line. Its first word is the program's name.
+pub(crate) fn matches_of<'a>(alloc: Global, words: &'a [String]) -> Result<ArgMatches<'a>, Error> {
+    with_commands(alloc)?.try_get_matches_from(words)
+}
+
+fn with_commands<'a>(alloc: Global) -> Result<Command<'a>, AllocError> {
+    let mut program = program(alloc);
+    for told in &COMMANDS {
+        program = with_command(program, command(alloc, told))?;
+    }
+    program.arg(explained(alloc))
+}
+
+fn with_command<'a>(
+    program: Command<'a>,
+    command: Result<Command<'a>, AllocError>,
+) -> Result<Command<'a>, AllocError> {
+    match command {
+        Ok(command) => program.subcommand(command),
+        Err(error) => Err(error),
+    }
+}
+
+/// The program, before it has its commands.
+fn program<'a>(alloc: Global) -> Command<'a> {
+    Command::new(alloc, "bw")
+        .about("An analytical column store whose answers are proved")
+        .version(VERSION)
+        .after_help(
+            "From a CSV file to answers:\n  bw infer rows.csv > rows.schema\n  bw load rows.schema rows.csv rows.bw\n  \
+             bw query rows.bw 'SELECT COUNT(*) FROM t'",
+        )
+        .subcommand_required(true)
+        .disable_help_subcommand(true)
+}
+
+fn command<'a>(alloc: Global, told: &Told) -> Result<Command<'a>, AllocError> {
+    let mut command = Command::new(alloc, told.name)
+        .about(told.about)
+        .after_help(told.example);
+    for taken in told.takes {
+        command = command.arg(argument(alloc, *taken))?;
+    }
+    Ok(command)
+}
+
+fn argument<'a>(alloc: Global, taken: Taken) -> Arg<'a> {
+    match taken {
+        Taken::File(name, help) => Arg::new(alloc, name).required(true).help(help),
+        Taken::Statement => statement(alloc),
+        Taken::Valued(name, value, help) => Arg::new(alloc, name)
+            .long(name)
+            .action(ArgAction::Set)
+            .value_name(value)
+            .help(help),
+        Taken::Layout => layout(alloc),
+        Taken::Stats => stats(alloc),
+    }
+}
+
+/// Whether the command line asks for explanations.
+pub(crate) fn is_explained(matches: &ArgMatches<'_>) -> bool {
+    matches.get_flag("explain")
+}
+
+/// The words of the command that the command line has.
+pub(crate) fn words_of<'a>(matches: &ArgMatches<'a>) -> Option<Words<'a>> {
+    let (name, found) = matches.subcommand()?;
+    match name {
+        "direct" => direct_words(found),
+        "infer" => infer_words(found),
+        "load" => load_words(found),
+        "query" => query_words(found),
+        "info" => info_words(found),
+        "dump" => dump_words(found),
+        "plan" => plan_words(found),
+        "check" => check_words(found),
+        _ => None,
+    }
+}
+
+fn direct_words<'a>(found: &ArgMatches<'a>) -> Option<Words<'a>> {
+    Some(Words::Direct {
+        schema: found.get_str("SCHEMA")?,
+        csv: found.get_str("CSV")?,
+        sql: found.get_str("SQL")?,
+    })
+}
+
+fn infer_words<'a>(found: &ArgMatches<'a>) -> Option<Words<'a>> {
+    Some(Words::Infer {
+        name: found.get_str("table"),
+        csv: found.get_str("CSV")?,
+    })
+}
+
+fn load_words<'a>(found: &ArgMatches<'a>) -> Option<Words<'a>> {
+    Some(Words::Load {
+        layout: layout_of(found),
+        schema: found.get_str("SCHEMA")?,
+        csv: found.get_str("CSV")?,
+        out: found.get_str("OUT")?,
+    })
+}
+
+fn query_words<'a>(found: &ArgMatches<'a>) -> Option<Words<'a>> {
+    Some(Words::Query {
+        program: found.get_str("program"),
+        stats: found.get_flag("stats"),
+        table: found.get_str("TABLE")?,
+        sql: found.get_str("SQL")?,
+    })
+}
+
+fn info_words<'a>(found: &ArgMatches<'a>) -> Option<Words<'a>> {
+    Some(Words::Info {
+        table: found.get_str("TABLE")?,
+    })
+}
+
+fn dump_words<'a>(found: &ArgMatches<'a>) -> Option<Words<'a>> {
+    Some(Words::Dump {
+        table: found.get_str("TABLE")?,
+    })
+}
+
+fn plan_words<'a>(found: &ArgMatches<'a>) -> Option<Words<'a>> {
+    Some(Words::Plan {
+        schema: found.get_str("SCHEMA")?,
+        sql: found.get_str("SQL")?,
+    })
+}
+
+fn check_words<'a>(found: &ArgMatches<'a>) -> Option<Words<'a>> {
+    Some(Words::Check {
+        schema: found.get_str("SCHEMA")?,
+        sql: found.get_str("SQL")?,
+        file: found.get_str("FILE")?,
+    })
+}
+
+/// The layout that `--layout` tells, and bit planes where it isn't there.
+fn layout_of(matches: &ArgMatches<'_>) -> Layout {
+    match matches.get_str("layout") {
+        Some("slices") => Layout::Slices,
+        _ => Layout::Planes,
+    }
+}
+
+fn layout<'a>(alloc: Global) -> Arg<'a> {
+    Arg::new(alloc, "layout")
+        .long("layout")
+        .action(ArgAction::Set)
+        .value_parser(["planes", "slices"].as_slice())
+        .help("How segments are kept: bit planes, unless told otherwise, or byte slices")
+}
+
+/// The option that each command takes, before its name or behind it.
+fn explained<'a>(alloc: Global) -> Arg<'a> {
+    Arg::new(alloc, "explain")
+        .long("explain")
+        .action(ArgAction::SetTrue)
+        .global(true)
+        .help("Says below a fault's line what is wrong there, as at a terminal")
+}
+
+fn stats<'a>(alloc: Global) -> Arg<'a> {
+    Arg::new(alloc, "stats")
+        .long("stats")
+        .action(ArgAction::SetTrue)
+        .help("Tells on standard error how the query was served")
+}
+
+/// The statement. It may begin with `-`, as a comment does.
+fn statement<'a>(alloc: Global) -> Arg<'a> {
+    Arg::new(alloc, "SQL")
+        .required(true)
+        .allow_hyphen_values(true)
+        .help("A statement, as 'SELECT COUNT(*) FROM t WHERE a < 8'")
+}
