@@ -11,7 +11,7 @@ use Rattle.bw_model.specs.Selection.{picked, positions_from, positions_of}
 use Rattle.bw_model.specs.Total.{item_within}
 use Rattle.bw_answer.specs.Answer.{field_of, lists_rows, value_text}
 use Rattle.bw_answer.specs.Columns.{column_of, columns_of, fields_of}
-use Rattle.bw_answer.specs.Fetched.{HasPicked, fields_in_lane, value_in_lane, values_in}
+use Rattle.bw_answer.specs.Fetched.{HasPicked, fields_in_lane, value_in_lane}
 use Rattle.bw_answer.specs.declared.lanes.ColumnValues.{ColumnValues}
 use Rattle.bw_answer.proofs.TotalsLemmas.{both}
 
@@ -104,11 +104,11 @@ at_positions f g n (false ∷ bits) (row ∷ rows) here none =
     (λ k h bit. let next : n + suc k ≡ suc n + k = omega arith in subst (λ m. f m ≡ g (get_or rows k [])) next (here (suc k) (omega arith) bit)) (λ k h. none (suc k) (omega arith))
 
 pub records_same : (columns : List ℕ) (lanes : List ColumnValues) (bits : List Bool) (rows : List (List Value))
-    → ((i : ℕ) → i < length columns → HasPicked rows bits (get_or columns i 0) (values_in lanes (get_or columns i 0))) → ((k : ℕ) → length rows ≤ k → get_or bits k false ≡ false)
+    → HasPicked rows bits columns lanes → ((k : ℕ) → length rows ≤ k → get_or bits k false ≡ false)
     → map (fields_in_lane lanes columns) (positions_of bits) ≡ map (fields_of columns) (picked bits rows)
 records_same columns lanes bits rows fetched none =
     at_positions (fields_in_lane lanes columns) (fields_of columns) 0 bits rows (λ k h bit. let same : 0 + k ≡ k = omega arith in
-    subst (λ m. fields_in_lane lanes columns m ≡ fields_of columns (get_or rows k [])) (sym same) (fields_same columns lanes k (get_or rows k []) (λ i within. fetched i within k h bit))) none
+    subst (λ m. fields_in_lane lanes columns m ≡ fields_of columns (get_or rows k [])) (sym same) (fields_same columns lanes k (get_or rows k []) (fetched k h bit))) none
 
 pub map_listed : (items : List Item) (rows : List (List Value)) → map (fields_of (columns_of items)) rows ≡ map (λ row. filter_map (field_of row) items) rows
 map_listed items [] = refl

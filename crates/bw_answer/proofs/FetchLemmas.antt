@@ -1,17 +1,9 @@
 -- The values of columns in the lanes of a segment.
-use Rattle.std.proofs.Common.{◌≡◌, ◌≢◌, ℕ, zero, suc, ◌∷◌, ◌+◌, ◌<◌, List, [], refl, sym, ap, length, get_or, set, subst, arith, below_more, get_or-set_other, get_or-set_same, inl, inr}
+use Rattle.std.proofs.Common.{◌≡◌, ◌≢◌, ℕ, zero, suc, ◌∷◌, ◌+◌, ◌<◌, List, [], refl, sym, ap, length, get_or, set, subst, arith, below_more, inl, inr, None, ◌∙◌}
 use Rattle.std.proofs.lemmas.Bool.{cases_eq}
 use Rattle.bw_model.specs.Row.{Value}
-use Rattle.bw_answer.specs.Fetched.{values_in}
+use Rattle.bw_answer.specs.Fetched.{value_in_lane, values_in}
 use Rattle.bw_answer.specs.declared.lanes.ColumnValues.{ColumnValues}
-
--- what holds of the items so far, and of one that is put behind them, holds of one more
-pub put_more : {A : Type 0} (P : ℕ → A → Type 0) (d : A) (xs : List A) (i : ℕ) (x : A) → i < length xs → ((k : ℕ) → k < i → P k (get_or xs k d)) → P i x
-    → (k : ℕ) → k < i + 1 → P k (get_or (set xs i x) k d)
-put_more P d xs i x lt before here =
-    below_more (λ k. P k (get_or (set xs i x) k d)) i
-    (λ k below. let other : k ≢ i = omega arith in subst (P k) (sym (get_or-set_other xs i k x d other)) (before k below))
-    (subst (P i) (sym (get_or-set_same xs i x d lt)) here)
 
 -- the values of the column that is fetched, and of the others
 values_put : (lanes : List ColumnValues) (column : ℕ) (kept : ColumnValues) → column < length lanes → values_in (set lanes column kept) column ≡ kept.values
@@ -40,3 +32,17 @@ column_more P columns lanes i kept lt before here =
   where
     now : P (get_or columns i 0) (values_in (set lanes (get_or columns i 0) kept) (get_or columns i 0))
     now = subst (P (get_or columns i 0)) (sym (values_put lanes (get_or columns i 0) kept lt)) here
+
+-- where one lane of a column is put, the others stay
+values_at : (lanes : List ColumnValues) (column : ℕ) (d : ColumnValues) → column < length lanes → (get_or lanes column d).values ≡ values_in lanes column
+values_at [] column d lt = absurd (omega arith)
+values_at (lane ∷ lanes) zero d lt = refl
+values_at (lane ∷ lanes) (suc column) d lt = values_at lanes column d (omega arith)
+
+pub others_stay : (lanes : List ColumnValues) (at column other : ℕ) (kept d : ColumnValues) → at < length lanes → get_or kept.values other None ≡ get_or (get_or lanes at d).values other None
+    → value_in_lane (set lanes at kept) other column ≡ value_in_lane lanes other column
+others_stay lanes at column other kept d lt same = elim (cases_eq column at) [
+  | inl here ↦
+      rw here (ap (λ (values : List Value). get_or values other None) (values_put lanes at kept lt) ∙ same ∙ ap (λ (values : List Value). get_or values other None) (values_at lanes at d lt))
+  | inr elsewhere ↦ ap (λ (values : List Value). get_or values other None) (values_of_others lanes at column kept elsewhere)
+]

@@ -1,5 +1,5 @@
 -- The values of columns in lanes.
-use Rattle.std.specs.Prelude.{◌≡◌, ◌<◌, ℕ, Bool, true, false, List, [], None, length, map, slice_index_or, take, drop}
+use Rattle.std.specs.Prelude.{◌≡◌, ◌<◌, ℕ, Bool, true, false, List, [], None, length, map, slice_index, slice_index_or, take, drop}
 use Rattle.bw_model.specs.Row.{Value, value_in}
 use Rattle.bw_model.specs.Selection.{positions_from}
 use Rattle.bw_answer.specs.Answer.{value_text}
@@ -17,10 +17,15 @@ value_in_lane lanes number column = slice_index_or (values_in lanes column) numb
 abbrev pub fields_in_lane : List ColumnValues → List ℕ → ℕ → List (List ℕ)
 fields_in_lane lanes columns number = map (λ column. value_text (value_in_lane lanes number column)) columns
 
--- the values of a column in the rows that lanes pick
-abbrev pub HasPicked : List (List Value) → List Bool → ℕ → List Value → Type 0
-HasPicked rows picks column values = (number : ℕ) → number < length rows → slice_index_or picks number false ≡ true
-    → slice_index_or values number None ≡ value_in (slice_index_or rows number []) column
+-- a lane has the values of a row in columns
+abbrev pub HasRow : List Value → List ℕ → ℕ → List ColumnValues → Type 0
+HasRow row columns number lanes = (i : ℕ) → i < length columns
+    → value_in_lane lanes number (slice_index columns i) ≡ value_in row (slice_index columns i)
+
+-- the lanes that bits pick have the values of their rows in columns
+abbrev pub HasPicked : List (List Value) → List Bool → List ℕ → List ColumnValues → Type 0
+HasPicked rows bits columns lanes = (number : ℕ) → number < length rows → slice_index_or bits number false ≡ true
+    → HasRow (slice_index_or rows number []) columns number lanes
 
 -- the positions of the bits that are 1, from a position up to another
 abbrev pub positions_between : ℕ → ℕ → List Bool → List ℕ

@@ -1,9 +1,9 @@
 //! The values of columns in the lanes of a segment, fetched for the rows that a plane picks.
-ghost use Rattle.std.specs.Prelude.{◌≡◌, ◌<◌, ℕ, None, All, IfErr, IfOk, length, slice_index, slice_index_or, vec_len};
+ghost use Rattle.std.specs.Prelude.{◌≡◌, ◌≢◌, ◌<◌, ℕ, [], None, All, IfErr, IfOk, length, slice_index_or, vec_len};
 ghost use Rattle.bw_lanes.specs.Lanes.{lanes_of_words};
 ghost use Rattle.bw_model.specs.Fault.{no_memory};
 ghost use Rattle.bw_model.specs.Row.{value_in, values_of};
-ghost use Rattle.bw_answer.specs.Fetched.{HasPicked, value_in_lane, values_in};
+ghost use Rattle.bw_answer.specs.Fetched.{HasPicked, HasRow, value_in_lane};
 
 use bw_lanes::{Plane, count, lane};
 use bw_model::{Fault, Row, Value};
@@ -36,23 +36,24 @@ impl ColumnValues {
         self.values[number]
     }
 
-    /// Puts a value into the first lane.
-    fn put_first(&mut self, value: Value)
-        ensures { slice_index_or self.new.values 0 None ≡ value }
+    /// Puts a value into a lane.
+    #[inline]
+    fn put(&mut self, number: usize, value: Value)
+        requires { number < 512 }
+        ensures same { slice_index_or self.new.values number None ≡ value }
+        ensures others { (other : ℕ) → other ≢ number
+            → slice_index_or self.new.values other None ≡ slice_index_or self.old.values other None }
     {
-        self.values[0] = value;
+        self.values[number] = value;
     }
 
-    /// Fetches a column's values in the rows of a segment that a plane picks: in all lanes at once, or row by row.
-    fn fetch<S: Segment>(&mut self, segment: &S, column: usize, plane: &Plane, at_once: bool)
+    /// Fetches a column's values in all rows of a segment at once.
+    fn fetch<S: Segment>(&mut self, segment: &S, column: usize)
         requires { column < length (S.meaning segment.now).columns }
-        ensures { HasPicked (S.meaning segment.now).rows (lanes_of_words plane.now) column self.new.values }
+        ensures { (number : ℕ) → number < length (S.meaning segment.now).rows → slice_index_or self.new.values number None
+            ≡ value_in (slice_index_or (S.meaning segment.now).rows number []) column }
     {
-        if at_once {
-            values_in_lanes(segment, column, &mut self.values);
-        } else {
-            fetch_each(&mut self.values, segment, column, plane);
-        }
+        values_in_lanes(segment, column, &mut self.values);
     }
 }
 
@@ -72,28 +73,15 @@ pub(crate) fn no_values(alloc: Global, count: usize) -> Result<Vec<ColumnValues>
 pub(crate) fn put_row(lanes: &mut [ColumnValues], columns: &[usize], row: &Row)
     requires lanes { length lanes.old ≡ length (values_of row.now) }
     requires columns { All (λ column. column < length lanes.old) columns.now }
-    ensures { (i : ℕ) → i < length columns.now → value_in_lane lanes.new 0 (slice_index columns.now i)
-        ≡ value_in (values_of row.now) (slice_index columns.now i) }
+    ensures { HasRow (values_of row.now) columns.now 0 lanes.new }
 {
     for column in columns {
-        lanes[*column].put_first(row.values[*column]);
+        lanes[*column].put(0, row.values[*column]);
     }
 }
 
-/// Fetches a column's values row by row.
-fn fetch_each<S: Segment>(values: &mut [Value; 512], segment: &S, column: usize, plane: &Plane)
-    requires { column < length (S.meaning segment.now).columns }
-    ensures { HasPicked (S.meaning segment.now).rows (lanes_of_words plane.now) column values.new }
-{
-    let rows = segment.rows_in() as usize;
-    for number in 0..rows {
-        if lane(plane, number) {
-            values[number] = segment.value(column, number);
-        }
-    }
-}
-
-/// Fetches the values that columns have in the rows of a segment that a plane picks.
+/// Fetches the values that columns have in the rows of a segment that a plane picks: all of a column at once where they are
+/// many, and else row by row.
 pub(crate) fn fetch_picked<S: Segment>(
     lanes: &mut [ColumnValues],
     columns: &[usize],
@@ -102,11 +90,51 @@ pub(crate) fn fetch_picked<S: Segment>(
 )
     requires lanes { length lanes.old ≡ length (S.meaning segment.now).columns }
     requires columns { All (λ column. column < length lanes.old) columns.now }
-    ensures { (i : ℕ) → i < length columns.now → HasPicked (S.meaning segment.now).rows (lanes_of_words plane.now)
-        (slice_index columns.now i) (values_in lanes.new (slice_index columns.now i)) }
+    ensures { HasPicked (S.meaning segment.now).rows (lanes_of_words plane.now) columns.now lanes.new }
 {
-    let at_once = count(plane) >= MANY;
+    if count(plane) >= MANY {
+        fetch_columns(lanes, columns, segment);
+    } else {
+        fetch_rows(lanes, columns, segment, plane);
+    }
+}
+
+/// Fetches the values that columns have in all rows of a segment.
+fn fetch_columns<S: Segment>(lanes: &mut [ColumnValues], columns: &[usize], segment: &S)
+    requires lanes { length lanes.old ≡ length (S.meaning segment.now).columns }
+    requires columns { All (λ column. column < length lanes.old) columns.now }
+    ensures { (number : ℕ) → number < length (S.meaning segment.now).rows
+        → HasRow (slice_index_or (S.meaning segment.now).rows number []) columns.now number lanes.new }
+{
     for column in columns {
-        lanes[*column].fetch(segment, *column, plane, at_once);
+        lanes[*column].fetch(segment, *column);
+    }
+}
+
+/// Fetches the values that columns have in the rows of a segment that a plane picks, row by row.
+fn fetch_rows<S: Segment>(lanes: &mut [ColumnValues], columns: &[usize], segment: &S, plane: &Plane)
+    requires lanes { length lanes.old ≡ length (S.meaning segment.now).columns }
+    requires columns { All (λ column. column < length lanes.old) columns.now }
+    ensures { HasPicked (S.meaning segment.now).rows (lanes_of_words plane.now) columns.now lanes.new }
+{
+    let rows = segment.rows_in() as usize;
+    for number in 0..rows {
+        if lane(plane, number) {
+            fetch_row(lanes, columns, segment, number);
+        }
+    }
+}
+
+/// Fetches the values that columns have in a row of a segment. Those in other lanes stay.
+fn fetch_row<S: Segment>(lanes: &mut [ColumnValues], columns: &[usize], segment: &S, number: usize)
+    requires lanes { length lanes.old ≡ length (S.meaning segment.now).columns }
+    requires columns { All (λ column. column < length lanes.old) columns.now }
+    requires number { number < length (S.meaning segment.now).rows }
+    ensures row { HasRow (slice_index_or (S.meaning segment.now).rows number []) columns.now number lanes.new }
+    ensures others { (other column : ℕ) → other ≢ number
+        → value_in_lane lanes.new other column ≡ value_in_lane lanes.old other column }
+{
+    for column in columns {
+        lanes[*column].put(number, segment.value(*column, number));
     }
 }

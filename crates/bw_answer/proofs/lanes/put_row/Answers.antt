@@ -12,6 +12,6 @@ loop-column-preserved c =
     let column = get_or c.args.columns.now here 0 in
     let within = c.requires.columns here 0 c.loop-column-test.true in
     let there : column < length row = omega (arith, within, c.requires.lanes) in
-    let put : get_or c.put_first.new.self.values 0 None ≡ value_in row column = c.put_first.ensures ∙ c.index.ensures ∙ get_or_default row column c.index.result.now None there in
-    column_more (λ (column : ℕ) (values : List Value). get_or values 0 None ≡ value_in row column) c.args.columns.now c.loop-column.lanes here c.put_first.new.self
+    let put : get_or c.put.new.self.values 0 None ≡ value_in row column = c.put.ensures.same ∙ c.index.ensures ∙ get_or_default row column c.index.result.now None there in
+    column_more (λ (column : ℕ) (values : List Value). get_or values 0 None ≡ value_in row column) c.args.columns.now c.loop-column.lanes here c.put.new.self
     (omega (arith, within, c.loop-column.auto.lanes)) c.loop-column.invariant put
