@@ -176,11 +176,7 @@ fn take_segment<S: Segment>(
 }
 
 /// Takes the rows of a segment, each of which is looked at, or their number where nothing else is asked for.
-fn take_by_rows<S: Segment>(
-    segment: &S,
-    counts: bool,
-    answer: &mut Answer<'_>,
-) -> Result<(), Fault>
+fn take_by_rows<S: Segment>(segment: &S, counts: bool, answer: &mut Answer<'_>) -> Result<(), Fault>
     requires counts { counts ≡ true → CountsRows (asked_by answer.old) }
     requires width { answer.old.width ≡ length (S.meaning segment.now).columns }
     requires room { answer.old.rows + length (S.meaning segment.now).rows ≤ most_rows }
