@@ -96,7 +96,7 @@ fn assert_group(rt: &impl Abort, schema: &Schema, rows: &[Row])
     assert!(rt; rows.len() >= 1);
     assert!(rt; rows.len() <= 512);
     for row in rows {
-        assert!(rt; schema.admits(row), "{row:?}");
+        assert!(rt; schema.admits(row), "{:?}", row.values);
     }
 }
 
@@ -144,7 +144,7 @@ fn picked(
         assert!(rt; row.values.len() == schema.columns.len());
         let is_true = truth(cond, row) == Truth::Yes;
         assert!(rt; i < 512);
-        assert!(rt; lane(&plane, i) == is_true, "{text} on {row:?}");
+        assert!(rt; lane(&plane, i) == is_true, "{text} on {:?}", row.values);
         picked = picked.saturating_add(u64::from(is_true));
     }
     Ok(Cost {
