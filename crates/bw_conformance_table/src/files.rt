@@ -117,7 +117,7 @@ fn assert_rows(rt: &impl Abort, schema: &Schema, rows: &[Row])
 {
     assert!(rt; rows.len() <= 16_777_216);
     for row in rows {
-        assert!(rt; schema.admits(row), "{row:?}");
+        assert!(rt; schema.admits(row), "{:?}", row.values);
     }
 }
 
