@@ -5,9 +5,9 @@ set -euo pipefail
 top=$(cd "$(dirname "$0")/.." && pwd)
 . "$top/bench/common.sh"
 
-built bench_cert
+built bench
 
 for _ in 1 2 3 4 5; do
-    "$top/crates/bench_cert/out/bench_cert" 2>&1 > /dev/null
+    "$top/crates/bench/out/bench" cert 2>&1 > /dev/null
 done | sort -k 1,1 -k 2,2n | awk '!seen[$1]++'
-/usr/bin/time -f 'memory %M' "$top/crates/bench_cert/out/bench_cert" 2>&1 > /dev/null | grep memory
+/usr/bin/time -f 'memory %M' "$top/crates/bench/out/bench" cert 2>&1 > /dev/null | grep memory

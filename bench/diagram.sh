@@ -5,8 +5,8 @@ set -euo pipefail
 top=$(cd "$(dirname "$0")/.." && pwd)
 . "$top/bench/common.sh"
 
-built bench_diagram
+built bench
 
 for _ in 1 2 3 4 5; do
-    "$top/crates/bench_diagram/out/bench_diagram" 2>&1 > /dev/null
+    "$top/crates/bench/out/bench" diagram 2>&1 > /dev/null
 done | sort -k 1,1 -k 2,2n | awk '!seen[$1]++'

@@ -22,7 +22,7 @@ million() {
 [ -s "$csv" ] || kept "$csv" million
 
 bw=$("$top/bw" --where)
-built bench_reader
+built bench
 
 best() {
     local name=$1
@@ -31,7 +31,7 @@ best() {
         /usr/bin/time -f '%e s  %U s  %M KB' "$@" 2>&1 > /dev/null
     done | sort -n | head -n 1 | sed "s/^/$name: /"
 }
-best 'csv reader alone           ' "$top/crates/bench_reader/out/bench_reader" "$csv"
+best 'csv reader alone           ' "$top/crates/bench/out/bench" "reader=$csv"
 best 'SELECT COUNT(*) WHERE a < 8' "$bw" direct "$schema" "$csv" 'SELECT COUNT(*) FROM m WHERE a < 8'
 best 'SELECT SUM(c), MAX(d)      ' "$bw" direct "$schema" "$csv" 'SELECT SUM(c), MAX(d) FROM m'
 best 'SELECT *                   ' "$bw" direct "$schema" "$csv" 'SELECT * FROM m'

@@ -1,4 +1,4 @@
-/* The same as crates/bench_lanes times, in plain C: one byte of each of 512 rows compared with a byte, or one bit of it
+/* The same as crates/bench times, in plain C: one byte of each of 512 rows compared with a byte, or one bit of it
  * taken, into a plane of 512 bits; the planes and the byte slices of 512 rows of four columns;
  * and the judging of four columns' blocks (SSE2 for slices). `bench/lanes.sh` builds and
  * runs it. */

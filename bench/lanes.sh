@@ -1,7 +1,7 @@
 #!/usr/bin/env bash
 # Times the kernels over bytes, and the building and judging of segments of 512 rows and four columns, and the same in plain C
-# (gcc -O2). Run by hand on an idle machine: bench/lanes.sh [CALLS]. Each line has the nanoseconds of a call, and a number
-# to which each call added.
+# (gcc -O2). Run by hand on an idle machine: bench/lanes.sh [CALLS]. Each line has the nanoseconds of a call; those of
+# the C program also a number to which each call added.
 set -euo pipefail
 top=$(cd "$(dirname "$0")/.." && pwd)
 . "$top/bench/common.sh"
@@ -9,9 +9,9 @@ calls=${1:-5000000}
 folder=$(mktemp -d)
 trap 'rm -r "$folder"' EXIT
 
-built bench_lanes
+built bench
 gcc -O2 -o "$folder/lanes" "$top/bench/lanes.c"
 echo 'this repository'
-"$top/crates/bench_lanes/out/bench_lanes" "$calls" | sed 's/^/    /'
+"$top/crates/bench/out/bench" "lanes=$calls" 2>&1 > /dev/null | sed 's/^/    /'
 echo 'plain C, gcc -O2'
 "$folder/lanes" "$calls" | sed 's/^/    /'

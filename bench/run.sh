@@ -8,8 +8,8 @@ set -euo pipefail
 top=$(cd "$(dirname "$0")/.." && pwd)
 . "$top/bench/common.sh"
 
-built bench_run
+built bench
 
 for _ in 1 2 3 4 5; do
-    "$top/crates/bench_run/out/bench_run" 2>&1 > /dev/null | awk '{ print NR, $0 }'
+    "$top/crates/bench/out/bench" run 2>&1 > /dev/null | awk '{ print NR, $0 }'
 done | sort -k 1,1n -k 2,2n | awk '!seen[$1]++' | cut -d ' ' -f 2-

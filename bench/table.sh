@@ -20,8 +20,8 @@ printf 'TABLE m\nCOLUMN a 0 255 NOT NULL\nCOLUMN b -10 10\nCOLUMN c 0 1000000 NO
 [ -s "$csv" ] || kept "$csv" four_columns "$rows"
 
 bw=$("$top/bw" --where)
-reader=$top/crates/bench_reader/out/bench_reader
-built bench_reader
+reader=$top/crates/bench/out/bench
+built bench
 gcc -O2 -o "$folder/table" "$top/bench/table.c"
 
 declare -A least most size
@@ -48,7 +48,7 @@ dumped=$("$bw" dump "$folder/planes-$rows.bw" | wc -c)
 echo "CSV $text bytes, planes $(stat -c %s "$folder/planes-$rows.bw"), slices $(stat -c %s "$folder/slices-$rows.bw"), dump $dumped"
 echo "load of the machine before: $(cut -d ' ' -f 1-3 /proc/loadavg)"
 for _ in 1 2 3 4 5; do
-    run 'csv reader alone' "$text" "$reader" "$csv"
+    run 'csv reader alone' "$text" "$reader" "reader=$csv"
     run 'direct, COUNT(*)' "$text" "$bw" direct "$schema" "$csv" 'SELECT COUNT(*) FROM m'
     run 'direct, COUNT(*) WHERE a < 8' "$text" "$bw" direct "$schema" "$csv" 'SELECT COUNT(*) FROM m WHERE a < 8'
     if command -v mawk > /dev/null; then

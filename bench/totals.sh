@@ -9,14 +9,14 @@ top=$(cd "$(dirname "$0")/.." && pwd)
 folder=$(mktemp -d)
 trap 'rm -r "$folder"' EXIT
 
-built bench_totals
+built bench
 gcc -O2 -mpopcnt -o "$folder/totals" "$top/bench/totals.c"
 
 least() {
     for _ in 1 2 3 4 5; do "$@" | awk '{ print NR, $0 }'; done | sort -k 1,1n -k 2,2n | awk '!seen[$1]++' | cut -d ' ' -f 2-
 }
 ours() {
-    "$top/crates/bench_totals/out/bench_totals" 2>&1 > /dev/null
+    "$top/crates/bench/out/bench" totals 2>&1 > /dev/null
 }
 echo 'this repository'
 least ours | sed 's/^/    /'

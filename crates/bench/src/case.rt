@@ -1,0 +1,41 @@
+//! What is timed: a segment with a program that its schema has all the columns and bits of.
+ghost use Rattle.std.specs.Prelude.{◌≤◌, IsTrue};
+ghost use Rattle.bw_model.specs.Code.{slices_at};
+ghost use Rattle.bw_model.specs.Variable.{variables_of};
+ghost use Rattle.bw_program.specs.Program.{fits};
+
+use crate::failure::Failure;
+use bw_model::{Row, Schema};
+use bw_planes::PlaneSegment;
+use bw_program::Program;
+use bw_segment::is_group;
+use std::alloc::Global;
+
+/// How many planes the first column has, one a bit, the top one first.
+pub(crate) const PLANES: u32 = 8;
+
+/// A segment and a program over it. The segment's first planes are those of a column of eight bits.
+#[derive(Drop)]
+pub(crate) struct Case {
+    pub(crate) segment: PlaneSegment,
+    pub(crate) program: Program,
+    pub(crate) ghost fits: { IsTrue (fits segment.shape.value.schema.columns.items program) },
+    pub(crate) ghost planes: { 8 ≤ variables_of segment.shape.value.schema.columns.items },
+    pub(crate) ghost bytes: { 1 ≤ slices_at segment.shape.value.schema.columns.items 0 },
+}
+
+impl Case {
+    pub(crate) fn new(
+        alloc: Global,
+        schema: &Schema,
+        text: &[u8],
+        rows: &[Row],
+    ) -> Result<Case, Failure> {
+        let program = Program::parse(alloc, schema, text)?;
+        if !is_group(schema, rows) || schema.var_count() < PLANES || schema.slices(0) < 1 {
+            return Err(Failure::Rows);
+        }
+        let segment = PlaneSegment::build(alloc, schema, rows)?;
+        Ok(Case { segment, program })
+    }
+}

@@ -1,0 +1,218 @@
+//! The kernels over bytes, and the building and judging of segments, in nanoseconds a call. Standard output has for each a
+//! number to which each call added.
+ghost use Rattle.std.specs.Prelude.{◌≤◌};
+ghost use Rattle.bw_model.specs.Groups.{group_size};
+
+use crate::drawn::{drawn, or_null};
+use crate::failure::Failure;
+use bw_lanes::{Plane, bytes_bit, bytes_eq, bytes_lt};
+use bw_model::{Row, Schema};
+use bw_planes::PlaneSegment;
+use bw_segment::{Segment, Shape, is_group};
+use bw_slices::SliceSegment;
+use std::alloc::Global;
+use std::rc::Rc;
+use std::rt::Clock;
+use std::time::Instant;
+
+/// Four columns: 8 bits, 5 bits that may be null, 17 bits and 10 bits.
+const SCHEMA: &[u8] =
+    b"TABLE m\nCOLUMN a 0 255 NOT NULL\nCOLUMN b -10 10\nCOLUMN c 0 99999 NOT NULL\nCOLUMN d 0 999 NOT NULL\n";
+
+/// Times so many calls of each kernel, and fewer of what takes longer.
+pub(crate) fn time_calls(rt: &HostRuntime, calls: &str) -> Result<(), Failure> {
+    let Ok(calls) = calls.parse::<u32>() else {
+        return Err(Failure::Word);
+    };
+    time_kernels(rt, calls)?;
+    time_segments(rt, rt.alloc(), calls)?;
+    time_judging(rt, rt.alloc(), calls)
+}
+
+/// Writes how long each call took, and a number to which each call added.
+fn tell<R: Print + Eprint + Clock>(
+    rt: &R,
+    name: &str,
+    calls: u32,
+    start: Instant,
+    seen: u64,
+) -> Result<(), Failure> {
+    let taken = start.elapsed(rt)?.as_nanos() / u128::from(calls.max(1));
+    eprintln!(rt; "{name} {taken} ns")?;
+    println!(rt; "{name}: {seen}")?;
+    Ok(())
+}
+
+/// A word of a plane, another one at each call.
+fn word_of(plane: &Plane, call: u32) -> u64 {
+    plane[(call & 7) as usize]
+}
+
+/// A byte of a segment, another one at each call.
+fn byte_of(bytes: &[u8], call: u32) -> u64 {
+    u64::from(bytes.get((call & 7) as usize).copied().unwrap_or(0))
+}
+
+fn time_kernels<R: Print + Eprint + Clock>(rt: &R, calls: u32) -> Result<(), Failure> {
+    let mut bytes = [0; 512];
+    for lane in 0..512usize {
+        bytes[lane] = (lane * 7 % 256) as u8;
+    }
+    let start = Instant::now(rt)?;
+    let mut seen = 0;
+    for call in 0..calls {
+        let c = (call & 0xFF) as u8;
+        bytes[0] = c;
+        seen ^= word_of(&bytes_lt(&bytes, c), call);
+    }
+    tell(rt, "bytes_lt", calls, start, seen)?;
+    let start = Instant::now(rt)?;
+    for call in 0..calls {
+        let c = (call & 0xFF) as u8;
+        bytes[0] = c;
+        seen ^= word_of(&bytes_eq(&bytes, c), call);
+    }
+    tell(rt, "bytes_eq", calls, start, seen)?;
+    let start = Instant::now(rt)?;
+    for call in 0..calls {
+        bytes[0] = (call & 0xFF) as u8;
+        seen ^= word_of(&bytes_bit(&bytes, call & 7), call);
+    }
+    tell(rt, "bytes_bit", calls, start, seen)
+}
+
+/// A group of 512 rows, with a null in every eighth.
+fn rows_of(alloc: Global) -> Result<Vec<Row>, Failure> {
+    let mut rows = Vec::new(alloc);
+    for lane in 0..512u16 {
+        let i = i64::from(lane);
+        let b = if i % 8 == 0 { None } else { Some(i % 21 - 10) };
+        rows.push(Row {
+            values: vec![in alloc; Some(i * 7 % 256), b, Some(i * 193), Some(i * 5 % 1000)]?,
+        })?;
+    }
+    Ok(rows)
+}
+
+fn time_segments<R: Print + Eprint + Clock>(
+    rt: &R,
+    alloc: Global,
+    calls: u32,
+) -> Result<(), Failure> {
+    let schema = Schema::parse(alloc, SCHEMA)?;
+    let rows = rows_of(alloc)?;
+    let shape = Rc::new(alloc, Shape::new(alloc, &schema)?)?;
+    if !is_group(&shape.schema, &rows) {
+        return Err(Failure::Rows);
+    }
+    let start = Instant::now(rt)?;
+    let mut seen = 0;
+    let builds = calls / 64;
+    for call in 0..builds {
+        if let Ok(segment) = PlaneSegment::build_shared(alloc, &shape, &rows) {
+            seen ^= byte_of(&segment.bytes, call);
+        }
+    }
+    tell(rt, "build planes", builds, start, seen)?;
+    seen = 0;
+    let start = Instant::now(rt)?;
+    for call in 0..builds {
+        if let Ok(segment) = SliceSegment::build_shared(alloc, &shape, &rows) {
+            seen ^= byte_of(&segment.bytes, call);
+        }
+    }
+    tell(rt, "build slices", builds, start, seen)
+}
+
+/// Four columns whose blocks are judged: 8 bits, 5 bits that may be null, 20 bits, and 32 bits that may be null.
+const JUDGED: &[u8] =
+    b"TABLE w\nCOLUMN a 0 255 NOT NULL\nCOLUMN b -10 10\nCOLUMN c 0 1000000 NOT NULL\nCOLUMN d 0 4294967295\n";
+
+/// A group of 512 drawn rows, with a null in every eighth or so.
+fn drawn_rows(alloc: Global) -> Result<Vec<Row>, Failure> {
+    let mut rows = Vec::new(alloc);
+    let mut state = 1;
+    for _ in 0..512 {
+        let a = i64::from(drawn(&mut state) >> 24);
+        let b = i64::from((drawn(&mut state) >> 8) % 21) - 10;
+        let c = i64::from((drawn(&mut state) >> 4) % 1000001);
+        let d = i64::from(drawn(&mut state));
+        let b = or_null(&mut state, b);
+        let d = or_null(&mut state, d);
+        rows.push(Row {
+            values: vec![in alloc; Some(a), b, Some(c), d]?,
+        })?;
+    }
+    Ok(rows)
+}
+
+/// The faults of all blocks in planes, joined; none is 0.
+fn judged_planes(shape: &Shape, rows: u32, bytes: &[u8]) -> u64
+    requires { rows ≤ group_size }
+{
+    let mut faults = 0;
+    let mut rest = bytes;
+    for col in 0..shape.schema.columns.len() {
+        let size = PlaneSegment::block_size(shape, col);
+        if rest.len() < size {
+            return 1;
+        }
+        let (block, others) = rest.split_at(size);
+        faults |= u64::from(PlaneSegment::judge(shape, col, rows, block).unwrap_or(0));
+        rest = others;
+    }
+    faults
+}
+
+/// The faults of all blocks in slices, joined; none is 0.
+fn judged_slices(shape: &Shape, rows: u32, bytes: &[u8]) -> u64
+    requires { rows ≤ group_size }
+{
+    let mut faults = 0;
+    let mut rest = bytes;
+    for col in 0..shape.schema.columns.len() {
+        let size = SliceSegment::block_size(shape, col);
+        if rest.len() < size {
+            return 1;
+        }
+        let (block, others) = rest.split_at(size);
+        faults |= u64::from(SliceSegment::judge(shape, col, rows, block).unwrap_or(0));
+        rest = others;
+    }
+    faults
+}
+
+fn time_judging<R: Print + Eprint + Clock>(
+    rt: &R,
+    alloc: Global,
+    calls: u32,
+) -> Result<(), Failure> {
+    let schema = Schema::parse(alloc, JUDGED)?;
+    let rows = drawn_rows(alloc)?;
+    if !is_group(&schema, &rows) {
+        return Err(Failure::Rows);
+    }
+    let planes = PlaneSegment::build(alloc, &schema, &rows)?;
+    let slices = SliceSegment::build(alloc, &schema, &rows)?;
+    let judgings = calls / 4;
+    let mut bytes = Vec::from_slice(alloc, planes.bytes())?;
+    let mut others = Vec::from_slice(alloc, slices.bytes())?;
+    let start = Instant::now(rt)?;
+    let mut seen = 0;
+    for call in 0..judgings {
+        if let Some(first) = bytes.first_mut() {
+            *first = (call & 0xFF) as u8;
+        }
+        seen ^= judged_planes(&planes.shape, planes.rows_in(), &bytes) ^ u64::from(call);
+    }
+    tell(rt, "judge planes", judgings, start, seen)?;
+    let start = Instant::now(rt)?;
+    seen = 0;
+    for call in 0..judgings {
+        if let Some(first) = others.first_mut() {
+            *first = (call & 0xFF) as u8;
+        }
+        seen ^= judged_slices(&slices.shape, slices.rows_in(), &others) ^ u64::from(call);
+    }
+    tell(rt, "judge slices", judgings, start, seen)
+}

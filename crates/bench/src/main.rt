@@ -1,0 +1,67 @@
+//! What is timed by hand, one benchmark after the other: `bench WORD ..`, where a word is
+//!
+//! - `lanes=CALLS`: the kernels over bytes, and the building and judging of segments, with so many calls;
+//! - `run`: runs of scan programs over segments, beside straight loops over the same kernels;
+//! - `totals`: SUM, MIN and MAX of picked rows, in both layouts;
+//! - `diagram`: a diagram that is filled;
+//! - `cert`: a certificate of a million product rows, read and checked;
+//! - `reader=FILE`: the records of a file, counted by the `csv` crate alone.
+//!
+//! Standard output says what came of it, which is the same each time, and standard error how long it took. The scripts of
+//! `bench/` run it, beside plain C where there is the same in C.
+#![tactic(auto)]
+
+mod case;
+mod cert;
+mod diagram;
+mod drawn;
+mod failure;
+mod kernels;
+mod lanes;
+mod reader;
+mod run;
+mod total_ways;
+mod totals;
+mod ways;
+
+use failure::Failure;
+use std::env;
+use std::process::ExitCode;
+
+fn main(rt: HostRuntime) -> ExitCode {
+    match time_words(&rt) {
+        Ok(()) => ExitCode::SUCCESS,
+        Err(failure) => {
+            let _ = eprintln!(rt; "{failure}");
+            ExitCode::FAILURE
+        }
+    }
+}
+
+/// Times what the words of the command line name, in their order.
+fn time_words(rt: &HostRuntime) -> Result<(), Failure> {
+    let words: Vec<String> = env::args(rt)?.collect(rt.alloc())?;
+    for word in words.iter().skip(1) {
+        time_word(rt, word.as_str())?;
+    }
+    Ok(())
+}
+
+fn time_word(rt: &HostRuntime, word: &str) -> Result<(), Failure> {
+    match word.split_once('=') {
+        Some(("lanes", calls)) => lanes::time_calls(rt, calls),
+        Some(("reader", path)) => reader::count_records(rt, path),
+        Some(_) => Err(Failure::Word),
+        None => time_named(rt, word),
+    }
+}
+
+fn time_named(rt: &HostRuntime, word: &str) -> Result<(), Failure> {
+    match word {
+        "run" => run::time_all(rt),
+        "totals" => totals::time_all(rt),
+        "diagram" => diagram::fill(rt),
+        "cert" => cert::measure(rt),
+        _ => Err(Failure::Word),
+    }
+}

@@ -1,0 +1,117 @@
+//! SUM, MIN and MAX of a column of 32 bits that takes nulls, in planes and in slices, over the rows of segments
+//! that are picked: about half of them, and about one in 64. Standard output says the totals, and standard error the
+//! least times.
+//!
+//! Read `total_ways.rt` first, for what is timed.
+use crate::drawn::{drawn, nanos, or_null};
+use crate::failure::Failure;
+use crate::total_ways::{Greatest, Least, Sum, Way};
+use bw_lanes::Plane;
+use bw_model::{Row, Schema};
+use bw_planes::PlaneSegment;
+use bw_segment::{Segment, is_group};
+use bw_slices::SliceSegment;
+use std::alloc::Global;
+use std::rt::Clock;
+use std::time::Instant;
+
+const SCHEMA: &[u8] = b"TABLE t\nCOLUMN a 0 4294967295\n";
+
+/// Distinct segments: a number of which 10,000 is a multiple.
+const CASES: usize = 8;
+
+/// Times that all segments are gone through in a round: 10,000 segments.
+const PASSES: usize = 1_250;
+
+const ROUNDS: usize = 30;
+
+pub(crate) fn time_all(rt: &(impl AllocGlobal + Print + Eprint + Clock)) -> Result<(), Failure> {
+    let alloc = rt.alloc();
+    let schema = Schema::parse(alloc, SCHEMA)?;
+    let mut state = 1;
+    let mut planes = Vec::with_capacity(alloc, CASES)?;
+    let mut slices = Vec::with_capacity(alloc, CASES)?;
+    for _ in 0..CASES {
+        let rows = drawn_rows(alloc, &mut state)?;
+        if !is_group(&schema, &rows) {
+            return Err(Failure::Rows);
+        }
+        planes.push(PlaneSegment::build(alloc, &schema, &rows)?)?;
+        slices.push(SliceSegment::build(alloc, &schema, &rows)?)?;
+    }
+    let half = drawn_plane(&mut state, 1);
+    let few = drawn_plane(&mut state, 6);
+    for (picked, name) in [(half, "half the rows"), (few, "one row in 64")] {
+        time_layout(rt, &planes, &picked, "planes", name)?;
+        time_layout(rt, &slices, &picked, "slices", name)?;
+    }
+    Ok(())
+}
+
+/// Times the three totals in one layout.
+fn time_layout<S: Segment>(
+    rt: &(impl Print + Eprint + Clock),
+    segments: &[S],
+    picked: &Plane,
+    layout: &str,
+    name: &str,
+) -> Result<(), Failure> {
+    time_way::<Sum, S>(rt, segments, picked, "SUM", layout, name)?;
+    time_way::<Least, S>(rt, segments, picked, "MIN", layout, name)?;
+    time_way::<Greatest, S>(rt, segments, picked, "MAX", layout, name)
+}
+
+/// Tells the least time of a total, in tenths of nanoseconds a segment.
+fn time_way<W: Way, S: Segment>(
+    rt: &(impl Print + Eprint + Clock),
+    segments: &[S],
+    picked: &Plane,
+    total: &str,
+    layout: &str,
+    name: &str,
+) -> Result<(), Failure> {
+    let mut least = u64::MAX;
+    let mut seen: i128 = 0;
+    for _ in 0..ROUNDS {
+        let start = Instant::now(rt)?;
+        for _ in 0..PASSES {
+            for segment in segments {
+                seen = seen.wrapping_add(W::total(segment, picked).unwrap_or(0));
+            }
+        }
+        least = least.min(nanos(start.elapsed(rt)?));
+    }
+    let tenths = least / 1_000;
+    eprintln!(rt;
+        "{}.{} ns: {total}, {layout}, {name}",
+        tenths / 10,
+        tenths % 10
+    )?;
+    println!(rt; "{total}, {layout}, {name}: {seen}")?;
+    Ok(())
+}
+
+/// 512 drawn rows, with a null in every eighth or so.
+fn drawn_rows(alloc: Global, state: &mut u64) -> Result<Vec<Row>, Failure> {
+    let mut rows = Vec::with_capacity(alloc, 512)?;
+    for _ in 0..512 {
+        let a = i64::from(drawn(state));
+        let a = or_null(state, a);
+        rows.push(Row {
+            values: vec![in alloc; a]?,
+        })?;
+    }
+    Ok(rows)
+}
+
+/// A plane in which about one row in 2 to this power is 1.
+fn drawn_plane(state: &mut u64, power: usize) -> Plane {
+    let mut plane = [u64::MAX; 8];
+    for _ in 0..power {
+        for word in 0..8 {
+            let low = u64::from(drawn(state));
+            plane[word] &= low << 32 | u64::from(drawn(state));
+        }
+    }
+    plane
+}
