@@ -89,7 +89,7 @@ def misplaced(done):
 
 
 def quoted(cell, before):
-    """A cell in a command, behind this text of the command: in its single quotes, or in quotes of its own."""
+    """A cell in a command, after this text of the command: in its single quotes, or in quotes of its own."""
     return cell.replace("'", "'\\''") if before.count("'") % 2 else shlex.quote(cell)
 
 

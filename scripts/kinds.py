@@ -64,7 +64,7 @@ class Whole:
 
 
 class Decimals(Whole):
-    """Decimals times a power of ten. All have so many digits behind the point; or none has a zero at its end there, and
+    """Decimals times a power of ten. All have so many digits after the point; or none has a zero at its end there, and
     then a whole number has no point."""
     name = "decimals"
 
