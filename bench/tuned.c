@@ -497,7 +497,7 @@ int main(int words, char **word) {
     settle();
     scan(question);
     if (!question->sums) printf("COUNT(*)\n%llu\n", (unsigned long long)count);
-    else if (count) printf("SUM(d)\n%lld\n", (long long)total);
-    else printf("SUM(d)\nNULL\n");
+    else if (count) printf("SUM(%s)\n%lld\n", asked[D]->name, (long long)total);
+    else printf("SUM(%s)\nNULL\n", asked[D]->name);
     return fflush(stdout) == 0 ? 0 : 2;
 }
