@@ -30,7 +30,7 @@ pub fn infer<C: Source, K: Sink>(
     requires csv { C.failures csv.old < 2 ^ 64 - 1 }
     requires out { K.failures out.old < 2 ^ 64 - 1 }
 {
-    bw_infer::infer(alloc, name.as_bytes(), csv, out)
+    bw_schemas::infer(alloc, name.as_bytes(), csv, out)
 }
 
 pub fn load<S: Source, C: Source, K: Sink>(
@@ -64,7 +64,7 @@ pub fn info<S: Source, K: Sink>(alloc: Global, table: &mut S, out: &mut K) -> Re
     requires table { S.failures table.old < 2 ^ 64 - 1 }
     requires out { K.failures out.old < 2 ^ 64 - 1 }
 {
-    bw_info::info(alloc, table, out)
+    bw_schemas::info(alloc, table, out)
 }
 
 pub fn dump<S: Source, K: Sink>(alloc: Global, table: &mut S, out: &mut K) -> Result<(), Fault>
@@ -81,5 +81,5 @@ pub fn plan<K: Sink>(alloc: Global, schema: &[u8], sql: &str, out: &mut K) -> Re
 }
 
 pub fn check(alloc: Global, schema: &[u8], sql: &str, file: &[u8]) -> Result<Accepted, Fault> {
-    bw_check::check_text(alloc, schema, sql.as_bytes(), file)
+    bw_cert_file::check_text(alloc, schema, sql.as_bytes(), file)
 }

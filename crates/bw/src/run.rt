@@ -3,7 +3,7 @@ ghost use Rattle.std.specs.Prelude.{◌≡◌};
 
 use crate::calls::{answer, check, direct, dump, infer, info, load, plan};
 use crate::out_file::{OutFile, is_same_file};
-use bw_check::MAX_PROGRAM_FILE_LEN;
+use bw_cert_file::MAX_PROGRAM_FILE_LEN;
 use bw_device::{FromRead, Input, Source, ToWrite, read_limited};
 use bw_file::Layout;
 use bw_model::{Fault, MAX_SCHEMA_LEN, code};
@@ -58,7 +58,7 @@ fn input_as_output<'a>(rt: &HostRuntime, words: &Words<'a>) -> Option<&'a str> {
         .find(|input| is_same_file(rt, input, out))
 }
 
-/// Writes the line of what ended a command, and what is to be said of it where that is to be told, and gives the status.
+/// Writes the line of what ended a command, and what is to be said of it where that is to be reported, and gives the status.
 fn tell_fault(rt: &HostRuntime, words: &Words<'_>, ended: &Ended<'_>, told: bool) -> u8 {
     let status = report(&ended.fault, &mut ToWrite::new(rt.stderr()));
     if told {

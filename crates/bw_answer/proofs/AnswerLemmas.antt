@@ -82,12 +82,6 @@ totals_fields query tallies rows all is =
     is ∙ ap (λ (items : List Item). map (λ item. tally_of item (kept query.cond rows)) items) (all_aggregates query.items.items all) in
     ap (map (λ (tally : Tally). value_text tally.answer)) those ∙ spelled_totals query.items.items (kept query.cond rows)
 
--- there are as many totals as items
-pub totals_count : (items : List Item) (tallies : List Tally) (rows : List (List Value)) → list_all is_aggregate items ≡ true
-    → tallies ≡ map (λ item. tally_of item rows) (filter is_aggregate items) → length tallies ≡ length items
-totals_count items tallies rows all is =
-    ap length is ∙ length-map (filter is_aggregate items) (λ item. tally_of item rows) ∙ ap length (all_aggregates items all)
-
 -- over no rows there is the heading alone
 nothing_listed : (query : Query) → csv_text (listed query []) ≡ []
 unfolding csv_text

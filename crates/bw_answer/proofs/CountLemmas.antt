@@ -53,9 +53,3 @@ is_of-counted width rows n (t ∷ ts) e =
     let here = both (item_within width t.item) (nat_le t.count rows) parts.0 in
     let count : t.count + n ≤ rows + n = omega (arith, leb-true t.count rows here.1) in
     and_true _ _ (and_true _ _ here.0 (le-leb _ _ count)) (is_of-counted width rows n ts parts.1)
-
--- each has room for so many more
-pub count_within : (width rows : ℕ) (tallies : List Tally) (k : ℕ) (d : Tally) → k < length tallies → list_all (is_of width rows) tallies ≡ true → (get_or tallies k d).count ≤ rows
-count_within width rows tallies k d h e =
-    let here = AllPass-from_list_all (is_of width rows) tallies e k d h in
-    leb-true _ rows (both (item_within width (get_or tallies k d).item) (nat_le (get_or tallies k d).count rows) here).1

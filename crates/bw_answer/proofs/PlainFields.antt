@@ -29,7 +29,7 @@ unfolding is_plain
 plain_shows [] e = absurd (cc e)
 plain_shows (c ∷ cs) e = rw (ne_eqb (length (c ∷ cs)) 0 (λ z. omega (arith, z))) refl
 
--- one more field behind those of a record
+-- one more field after those of a record
 join_more : (fields : List (List ℕ)) (field : List ℕ)
     → join_with_byte 44 (fields ++ field ∷ []) ≡ join_with_byte 44 fields ++ ((if not (is_begun fields) then [] else 44 ∷ []) ++ field)
 join_more [] field = refl

@@ -8,7 +8,7 @@ field_first : (field : List ℕ) (fields : List (List ℕ)) → 0 < length field
 field_first field [] some = absurd (omega arith)
 field_first field (next ∷ fields) some = append_assoc field (44 ∷ _) (10 ∷ [])
 
--- the field of one more column, the comma behind it, and the fields from there on
+-- the field of one more column, the comma after it, and the fields from there on
 pub record_grows : (f : ℕ → List ℕ) (columns : List ℕ) (left : ℕ) (field comma text rest : List ℕ) → 0 < left → left < length columns
     → text ≡ record_text (map f (drop left columns)) ++ rest → comma ≡ 44 ∷ text → field ≡ f (get_or columns (left - 1) 0) ++ comma
     → field ≡ record_text (map f (drop (left - 1) columns)) ++ rest

@@ -60,7 +60,7 @@ records_of query rows = if lists_rows query.items.items then listed query rows e
 unfoldable pub meaning : List (List ℕ) → Query → List (List Value) → List (List (List ℕ))
 meaning names query rows = map (heading_of names) query.items.items ∷ records_of query rows
 
--- records as text: fields joined by commas, byte 44, and a line feed, byte 10, behind each record
+-- records as text: fields joined by commas, byte 44, and a line feed, byte 10, after each record
 abbrev pub record_text : List (List ℕ) → List ℕ
 record_text fields = join_with_byte 44 fields ++ 10 ∷ []
 

@@ -9,14 +9,16 @@ use Rattle.bw_model.specs.Total.{is_aggregate}
 use Rattle.bw_rowwise.specs.Accumulator.{Tally, tally_of}
 use Rattle.bw_answer.specs.Answer.{csv_text, heading_of, is_count_all, listed, lists_rows, record_text}
 
--- the heading record of a query over columns of these names, and behind it the records of the rows that are kept, where
+-- the heading record of a query over columns of these names, and after it the records of the rows that are kept, where
 -- the query lists them
 abbrev pub text_over : List (List ℕ) → Query → List (List Value) → List ℕ
 text_over names query rows =
-    record_text (map (heading_of names) query.items.items) ++ (if lists_rows query.items.items then csv_text (listed query rows) else [])
+    record_text (map (heading_of names) query.items.items) ++
+    (if lists_rows query.items.items then csv_text (listed query rows) else [])
 
 -- a text and totals are those of a query, over a table of columns of these names, of which these rows were taken
-pub record AreOver (names : List (List ℕ)) (query : Query) (rows : List (List Value)) (text : List ℕ) (totals : List Tally) : Type 0 where
+pub record AreOver (names : List (List ℕ)) (query : Query) (rows : List (List Value)) (text : List ℕ)
+    (totals : List Tally) : Type 0 where
   pub written : text ≡ text_over names query rows
   pub totalled : lists_rows query.items.items ≡ false
       → totals ≡ map (λ item. tally_of item (kept query.cond rows)) (filter is_aggregate query.items.items)

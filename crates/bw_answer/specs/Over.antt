@@ -7,12 +7,14 @@ use Rattle.bw_answer.specs.declared.answer.Answer.{Answer}
 
 -- the answer to this query, over a table of columns of these names, has taken these rows
 abbrev pub IsOver : List (List ℕ) → Query → List (List Value) → Answer → Type 0
-IsOver names query rows answer = (answer.query.now ≡ query) × AreOver names query rows answer.text.items answer.totals.items
+IsOver names query rows answer = (answer.query.now ≡ query)
+    × AreOver names query rows answer.text.items answer.totals.items
 
 -- an answer to the same query, whichever rows it had taken, has taken these too
 pub record GoesOver (start : Answer) (rows : List (List Value)) (now : Answer) : Type 0 where
   pub same : now.query.now ≡ start.query.now
-  pub over : (names : List (List ℕ)) (query : Query) (before : List (List Value)) → IsOver names query before start → IsOver names query (before ++ rows) now
+  pub over : (names : List (List ℕ)) (query : Query) (before : List (List Value)) → IsOver names query before start
+      → IsOver names query (before ++ rows) now
 
 -- the query of an answer
 abbrev pub asked_by : Answer → Query

@@ -22,9 +22,10 @@ use crate::kept::is_kept;
 use crate::listing::Listing;
 use crate::picked::total_picked;
 use crate::totals::{add_count, add_kept, totals_of, with_totals};
-use bw_csv::RowTaker;
 use bw_lanes::Plane;
-use bw_model::{Fault, Item, Query, Row, Schema, admitted_rows_have_each_value, totals_join};
+use bw_model::{
+    Fault, Item, Query, Row, RowTaker, Schema, admitted_rows_have_each_value, totals_join,
+};
 use bw_rowwise::{Accumulator, Prepared, keeps_all};
 use bw_segment::Segment;
 use std::alloc::Global;
@@ -246,7 +247,8 @@ fn put_row(
     ensures counts { OnOk result ((rows : ℕ) → IsTrue (list_all (is_of (length (values_of row.now)) rows) totals.old)
         → IsTrue (list_all (is_of (length (values_of row.now)) (rows + 1)) totals.new)) }
     ensures left { IfErr result (λ _. totals.new ≡ totals.old) }
-    ensures names { (width : ℕ) (items : List Item) → IsListing records.old width items → IsListing records.new width items }
+    ensures names { (width : ℕ) (items : List Item) → IsListing records.old width items
+        → IsListing records.new width items }
     ensures only_memory { IfErr result (λ fault. fault ≡ no_memory) }
 {
     if !lists {
@@ -275,7 +277,8 @@ fn put_picked<S: Segment>(
     requires lists { lists ≡ lists_rows query.now.items.items }
     requires names { lists ≡ true
         → IsListing records.old (length (S.meaning segment.now).columns) query.now.items.items }
-    requires columns { All (λ tally. IsTrue (item_within (length (S.meaning segment.now).columns) tally.item)) totals.old }
+    requires columns { All (λ tally. IsTrue (item_within (length (S.meaning segment.now).columns) tally.item))
+        totals.old }
     requires room { All (λ tally. tally.count + length (S.meaning segment.now).rows ≤ most_rows) totals.old }
     ensures over { OnOk result ((names : List (List ℕ)) → (rows : List (List Value))
         → AreOver names query.now rows text.old.items totals.old
@@ -283,7 +286,8 @@ fn put_picked<S: Segment>(
     ensures counts { OnOk result ((width rows : ℕ) → IsTrue (list_all (is_of width rows) totals.old)
         → IsTrue (list_all (is_of width (rows + length (S.meaning segment.now).rows)) totals.new)) }
     ensures left { IfErr result (λ _. totals.new ≡ totals.old) }
-    ensures names { (width : ℕ) (items : List Item) → IsListing records.old width items → IsListing records.new width items }
+    ensures names { (width : ℕ) (items : List Item) → IsListing records.old width items
+        → IsListing records.new width items }
     ensures only_memory { IfErr result (λ fault. fault ≡ no_memory) }
 {
     totals_join();

@@ -20,7 +20,8 @@ pub(crate) fn heading_text(
 ) -> Result<Vec<u8>, Fault>
     requires columns { IsTrue (list_all (item_within (length columns.now)) items.now) }
     requires some { 1 ≤ length items.now }
-    ensures heading { IfOk result (λ text. text.items ≡ record_text (map (heading_of (names_of columns.now)) items.now)) }
+    ensures heading { IfOk result (λ text. text.items ≡ record_text
+        (map (heading_of (names_of columns.now)) items.now)) }
     ensures only_memory { IfErr result (λ fault. fault ≡ no_memory) }
 {
     let mut text = CsvText::onto(Vec::new(alloc));

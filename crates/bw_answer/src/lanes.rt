@@ -50,7 +50,8 @@ impl ColumnValues {
     /// Fetches a column's values in all rows of a segment at once.
     fn fetch<S: Segment>(&mut self, segment: &S, column: usize)
         requires { column < length (S.meaning segment.now).columns }
-        ensures { (number : ℕ) → number < length (S.meaning segment.now).rows → slice_index_or self.new.values number None
+        ensures { (number : ℕ) → number < length (S.meaning segment.now).rows
+            → slice_index_or self.new.values number None
             ≡ value_in (slice_index_or (S.meaning segment.now).rows number []) column }
     {
         values_in_lanes(segment, column, &mut self.values);

@@ -78,7 +78,8 @@ impl Listing {
         requires some { 1 ≤ vec_len self.old.columns }
         requires wide { vec_len self.old.lanes ≡ length (S.meaning segment.now).columns }
         requires plane { IsWithin (length (S.meaning segment.now).rows) (lanes_of_words plane.now) }
-        ensures records { OnOk result (text.new.items ≡ text.old.items ++ csv_text (map (fields_of self.old.columns.items)
+        ensures records { OnOk result (text.new.items ≡ text.old.items
+            ++ csv_text (map (fields_of self.old.columns.items)
             (picked_rows (S.meaning segment.now) (lanes_of_words plane.now)))) }
         ensures columns { self.new.columns.items ≡ self.old.columns.items }
         ensures lanes { vec_len self.new.lanes ≡ vec_len self.old.lanes }

@@ -12,7 +12,8 @@ use bw_segment::Segment;
 
 /// Adds the rows of a segment that a plane picks to each total.
 pub(crate) fn total_picked<S: Segment>(totals: &mut [Accumulator], segment: &S, plane: &Plane)
-    requires columns { All (λ tally. IsTrue (item_within (length (S.meaning segment.now).columns) tally.item)) totals.old }
+    requires columns { All (λ tally. IsTrue (item_within (length (S.meaning segment.now).columns) tally.item))
+        totals.old }
     requires room { All (λ tally. tally.count + length (S.meaning segment.now).rows ≤ most_rows) totals.old }
     requires plane { IsWithin (length (S.meaning segment.now).rows) (lanes_of_words plane.now) }
     ensures { totals.new ≡ map (λ tally. with_picked tally

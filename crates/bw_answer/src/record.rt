@@ -9,7 +9,7 @@ use crate::lanes::ColumnValues;
 use bw_model::{Fault, Value};
 use itoa::write_digits;
 
-/// How many bytes a field takes at most: a sign, 19 digits, and the comma or the line feed behind it.
+/// How many bytes a field takes at most: a sign, 19 digits, and the comma or the line feed after it.
 pub(crate) const FIELD: usize = 21;
 
 /// Adds the record of the values that columns have in the first lane to a text. It is written into a draft first, which has

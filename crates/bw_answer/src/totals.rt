@@ -21,7 +21,8 @@ use std::alloc::Global;
 
 /// The totals over no rows, one for each aggregate among the items.
 pub(crate) fn totals_of(alloc: Global, items: &[Item]) -> Result<Vec<Accumulator>, Fault>
-    ensures totals { IfOk result (λ totals. totals.items ≡ map (λ item. tally_of item []) (filter is_aggregate items.now)) }
+    ensures totals { IfOk result (λ totals. totals.items ≡ map (λ item. tally_of item [])
+        (filter is_aggregate items.now)) }
     ensures only_memory { IfErr result (λ fault. fault ≡ no_memory) }
 {
     let mut totals = Vec::with_capacity(alloc, items.len())?;
@@ -41,7 +42,8 @@ pub(crate) fn add_kept(totals: &mut [Accumulator], query: &Query, cond: &Prepare
     requires room { IsTrue (list_all (has_room (length (values_of row.now))) totals.old) }
     ensures counts { (rows : ℕ) → IsTrue (list_all (is_of (length (values_of row.now)) rows) totals.old)
         → IsTrue (list_all (is_of (length (values_of row.now)) (rows + 1)) totals.new) }
-    ensures totals { (items : List Item) → (rows : List (List Value)) → totals.old ≡ map (λ item. tally_of item rows) items
+    ensures totals { (items : List Item) → (rows : List (List Value)) → totals.old
+        ≡ map (λ item. tally_of item rows) items
         → totals.new ≡ map (λ item. tally_of item (rows ++ kept query.now.cond (values_of row.now ∷ []))) items }
 {
     if !is_kept(cond, row) {
@@ -55,7 +57,8 @@ fn add_row(totals: &mut [Accumulator], row: &Row)
     requires { IsTrue (list_all (has_room (length (values_of row.now))) totals.old) }
     ensures counts { (rows : ℕ) → IsTrue (list_all (is_of (length (values_of row.now)) rows) totals.old)
         → IsTrue (list_all (is_of (length (values_of row.now)) (rows + 1)) totals.new) }
-    ensures totals { (items : List Item) → (rows : List (List Value)) → totals.old ≡ map (λ item. tally_of item rows) items
+    ensures totals { (items : List Item) → (rows : List (List Value)) → totals.old
+        ≡ map (λ item. tally_of item rows) items
         → totals.new ≡ map (λ item. tally_of item (rows ++ values_of row.now ∷ [])) items }
 {
     for total in totals.iter_mut() {

@@ -18,13 +18,13 @@ use Rattle.bw_cert_lines.specs.declared.lines.Entry.{Entry}
 use Rattle.bw_cert_lines.specs.declared.lines.Entry.TheVariants as line_of
 use Rattle.bw_cert_lines.specs.declared.lines.InstructionEntry.{InstructionEntry}
 use Rattle.bw_cert_lines.specs.declared.lines.Keep.{Keep}
-use Rattle.bw_known.specs.declared.edge.Edge.{Edge}
-use Rattle.bw_known.specs.Accepted.{KeepLine, keep_line, are_kept}
-use Rattle.bw_known.specs.Instruction.{behind, put, is_fill, is_skip_line, loaded_node, operation_row, byte_chain, byte_node, terminal, plane_on, read_on, joined_on, opposite_on, byte_on}
-use Rattle.bw_known.specs.Join.{is_kept}
-use Rattle.bw_known.specs.Known.{Known, node_of, nothing_known, with_node}
-use Rattle.bw_known.specs.Walk.{Taken, keep_in, by_keep, keeps_taken, join_taken, is_join, instruction_on, instruction_taken, joined}
-use Rattle.bw_known.proofs.JoinLemmas.{keep_on, keep_refused}
+use Rattle.bw_cert_known.specs.declared.edge.Edge.{Edge}
+use Rattle.bw_cert_known.specs.Accepted.{KeepLine, keep_line, are_kept}
+use Rattle.bw_cert_known.specs.Instruction.{behind, put, is_fill, is_skip_line, loaded_node, operation_row, byte_chain, byte_node, terminal, plane_on, read_on, joined_on, opposite_on, byte_on}
+use Rattle.bw_cert_known.specs.Join.{is_kept}
+use Rattle.bw_cert_known.specs.Known.{Known, node_of, nothing_known, with_node}
+use Rattle.bw_cert_known.specs.Walk.{Taken, keep_in, by_keep, keeps_taken, join_taken, is_join, instruction_on, instruction_taken, joined}
+use Rattle.bw_cert_known.proofs.JoinLemmas.{keep_on, keep_refused}
 use Rattle.bw_cert.specs.FirstFault.{NoKeep, WrongLine, WrongKeep, WrongJoin}
 use Rattle.bw_cert.proofs.ValidLemmas.{bind_ok, not_refused}
 
@@ -34,7 +34,7 @@ ok_same is = cc
 pub err_same : (A : Type 0) (x y : Fault) → ◌≡◌ {A = Result A Fault} (Err x) (Err y) → x ≡ y
 err_same A x y is = cc
 
--- what was refused along a chain was refused at its first step, or behind it
+-- what was refused along a chain was refused at its first step, or after it
 pub bind_err : {A B : Type 0} (r : Result A Fault) (f : A → Result B Fault) (fault : Fault) → (r >>= f) ≡ Err fault → (r ≡ Err fault) ⊎ ((x : A) × (r ≡ Ok x) × (f x ≡ Err fault))
 bind_err (Ok x) f fault is = inr (x, refl, is)
 bind_err {A = A} {B = B} (Err first) f fault is = inl (ap (λ (fault : Fault). Err fault) (err_same B first fault is))
@@ -121,7 +121,7 @@ module _ (facts : Facts) (through : Known) (edges : List Edge) where
       keep_on facts through edges least kept _ (map keep_line keeps ++ keep_line wrong ∷ others) (keep_line k) k.keep refl refl now.0
       ∙ wrong_keep (suc k.keep.register) (with_node kept k.keep.register k.keep.node) keeps wrong others now.1 (sym (ap (λ b. b && rest) now.0) ∙ broken)
 
-  -- behind the lines KEEP that were taken comes another line, or none
+  -- after the lines KEEP that were taken comes another line, or none
   pub keeps_stop : (least : ℕ) (kept : Known) (lines : List BodyLine) (taken : Taken) → keeps_taken facts through edges least kept lines ≡ Ok taken → NoKeep taken.rest
   unfolding keeps_taken
   keeps_stop least kept [] taken is = subst (λ (t : Taken). NoKeep t.rest) (ok_same is) tt

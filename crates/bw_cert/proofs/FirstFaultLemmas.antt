@@ -9,19 +9,19 @@ use Rattle.bw_diagram.specs.Facts.{Facts}
 use Rattle.bw_program.specs.declared.instr.Instr.{Instr}
 use Rattle.bw_cert_lines.specs.declared.lines.BodyLine.{BodyLine}
 use Rattle.bw_cert_lines.specs.declared.lines.Entry.TheVariants as line_of
-use Rattle.bw_known.specs.declared.edge.Edge.{Edge}
-use Rattle.bw_known.specs.Accepted.{KeepLine, JoinLines, Part, keep_line, join_lines, lines_of, before, edges_before, edge_at, fallen, past, known_past, kept_by, are_kept, obeys_join, Obeys}
-use Rattle.bw_known.specs.Instruction.{behind}
-use Rattle.bw_known.specs.Join.{edge_of, with_edge, edges_into}
-use Rattle.bw_known.specs.Known.{Known, nothing_known, with_node}
-use Rattle.bw_known.specs.Walk.{Taken, by_keep, keeps_taken, instruction_taken, joined, walked, judged}
-use Rattle.bw_known.proofs.AcceptLemmas.{Line, Joined, line_read, join_read, drop_stands}
-use Rattle.bw_known.proofs.JoinLemmas.{keep_on}
+use Rattle.bw_cert_known.specs.declared.edge.Edge.{Edge}
+use Rattle.bw_cert_known.specs.Accepted.{KeepLine, JoinLines, Part, keep_line, join_lines, lines_of, before, edges_before, edge_at, fallen, past, known_past, kept_by, are_kept, obeys_join, Obeys}
+use Rattle.bw_cert_known.specs.Instruction.{behind}
+use Rattle.bw_cert_known.specs.Join.{edge_of, with_edge, edges_into}
+use Rattle.bw_cert_known.specs.Known.{Known, nothing_known, with_node}
+use Rattle.bw_cert_known.specs.Walk.{Taken, by_keep, keeps_taken, instruction_taken, joined, walked, judged}
+use Rattle.bw_cert_known.proofs.AcceptLemmas.{Line, Joined, line_read, join_read, drop_stands}
+use Rattle.bw_cert_known.proofs.JoinLemmas.{keep_on}
 use Rattle.bw_cert.specs.FirstFault.{NoKeep, KeepsAreAll, WrongLine, WrongJoin, WrongPlace, known_behind, edges_behind, FirstFault, StandsOn}
 use Rattle.bw_cert.proofs.PartsLemmas.{with_one, stands_last, edges_here, known_here, obeys_more, lines_more}
 use Rattle.bw_cert.proofs.FaultLemmas.{bind_err, taken_of, line_wrong, wrong_line, next_keep, behind_join, join_wrong, wrong_join, join_stops, line_stands}
 
--- how far a walk has come: behind some first instructions, whose lines are those of parts that obey
+-- how far a walk has come: after some first instructions, whose lines are those of parts that obey
 record Come (facts : Facts) (lines : List BodyLine) (first : List Instr) (edges : List Edge) (taken : Taken) : Type 0 where
   parts : List Part
   obeys : Obeys facts first parts
@@ -201,13 +201,13 @@ join_over facts end place (edge ∷ edges) through (Some join) lines none obeys 
     ap (λ b. refused_if (not b) (at_line 608 join.line) (Ok further) >>= behind_join facts end place through (edge ∷ edges)) (eq-eqb place place refl)
     ∙ keeps_over facts through (edge ∷ edges) 0 nothing_known join.keeps lines (none join refl) obeys
 
--- behind a part come the lines of the next one, which begin with no line KEEP, or the others
+-- after a part come the lines of the next one, which begin with no line KEEP, or the others
 behind_part : (place : ℕ) (parts : List Part) (rest : List BodyLine) → (length parts ≡ 0 → NoKeep rest) → NoKeep (lines_of place parts ++ rest)
 unfolding lines_of
 behind_part place [] rest none = none refl
 behind_part place (part ∷ parts) rest none = refl
 
--- the walk over the lines of parts that obey, from a place on, goes on behind them
+-- the walk over the lines of parts that obey, from a place on, goes on after them
 walk_over : (facts : Facts) (all : List Instr) (every : List Part) (end place : ℕ) (instrs : List Instr) (parts : List Part) (others : List Instr) (rest : List BodyLine) → Obeys facts all every → KeepsAreAll every rest →
     drop place all ≡ instrs → drop place every ≡ parts → length parts ≡ length instrs →
     walked facts end place (edges_before facts all every place) (instrs ++ others) (taken_of (lines_of place parts ++ rest) (before facts all every place))
@@ -277,7 +277,7 @@ refused_with_first facts instrs end lines fault f =
         ∙ ap (λ (r : Result Known Fault). (r >>= λ through. Ok (taken_of place.rest through)) >>= past_line) place.says
         ∙ ap (λ t. t >>= past_join) (wrong_join facts end (suc (length f.first)) place.through (edges_behind facts f.first f.parts f.instr) place.rest fault place.skips place.wrong)
 
--- and the fault is the same whatever lines come behind the one on which it stands
+-- and the fault is the same whatever lines come after the one on which it stands
 at_end : (code end : ℕ) (fault : Fault) → fault ≡ at_line code end → fault ≡ at_line fault.code end
 at_end code end fault is = is ∙ ap (λ (fault : Fault). at_line fault.code end) (sym is)
 

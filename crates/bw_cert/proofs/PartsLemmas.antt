@@ -1,15 +1,15 @@
--- One more instruction and its part, behind some that obey.
+-- One more instruction and its part, after some that obey.
 use Rattle.std.proofs.Common.{◌≡◌, ◌∙◌, refl, sym, ap, ap₂, subst, ℕ, zero, suc, ◌+◌, ◌<◌, ◌≤◌, IsTrue, List, [], ◌∷◌, ◌++◌, add-zero, append-nil, append_assoc, length, length-append, Option, Some, Ok, slice_get, arith}
 use Rattle.std.proofs.lemmas.Option.{slice_get_within}
 use Rattle.bw_diagram.specs.Facts.{Facts}
 use Rattle.bw_program.specs.declared.instr.Instr.{Instr}
 use Rattle.bw_cert_lines.specs.declared.lines.BodyLine.{BodyLine}
 use Rattle.bw_cert_lines.specs.declared.lines.Entry.TheVariants as line_of
-use Rattle.bw_known.specs.declared.edge.Edge.{Edge}
-use Rattle.bw_known.specs.Accepted.{Part, join_lines, lines_of, before, edges_before, edge_at, fallen, known_or_nothing, past, known_past, obeys_join, Obeys}
-use Rattle.bw_known.specs.Instruction.{behind}
-use Rattle.bw_known.specs.Join.{edge_of, with_edge, edges_into}
-use Rattle.bw_known.specs.Known.{Known}
+use Rattle.bw_cert_known.specs.declared.edge.Edge.{Edge}
+use Rattle.bw_cert_known.specs.Accepted.{Part, join_lines, lines_of, before, edges_before, edge_at, fallen, known_or_nothing, past, known_past, obeys_join, Obeys}
+use Rattle.bw_cert_known.specs.Instruction.{behind}
+use Rattle.bw_cert_known.specs.Join.{edge_of, with_edge, edges_into}
+use Rattle.bw_cert_known.specs.Known.{Known}
 
 abbrev pub with_one : {A : Type 0} → List A → A → List A
 with_one xs x = xs ++ x ∷ []
@@ -55,7 +55,7 @@ module _ (facts : Facts) (first : List Instr) (instr : Instr) (parts : List Part
       ap (λ (edges : List Edge). with_edge edges (edge_at (before facts (with_one first instr) (with_one parts part) place) (slice_get (with_one first instr) place))) (edges_more place (omega (arith, le)))
       ∙ ap₂ (λ (known : Known) (next : Option Instr). with_edge (edges_before facts first parts place) (edge_at known next)) (known_more place (omega (arith, le))) (stands_before first instr place (omega (arith, le)))
 
-  -- the edges behind it, and what is known there
+  -- the edges after it, and what is known there
   pub edges_here : edges_before facts (with_one first instr) (with_one parts part) (suc (length first)) ≡
       with_edge (edges_before facts first parts (length first)) (edge_of (before facts first parts (length first)) instr)
   unfolding edges_before
@@ -93,7 +93,7 @@ module _ (facts : Facts) (first : List Instr) (instr : Instr) (parts : List Part
         (ap (λ (known : Known). fallen facts known instr part) (known_more (length first) (omega arith)) ∙ ap known_or_nothing says) edges_here ∙ joins);
   }
 
--- its lines come behind theirs
+-- its lines come after theirs
 pub lines_more : (place : ℕ) (parts : List Part) (part : Part) → lines_of place (with_one parts part) ≡
     lines_of place parts ++ record { line = part.line; entry = line_of.Instruction part.entry } ∷ join_lines (suc (place + length parts)) part.join
 unfolding lines_of

@@ -8,12 +8,12 @@ use Rattle.bw_program.specs.declared.instr.Instr.{Instr}
 use Rattle.bw_cert_lines.specs.declared.lines.BodyLine.{BodyLine}
 use Rattle.bw_cert_lines.specs.declared.lines.Entry.TheVariants as line_of
 use Rattle.bw_cert_lines.specs.declared.lines.InstructionEntry.{InstructionEntry}
-use Rattle.bw_known.specs.declared.edge.Edge.{Edge}
-use Rattle.bw_known.specs.Accepted.{KeepLine, JoinLines, Part, Obeys, keep_line, lines_of, before, edges_before, are_kept}
-use Rattle.bw_known.specs.Instruction.{behind}
-use Rattle.bw_known.specs.Join.{edge_of, with_edge, edges_into}
-use Rattle.bw_known.specs.Known.{Known}
-use Rattle.bw_known.specs.Walk.{instruction_on, is_join, keep_in, judged}
+use Rattle.bw_cert_known.specs.declared.edge.Edge.{Edge}
+use Rattle.bw_cert_known.specs.Accepted.{KeepLine, JoinLines, Part, Obeys, keep_line, lines_of, before, edges_before, are_kept}
+use Rattle.bw_cert_known.specs.Instruction.{behind}
+use Rattle.bw_cert_known.specs.Join.{edge_of, with_edge, edges_into}
+use Rattle.bw_cert_known.specs.Known.{Known}
+use Rattle.bw_cert_known.specs.Walk.{instruction_on, is_join, keep_in, judged}
 
 -- lines that begin with no line KEEP
 abbrev pub NoKeep : List BodyLine → Type 0
@@ -26,14 +26,15 @@ KeepsAreAll parts rest =
     (place : ℕ) (part : Part) (join : JoinLines)
     → suc place ≡ length parts → slice_get parts place ≡ Some part → part.join ≡ Some join → NoKeep rest
 
--- Where the line of an instruction is wanted, the next one is another, or breaks its rule, whatever comes behind it. Where
+-- Where the line of an instruction is wanted, the next one is another, or breaks its rule, whatever comes after it. Where
 -- there is none, that is so at END (607).
 abbrev pub WrongLine : Facts → ℕ → Known → Instr → List BodyLine → Fault → Type 0
 WrongLine facts end known instr [] fault = fault ≡ at_line 607 end
 WrongLine facts end known instr (line ∷ lines) fault = instruction_on facts known instr line line.entry ≡ Err fault
 
--- Behind lines KEEP that hold, of registers that ascend from the least, comes one that doesn't, whatever comes behind it (608).
-pub record WrongKeep (facts : Facts) (through : Known) (edges : List Edge) (least : ℕ) (lines : List BodyLine) (fault : Fault) : Type 0 where
+-- After lines KEEP that hold, of registers that ascend from the least, comes one that doesn't, whatever comes after it (608).
+pub record WrongKeep (facts : Facts) (through : Known) (edges : List Edge) (least : ℕ) (lines : List BodyLine)
+    (fault : Fault) : Type 0 where
   pub keeps : List KeepLine
   pub wrong : KeepLine
   pub others : List BodyLine
@@ -43,16 +44,17 @@ pub record WrongKeep (facts : Facts) (through : Known) (edges : List Edge) (leas
   pub stands : fault ≡ at_line 608 wrong.line
 
 -- Where the line JOIN of a place is wanted, the next one is another (608); where there is none, that is so at END. Or it is
--- that line, and a line KEEP behind it doesn't hold.
+-- that line, and a line KEEP after it doesn't hold.
 abbrev pub WrongJoin : Facts → ℕ → ℕ → Known → List Edge → List BodyLine → Fault → Type 0
 WrongJoin facts end place through edges [] fault = fault ≡ at_line 608 end
 WrongJoin facts end place through edges (line ∷ lines) fault =
     ((is_join place line.entry ≡ false) × (fault ≡ at_line 608 line.line))
     ⊎ (IsTrue (is_join place line.entry) × WrongKeep facts through edges 0 lines fault)
 
--- The next line is the instruction's and obeys its rule, but skips come to the place behind it, and the next lines aren't
+-- The next line is the instruction's and obeys its rule, but skips come to the place after it, and the next lines aren't
 -- that place's join.
-pub record WrongPlace (facts : Facts) (end place : ℕ) (known : Known) (edges : List Edge) (instr : Instr) (lines : List BodyLine) (fault : Fault) : Type 0 where
+pub record WrongPlace (facts : Facts) (end place : ℕ) (known : Known) (edges : List Edge) (instr : Instr)
+    (lines : List BodyLine) (fault : Fault) : Type 0 where
   pub line : ℕ
   pub entry : InstructionEntry
   pub rest : List BodyLine
@@ -62,17 +64,19 @@ pub record WrongPlace (facts : Facts) (end place : ℕ) (known : Known) (edges :
   pub skips : 0 < length edges
   pub wrong : WrongJoin facts end place through edges rest fault
 
--- what is known behind some first instructions
+-- what is known after some first instructions
 abbrev pub known_behind : Facts → List Instr → List Part → Known
 known_behind facts first parts = before facts first parts (length first)
 
--- the edges of the skips, among these and one more instruction, to the place behind them
+-- the edges of the skips, among these and one more instruction, to the place after them
 abbrev pub edges_behind : Facts → List Instr → List Part → Instr → List Edge
 edges_behind facts first parts instr =
-    edges_into (suc (length first)) (with_edge (edges_before facts first parts (length first)) (edge_of (known_behind facts first parts) instr))
+    edges_into (suc (length first)) (with_edge (edges_before facts first parts (length first))
+    (edge_of (known_behind facts first parts) instr))
 
 -- The first fault in lines, of which END is this one's number.
-pub record FirstFault (facts : Facts) (instrs : List Instr) (end : ℕ) (lines : List BodyLine) (fault : Fault) : Type 0 where
+pub record FirstFault (facts : Facts) (instrs : List Instr) (end : ℕ) (lines : List BodyLine)
+    (fault : Fault) : Type 0 where
   -- the instructions are some first ones, then this one, and others
   pub first : List Instr
   pub instr : Instr
@@ -84,12 +88,14 @@ pub record FirstFault (facts : Facts) (instrs : List Instr) (end : ℕ) (lines :
   pub rest : List BodyLine
   pub spelled : lines ≡ lines_of 0 parts ++ rest
   pub whole : KeepsAreAll parts rest
-  -- and of the rest, the line of this one, or of the join behind it, is the first that breaks its rule
+  -- and of the rest, the line of this one, or of the join after it, is the first that breaks its rule
   pub wrong : WrongLine facts end (known_behind facts first parts) instr rest fault
-      ⊎ WrongPlace facts end (suc (length first)) (known_behind facts first parts) (edges_behind facts first parts instr) instr rest fault
+      ⊎ WrongPlace facts end (suc (length first)) (known_behind facts first parts)
+      (edges_behind facts first parts instr) instr rest fault
 
--- The fault stands on one of the lines, and is the same whatever lines come behind that one.
-pub record StandsOn (facts : Facts) (instrs : List Instr) (end : ℕ) (lines : List BodyLine) (fault : Fault) : Type 0 where
+-- The fault stands on one of the lines, and is the same whatever lines come after that one.
+pub record StandsOn (facts : Facts) (instrs : List Instr) (end : ℕ) (lines : List BodyLine)
+    (fault : Fault) : Type 0 where
   pub upto : List BodyLine
   pub line : BodyLine
   pub others : List BodyLine

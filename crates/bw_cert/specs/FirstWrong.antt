@@ -10,16 +10,17 @@ use Rattle.bw_cert_lines.specs.declared.lines.NodeLine.{NodeLine}
 use Rattle.bw_cert_lines.specs.declared.lines.ChainLine.{ChainLine}
 use Rattle.bw_cert_lines.specs.declared.lines.RowLine.{RowLine}
 use Rattle.bw_cert_lines.specs.CertificateShape.{CertificateShape}
-use Rattle.bw_pair.specs.declared.nodes.Pair.{Pair}
-use Rattle.bw_pair.specs.Pair.{pair_of}
-use Rattle.bw_known.specs.Accepted.{Accepts}
-use Rattle.bw_known.specs.Walk.{Taken}
+use Rattle.bw_cert_pair.specs.declared.nodes.Pair.{Pair}
+use Rattle.bw_cert_pair.specs.Pair.{pair_of}
+use Rattle.bw_cert_known.specs.Accepted.{Accepts}
+use Rattle.bw_cert_known.specs.Walk.{Taken}
 use Rattle.bw_cert.specs.FirstFault.{FirstFault}
 use Rattle.bw_cert.specs.Stated.{facts_stated, with_lines, with_node_line, with_chain_line, with_row_line}
 use Rattle.bw_cert.specs.Valid.{end_on}
 
--- Of lines that state something, one behind the other, this is the first that breaks its rule: those before it obey theirs.
-pub record WrongStated (Line : Type 0) (add : Facts → Line → Result Facts Fault) (facts : Facts) (lines : List Line) (fault : Fault) : Type 0 where
+-- Of lines that state something, one after the other, this is the first that breaks its rule: those before it obey theirs.
+pub record WrongStated (Line : Type 0) (add : Facts → Line → Result Facts Fault) (facts : Facts) (lines : List Line)
+    (fault : Fault) : Type 0 where
   pub upto : List Line
   pub line : Line
   pub others : List Line
@@ -28,15 +29,16 @@ pub record WrongStated (Line : Type 0) (add : Facts → Line → Result Facts Fa
   pub stated : with_lines add facts upto ≡ Ok held
   pub broken : add held line ≡ Err fault
 
--- a line NODE; behind all of these, a line CHAIN; and behind all of these, a line ROW
+-- a line NODE; after all of these, a line CHAIN; and after all of these, a line ROW
 abbrev pub WrongFact : List Column → CertificateShape → Fault → Type 0
 WrongFact columns certificate fault =
     WrongStated NodeLine with_node_line (no_facts columns) certificate.nodes fault
     ⊎ ((nodes : Facts) × (with_lines with_node_line (no_facts columns) certificate.nodes ≡ Ok nodes)
     × (WrongStated ChainLine with_chain_line nodes certificate.chains fault
-    ⊎ ((chains : Facts) × (with_lines with_chain_line nodes certificate.chains ≡ Ok chains) × WrongStated RowLine with_row_line chains certificate.rows fault)))
+    ⊎ ((chains : Facts) × (with_lines with_chain_line nodes certificate.chains ≡ Ok chains)
+    × WrongStated RowLine with_row_line chains certificate.rows fault)))
 
--- behind a condition's lines, the first fault in those of the program's instructions and joins; and behind these, END
+-- after a condition's lines, the first fault in those of the program's instructions and joins; and after these, END
 abbrev pub WrongProgram : Facts → ProgramShape → CertificateShape → Pair → List BodyLine → Fault → Type 0
 WrongProgram facts program certificate pair lines fault =
     FirstFault facts program.instrs certificate.end.line lines fault
@@ -47,11 +49,13 @@ WrongProgram facts program certificate pair lines fault =
 abbrev pub WrongBody : List Column → Facts → Cond → ProgramShape → CertificateShape → Fault → Type 0
 WrongBody columns facts cond program certificate fault =
     (pair_of columns facts certificate.end.line cond certificate.body ≡ Err fault)
-    ⊎ ((pair : Pair) × (rest : List BodyLine) × (pair_of columns facts certificate.end.line cond certificate.body ≡ Ok (pair, rest))
+    ⊎ ((pair : Pair) × (rest : List BodyLine) × (pair_of columns facts certificate.end.line cond certificate.body
+    ≡ Ok (pair, rest))
     × WrongProgram facts program certificate pair rest fault)
 
 -- what the NODE, CHAIN and ROW lines state, and then the body
 abbrev pub FirstWrong : List Column → Cond → ProgramShape → CertificateShape → Fault → Type 0
 FirstWrong columns cond program certificate fault =
     WrongFact columns certificate fault
-    ⊎ ((facts : Facts) × (facts_stated columns certificate ≡ Ok facts) × WrongBody columns facts cond program certificate fault)
+    ⊎ ((facts : Facts) × (facts_stated columns certificate ≡ Ok facts)
+    × WrongBody columns facts cond program certificate fault)

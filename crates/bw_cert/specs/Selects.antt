@@ -22,7 +22,8 @@ Selects columns cond program =
 -- whether a program selects each row of a group: the first lanes of its result register, by the segment machine on the
 -- group's lanes
 abbrev pub selection_in : List Column → ProgramShape → List (List Value) → List Bool
-selection_in columns program group = take (length group) ((end_state columns (lanes_of columns group) program).registers program.result)
+selection_in columns program group =
+    take (length group) ((end_state columns (lanes_of columns group) program).registers program.result)
 
 -- whether it selects each row of a table, whose rows are cut into groups of 512
 abbrev pub selection_by : List Column → ProgramShape → List (List Value) → List Bool

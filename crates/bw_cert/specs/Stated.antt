@@ -19,21 +19,25 @@ on_line line (Ok x) = Ok x
 on_line line (Err fault) = Err (at_line fault.code line)
 
 abbrev pub with_node_line : Facts → NodeLine → Result Facts Fault
-with_node_line facts line = on_line line.line (with_node facts line.n (record { v = line.v; low = line.low; high = line.high }))
+with_node_line facts line = on_line line.line (with_node facts line.n
+    (record { v = line.v; low = line.low; high = line.high }))
 
 -- the chain that a line names, if its words name columns
 abbrev pub chain_of : List Column → ChainColumns → Option Chain
-chain_of columns (One kind column start len bound node prev) = one_named columns kind column.items start len bound node prev
+chain_of columns (One kind column start len bound node prev) =
+    one_named columns kind column.items start len bound node prev
 chain_of columns (Two kind left right len node prev) = two_named columns kind left.items right.items len node prev
 
 abbrev pub with_chain_line : Facts → ChainLine → Result Facts Fault
 with_chain_line facts line = on_line line.line (with_chain facts line.n (chain_of facts.columns line.columns))
 
 abbrev pub with_row_line : Facts → RowLine → Result Facts Fault
-with_row_line facts line = on_line line.line (with_row facts line.n (record { op = line.op; a = line.a; b = line.b; c = line.c }) line.reason)
+with_row_line facts line = on_line line.line (with_row facts line.n
+    (record { op = line.op; a = line.a; b = line.b; c = line.c }) line.reason)
 
--- what is held after lines, each of which obeys its rule behind those before it
-unfoldable pub with_lines : {Line : Type 0} → (Facts → Line → Result Facts Fault) → Facts → List Line → Result Facts Fault
+-- what is held after lines, each of which obeys its rule after those before it
+unfoldable pub with_lines : {Line : Type 0} → (Facts → Line → Result Facts Fault) → Facts → List Line
+    → Result Facts Fault
 with_lines add facts [] = Ok facts
 with_lines add facts (line ∷ lines) = add facts line >>= λ more. with_lines add more lines
 

@@ -11,16 +11,17 @@ use Rattle.bw_program.specs.Program.{ProgramShape}
 use Rattle.bw_program.specs.ProgramText.{found_on}
 use Rattle.bw_cert_lines.specs.declared.lines.BodyLine.{BodyLine}
 use Rattle.bw_cert_lines.specs.CertificateShape.{CertificateShape}
-use Rattle.bw_pair.specs.declared.nodes.Pair.{Pair}
-use Rattle.bw_pair.specs.Pair.{pair_of}
-use Rattle.bw_known.specs.Accepted.{Part, Obeys, before, lines_of}
-use Rattle.bw_known.specs.Join.{is_zero}
-use Rattle.bw_known.specs.Known.{Known, node_of}
-use Rattle.bw_known.specs.Walk.{Taken, judged}
+use Rattle.bw_cert_pair.specs.declared.nodes.Pair.{Pair}
+use Rattle.bw_cert_pair.specs.Pair.{pair_of}
+use Rattle.bw_cert_known.specs.Accepted.{Part, Obeys, before, lines_of}
+use Rattle.bw_cert_known.specs.Join.{is_zero}
+use Rattle.bw_cert_known.specs.Known.{Known, node_of}
+use Rattle.bw_cert_known.specs.Walk.{Taken, judged}
 use Rattle.bw_cert.specs.Stated.{facts_stated}
 
 -- A certificate is valid for a condition and a program under columns.
-pub record Valid (columns : List Column) (cond : Cond) (program : ProgramShape) (certificate : CertificateShape) : Type 0 where
+pub record Valid (columns : List Column) (cond : Cond) (program : ProgramShape)
+    (certificate : CertificateShape) : Type 0 where
   -- the NODE, CHAIN and ROW lines obey their rules, and state these nodes, chains and product rows
   pub facts : Facts
   pub stated : facts_stated columns certificate ≡ Ok facts
@@ -38,7 +39,7 @@ pub record Valid (columns : List Column) (cond : Cond) (program : ProgramShape) 
   pub known : node_of (before facts program.instrs parts (length program.instrs)) program.result ≡ Some node
   pub ended : IsTrue (is_zero (cited facts Xor node pair.yes certificate.end.row))
 
--- END: behind the last line of the program (610 at a line that is left over), the result register has a node (609), whose
+-- END: after the last line of the program (610 at a line that is left over), the result register has a node (609), whose
 -- XOR with the condition's is 0 by the row (610)
 abbrev pub result_on : Facts → ℕ → Known → ℕ → ℕ → ℕ → Result Facts Fault
 result_on facts end known result first row =
@@ -67,7 +68,7 @@ abbrev pub Checks : {C P : Type 0} → Result C (P × Fault) → Result Facts Fa
 Checks (Ok certified) expected = (facts : Facts) × (expected ≡ Ok facts)
 Checks (Err refused) expected = is_memory refused.1 ≡ false → expected ≡ Err refused.1
 
--- one of 601 to 604 or 606 to 610, or want of memory
+-- one of 601 to 604 or 606 to 610, or out of memory
 abbrev pub is_check_fault : Fault → Bool
 is_check_fault fault =
     is_diagram_fault fault || (nat_le 606 fault.code && nat_le fault.code 610)

@@ -9,11 +9,11 @@ ghost use Rattle.bw_cert.specs.Valid.{Valid, Checks, checked, end_on, is_check_f
 use crate::certified::Certified;
 use crate::laws::{valid_exactly_where_checked, valid_programs_select};
 use crate::stated::diagram_of;
+use bw_cert_known::{AtEnd, known_at_end};
 use bw_cert_lines::{BodyLine, Certificate, EndLine};
+use bw_cert_pair::pair;
 use bw_diagram::{Connective, Diagram};
-use bw_known::{AtEnd, known_at_end};
 use bw_model::{Cond, Fault, Schema, code};
-use bw_pair::pair;
 use bw_program::Program;
 use std::alloc::Global;
 
@@ -73,13 +73,7 @@ fn judge(
     let end = certificate.end();
     let (nodes, rest) = pair(schema, &diagram, condition, certificate.body(), end.line)?;
     let at_end = known_at_end(alloc, schema, &diagram, program, rest, end.line)?;
-    check_end(
-        &diagram,
-        &at_end,
-        program.result(),
-        u64::from(nodes.yes),
-        end,
-    )
+    check_end(&diagram, &at_end, program.result(), nodes.yes, end)
 }
 
 /// Judges the end: nothing is left over, and the result register's node is the condition's.

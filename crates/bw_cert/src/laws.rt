@@ -15,19 +15,19 @@ ghost use Rattle.bw_program.specs.declared.instr.Instr.{Instr};
 ghost use Rattle.bw_cert_lines.specs.CertificateFields.{certificate_fields};
 ghost use Rattle.bw_cert_lines.specs.CertificateShape.{CertificateShape};
 ghost use Rattle.bw_cert_lines.specs.declared.lines.BodyLine.{BodyLine};
-ghost use Rattle.bw_known.specs.Accepted.{before};
-ghost use Rattle.bw_known.specs.Sound.{Hold};
-ghost use Rattle.bw_known.specs.Walk.{judged};
+ghost use Rattle.bw_cert_known.specs.Accepted.{before};
+ghost use Rattle.bw_cert_known.specs.Sound.{Hold};
+ghost use Rattle.bw_cert_known.specs.Walk.{judged};
 ghost use Rattle.bw_cert.specs.FirstFault.{FirstFault, StandsOn};
 ghost use Rattle.bw_cert.specs.FirstWrong.{FirstWrong};
 ghost use Rattle.bw_cert.specs.Selects.{Selects};
 ghost use Rattle.bw_cert.specs.Valid.{Valid, checked};
 
-use bw_diagram::{accepted_lines_are_true, cited_nodes_are_worth};
-use bw_known::{
+use bw_cert_known::{
     judged_lines_obey, lines_are_judged_by_what_they_say, obeying_lines_are_judged, skip_soundness,
 };
-use bw_pair::{pairs_are_of_trees, pairs_tell_truths};
+use bw_cert_pair::{pairs_are_of_trees, pairs_tell_truths};
+use bw_diagram::{accepted_lines_are_true, cited_nodes_are_worth};
 use bw_run::runs_come_to_the_end;
 
 /// A law: a certificate is valid exactly where no line breaks a rule.
@@ -48,7 +48,7 @@ pub fn valid_exactly_where_checked()
 /// A law, skip soundness and certified selects: where a certificate is valid, the columns have all
 /// that the program names. In every run, over any lanes and whichever skips it takes, at each place
 /// that it reaches, each register of which a node is known there holds, in the lane of each
-/// assignment, the value of the node. One of these places is that behind the last instruction, where
+/// assignment, the value of the node. One of these places is that after the last instruction, where
 /// the run ends, and there the result register is 1 exactly in the lanes on whose rows the condition
 /// is TRUE.
 pub fn valid_programs_select()
@@ -93,7 +93,7 @@ pub fn certificates_are_judged_by_what_they_say()
 /// which is what they are refused with: before the line on which it stands are those of parts that
 /// obey, for some first instructions, and then what obeys of the next one's part. Lines with a first
 /// fault are refused with it, so that they have one at most. It stands on one of the lines, and is
-/// the same whatever lines come behind that one, or at END, where the lines run out.
+/// the same whatever lines come after that one, or at END, where the lines run out.
 pub fn refused_lines_have_a_first_fault()
     ensures stands { (facts : Facts) (instrs : List Instr) (end : ℕ) (lines : List BodyLine)
         (fault : Fault)
@@ -108,8 +108,8 @@ pub fn refused_lines_have_a_first_fault()
 {}
 
 /// A law: a certificate that is refused has a first line that breaks a rule. It's a NODE, CHAIN or
-/// ROW line behind those that obey theirs; or one of the condition's lines, behind all of these; or
-/// the first fault of the program's, behind the condition's; or, behind those of parts that obey, a
+/// ROW line after those that obey theirs; or one of the condition's lines, after all of these; or
+/// the first fault of the program's, after the condition's; or, after those of parts that obey, a
 /// line that is left over, or END.
 pub fn refused_certificates_have_a_first_fault()
     ensures { (columns : List Column) (cond : Cond) (program : ProgramShape)

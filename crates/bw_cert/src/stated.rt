@@ -119,7 +119,7 @@ fn fields_of(columns: &ChainColumns) -> bw_diagram::ChainLine<'_>
     }
 }
 
-/// A fault of a line that stood nowhere. Want of memory stays so.
+/// A fault of a line that stood nowhere. Out of memory stays so.
 fn placed(fault: Fault, line: u64) -> Fault
     ensures memory { is_memory fault ≡ true → result ≡ fault }
     ensures line { is_memory fault ≡ false → result ≡ at_line fault.code line }

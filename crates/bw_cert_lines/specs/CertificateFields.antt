@@ -60,7 +60,12 @@ abbrev pub chain_fields : ChainLine → ChainFields
 chain_fields chain = record { line = chain.line; n = chain.n; columns = column_fields chain.columns }
 
 abbrev pub keep_fields : Keep → KeepFields
-keep_fields keep = record { register = keep.register; node = keep.node; through = keep.through; edges = keep.edges.items }
+keep_fields keep = record {
+  register = keep.register;
+  node = keep.node;
+  through = keep.through;
+  edges = keep.edges.items;
+}
 
 abbrev pub entry_fields : Entry → EntryFields
 entry_fields (entry.Condition condition) = Condition condition

@@ -20,7 +20,7 @@ pub struct ChainLine {
     pub columns: ChainColumns,
 }
 
-/// What stands behind a chain's number. Columns are words, which may name none.
+/// What stands after a chain's number. Columns are words, which may name none.
 #[derive(Drop)]
 pub enum ChainColumns {
     /// `LT|EQ column start len bound node prev`, the last a number or `-`.
@@ -56,7 +56,7 @@ pub struct RowLine {
     pub reason: Reason,
 }
 
-/// A line behind the product rows and before the end.
+/// A line after the product rows and before the end.
 #[derive(Drop)]
 pub struct BodyLine {
     pub line: u64,
@@ -123,7 +123,7 @@ pub enum InstructionEntry {
     Skip,
 }
 
-/// `KEEP r h x { i j }`: behind a join register `r` has node `h`, which row `x` shows of falling through, and a pair of
+/// `KEEP r h x { i j }`: after a join register `r` has node `h`, which row `x` shows of falling through, and a pair of
 /// rows of each skip.
 #[derive(Drop)]
 pub struct Keep {

@@ -17,11 +17,6 @@ pub from-next : (section : ℕ) (lines rest : List NumberedWords) (line : Number
 unfolding certificate_from
 from-next section lines rest line end e = rw e refl
 
--- nothing was read yet
-pub as_it_is : (r : Result CertificateFields Fault) (f : CertificateFields → CertificateFields) → ((x : CertificateFields) → f x ≡ x) → r ≡ (r >>= λ x. Ok (f x))
-as_it_is (Ok x) f same = ap Ok (sym (same x))
-as_it_is (Err fault) f same = refl
-
 both_steps : (r : Result CertificateFields Fault) (part : Part) (f g : CertificateFields → CertificateFields) → ((x : CertificateFields) → g x ≡ f (with_part part x)) →
     ((r >>= λ rest. Ok (with_part part rest)) >>= λ rest. Ok (f rest)) ≡ (r >>= λ rest. Ok (g rest))
 both_steps (Ok x) part f g same = ap Ok (sym (same x))

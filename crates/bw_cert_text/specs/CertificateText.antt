@@ -8,7 +8,7 @@ use Rattle.bw_cert_lines.specs.CertificateFields.{CertificateFields}
 use Rattle.bw_cert_text.specs.LineText.{Part, Node, Chain, Row, Body, Said, Before, End, said_in}
 use Rattle.bw_cert_text.specs.Token.{Says, part_line, part_tokens, end_tokens}
 
--- the sections in their order: nodes, chains, product rows, and the lines behind them
+-- the sections in their order: nodes, chains, product rows, and the lines after them
 abbrev pub section_of : Part → ℕ
 section_of (Node node) = 0
 section_of (Chain chain) = 1
@@ -17,19 +17,39 @@ section_of (Body body) = 3
 
 -- a certificate with one more line in front of those of its section, and one that is its end alone
 abbrev pub with_part : Part → CertificateFields → CertificateFields
-with_part (Node node) c = record { nodes = node ∷ c.nodes; chains = c.chains; rows = c.rows; body = c.body; end = c.end }
-with_part (Chain chain) c = record { nodes = c.nodes; chains = chain ∷ c.chains; rows = c.rows; body = c.body; end = c.end }
+with_part (Node node) c = record {
+  nodes = node ∷ c.nodes;
+  chains = c.chains;
+  rows = c.rows;
+  body = c.body;
+  end = c.end;
+}
+with_part (Chain chain) c = record {
+  nodes = c.nodes;
+  chains = chain ∷ c.chains;
+  rows = c.rows;
+  body = c.body;
+  end = c.end;
+}
 with_part (Row row) c = record { nodes = c.nodes; chains = c.chains; rows = row ∷ c.rows; body = c.body; end = c.end }
-with_part (Body body) c = record { nodes = c.nodes; chains = c.chains; rows = c.rows; body = body ∷ c.body; end = c.end }
+with_part (Body body) c = record {
+  nodes = c.nodes;
+  chains = c.chains;
+  rows = c.rows;
+  body = body ∷ c.body;
+  end = c.end;
+}
 
 abbrev pub end_alone : EndLine → CertificateFields
 end_alone end = record { nodes = []; chains = []; rows = []; body = []; end = end }
 
 -- Lines spell a certificate, none of them being of a section before this one: END is the last line, and each line before
--- it is of this section or a later one, as the lines behind it are of that section or a later one.
+-- it is of this section or a later one, as the lines after it are of that section or a later one.
 pub data SpellsFrom : ℕ → List NumberedWords → CertificateFields → Type 0 where
-  before_end : {section : ℕ} {line : NumberedWords} (part : Part) {lines : List NumberedWords} {rest : CertificateFields} →
-      section ≤ section_of part → Says line (part_line part) (part_tokens part) → SpellsFrom (section_of part) lines rest →
+  before_end : {section : ℕ} {line : NumberedWords}
+      (part : Part) {lines : List NumberedWords} {rest : CertificateFields} →
+      section ≤ section_of part → Says line (part_line part) (part_tokens part)
+      → SpellsFrom (section_of part) lines rest →
       SpellsFrom section (line ∷ lines) (with_part part rest)
   at_end : {section : ℕ} {line : NumberedWords} (end : EndLine) →
       Says line end.line (end_tokens end) → SpellsFrom section (line ∷ []) (end_alone end)
@@ -59,12 +79,12 @@ abbrev pub last_line : {A : Type 0} → List NumberedWords → A → Result A Fa
 last_line [] x = Ok x
 last_line (line ∷ lines) x = Err (form_fault line.number)
 
--- what a line and the lines behind it say, where the lines behind a section say that
+-- what a line and the lines after it say, where the lines after a section say that
 abbrev pub followed : List NumberedWords → (ℕ → Result CertificateFields Fault) → Said → Result CertificateFields Fault
 followed lines behind (Before part) = behind (section_of part) >>= λ rest. Ok (with_part part rest)
 followed lines behind (End end) = last_line lines (end_alone end)
 
--- what lines say that stand in a section or behind it, or the first fault in them; they end with this number
+-- what lines say that stand in a section or after it, or the first fault in them; they end with this number
 unfoldable pub certificate_from : ℕ → List NumberedWords → ℕ → Result CertificateFields Fault
 certificate_from section [] end = Err (form_fault end)
 certificate_from section (line ∷ lines) end =
@@ -74,7 +94,7 @@ certificate_from section (line ∷ lines) end =
 abbrev pub certificate_of : ℕ → List ℕ → Result CertificateFields Fault
 certificate_of first text = certificate_from 0 (lines_in (from_line first text)) (end_in (from_line first text))
 
--- 605, or want of memory
+-- 605, or out of memory
 abbrev pub is_certificate_fault : Fault → Bool
 is_certificate_fault fault = (fault.code == 605) || is_memory fault
 

@@ -54,7 +54,8 @@ one_column_in kind words = None
 
 abbrev pub two_columns_in : ChainKind → List (List ℕ) → Option ColumnFields
 two_columns_in kind (left ∷ right ∷ len ∷ node ∷ prev ∷ []) =
-    natural_of len >? λ len. natural_of node >? λ node. optional_of prev >? λ prev. Some (Two kind left right len node prev)
+    natural_of len >? λ len. natural_of node >? λ node. optional_of prev
+    >? λ prev. Some (Two kind left right len node prev)
 two_columns_in kind words = None
 
 abbrev pub columns_behind : Form → List (List ℕ) → Option ColumnFields
@@ -133,7 +134,8 @@ unfoldable pub edges_in : List (List ℕ) → Option (List EdgeRows)
 edges_in [] = Some []
 edges_in (i ∷ []) = None
 edges_in (i ∷ j ∷ words) =
-    natural_of i >? λ i. natural_of j >? λ j. edges_in words >? λ edges. Some (record { differs = i; within = j } ∷ edges)
+    natural_of i >? λ i. natural_of j >? λ j. edges_in words
+    >? λ edges. Some (record { differs = i; within = j } ∷ edges)
 
 -- r h x, and whole pairs
 abbrev pub keep_in : List (List ℕ) → Option KeepFields
@@ -142,7 +144,7 @@ keep_in (r ∷ h ∷ x ∷ words) =
     Some (record { register = r; node = h; through = x; edges = edges })
 keep_in words = None
 
--- what the words behind the first one say in a line of each kind
+-- what the words after the first one say in a line of each kind
 abbrev pub body_at : ℕ → EntryFields → Said
 body_at line entry = Before (Body (record { line = line; entry = entry }))
 
@@ -151,7 +153,8 @@ said_behind line kind.Node words = node_in line words >? λ node. Some (Before (
 said_behind line kind.Chain words = chain_in line words >? λ chain. Some (Before (Chain chain))
 said_behind line kind.Row words = row_in line words >? λ row. Some (Before (Row row))
 said_behind line (kind.Condition kind) words = condition_in kind words >? λ entry. Some (body_at line (Condition entry))
-said_behind line (kind.Instruction kind) words = instruction_in kind words >? λ entry. Some (body_at line (Instruction entry))
+said_behind line (kind.Instruction kind) words = instruction_in kind words
+    >? λ entry. Some (body_at line (Instruction entry))
 said_behind line kind.Join words = number_in words >? λ target. Some (body_at line (Join target))
 said_behind line kind.Keep words = keep_in words >? λ keep. Some (body_at line (Kept keep))
 said_behind line kind.End words = number_in words >? λ row. Some (End (record { line = line; row = row }))

@@ -1,4 +1,4 @@
--- What stands behind the first word of a line: numbers, numbers that may be a hyphen, and registers.
+-- What stands after the first word of a line: numbers, numbers that may be a hyphen, and registers.
 use Rattle.std.specs.Prelude.{ℕ, Bool, true, false, ◌||◌, ◌==◌, List, [], ◌∷◌, drop, Option, Some, None, codes, if◌then◌else◌, nat_lt, slice_index}
 use Rattle.std.specs.Str.{bytes_eq}
 use Rattle.bw_model.specs.Number.{natural_of}
@@ -28,7 +28,8 @@ register_below (Some n) = if nat_lt n 64 then Some n else None
 
 unfoldable pub register_of : List ℕ → Option ℕ
 register_of word =
-    if (slice_index word 0 == 114) || (slice_index word 0 == 82) then register_below (natural_of (drop 1 word)) else None
+    if (slice_index word 0 == 114) || (slice_index word 0 == 82) then register_below
+    (natural_of (drop 1 word)) else None
 
 -- no word, one number, two numbers
 abbrev pub nothing_in : List (List ℕ) → Option Unit

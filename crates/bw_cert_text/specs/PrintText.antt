@@ -16,12 +16,12 @@ token_text (Perhaps None) = codes "-"
 token_text (Column column) = column
 token_text (Register r) = 114 ∷ decimal r
 
--- each behind a blank, which is byte 32
+-- each after a blank, which is byte 32
 unfoldable pub behind_text : List Token → List ℕ
 behind_text [] = []
 behind_text (token ∷ tokens) = 32 ∷ token_text token ++ behind_text tokens
 
--- a line, and the line feed behind it, which is byte 10
+-- a line, and the line feed after it, which is byte 10
 abbrev pub line_text : List Token → List ℕ
 line_text [] = 10 ∷ []
 line_text (token ∷ tokens) = token_text token ++ (behind_text tokens ++ 10 ∷ [])
@@ -50,16 +50,27 @@ schema_spelling columns word = spelling_at columns word (column_named columns wo
 
 -- a certificate with its columns in the schema's spelling
 abbrev pub respelled_columns : List column.Column → ColumnFields → ColumnFields
-respelled_columns columns (One kind word start len bound node prev) = One kind (schema_spelling columns word) start len bound node prev
+respelled_columns columns (One kind word start len bound node prev) =
+    One kind (schema_spelling columns word) start len bound node prev
 respelled_columns columns (Two kind left right len node prev) =
     Two kind (schema_spelling columns left) (schema_spelling columns right) len node prev
 
 abbrev pub respelled_chain : List column.Column → ChainFields → ChainFields
-respelled_chain columns chain = record { line = chain.line; n = chain.n; columns = respelled_columns columns chain.columns }
+respelled_chain columns chain = record {
+  line = chain.line;
+  n = chain.n;
+  columns = respelled_columns columns chain.columns;
+}
 
 abbrev pub respelled : List column.Column → CertificateFields → CertificateFields
 respelled columns c =
-    record { nodes = c.nodes; chains = map (respelled_chain columns) c.chains; rows = c.rows; body = c.body; end = c.end }
+    record {
+      nodes = c.nodes;
+      chains = map (respelled_chain columns) c.chains;
+      rows = c.rows;
+      body = c.body;
+      end = c.end;
+    }
 
 -- the canonical text of a certificate under a schema's columns
 abbrev pub print_text : List column.Column → CertificateFields → List ℕ

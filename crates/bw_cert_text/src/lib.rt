@@ -1,7 +1,7 @@
 //! Certificate texts, read and printed line by line.
 //!
 //! The contract that the crates above use: a text is read exactly where its lines spell a certificate, and to that
-//! certificate; else the first line that is wrong is told, by 605 alone. A certificate is printed as its canonical
+//! certificate; else the first line that is wrong is reported, by 605 alone. A certificate is printed as its canonical
 //! text, which spells it where its chains name columns of the schema and its registers are r0 to r63. Nothing here
 //! judges what a line states.
 //!

@@ -407,7 +407,7 @@ pub(crate) fn said_in(alloc: Global, line: &Line) -> Result<Option<Said>, AllocE
     said_behind(alloc, line.number, kind, rest)
 }
 
-/// What the words behind the first one say in a line of this kind.
+/// What the words after the first one say in a line of this kind.
 fn said_behind(
     alloc: Global,
     line: u64,
@@ -442,7 +442,7 @@ fn before(part: Option<Part>) -> Option<Said>
     part.map(Said::Before)
 }
 
-/// A line behind the product rows, if it was read.
+/// A line after the product rows, if it was read.
 fn in_body(line: u64, entry: Option<Entry>) -> Option<Said>
     ensures { option_map said_fields result ≡ option_map (λ entry. body_at line (entry_fields entry)) entry }
 {

@@ -1,11 +1,8 @@
-//! What stands behind the first word of a line: numbers, numbers that may be `-`, and registers.
+//! What stands after the first word of a line: numbers, numbers that may be `-`, and registers.
 ghost use Rattle.std.specs.Prelude.{◌≡◌, ◌<◌, map, IfSome};
 ghost use Rattle.bw_cert_text.specs.Operand.{optional_of, register_of, nothing_in, number_in, two_in};
 
-use bw_model::natural_number;
-
-/// How many registers there are.
-const REGISTERS: u64 = 64;
+use bw_model::{REGISTERS, natural_number};
 
 /// A number, or `-` for none.
 #[tactic(auto, unfolding(crate::specs::Operand::optional_of))]

@@ -1,4 +1,4 @@
-//! Certificate texts, read line by line: nodes, chains and product rows, the lines behind them, and `END`.
+//! Certificate texts, read line by line: nodes, chains and product rows, the lines after them, and `END`.
 ghost use Rattle.std.specs.Prelude.{◌≡◌, ◌≤◌, ◌^◌, ℕ, List, Ok, Err, false, option_map, IfOk, IfErr, OnOk, IsTrue};
 ghost use Rattle.bw_model.specs.Fault.{Gives, is_memory};
 ghost use Rattle.bw_model.specs.Lines.{lines_in, end_in, line_of};
@@ -15,8 +15,8 @@ use std::alloc::{AllocError, Global};
 
 /// Reads a certificate text, the first line of which has this number, 1 to 2^32.
 ///
-/// Refused, by 605 alone, is the first line that has another form, that is a node, chain or product row behind a
-/// line of a later section, or that stands behind `END`. At the end of the text, one line after the last, an `END`
+/// Refused, by 605 alone, is the first line that has another form, that is a node, chain or product row after a
+/// line of a later section, or that stands after `END`. At the end of the text, one line after the last, an `END`
 /// that is missing is 605 too.
 pub fn parse_certificate(alloc: Global, first_line: u64, text: &[u8]) -> Result<Certificate, Fault>
     requires numbered { 1 ≤ first_line }
@@ -71,7 +71,7 @@ impl Parts {
     }
 }
 
-/// The section of a line: 0 the nodes, 1 the chains, 2 the product rows, 3 what stands behind them.
+/// The section of a line: 0 the nodes, 1 the chains, 2 the product rows, 3 what stands after them.
 fn section_of(part: &Part) -> u8
     ensures { result ≡ section_of (part_fields part.now) }
 {
@@ -129,7 +129,7 @@ fn read_parts(alloc: Global, lines: &mut Lines<'_>, parts: &mut Parts) -> Result
     Err(Fault::at_line(code::CERTIFICATE_FORM, lines.number()))
 }
 
-/// What a line says that no line of a section behind this one may precede.
+/// What a line says that no line of a section after this one may precede.
 fn said_on(alloc: Global, section: u8, line: &Line) -> Result<Said, Fault>
     ensures said { Gives said_fields result (said_on section (line_of line.now)) }
     ensures code { IfErr result IsCertificateFault }
@@ -153,7 +153,7 @@ fn is_before(section: u8, said: &Said) -> bool
     }
 }
 
-/// Refuses a line behind `END`.
+/// Refuses a line after `END`.
 fn refuse_more(alloc: Global, mut lines: Lines<'_>) -> Result<(), Fault>
     ensures none { OnOk result ((x : CertificateFields) → last_line (lines_in lines.entry) x ≡ Ok x) }
     ensures some { IfErr result (λ fault. is_memory fault ≡ false

@@ -28,7 +28,7 @@ use std::alloc::{AllocError, Global};
 /// in the schema's spelling, numbers without leading zeros, `-` for none, and one line feed
 /// after each line. A word that names no column of the schema stands as it is; where each names
 /// one and the registers are r0 to r63, the text spells the certificate, its lines numbered one
-/// after another from any number on. Refused is want of memory alone (801).
+/// after another from any number on. Refuses only where memory runs out (801).
 pub fn print_certificate(
     alloc: Global,
     schema: &Schema,
@@ -105,7 +105,8 @@ fn put_chains(
     text: &mut Vec<u8>,
 ) -> Result<(), AllocError>
     ensures { OnOk result (text.new.items ≡ text.old.items
-        ++ lines_text (λ chain. chain_tokens (respelled_chain schema.now.columns.items (chain_fields chain))) chains.now) }
+        ++ lines_text (λ chain. chain_tokens (respelled_chain
+        schema.now.columns.items (chain_fields chain))) chains.now) }
 {
     for chain in chains {
         put_chain(alloc, schema, chain, text)?;
@@ -342,7 +343,7 @@ fn put_keep(alloc: Global, keep: &Keep, text: &mut Vec<u8>) -> Result<(), AllocE
     Ok(())
 }
 
-/// Appends pairs of numbers, each number behind a blank.
+/// Appends pairs of numbers, each number after a blank.
 fn put_edges(alloc: Global, edges: &[EdgeRows], text: &mut Vec<u8>) -> Result<(), AllocError>
     ensures { OnOk result (text.new.items ≡ text.old.items ++ behind_text (edge_tokens edges.now)) }
 {
@@ -369,7 +370,7 @@ fn put_line(
     Ok(())
 }
 
-/// Appends what stands behind a line's first word, each behind a blank.
+/// Appends what stands after a line's first word, each after a blank.
 fn put_operands(alloc: Global, operands: &[Token<'_>], text: &mut Vec<u8>) -> Result<(), AllocError>
     ensures { OnOk result (text.new.items ≡ text.old.items ++ behind_text (map token_of operands.now)) }
 {

@@ -53,7 +53,7 @@ pub(crate) const TOP_BITS: &str = "\
     END 8\n\
     ";
 
-/// The same with the skip twice, one behind the other.
+/// The same with the skip twice, one after the other.
 pub(crate) const SAME_SKIP_TWICE: &str = "\
     LOAD r0 a 7\n\
     SKIP r0 5\n\
@@ -105,7 +105,7 @@ pub(crate) const SAME_SKIP_TWICE: &str = "\
     END 8\n\
     ";
 
-/// `a >= 224` by its three top bits, with a skip behind the first and one behind the second, which go to one place.
+/// `a >= 224` by its three top bits, with a skip after the first and one after the second, which go to one place.
 pub(crate) const TWO_SKIPS: &str = "\
     LOAD r0 a 7\n\
     SKIP r0 7\n\

@@ -1,11 +1,11 @@
 //! Whatever a diagram holds, with memory at hand it takes each line that obeys its rule, and refuses each other one by its
-//! own number. No clause can say so, since want of memory is set aside in all of them.
+//! own number. No clause can say so, since out of memory is set aside in all of them.
 use bw_diagram::{ChainKind, ChainLine, Connective, Diagram, Reason};
 use bw_model::{Fault, Schema};
 use std::process::Abort;
 use std::test::Fail;
 
-/// `a` has eight bits, of variables 0 to 7, and `b` five, of variables 9 to 13, behind its null variable.
+/// `a` has eight bits, of variables 0 to 7, and `b` five, of variables 9 to 13, after its null variable.
 const TABLE: &str = "TABLE t\nCOLUMN a 0 255 NOT NULL\nCOLUMN b -10 10\n";
 
 /// A kind of lines.
@@ -37,7 +37,7 @@ impl Held {
     }
 }
 
-/// Adds the line behind so many others of its kind: one that obeys its rule whatever else is held, or one that breaks it.
+/// Adds the line after so many others of its kind: one that obeys its rule whatever else is held, or one that breaks it.
 fn add(diagram: &mut Diagram<'_>, kind: Kind, before: u64, obeys: bool) -> Result<(), Fault> {
     match kind {
         Kind::Node => {

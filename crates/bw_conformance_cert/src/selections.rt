@@ -3,7 +3,7 @@ ghost use Rattle.std.specs.Prelude.{IsTrue, length};
 ghost use Rattle.bw_model.specs.Cond.{names_within};
 
 use crate::files::{BELOW_EIGHT, SAME_SKIP_TWICE, SCHEMA, TOP_BITS, TWO_SKIPS};
-use bw_check::certify;
+use bw_cert_file::certify;
 use bw_lanes::Plane;
 use bw_model::{Cond, Row, Schema, Truth, admitted_rows_have_each_value};
 use bw_planes::PlaneSegment;
@@ -27,7 +27,7 @@ fn rows_of(alloc: Global, values: &[u8]) -> Result<Vec<Row>, Fail> {
     Ok(rows)
 }
 
-/// Ends the test where a plane isn't the truth of the condition on each of the rows, and 0 behind them.
+/// Ends the test where a plane isn't the truth of the condition on each of the rows, and 0 after them.
 fn assert_truth(rt: &impl Abort, schema: &Schema, cond: &Cond, rows: &[Row], plane: &Plane)
     requires { IsTrue (names_within (length schema.now.columns.items) cond.now) }
 {

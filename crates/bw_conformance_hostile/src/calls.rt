@@ -2,14 +2,13 @@
 ghost use Rattle.std.specs.Prelude.{◌<◌, ◌-◌, ◌^◌};
 
 use crate::devices::{Calls, Pieces, Taker};
-use bw_check::check_text;
+use bw_cert_file::check_text;
 use bw_device::{FromRead, ToWrite};
 use bw_file::Layout;
-use bw_infer::infer;
-use bw_info::info;
 use bw_model::Fault;
 use bw_query::{answer, dump, plan_text};
 use bw_report::By;
+use bw_schemas::{infer, info};
 use bw_shell::{direct, load};
 use std::alloc::Global;
 
@@ -25,7 +24,7 @@ pub const COUNT: &str = "SELECT COUNT(*) FROM t WHERE a < 8";
 
 pub const COUNTED: &str = "COUNT(*)\n3\n";
 
-/// What is told of its file in bit planes, whose header has 56 bytes.
+/// What is reported of its file in bit planes, whose header has 56 bytes.
 pub const INFO: &str = "TABLE t\nCOLUMN a 0 255 NOT NULL\nCOLUMN b -10 10\n\
                         # rows 5\n# segments 1\n# layout planes\n# version 1\n# bytes 952\n";
 

@@ -6,13 +6,12 @@ use crate::calls::{
     table_file,
 };
 use crate::devices::{Calls, Endless, Taker};
-use bw_csv::MAX_CSV_LEN;
 use bw_device::{FromRead, Input, ToWrite, read_limited};
 use bw_file::Layout;
-use bw_infer::infer;
-use bw_model::{Fault, code};
+use bw_model::{Fault, MAX_CSV_LEN, code};
 use bw_query::{answer, dump};
 use bw_report::{Accepted, By, Served, accepted_line, report, stats_line};
+use bw_schemas::infer;
 use bw_shell::{direct, load};
 use std::process::Abort;
 use std::test::Fail;
@@ -121,7 +120,7 @@ fn each_read_may_fail(rt: HostRuntime) -> Result<(), Fail> {
     Ok(())
 }
 
-/// No more than the header is read of a file whose facts are told.
+/// No more than the header is read of a file whose facts are reported.
 #[test]
 fn facts_need_the_header_alone(rt: HostRuntime) -> Result<(), Fail> {
     let file = table_file(rt.alloc(), Layout::Planes)?;

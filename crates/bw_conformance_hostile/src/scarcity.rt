@@ -39,7 +39,7 @@ fn take_all(alloc: Global) -> Result<Vec<Vec<u8>>, Fail> {
 }
 
 /// A call whose memory is refused answers so, and has written nothing, whichever of its growths it was; with enough
-/// memory it gives the answer, by a program where it is told by whom.
+/// memory it gives the answer, by a program where it is reported by whom.
 fn check_with_all_memory_taken(
     rt: &(impl Abort + AllocGlobal),
     call: Call<'_>,

@@ -55,7 +55,7 @@ fn assert_early(
     Ok(())
 }
 
-/// What stands before and behind a comparison: it alone, negated, tested, and joined with another one that doesn't
+/// What stands before and after a comparison: it alone, negated, tested, and joined with another one that doesn't
 /// settle it.
 const FORMS: [(&str, &str); 12] = [
     ("", ""),

@@ -15,7 +15,7 @@ fn common_table_is_totalled(rt: HostRuntime) -> Result<(), Fail> {
     let alloc = rt.alloc();
     let schema = Schema::parse(alloc, SCHEMA)?;
     let other = [[Some(9), Some(9)]];
-    // which rows are picked, and the totals of all five and of the one more row behind them, which isn't picked
+    // which rows are picked, and the totals of all five and of the one more row after them, which isn't picked
     for (name, word, item, expected) in [
         ("all", 0b11111, Item::CountAll, Some(5)),
         ("all", 0b11111, Item::Count(0), Some(5)),

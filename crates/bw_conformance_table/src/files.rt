@@ -34,7 +34,7 @@ const PLANES: [u8; 14] = [
     0x02, 0x02, 0x02, 0x02, 0x12, 0x0E, 0x0E, 0x0E, 0x0C, 0x02, 0x10, 0x02, 0x10, 0x00,
 ];
 
-/// A file of this many bytes, of which these stand behind a header and the others are 0.
+/// A file of this many bytes, of which these stand after a header and the others are 0.
 fn file(alloc: Global, layout: u8, len: usize, parts: &[(usize, u8)]) -> Result<Vec<u8>, Fail> {
     let mut bytes = Vec::from_slice(alloc, &HEADER)?;
     bytes.resize(len, 0)?;

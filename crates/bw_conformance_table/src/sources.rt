@@ -42,7 +42,7 @@ impl Source for Drops<'_> {
     }
 }
 
-/// How many rows a file has, by a source that fails behind so many reads: each is one byte's, and one is the end's.
+/// How many rows a file has, by a source that fails after so many reads: each is one byte's, and one is the end's.
 fn rows_behind(alloc: Global, file: &[u8], reads: usize) -> Result<u32, Fault> {
     let mut source = Drops {
         rest: file,

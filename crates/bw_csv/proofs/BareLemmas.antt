@@ -16,7 +16,7 @@ use Rattle.bw_csv.specs.Bare.{bare_number, bare_row, bare_rows, bare_value, bare
 use Rattle.bw_csv.specs.Rows.{is_minus, is_null_text, number_value, row_of_record, rows_from, unsigned, value_of_field, values_of_fields, with_row, within_bounds, without_blanks}
 use Rattle.bw_csv.proofs.FieldLemmas.{behind, behind-cons}
 
--- the rows of a record and of those behind it
+-- the rows of a record and of those after it
 pub bare_rows-next : (width number : ℕ) (fields : List (List ℕ)) (row : List Value) (records more : List (List (List ℕ)))
     → records ≡ fields ∷ more → bare_row number width fields ≡ Ok row → bare_rows width number records ≡ with_row row (bare_rows width (number + 1) more)
 unfolding bare_rows

@@ -1,4 +1,4 @@
--- A field of digits, alone or behind a minus sign.
+-- A field of digits, alone or after a minus sign.
 use Rattle.std.proofs.Common.{◌≡◌, ◌∙◌, ℕ, ◌-◌, ◌<◌, ◌≤◌, List, [], ◌∷◌, ℤ, Option, Some, None, Bool, true, false, length, take, get_or, refl, sym, ap, arith, leb, ltb, eqb, suc}
 use Rattle.std.specs.Prelude.{◌&&◌, if◌then◌else◌}
 use Rattle.std.specs.Char.{is_ascii_digit, to_ascii_lowercase}
@@ -33,7 +33,7 @@ no_letter c e =
     let small : ltb c 65 ≡ true = lt-ltb c 65 (omega (arith, is.1)) in
     rw small (ne_eqb c 110 (λ same. absurd (omega (arith, is.1, same))))
 
--- digits have no blanks in front, nor behind
+-- digits have no blanks in front, nor after
 front : (c : ℕ) (cs : List ℕ) → is_ascii_digit c ≡ true → without_front_blanks (c ∷ cs) ≡ c ∷ cs
 front c cs e = rw (no_blank c e) refl
 
@@ -85,7 +85,7 @@ by_sign : (number : ℕ) (column : Column) (c : ℕ) (cs : List ℕ) (minus : Bo
 by_sign number column c cs true s e = rw (eqb-true c 45 s) (digits_behind_minus number column cs e)
 by_sign number column c cs false s e = digits_alone number column (c ∷ cs) e
 
--- digits, behind a minus sign where there is one
+-- digits, after a minus sign where there is one
 signed_digits : (number : ℕ) (column : Column) (field : List ℕ) → are_digits (behind_minus field) ≡ true
     → value_of_field number column field ≡ within_bounds number column (number_of (is_minus field) (behind_minus field))
 signed_digits number column [] e = absurd (cc e)

@@ -60,7 +60,7 @@ no_field_left (f ∷ fs) (suc n) h = no_field_left fs n (omega arith) ∙ sym (e
 pub is_heading-end : (cs : List Column) (fs : List (List ℕ)) (n : ℕ) → cs ≡ [] → n ≤ length fs → is_heading cs (drop n fs) ≡ eqb (length fs) n
 is_heading-end cs fs n e h = rw e (no_field_left fs n h)
 
--- results behind those so far
+-- results after those so far
 abbrev pub behind : {A : Type 0} → List A → Result (List A) Fault → Result (List A) Fault
 behind done more = more >>= λ rest. Ok (done ++ rest)
 

@@ -65,12 +65,12 @@ turns_same cfg zero m s xs a b = absurd (omega arith)
 turns_same cfg (suc n) zero s xs a b = absurd (omega arith)
 turns_same cfg (suc n) (suc m) s xs a b = turns-next cfg n m s xs (next_record cfg s [] [] xs) refl (turns_same cfg n) a b
 
--- as many turns as there are bytes before a read are enough for the bytes behind it
+-- as many turns as there are bytes before a read are enough for the bytes after it
 turns-rest : (p : Read) (n : ℕ) → Eats p n → records_from default_config n p.1 p.2 ≡ records_from default_config (length p.2 + 1) p.1 p.2
 turns-rest p n (inl shorter) = turns_same default_config n (length p.2 + 1) p.1 p.2 shorter (omega arith)
 turns-rest p n (inr end) = rw (end.0, end.1) (records_from-end default_config n ∙ sym (records_from-end default_config 1))
 
--- the first record, and those behind it
+-- the first record, and those after it
 pub records_in-next : (s : State) (xs : List ℕ) (p : Read) → next_record default_config s [] [] xs ≡ Some p
     → records_in s (Some xs) ≡ p.0 ∷ records_in p.1 (Some p.2)
 unfolding records_from

@@ -15,10 +15,6 @@ use Rattle.bw_csv.specs.Rows.{StopsBehind, is_reader_fault, stands_at, is_headin
 use Rattle.bw_csv.proofs.FieldLemmas.{behind}
 use Rattle.bw_csv.proofs.Passed.{Passed, passed-nothing, passed-next, passed-on, passed-stops}
 
-and_right : (a b : Bool) → (a && b) ≡ true → b ≡ true
-and_right true b e = e
-and_right false b e = cc e
-
 -- a column admits the value of a field
 bounds_admitted : (number : ℕ) (column : Column) (n : ℤ) (value : Value) (within : Bool) → (int_le column.lo n && int_le n column.hi) ≡ within
     → refused_if (not within) (at_record 205 number) (Ok (Some n)) ≡ Ok value → admits_value column value ≡ true
@@ -83,7 +79,7 @@ row_admitted number columns fields row e = tested (eqb (length fields) (length c
     tested true true h = cc h
     tested false late h = cc h
 
--- the rows of a record and of those behind it
+-- the rows of a record and of those after it
 pub rows_from-next : (columns : List Column) (number : ℕ) (fields : List (List ℕ)) (row : List Value) (records more : List (List (List ℕ)))
     → records ≡ fields ∷ more → row_of_record number columns fields ≡ Ok row → rows_from columns number records ≡ with_row row (rows_from columns (number + 1) more)
 unfolding rows_from
@@ -127,7 +123,7 @@ pub led-all : {K : Type 0} (led : K → List (List Value) → K → Type 0) (sta
 unfolding LedSoFar
 led-all led start now columns first number records h e = rw (passed-on (rows_from columns) first h.0 number records h.2 ∙ ap (behind h.0) e ∙ ap Ok (append-nil h.0)) h.1
 
--- where the reader has an error of its own, it's behind those
+-- where the reader has an error of its own, it's after those
 pub led-stops : {K : Type 0} (led : K → List (List Value) → K → Type 0) (start now : K) (columns : List Column) (first : List (List (List ℕ))) (number : ℕ) (records : List (List (List ℕ))) (fault : Fault)
     → LedSoFar led start now columns first number records → stands_at number fault ≡ true → is_reader_fault fault ≡ true → StopsBehind (rows_from columns) first fault
 unfolding LedSoFar
@@ -136,7 +132,7 @@ led-stops led start now columns first number records fault h place own =
 
 pub ruleset so_far = (led-nothing, led-next, led-fault, led-all)
 
--- the heading, and the rows behind it
+-- the heading, and the rows after it
 pub rows_behind-none : (columns : List Column) (records : List (List (List ℕ))) → records ≡ [] → rows_behind columns records ≡ Err (at_record 201 0)
 unfolding rows_behind
 rows_behind-none columns records e = rw e refl

@@ -9,7 +9,7 @@ use Rattle.bw_model.specs.Number.{are_digits, number_of}
 use Rattle.bw_model.specs.Row.{Value}
 use Rattle.bw_csv.specs.Rows.{is_minus, is_null_text, unsigned, with_row, without_blanks}
 
--- the records of a text, behind a byte order mark where it has one
+-- the records of a text, after a byte order mark where it has one
 abbrev pub records_of : List ℕ → List (List (List ℕ))
 records_of text = records default_config (strip_bom text)
 
@@ -20,7 +20,8 @@ within_64_bits number (Some n) = Ok (Some n)
 
 -- what a sign and digits spell: one digit or more, and then a number that 64 bits hold
 abbrev pub bare_number : ℕ → Bool → List ℕ → Result Value Fault
-bare_number number is_negative digits = refused_if (not (are_digits digits)) (at_record 204 number) (within_64_bits number (number_of is_negative digits))
+bare_number number is_negative digits = refused_if (not (are_digits digits)) (at_record 204 number)
+    (within_64_bits number (number_of is_negative digits))
 
 -- what a text without blanks spells: null, or an optional sign and then a number
 abbrev pub bare_text : ℕ → List ℕ → Result Value Fault
@@ -33,7 +34,8 @@ bare_value number field = bare_text number (without_blanks field)
 -- the values of the fields, from the left, or the first fault among them
 unfoldable pub bare_values : ℕ → List (List ℕ) → Result (List Value) Fault
 bare_values number [] = Ok []
-bare_values number (field ∷ fields) = bare_value number field >>= λ value. bare_values number fields >>= λ values. Ok (value ∷ values)
+bare_values number (field ∷ fields) = bare_value number field >>= λ value. bare_values number fields
+    >>= λ values. Ok (value ∷ values)
 
 -- the row of a record that is to have so many fields, or the first fault in it: their number, a row past 2^24, and then
 -- its fields
@@ -46,4 +48,5 @@ bare_row number width fields =
 -- the rows of records, the first of which has this number
 unfoldable pub bare_rows : ℕ → ℕ → List (List (List ℕ)) → Result (List (List Value)) Fault
 bare_rows width number [] = Ok []
-bare_rows width number (fields ∷ more) = bare_row number width fields >>= λ row. with_row row (bare_rows width (number + 1) more)
+bare_rows width number (fields ∷ more) = bare_row number width fields
+    >>= λ row. with_row row (bare_rows width (number + 1) more)

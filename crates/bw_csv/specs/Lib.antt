@@ -1,3 +1,4 @@
 pub mod Bare
+pub mod Input
 pub mod Records
 pub mod Rows

@@ -23,7 +23,8 @@ coming records = records_in records.reader.state (source_of bytes_under records.
 
 -- a reader that was set up to read as the crate's defaults do, without a heading of its own, and that goes on
 abbrev pub IsOpenReader : Reader (Bor (List ℕ)) → Type 0
-IsOpenReader reader = (reader.config ≡ default_config) × (reader.trim ≡ trim.None) × Ready reader × (has_failed reader ≡ false) × IsSome (source_of bytes_under reader)
+IsOpenReader reader = (reader.config ≡ default_config) × (reader.trim ≡ trim.None) × Ready reader
+    × (has_failed reader ≡ false) × IsSome (source_of bytes_under reader)
 
 unfoldable pub IsOpen : Records → Type 0
 IsOpen records = IsOpenReader records.reader

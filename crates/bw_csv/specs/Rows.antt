@@ -30,12 +30,14 @@ without_blanks field = without_end_blanks (without_front_blanks field)
 -- a number that 64 bits hold, where they do, within the bounds of a column, or the fault of the record of this number
 abbrev pub within_bounds : ℕ → Column → Option ℤ → Result Value Fault
 within_bounds number column None = Err (at_record 205 number)
-within_bounds number column (Some n) = refused_if (not (int_le column.lo n && int_le n column.hi)) (at_record 205 number) (Ok (Some n))
+within_bounds number column (Some n) = refused_if (not (int_le column.lo n && int_le n column.hi))
+    (at_record 205 number) (Ok (Some n))
 
 -- what a sign and digits spell: one digit or more, and then a number within the bounds of the column
 abbrev pub number_value : ℕ → Column → Bool → List ℕ → Result Value Fault
 number_value number column is_negative digits =
-    refused_if (not (are_digits digits)) (at_record 204 number) (within_bounds number column (number_of is_negative digits))
+    refused_if (not (are_digits digits)) (at_record 204 number)
+    (within_bounds number column (number_of is_negative digits))
 
 -- a text that begins with a minus sign, which is byte 45, or a plus sign, byte 43
 abbrev pub is_minus : List ℕ → Bool
@@ -70,7 +72,8 @@ unfoldable pub values_of_fields : ℕ → List Column → List (List ℕ) → Re
 values_of_fields number [] fields = Ok []
 values_of_fields number (column ∷ columns) [] = Err (at_record 203 number)
 values_of_fields number (column ∷ columns) (field ∷ fields) =
-    value_of_field number column field >>= λ value. values_of_fields number columns fields >>= λ values. Ok (value ∷ values)
+    value_of_field number column field >>= λ value. values_of_fields number columns fields
+    >>= λ values. Ok (value ∷ values)
 
 -- the row of a record, or the first fault in it: the number of its fields, a row past 2^24, and then its fields
 unfoldable pub row_of_record : ℕ → List Column → List (List ℕ) → Result (List Value) Fault
@@ -79,7 +82,7 @@ row_of_record number columns fields =
     (refused_if (nat_lt most_rows number) (at_record 207 number)
     (values_of_fields number columns fields))
 
--- a row, and the rows behind it
+-- a row, and the rows after it
 abbrev pub with_row : List Value → Result (List (List Value)) Fault → Result (List (List Value)) Fault
 with_row row more = more >>= λ rows. Ok (row ∷ rows)
 
@@ -94,14 +97,16 @@ unfoldable pub is_heading : List Column → List (List ℕ) → Bool
 is_heading [] [] = true
 is_heading [] (field ∷ fields) = false
 is_heading (column ∷ columns) [] = false
-is_heading (column ∷ columns) (field ∷ fields) = same_text column.name (without_blanks field) && is_heading columns fields
+is_heading (column ∷ columns) (field ∷ fields) = same_text column.name (without_blanks field)
+    && is_heading columns fields
 
 -- the rows of records, the first of which is the heading and has number 0
 unfoldable pub rows_behind : List Column → List (List (List ℕ)) → Result (List (List Value)) Fault
 rows_behind columns [] = Err (at_record 201 0)
-rows_behind columns (heading ∷ more) = refused_if (not (is_heading columns heading)) (at_record 202 0) (rows_from columns 1 more)
+rows_behind columns (heading ∷ more) = refused_if (not (is_heading columns heading)) (at_record 202 0)
+    (rows_from columns 1 more)
 
--- the rows that a text spells, behind a byte order mark where it has one, or the first fault in it
+-- the rows that a text spells, after a byte order mark where it has one, or the first fault in it
 abbrev pub rows_of : List Column → List ℕ → Result (List (List Value)) Fault
 rows_of columns text = rows_behind columns (records default_config (strip_bom text))
 
@@ -122,7 +127,7 @@ is_record number (Rec at) = at == number
 abbrev pub is_reader_fault : Fault → Bool
 is_reader_fault fault = (fault.code == 209) && is_any_record fault.place
 
--- want of memory, or an error of the reader's own
+-- out of memory, or an error of the reader's own
 abbrev pub is_aside : Fault → Bool
 is_aside fault = is_memory fault || is_reader_fault fault
 
@@ -137,13 +142,14 @@ IsRowsFault fault = IsTrue (is_rows_fault fault)
 abbrev pub stands_at : ℕ → Fault → Bool
 stands_at number fault = not (fault.code == 209) || is_record number fault.place
 
--- an error of the reader's own stands at the heading, or at the record behind those whose rows were handed over
+-- an error of the reader's own stands at the heading, or at the record after those whose rows were handed over
 abbrev pub stands_behind : ℕ → Fault → Bool
 stands_behind rows fault = stands_at 0 fault || stands_at (rows + 1) fault
 
 -- Records begin with some that have rows, the first of which has number 1; and the fault is an error of the reader's own
--- at the record behind them.
-pub record StopsBehind (rows_from_number : ℕ → List (List (List ℕ)) → Result (List (List Value)) Fault) (records : List (List (List ℕ))) (fault : Fault) : Type 0 where
+-- at the record after them.
+pub record StopsBehind (rows_from_number : ℕ → List (List (List ℕ)) → Result (List (List Value)) Fault)
+    (records : List (List (List ℕ))) (fault : Fault) : Type 0 where
   pub done : List (List (List ℕ))
   pub rest : List (List (List ℕ))
   pub all : records ≡ done ++ rest
@@ -151,14 +157,16 @@ pub record StopsBehind (rows_from_number : ℕ → List (List (List ℕ)) → Re
   pub good : rows_from_number 1 done ≡ Ok rows
   pub is : fault ≡ at_record 209 (length done + 1)
 
--- An error of the reader's own stands at the heading, or at a record behind a good heading and records that have rows.
+-- An error of the reader's own stands at the heading, or at a record after a good heading and records that have rows.
 abbrev pub Stops : (List (List ℕ) → List (List (List ℕ)) → Fault → Type 0) → List (List (List ℕ)) → Fault → Type 0
 Stops behind records fault =
-    (fault ≡ at_record 209 0) ⊎ ((heading : List (List ℕ)) × (more : List (List (List ℕ))) × (records ≡ heading ∷ more) × behind heading more fault)
+    (fault ≡ at_record 209 0) ⊎ ((heading : List (List ℕ)) × (more : List (List (List ℕ))) × (records ≡ heading ∷ more)
+    × behind heading more fault)
 
 -- so it is under columns
 abbrev pub StopsUnder : List Column → List (List (List ℕ)) → Fault → Type 0
-StopsUnder columns = Stops (λ heading more fault. (is_heading columns heading ≡ true) × StopsBehind (rows_from columns) more fault)
+StopsUnder columns = Stops (λ heading more fault. (is_heading columns heading ≡ true)
+    × StopsBehind (rows_from columns) more fault)
 
 -- What a call answered is what is expected, but for the faults that are set aside.
 abbrev pub GivesButAside : {A B : Type 0} → (A → B) → Result A Fault → Result B Fault → Type 0
@@ -166,6 +174,7 @@ GivesButAside view (Ok x) expected = expected ≡ Ok (view x)
 GivesButAside view (Err fault) expected = is_aside fault ≡ false → expected ≡ Err fault
 
 -- A taker was led through the rows that are expected, or the fault is the one that is, but for those set aside.
-abbrev pub Hands : {K : Type 0} → (K → List (List Value) → K → Type 0) → Result (List (List Value)) Fault → K → K → Result (Unit {0}) Fault → Type 0
+abbrev pub Hands : {K : Type 0} → (K → List (List Value) → K → Type 0) → Result (List (List Value)) Fault → K → K
+    → Result (Unit {0}) Fault → Type 0
 Hands led expected old new (Ok x) = IsOkAnd expected (λ rows. led old rows new)
 Hands led expected old new (Err fault) = is_aside fault ≡ false → expected ≡ Err fault

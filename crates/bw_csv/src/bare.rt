@@ -12,14 +12,13 @@ ghost use Rattle.bw_csv.specs.Rows.{is_aside, rows_from, GivesButAside, IsRowsFa
 
 use crate::field::{is_minus, is_null_text, unsigned, without_blanks};
 use crate::records::Records;
-use crate::rows::MAX_ROWS;
-use bw_model::{Fault, Row, Value, code, number_in};
+use bw_model::{Fault, MAX_ROWS, Row, Value, code, number_in};
 use csv::ByteRecord;
 
 /// Puts the row of the next record, which has this number and is to have so many fields, into `row`, in the place of what
 /// that was, or answers that there is no record. An `Err` is the first fault in the record: the number of its fields
 /// (203), a row past 2^24 (207), and then its fields from the left: no whole number (204), or one that 64 bits don't hold
-/// (205); or it is want of memory, or an error of the reader's own (209).
+/// (205); or it is out of memory, or an error of the reader's own (209).
 #[tactic(auto, using(crate::proofs::BareLemmas::rows_of_records))]
 pub fn read_bare_row(
     records: &mut Records<'_>,
@@ -28,11 +27,14 @@ pub fn read_bare_row(
     row: &mut Row,
 ) -> Result<bool, Fault>
     requires { IsOpen records.old }
-    ensures some { IfOk result (λ found. found ≡ true → (fields : List (List ℕ)) × (coming records.old ≡ fields ∷ coming records.new)
+    ensures some { IfOk result (λ found. found ≡ true → (fields : List (List ℕ))
+        × (coming records.old ≡ fields ∷ coming records.new)
         × (bare_row number width fields ≡ Ok (values_of row.new))) }
-    ensures open { IfOk result (λ found. found ≡ true → IsOpen records.new × (number ≤ most_rows) × (length (values_of row.new) ≡ width)) }
+    ensures open { IfOk result (λ found. found ≡ true → IsOpen records.new × (number ≤ most_rows)
+        × (length (values_of row.new) ≡ width)) }
     ensures none { IfOk result (λ found. found ≡ false → bare_rows width number (coming records.old) ≡ Ok []) }
-    ensures row { IfErr result (λ fault. is_aside fault ≡ false → bare_rows width number (coming records.old) ≡ Err fault) }
+    ensures row { IfErr result (λ fault. is_aside fault ≡ false → bare_rows width number (coming records.old)
+        ≡ Err fault) }
     ensures fault { IfErr result IsRowsFault }
     ensures place { IfErr result (λ fault. IsTrue (stands_at number fault)) }
 {
@@ -47,7 +49,8 @@ pub fn read_bare_row(
 #[tactic(auto, unfolding(crate::specs::Bare::bare_row))]
 fn read_record(fields: &ByteRecord, width: usize, number: u32, row: &mut Row) -> Result<(), Fault>
     ensures row { OnOk result (bare_row number width (fields_of fields.now) ≡ Ok (values_of row.new)) }
-    ensures first { IfErr result (λ fault. is_aside fault ≡ false → bare_row number width (fields_of fields.now) ≡ Err fault) }
+    ensures first { IfErr result (λ fault. is_aside fault ≡ false → bare_row number width (fields_of fields.now)
+        ≡ Err fault) }
     ensures within { OnOk result ((number ≤ most_rows) × (length (values_of row.new) ≡ width)) }
     ensures fault { IfErr result IsRowsFault }
     ensures place { IfErr result (λ fault. IsTrue (stands_at number fault)) }

@@ -6,7 +6,7 @@ ghost use Rattle.bw_csv.specs.Rows.{is_blank, without_front_blanks, without_end_
 use bw_model::{Column, Fault, Value, code, is_same_text, number_in};
 
 /// The value that a field of the record of this number spells in a column, or its fault: no whole number (204), a null in a column that has
-/// none (206), or a number outside the column's bounds (205). Most fields are digits alone, or behind a minus sign, which
+/// none (206), or a number outside the column's bounds (205). Most fields are digits alone, or after a minus sign, which
 /// are read in one pass.
 #[tactic(auto, unfolding(crate::specs::Rows::value_of_field))]
 pub fn value_of(column: &Column, field: &[u8], number: u32) -> Result<Value, Fault>

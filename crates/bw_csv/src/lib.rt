@@ -1,6 +1,7 @@
 //! The rows that a CSV text spells under a schema.
 //!
-//! The contract that the crates above use is that of [`read_rows`]: a text's rows are handed to a [`RowTaker`],
+//! The contract that the crates above use is that of [`read_rows`]: a text's rows are handed to a
+//! [`RowTaker`](bw_model::RowTaker),
 //! one after another, in one pass, or the first fault in the text is answered. What the rows of a text are is
 //! said once, in `specs/Rows.antt`, over the records that the `csv` crate defines for its bytes. Where there is no
 //! schema yet, [`Records`] and [`read_bare_row`] read the same rows with no bounds but those of 64 bits.
@@ -11,11 +12,13 @@
 
 mod bare;
 mod field;
+mod input;
 mod records;
 mod row;
 mod rows;
 
 pub use bare::{bare_rows_are_rows, bare_value_of, read_bare_row};
 pub use field::{value_of, without_blanks};
+pub use input::read_csv;
 pub use records::Records;
-pub use rows::{MAX_CSV_LEN, MAX_ROWS, RowTaker, read_rows, rows_are_admitted};
+pub use rows::{read_rows, rows_are_admitted};

@@ -19,7 +19,7 @@ pub struct Records<'a> {
 }
 
 impl<'a> Records<'a> {
-    /// The records of a whole text, behind a byte order mark where it has one.
+    /// The records of a whole text, after a byte order mark where it has one.
     #[tactic(auto, unfolding(crate::specs::Records::coming, crate::specs::Records::IsOpen))]
     pub fn new(alloc: Global, text: &'a [u8]) -> Self
         ensures open { IsOpen result }
@@ -35,7 +35,7 @@ impl<'a> Records<'a> {
         }
     }
 
-    /// Reads the next record, which has this number, or answers that there is none. An `Err` is want of memory,
+    /// Reads the next record, which has this number, or answers that there is none. An `Err` is out of memory,
     /// or an error of the reader's own (209), and then nothing more is read. That the records are open, as they are until
     /// then, is the caller's condition.
     #[tactic(auto, unfolding(crate::specs::Rows::is_any_record))]

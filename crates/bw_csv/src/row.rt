@@ -9,8 +9,7 @@ ghost use Rattle.bw_csv.specs.Rows.{is_aside, is_heading, row_of_record, rows_be
 
 use crate::field::{value_of, without_blanks};
 use crate::records::Records;
-use crate::rows::MAX_ROWS;
-use bw_model::{Column, Fault, Row, code};
+use bw_model::{Column, Fault, MAX_ROWS, Row, code};
 use csv::ByteRecord;
 
 /// Reads the heading, which is the first record: refuses a text without a record (201), and other names (202).
@@ -20,7 +19,8 @@ pub(crate) fn read_heading(columns: &[Column], records: &mut Records<'_>) -> Res
     ensures open { OnOk result (IsOpen records.new) }
     ensures heading_read { OnOk result ((heading : List (List ℕ)) × (coming records.old ≡ heading ∷ coming records.new)
         × (is_heading columns.now heading ≡ true)) }
-    ensures heading { IfErr result (λ fault. is_aside fault ≡ false → rows_behind columns.now (coming records.old) ≡ Err fault) }
+    ensures heading { IfErr result (λ fault. is_aside fault ≡ false → rows_behind columns.now (coming records.old)
+        ≡ Err fault) }
     ensures fault { IfErr result IsRowsFault }
     ensures place { IfErr result (λ fault. IsTrue (stands_at 0 fault)) }
 {
@@ -50,7 +50,7 @@ fn is_heading(columns: &[Column], fields: &ByteRecord) -> bool
 
 /// Puts the row of the next record, which has this number, into `row`, in the place of what that was, or answers
 /// that there is no record. An `Err` is the first fault in the record: the number of its fields (203), a row past
-/// 2^24 (207), and then its fields from the left; or it is want of memory, or an error of the reader's own (209).
+/// 2^24 (207), and then its fields from the left; or it is out of memory, or an error of the reader's own (209).
 #[tactic(auto, using(crate::proofs::RowLemmas::rows_of_records))]
 pub(crate) fn read_row(
     columns: &[Column],
@@ -59,11 +59,14 @@ pub(crate) fn read_row(
     row: &mut Row,
 ) -> Result<bool, Fault>
     requires { IsOpen records.old }
-    ensures some { IfOk result (λ found. found ≡ true → (fields : List (List ℕ)) × (coming records.old ≡ fields ∷ coming records.new)
+    ensures some { IfOk result (λ found. found ≡ true → (fields : List (List ℕ))
+        × (coming records.old ≡ fields ∷ coming records.new)
         × (row_of_record number columns.now fields ≡ Ok (values_of row.new))) }
-    ensures open { IfOk result (λ found. found ≡ true → IsOpen records.new × (number ≤ most_rows) × IsTrue (admits_values columns.now (values_of row.new))) }
+    ensures open { IfOk result (λ found. found ≡ true → IsOpen records.new × (number ≤ most_rows)
+        × IsTrue (admits_values columns.now (values_of row.new))) }
     ensures none { IfOk result (λ found. found ≡ false → rows_from columns.now number (coming records.old) ≡ Ok []) }
-    ensures row { IfErr result (λ fault. is_aside fault ≡ false → rows_from columns.now number (coming records.old) ≡ Err fault) }
+    ensures row { IfErr result (λ fault. is_aside fault ≡ false → rows_from columns.now number (coming records.old)
+        ≡ Err fault) }
     ensures fault { IfErr result IsRowsFault }
     ensures place { IfErr result (λ fault. IsTrue (stands_at number fault)) }
 {
@@ -83,7 +86,8 @@ fn read_record(
     row: &mut Row,
 ) -> Result<(), Fault>
     ensures row { OnOk result (row_of_record number columns.now (fields_of fields.now) ≡ Ok (values_of row.new)) }
-    ensures first { IfErr result (λ fault. is_aside fault ≡ false → row_of_record number columns.now (fields_of fields.now) ≡ Err fault) }
+    ensures first { IfErr result (λ fault. is_aside fault ≡ false
+        → row_of_record number columns.now (fields_of fields.now) ≡ Err fault) }
     ensures within { OnOk result (number ≤ most_rows) }
     ensures fault { IfErr result IsRowsFault }
     ensures place { IfErr result (λ fault. IsTrue (stands_at number fault)) }
@@ -104,7 +108,8 @@ fn read_values(
     number: u32,
     row: &mut Row,
 ) -> Result<(), Fault>
-    ensures values { GivesButAside (λ _. values_of row.new) result (values_of_fields number columns.now (fields_of fields.now)) }
+    ensures values { GivesButAside (λ _. values_of row.new) result
+        (values_of_fields number columns.now (fields_of fields.now)) }
     ensures fault { IfErr result IsRowsFault }
     ensures place { IfErr result (λ fault. IsTrue (stands_at number fault)) }
 {

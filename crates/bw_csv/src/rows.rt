@@ -17,36 +17,8 @@ ghost use Rattle.bw_csv.specs.Rows.{rows_of, rows_from, is_reader_fault, Hands, 
 
 use crate::records::Records;
 use crate::row::{read_heading, read_row};
-use bw_model::{Column, Fault, Row, Schema, Value};
+use bw_model::{Column, Fault, Row, RowTaker, Schema, Value};
 use std::alloc::Global;
-
-/// A CSV text has at most this many bytes.
-pub const MAX_CSV_LEN: u64 = 1 << 30;
-
-/// A table has at most this many rows.
-pub const MAX_ROWS: u32 = 1 << 24;
-
-/// Who is handed the rows of a text, one after another.
-pub trait RowTaker {
-    /// Whether it can take a row of these values.
-    ghost takes: { Self → List Value → Bool };
-
-    /// How many rows it has been handed.
-    ghost rows: { Self → ℕ };
-
-    /// The first taker, handed these rows, becomes the second.
-    ghost led: { Self → List (List Value) → Self → Type 0 };
-
-    /// Takes the next row. An `Err`, which is want of memory, ends the reading.
-    fn take(&mut self, row: &Row) -> Result<(), Fault>
-        requires fits { IsTrue (takes self.old (values_of row.now)) }
-        requires room { rows self.old < most_rows }
-        ensures takes { OnOk result (takes self.new ≡ takes self.old) }
-        ensures rows { OnOk result (rows self.new ≡ rows self.old + 1) }
-        ensures led { OnOk result ((start : Self) → (before : List (List Value)) → led start before self.old
-            → led start (before ++ values_of row.now ∷ []) self.new) }
-        ensures only_memory { IfErr result (λ fault. fault ≡ no_memory) };
-}
 
 /// Hands the rows of a CSV text to a taker, in order. That the taker takes each row that the columns admit is the
 /// caller's condition.
@@ -61,13 +33,14 @@ pub fn read_rows<K: RowTaker>(
     text: &[u8],
     taker: &mut K,
 ) -> Result<(), Fault>
-    requires takes { (row : List Value) → IsTrue (admits_values schema.now.columns.items row) → IsTrue (K.takes taker.old row) }
+    requires takes { (row : List Value) → IsTrue (admits_values schema.now.columns.items row)
+        → IsTrue (K.takes taker.old row) }
     requires fresh { K.rows taker.old ≡ 0 }
     requires starts { K.led taker.old [] taker.old }
     ensures handed { Hands K.led (rows_of schema.now.columns.items text.now) taker.old taker.new result }
     ensures fault { IfErr result IsRowsFault }
     ensures place { IfErr result (λ fault. IsTrue (stands_behind (K.rows taker.new) fault)) }
-    // An error of the reader's own stands at the heading, or at the record behind those whose rows are good.
+    // An error of the reader's own stands at the heading, or at the record after those whose rows are good.
     ensures reader { IfErr result (λ fault. is_reader_fault fault ≡ true
         → StopsUnder schema.now.columns.items (records_of text.now) fault) }
 {
@@ -107,6 +80,8 @@ fn hand_rows<K: RowTaker>(
 
 /// A law: columns admit each row of a text, and a text has at most 2^24 rows.
 pub fn rows_are_admitted()
-    ensures admitted { (columns : List Column) (text : List ℕ) → IfOk (rows_of columns text) (λ rows. IsTrue (list_all (admits_values columns) rows)) }
-    ensures few { (columns : List Column) (text : List ℕ) → IfOk (rows_of columns text) (λ rows. length rows ≤ most_rows) }
+    ensures admitted { (columns : List Column) (text : List ℕ)
+        → IfOk (rows_of columns text) (λ rows. IsTrue (list_all (admits_values columns) rows)) }
+    ensures few { (columns : List Column) (text : List ℕ) → IfOk (rows_of columns text)
+        (λ rows. length rows ≤ most_rows) }
 {}

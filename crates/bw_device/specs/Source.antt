@@ -4,7 +4,7 @@ use Rattle.std.specs.Io.KnownBytes.{Consumes, IsAtEnd}
 use Rattle.bw_model.specs.declared.fault.Fault.{Fault}
 use Rattle.bw_model.specs.Fault.{nowhere, no_memory, is_memory, stands_nowhere}
 
--- a failed read, and what a call that only reads refuses by: a failed read or want of memory
+-- a failed read, and what a call that only reads refuses by: a failed read or out of memory
 abbrev pub is_read_fault : Fault → Bool
 is_read_fault fault = (fault.code == 701) && stands_nowhere fault.place
 

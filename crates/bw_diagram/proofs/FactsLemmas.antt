@@ -27,14 +27,6 @@ slice_get-append_one (z ∷ xs) y zero x is = inl is
 slice_get-append_one (z ∷ xs) y (suc k) x is =
     ⊎_elim (λ there. inl there) (λ last. inr (omega (arith, last.0), last.1)) (slice_get-append_one xs y k x is)
 
--- what is true of the terminals alone
-pub no_facts-true : (columns : List Column) → AreTrue (no_facts columns)
-no_facts-true columns = record {
-  ordered = λ k node bit is. cc;
-  chains = λ k chain is. cc;
-  products = λ k row is. cc;
-}
-
 -- what a node's rule says
 pub record Obeys (variables : ℕ) (nodes : List Node) (number : ℕ) (node : Node) : Type 0 where
   pub next : number ≡ 2 + length nodes

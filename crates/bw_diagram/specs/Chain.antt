@@ -56,7 +56,8 @@ comparison columns (Two kind left right len node prev) assignment =
 -- What a chain claims: its node is a node, and under every assignment it is 1 exactly where the comparison holds.
 pub record IsChain (columns : List Column) (nodes : List Node) (chain : Chain) : Type 0 where
   pub chain_node : IsNode nodes (node_of chain)
-  pub claim : (assignment : Assignment) → node_value nodes assignment (node_of chain) ≡ comparison columns chain assignment
+  pub claim : (assignment : Assignment) → node_value nodes assignment (node_of chain) ≡ comparison columns chain
+      assignment
 
 -- The node of a comparison of numbers with these top bits, where that of the numbers below the top bits is e.
 abbrev pub outcome : ChainKind → Bool → Bool → ℕ → ℕ
@@ -121,7 +122,8 @@ is_choice nodes v low high node = tests v low high (node_at nodes node) || (low 
 
 -- the variable of a column's bit, of which it has as many as its width
 abbrev pub variable_at : List Column → ℕ → ℕ → Option ℕ
-variable_at columns col place = if nat_lt place (width_at columns col) then Some (bit_variable columns col place) else None
+variable_at columns col place = if nat_lt place (width_at columns col) then Some
+    (bit_variable columns col place) else None
 
 -- a bit of a variable can be 0 or 1, and one that has no variable is 0 alone
 abbrev pub occurs : Option ℕ → Bool → Bool

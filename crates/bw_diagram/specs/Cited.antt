@@ -21,11 +21,13 @@ cited facts op a b number = option_and_then (third_node op a b) (slice_get facts
 
 -- the node that the chain of this number compares so many bits of a column by, from the bit `start` upwards, with a number
 unfoldable pub chain_cited : Facts → ChainKind → ℕ → ℕ → ℕ → ℕ → ℕ → Option ℕ
-chain_cited facts kind col start len bound number = option_and_then (node_of_one kind col start len bound) (slice_get facts.chains number)
+chain_cited facts kind col start len bound number = option_and_then (node_of_one kind col start len bound)
+    (slice_get facts.chains number)
 
 -- the node that it compares the low bits of two columns by
 unfoldable pub two_cited : Facts → ChainKind → ℕ → ℕ → ℕ → ℕ → Option ℕ
-two_cited facts kind left right len number = option_and_then (node_of_two kind left right len) (slice_get facts.chains number)
+two_cited facts kind left right len number = option_and_then (node_of_two kind left right len)
+    (slice_get facts.chains number)
 
 -- the node is worth what its variable is
 unfoldable pub is_variable : Facts → ℕ → ℕ → Bool
@@ -45,9 +47,11 @@ pub record AreWorth (facts : Facts) : Type 0 where
   pub row : (op : Connective) (a b number c : ℕ) → cited facts op a b number ≡ Some c
       → IsNode facts.nodes c × ((assignment : Assignment) → node_value facts.nodes assignment c
       ≡ joined op (node_value facts.nodes assignment a) (node_value facts.nodes assignment b))
-  pub chain : (kind : ChainKind) (col start len bound number n : ℕ) → chain_cited facts kind col start len bound number ≡ Some n
+  pub chain : (kind : ChainKind) (col start len bound number n : ℕ) → chain_cited facts kind col start len bound number
+      ≡ Some n
       → IsNode facts.nodes n × ((assignment : Assignment) → node_value facts.nodes assignment n
       ≡ compares kind (number_spelled facts.columns col start len assignment) bound)
   pub two : (kind : ChainKind) (left right len number n : ℕ) → two_cited facts kind left right len number ≡ Some n
       → IsNode facts.nodes n × ((assignment : Assignment) → node_value facts.nodes assignment n
-      ≡ compares kind (padded_number facts.columns left len assignment) (padded_number facts.columns right len assignment))
+      ≡ compares kind (padded_number facts.columns left len assignment)
+      (padded_number facts.columns right len assignment))

@@ -70,13 +70,14 @@ with_chain facts number named =
 unfoldable pub judged_row : Facts → ℕ → Product → Reason → Result Product Fault
 judged_row facts number row reason =
     refused_if (nat_le most_products (length facts.rows)) (nowhere 604)
-    (refused_if (not (obeys_row (variables_of facts.columns) facts.nodes facts.rows number row reason)) (nowhere 602) (Ok row))
+    (refused_if (not (obeys_row (variables_of facts.columns) facts.nodes facts.rows number row reason)) (nowhere 602)
+    (Ok row))
 
 -- what is held after its line
 abbrev pub with_row : Facts → ℕ → Product → Reason → Result Facts Fault
 with_row facts number row reason =
     judged_row facts number row reason >>= λ row. Ok (record facts { rows = facts.rows ++ row ∷ [] })
 
--- one of 601 to 604, or want of memory
+-- one of 601 to 604, or out of memory
 abbrev pub is_diagram_fault : Fault → Bool
 is_diagram_fault fault = (nat_le 601 fault.code && nat_le fault.code 604) || is_memory fault

@@ -27,7 +27,8 @@ chosen assignment before node = slice_index_or before (child (assignment node.v)
 -- some values, and then those of nodes that come after them
 abbrev pub values_from : Assignment → List Bool → List Node → List Bool
 values_from assignment before [] = before
-values_from assignment before (node ∷ nodes) = values_from assignment (before ++ chosen assignment before node ∷ []) nodes
+values_from assignment before (node ∷ nodes) = values_from assignment (before ++ chosen assignment before node
+    ∷ []) nodes
 
 -- What a node is worth under an assignment. The terminals are worth 0 and 1.
 unfoldable pub node_value : List Node → Assignment → ℕ → Bool

@@ -129,7 +129,7 @@ fn last_word(text: &[u8]) -> &[u8] {
     &text[text.len().saturating_sub(letters)..]
 }
 
-/// Says what could stand behind the beginning of a statement.
+/// Says what could stand after the beginning of a statement.
 fn put_frontier(
     alloc: Global,
     text: &mut String,
@@ -156,7 +156,7 @@ fn put_frontier(
     Ok(())
 }
 
-/// Whether a statement goes on with this text behind its beginning, by the parser's own answer: it's read, or refused for
+/// Whether a statement goes on with this text after its beginning, by the parser's own answer: it's read, or refused for
 /// what comes later, or for a name that isn't the table's or a column's.
 fn could_stand(
     alloc: Global,

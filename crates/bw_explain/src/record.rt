@@ -1,7 +1,7 @@
 //! What is wrong with a record of a CSV text.
 use crate::shown::Shown;
-use bw_csv::{MAX_ROWS, value_of, without_blanks};
-use bw_model::{Column, Fault, Place, Schema, code};
+use bw_csv::{value_of, without_blanks};
+use bw_model::{Column, Fault, MAX_ROWS, Place, Schema, code};
 use csv::{ByteRecord, Reader, ReaderBuilder};
 use std::alloc::{AllocError, Global};
 use std::fmt;
@@ -166,7 +166,7 @@ enum At {
     Within,
     /// In quotation marks, the first of which stood on this line.
     Quoted(u64),
-    /// Behind a quotation mark that may be the first of two.
+    /// After a quotation mark that may be the first of two.
     Closed(u64),
 }
 

@@ -1,8 +1,8 @@
 //! The columns of a CSV text that `bw infer` can't take.
 use crate::record::{Found, Named, line_of, put_open_quote, reader_of};
 use crate::shown::Shown;
-use bw_csv::{MAX_ROWS, bare_value_of, without_blanks};
-use bw_model::{Fault, code};
+use bw_csv::{bare_value_of, without_blanks};
+use bw_model::{Fault, MAX_ROWS, code};
 use csv::ByteRecord;
 use std::alloc::{AllocError, Global};
 use std::fmt;
@@ -70,7 +70,7 @@ impl Columns {
         })
     }
 
-    /// Looks at the records behind the heading.
+    /// Looks at the records after the heading.
     fn look_at_rows(
         &mut self,
         alloc: Global,

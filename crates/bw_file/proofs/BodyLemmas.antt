@@ -121,10 +121,6 @@ pub blocks_read : (layout : Layout) (schema : List Column) (rows count i : ℕ) 
 unfolding blocks
 blocks_read layout schema rows count i before old new le p = let e : count - i ≡ 0 = omega arith in rw e at p
 
-pub blocks_begin : (layout : Layout) (schema : List Column) (rows count : ℕ) (old : State)
-    → GoesOn (blocks layout schema rows 0 count []) old (blocks layout schema rows 0 (count - 0) []) old
-blocks_begin layout schema rows count old = let e : count - 0 ≡ count = omega arith in rw e (begins (blocks layout schema rows 0 count []) old)
-
 -- the rows of a segment are those of its bytes
 pub segment_read : (layout : Layout) (schema : List Column) (rows : ℕ) (bytes : List ℕ) (old new : State) → GoesOn (blocks layout schema rows 0 (length schema) []) old (give bytes) new
     → GoesOn (segment layout schema rows) old (give (rows_spelled layout schema rows bytes)) new
@@ -154,7 +150,7 @@ before_within layout schema column (suc count) lt =
       | inr same ↦ let e : column ≡ count = omega arith in rw e (omega arith)
     ]
 
--- blocks that are sound, in a buffer, and a block behind them
+-- blocks that are sound, in a buffer, and a block after them
 pub sound_more : (layout : Layout) (schema : List Column) (rows column start size room : ℕ) (bytes added : List ℕ) → start ≤ length bytes → size ≡ block_size layout schema column
     → length added ≡ size → AreSound layout schema rows column (take start bytes) → block_fault layout schema column rows added ≡ None
     → AreSound layout schema rows (column + 1) (take (start + size) (put_mid start room bytes added))

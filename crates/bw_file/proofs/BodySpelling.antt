@@ -1,4 +1,4 @@
--- What is read behind a table file's header is spelled so.
+-- What is read after a table file's header is spelled so.
 use Rattle.std.proofs.Common.{◌≡◌, ℕ, zero, suc, min, ◌+◌, ◌-◌, ◌^◌, ◌<◌, ◌≤◌, true, false, List, [], ◌∷◌, ◌++◌, length, take, drop, Option, Some, None, Result, Ok, refl, sym, ap, subst, ◌∙◌, append_assoc, length-append, arith, inl, inr, All, lit<}
 use Rattle.std.specs.List.{flat_map, list_all}
 use Rattle.std.proofs.lemmas.Bool.{cases_lt}
@@ -174,7 +174,7 @@ cut_group group rest rows here there =
           rw (take_at group rest group_size whole, drop_at group rest group_size whole) refl
     ]
 
--- the first group of some rows, where those behind it are as many as are left
+-- the first group of some rows, where those after it are as many as are left
 first_group : (group rest : List (List Value)) (rows : ℕ) → 0 < rows → length group ≡ min group_size rows → length rest ≡ rows - group_size
     → groups_of (group ++ rest) ≡ group ∷ groups_of rest
 first_group group rest rows some here there =

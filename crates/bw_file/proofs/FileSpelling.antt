@@ -44,7 +44,7 @@ of_version version layout schema rows bytes (inl one) narrow text =
     inl (rw same (rw one at text))
 of_version version layout schema rows bytes (inr two) narrow text = inr (rw two at text)
 
--- what was read, by the header and by what stands behind it
+-- what was read, by the header and by what stands after it
 abbrev pub of_groups : Layout → SchemaShape → List (List (List Value)) → Found
 of_groups layout shape groups = record { layout = layout; schema = shape; rows = together groups }
 
@@ -53,7 +53,7 @@ pub body_found : (layout : Layout) (shape : SchemaShape) (r : Result (List (List
 body_found layout shape (Ok y) found e = (y, refl, cc)
 body_found layout shape (Err fault) found e = absurd cc
 
--- a table that is behind a header
+-- a table that is after a header
 record Spelled (bytes : List ℕ) (found : Found) : Type 0 where
   schema : Schema
   shape : schema_shape schema ≡ found.schema

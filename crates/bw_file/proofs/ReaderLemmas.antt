@@ -30,7 +30,7 @@ sizes-same (suc a) (suc b) zero la lb = refl
 sizes-same (suc a) (suc b) (suc rows) la lb =
     ap (λ (sizes : List ℕ). min group_size (suc rows) ∷ sizes) (sizes-same a b (suc rows - group_size) (omega (arith, la)) (omega (arith, lb)))
 
--- they are the first, and those of the rows behind it
+-- they are the first, and those of the rows after it
 pub group_sizes-some : (rows : ℕ) → 0 < rows → group_sizes rows ≡ min group_size rows ∷ group_sizes (rows - group_size)
 unfolding group_sizes group_size
 group_sizes-some zero some = absurd (omega (arith, some))
@@ -114,7 +114,7 @@ module _ (start old : State) (reader : TableReader) (groups : List (List (List V
   header_on : (rest : List ℕ) → header (tail 0 (so_far.head.bytes ++ rest)) ≡ Ok (header_told reader.version reader, tail so_far.behind.offset rest)
   header_on rest = head_at start so_far.behind (header_told reader.version reader) rest so_far.first so_far.head
 
-  -- a file that ends within its header, or where what stands behind it needs more, ends too early
+  -- a file that ends within its header, or where what stands after it needs more, ends too early
   pub ends_early : (more : List ℕ) → NeedsEach whole_body so_far.behind.offset more → (n : ℕ) → n < length (so_far.head.bytes ++ more)
       → IsReadAs (take n (so_far.head.bytes ++ more)) (Err (at_byte 305 n))
   ends_early more needed n lt =
@@ -141,7 +141,7 @@ module _ (start old : State) (reader : TableReader) (groups : List (List (List V
       let early : whole_body (tail so_far.behind.offset more) ≡ Err (at_byte 305 (length (so_far.head.bytes ++ more))) = rw place at p in
       rw (header_on more) (reader.shape.value.schema, refl, sym (ap (found_in reader.layout (schema_shape reader.shape.value.schema)) early))
 
-  -- the fault behind the header is the file's
+  -- the fault after the header is the file's
   behind_fault : (new : State) (more : List ℕ) (fault : Fault) → ((n : ℕ) → n < length (so_far.head.bytes ++ more) → LacksFault (so_far.head.bytes ++ more) n fault)
       → HasFault whole_body so_far.behind new more fault → HasFirstFault new (so_far.head.bytes ++ more) fault
   behind_fault new more fault needed has =
@@ -221,7 +221,7 @@ lacking : (bytes : List ℕ) (n : ℕ) (fault : Fault) → LacksFault bytes n fa
 lacking bytes n fault (inl early) = inl early
 lacking bytes n fault (inr whole) = inr (whole.0, whole.1)
 
--- no byte could be spared, whether a byte came behind the groups or a read failed
+-- no byte could be spared, whether a byte came after the groups or a read failed
 end_needed : (start old : State) (reader : TableReader) (groups : List (List (List Value))) → reader.given ≡ reader.rows → (so_far : SoFar start old reader groups)
     → (byte : List ℕ) (failed : Bool) → (failed ≡ true → byte ≡ []) → (failed ≡ false → length byte ≡ 1)
     → NoneToSpare (so_far.head.bytes ++ (so_far.on.bytes ++ byte))
@@ -231,7 +231,7 @@ end_needed start old reader groups all so_far byte true none one =
 end_needed start old reader groups all so_far byte false none one =
     λ n lt. lacking (so_far.head.bytes ++ (so_far.on.bytes ++ byte)) n (at_byte 309 old.offset) (byte_needed start old reader groups all so_far byte (one refl) n lt)
 
--- a fault that isn't a failed read, nor want of memory
+-- a fault that isn't a failed read, nor out of memory
 own_fault : (fault : Fault) → is_input_fault fault ≡ false → is_read_fault fault ≡ false
 own_fault fault own = either (is_memory fault) (is_read_fault fault) own
   where

@@ -70,7 +70,7 @@ needs_more {A = A} reading next at behind xs ys e p on q n lt =
           ∙ ap (λ (k : ℕ). short_at A k) place
     ]
 
--- what needs more than the bytes that it finds still does so behind others
+-- what needs more than the bytes that it finds still does so after others
 needs_still : {A B : Type 0} (reading : Reading B) (first : Reading A) (next : A → Reading B) (at behind : ℕ) (xs ys : List ℕ) → behind ≡ at + length xs
     → ((rest : List ℕ) → reading (tail at (xs ++ rest)) ≡ (first >>= next) (tail behind rest)) → NeedsMore first behind ys → NeedsMore reading at (xs ++ ys)
 needs_still {A = A} {B = B} reading first next at behind xs ys e on p =
@@ -81,7 +81,7 @@ needs_still {A = A} {B = B} reading first next at behind xs ys e on p =
 pub begins : {A : Type 0} (reading : Reading A) (old : State) → GoesOn reading old reading old
 begins reading old = record { bytes = []; took = took_nothing old.known old.offset old.failures; needed = needs_none reading old.offset; failures = refl; on = λ rest. refl }
 
--- reading goes on behind one thing
+-- reading goes on after one thing
 pub passes : {A B : Type 0} (reading : Reading B) (first : Reading A) (next : A → Reading B) (x : A) (old mid new : State)
     → GoesOn reading old (first >>= next) mid → GoesOn first mid (give x) new → GoesOn reading old (next x) new
 passes {A = A} reading first next x old mid new p q = record {
@@ -104,7 +104,7 @@ pub is_coming : (known : Option (List ℕ)) → IfSome known (λ bytes. bytes �
 is_coming None = tt
 is_coming (Some bytes) = refl
 
--- a fault that stands at a byte is neither a failed read nor want of memory
+-- a fault that stands at a byte is neither a failed read nor out of memory
 refused_place : (b : Bool) → (b && false) ≡ false
 refused_place true = refl
 refused_place false = refl
@@ -131,7 +131,7 @@ stops {A = A} reading first next old mid new fault p q = record {
       found;
 }
 
--- want of memory refuses whatever is read
+-- out of memory refuses whatever is read
 pub stops_memory : {A : Type 0} (reading next : Reading A) (old mid : State) → GoesOn reading old next mid → Fails reading old mid no_memory
 stops_memory reading next old mid p = record {
   bytes = p.bytes;
@@ -142,7 +142,7 @@ stops_memory reading next old mid p = record {
   refused = λ own. absurd (true≢false own);
 }
 
--- a fault of bytes, whatever stands behind them
+-- a fault of bytes, whatever stands after them
 refuses_behind : {A : Type 0} (reading : Reading A) (old new : State) (bytes : List ℕ) (code place : ℕ) → Took old new bytes → NeedsEach reading old.offset bytes → new.failures ≡ old.failures
     → ((rest : List ℕ) → reading (tail old.offset (bytes ++ rest)) ≡ Err (at_byte code place)) → Fails reading old new (at_byte code place)
 refuses_behind reading old new bytes code place took needed same e =
@@ -240,7 +240,7 @@ front_filled filled n xs ys within few =
     ap (λ (k : ℕ). take (k + n) (put_mid filled (length xs - filled) xs ys)) (sym front) ∙ split
     ∙ ap (λ (l : List ℕ). take filled xs ++ l) (take-append-le n ys (post_of filled (length xs - filled) xs) few)
 
--- bytes that came behind others in a buffer
+-- bytes that came after others in a buffer
 pub took_into : (a b c : State) (filled n : ℕ) (xs ys : List ℕ) → filled ≤ length xs → n ≤ length ys → Took a b (take filled xs) → Took b c (take n ys)
     → Took a c (take (filled + n) (put_mid filled (length xs - filled) xs ys))
 took_into a b c filled n xs ys within few p q =

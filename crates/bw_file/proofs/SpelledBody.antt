@@ -1,4 +1,4 @@
--- What is spelled is read: the groups behind a table file's header.
+-- What is spelled is read: the groups after a table file's header.
 use Rattle.std.proofs.Common.{◌≡◌, ℕ, zero, suc, ◌+◌, ◌-◌, ◌<◌, ◌≤◌, true, All, List, [], ◌∷◌, ◌++◌, length, map, drop, Option, None, Result, Ok, refl, sym, ap, ap₂, subst, ◌∙◌, append_assoc, add-one, length-take, length-drop, arith}
 use Rattle.std.specs.List.{flat_map, list_all, range_with_len}
 use Rattle.std.proofs.lemmas.List.{append-nil}
@@ -111,7 +111,7 @@ sizes_within (suc most) (row ∷ rows) few =
 pub sizes_of_groups : (rows : List (List Value)) → group_sizes (length rows) ≡ map length (groups_of rows)
 sizes_of_groups rows = sizes_within (length rows) rows (omega arith)
 
--- what stands behind a header is read as the groups of its rows
+-- what stands after a header is read as the groups of its rows
 pub groups_read : (layout : Layout) (columns : List Column) (rows : List (List Value)) (at : ℕ) → list_all (admits_values columns) rows ≡ true
     → (t : Tail) × (body layout columns (group_sizes (length rows)) [] (tail at (flat_map (segment_text (form_of layout) columns) (groups_of rows))) ≡ Ok (groups_of rows, t))
 groups_read layout columns rows at admitted =

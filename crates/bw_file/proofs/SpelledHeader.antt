@@ -21,7 +21,7 @@ use Rattle.bw_file.specs.Reading.{Tail, tail, Reading, passed, ◌>>=◌, give, 
 use Rattle.bw_file.specs.TableReading.{magic_says, version_says, layout_says, count_says, rows_say, bound_in, bounds_say, nullable_says, name_says, name, column, columns, front_of, front, HeaderShape, header_of, header}
 use Rattle.bw_file.proofs.SpellingLemmas.{shape_text, fits_version, head_text, IsHeader}
 
--- reading gives this of a text, whatever stands behind it
+-- reading gives this of a text, whatever stands after it
 abbrev pub ReadsText : {A : Type 0} → Reading A → List ℕ → A → Type 0
 ReadsText reading text x = (at : ℕ) (rest : List ℕ) → reading (tail at (text ++ rest)) ≡ Ok (x, tail (at + length text) rest)
 

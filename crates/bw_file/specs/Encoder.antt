@@ -25,7 +25,7 @@ IsTextOf layout schema bytes rows =
     ++ segments_text layout schema.columns.items rows
 
 -- The encoder was given these rows, which the columns admit: the text of the groups that are whole,
--- behind a header that tells of no rows yet, and less than a group that isn't yet in the text, or one
+-- after a header that tells of no rows yet, and less than a group that isn't yet in the text, or one
 -- that is just whole, which it keeps by columns.
 pub record Holds (encoder : Encoder) (rows : List (List Value)) : Type 0 where
   pub before : List (List Value)
@@ -39,8 +39,14 @@ pub record Holds (encoder : Encoder) (rows : List (List Value)) : Type 0 where
   pub count : length rows ≡ encoder.rows
   pub admitted : AreRows encoder.shape.schema.columns.items rows
 
+-- the encoder, whichever rows it had been given, was given these too
+pub record TookRows (start : Encoder) (rows : List (List Value)) (now : Encoder) : Type 0 where
+  pub layout : encoder_layout now ≡ encoder_layout start
+  pub schema : encoder_schema now ≡ encoder_schema start
+  pub holds : (before : List (List Value)) → Holds start before → Holds now (before ++ rows)
+
 -- An encoder is as it was before a call, but for room in its memory: it writes the same table in the
--- same layout, with the same text and the same rows behind it.
+-- same layout, with the same text and the same rows after it.
 pub record IsAsBefore (old new : Encoder) : Type 0 where
   pub layout : new.layout ≡ old.layout
   pub schema : new.shape.schema ≡ old.shape.schema

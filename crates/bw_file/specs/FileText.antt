@@ -33,7 +33,7 @@ unfoldable pub front_text : ℕ → Layout → ℕ → ℕ → List ℕ
 front_text version layout columns rows =
     magic ++ (version ∷ layout_byte layout ∷ []) ++ to_le_bytes w16 columns ++ to_le_bytes w32 rows
 
--- a name, behind a byte for its length
+-- a name, after a byte for its length
 abbrev pub name_text : List ℕ → List ℕ
 name_text name = length name ∷ name
 

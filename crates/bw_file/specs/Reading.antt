@@ -1,4 +1,4 @@
--- Reading bytes field by field: what is read of them, and the bytes behind it, or the first fault.
+-- Reading bytes field by field: what is read of them, and the bytes after it, or the first fault.
 use Rattle.std.specs.Prelude.{◌≡◌, ℕ, ◌+◌, true, false, List, [], ◌++◌, length, take, drop, Option, IfSome, Result, Ok, Err, if◌then◌else◌, nat_lt, ◌<◌, slice_index}
 use Rattle.std.specs.Io.KnownBytes.{Consumes}
 use Rattle.bw_model.specs.declared.fault.Fault.{Fault}
@@ -13,7 +13,7 @@ pub record Tail : Type 0 where
 abbrev pub tail : ℕ → List ℕ → Tail
 tail at bytes = record { at = at; bytes = bytes }
 
--- a thing and the bytes behind it, or the first fault
+-- a thing and the bytes after it, or the first fault
 abbrev pub Reading : Type 0 → Type 0
 Reading A = Tail → Result (A × Tail) Fault
 
@@ -31,7 +31,7 @@ abbrev pub ◌>>=◌ : {A B : Type 0} → Reading A → (A → Reading B) → Re
 abbrev pub give : {A : Type 0} → A → Reading A
 give x t = Ok (x, t)
 
--- so many bytes, which are taken whole: where they are wanting, the fault stands at the end of the
+-- so many bytes, which are taken whole: where they are missing, the fault stands at the end of the
 -- file
 unfoldable pub field : ℕ → Reading (List ℕ)
 field size t =
@@ -82,7 +82,7 @@ abbrev pub NeedsMore : {A : Type 0} → Reading A → ℕ → List ℕ → Type 
 NeedsMore reading at bytes = reading (tail at bytes) ≡ Err (at_byte 305 (at + length bytes))
 
 -- Bytes were taken of a source, none that reading doesn't need, with no failed read, and reading
--- goes on behind them, whatever stands there.
+-- goes on after them, whatever stands there.
 pub record GoesOn {A : Type 0} (reading : Reading A) (old : State)
     (next : Reading A) (new : State) : Type 0 where
   pub bytes : List ℕ
@@ -91,7 +91,7 @@ pub record GoesOn {A : Type 0} (reading : Reading A) (old : State)
   pub failures : new.failures ≡ old.failures
   pub on : (rest : List ℕ) → reading (tail old.offset (bytes ++ rest)) ≡ next (tail new.offset rest)
 
--- Reading bytes, and some behind them, which are those to come where they are known, gives this
+-- Reading bytes, and some after them, which are those to come where they are known, gives this
 -- fault.
 pub record HasFault {A : Type 0} (reading : Reading A) (old new : State)
     (bytes : List ℕ) (fault : Fault) : Type 0 where
@@ -104,7 +104,7 @@ abbrev pub failed_reads : Fault → ℕ
 failed_reads fault = if is_read_fault fault then 1 else 0
 
 -- Bytes were taken of a source, none that reading doesn't need, and a fault was answered: that of a
--- failed read, where the bytes that were taken weren't enough; want of memory; or the one that
+-- failed read, where the bytes that were taken weren't enough; out of memory; or the one that
 -- reading gives.
 pub record Fails {A : Type 0} (reading : Reading A) (old new : State) (fault : Fault) : Type 0 where
   pub bytes : List ℕ
@@ -124,7 +124,7 @@ pub record HasByteMore (old new : State) (fault : Fault) : Type 0 where
   pub refused : is_read_fault fault ≡ false
       → (length bytes ≡ 1) × (fault ≡ at_byte 309 old.offset)
 
--- What a call took of a source says what the call answered, seen by view, whatever stands behind
+-- What a call took of a source says what the call answered, seen by view, whatever stands after
 -- it; or it has the fault that the call answered.
 abbrev pub Reads : {A B : Type 0} → (A → B) → Reading B → State → State → Result A Fault → Type 0
 Reads view reading old new (Ok x) = GoesOn reading old (give (view x)) new

@@ -83,7 +83,7 @@ found_so_far reader groups =
     found_as reader.layout (schema_shape reader.shape.value.schema) (together groups)
 
 -- so many of the bytes, the first ones, don't settle whether a file has a fault: they end too early;
--- or they are a table's, and a byte behind them would be one
+-- or they are a table's, and a byte after them would be one
 abbrev pub AreTooFew : List ℕ → ℕ → Type 0
 AreTooFew bytes n =
     IsReadAs (take n bytes) (Err (at_byte 305 n)) ⊎ ((found : Found) × IsReadAs (take n bytes) (Ok found))
@@ -102,13 +102,13 @@ pub record ReadWhole (start now : State) (found : Found) : Type 0 where
   pub read : IsReadAs bytes (Ok found)
 
 -- so many of the bytes, the first ones, don't have this fault: they end too early; or they are a
--- table's, and it is a byte behind them
+-- table's, and it is a byte after them
 abbrev pub LacksFault : List ℕ → ℕ → Fault → Type 0
 LacksFault bytes n fault =
     IsReadAs (take n bytes) (Err (at_byte 305 n))
     ⊎ ((found : Found) × IsReadAs (take n bytes) (Ok found) × (fault ≡ at_byte 309 n))
 
--- bytes, none of which could be spared, and some behind them, which are those to come where they
+-- bytes, none of which could be spared, and some after them, which are those to come where they
 -- are known, are read as this fault
 pub record HasFirstFault (now : State) (bytes : List ℕ) (fault : Fault) : Type 0 where
   pub needed : (n : ℕ) → n < length bytes → LacksFault bytes n fault
@@ -117,13 +117,13 @@ pub record HasFirstFault (now : State) (bytes : List ℕ) (fault : Fault) : Type
   pub read : IsReadAs (bytes ++ rest) (Err fault)
 
 -- bytes that don't settle whether a file has a fault: they end too early; or they are a table's,
--- and a byte behind them would be one
+-- and a byte after them would be one
 abbrev pub AreUnfinished : List ℕ → Type 0
 AreUnfinished bytes =
     IsReadAs bytes (Err (at_byte 305 (length bytes))) ⊎ ((found : Found) × IsReadAs bytes (Ok found))
 
 -- Since the start of the file bytes were taken, none of which could be spared, and a fault was
--- answered: that of a failed read, where another byte or the end was to be seen; want of memory; or
+-- answered: that of a failed read, where another byte or the end was to be seen; out of memory; or
 -- the file's first fault.
 pub record AnswersFault (start old now : State) (fault : Fault) : Type 0 where
   pub bytes : List ℕ
@@ -181,7 +181,7 @@ Repeats result (Ok x) = result ≡ Ok None
 Repeats result (Err fault) = result ≡ Err fault
 
 -- What a call that is to give the next segment answered, and how it left the source and the reader
--- that it found so: a segment's rows come behind the groups so far, and None where they are the
+-- that it found so: a segment's rows come after the groups so far, and None where they are the
 -- groups of all rows of the file, read whole; what was settled is repeated, and then nothing
 -- changes.
 pub record GivesNext {S : Type 0} (source next_source : S) (old now : State)

@@ -65,19 +65,19 @@ nullable_says bytes =
     if slice_index bytes 0 == 0 then Ok false
     else (if slice_index bytes 0 == 1 then Ok true else Err 304)
 
--- a name behind others: what isn't one, or one of the others, ignoring case, is 304
+-- a name after others: what isn't one, or one of the others, ignoring case, is 304
 unfoldable pub name_says : List (List ℕ) → List ℕ → Result (List ℕ) ℕ
 name_says before text =
     if not (is_name text) || list_any (λ name. same_text name text) before then Err 304 else Ok text
 
--- a name, behind a byte for its length, at which its fault stands once all its bytes are there
+-- a name, after a byte for its length, at which its fault stands once all its bytes are there
 unfoldable pub name : List (List ℕ) → Reading (List ℕ)
 name before t =
     (field 1 >>= λ size.
     field (slice_index size 0) >>= λ text.
     said_at t.at (name_says before text)) t
 
--- a column behind others of these names: its name, its bounds, and whether it takes null
+-- a column after others of these names: its name, its bounds, and whether it takes null
 unfoldable pub column : ℕ → List (List ℕ) → Reading ColumnShape
 column version before =
     name before >>= λ text.
@@ -141,7 +141,7 @@ plane_has_padding rows place byte =
     list_any (λ bit. nat_le rows (8 * place + bit) && (bit_at byte bit == 1)) (range_with_len 0 8)
 
 -- So it is in the byte of a block at this place, counted from the block's start: planes have 64
--- bytes each, and slices, behind the null plane, 512 each, one a row.
+-- bytes each, and slices, after the null plane, 512 each, one a row.
 unfoldable pub has_padding : Layout → List Column → ℕ → ℕ → ℕ → ℕ → Bool
 has_padding Planes schema rows number place byte = plane_has_padding rows (place % 64) byte
 has_padding Slices schema rows number place byte =
@@ -174,7 +174,7 @@ one_block layout schema rows number t =
     (field (block_size layout schema number) >>= λ bytes.
     sound_at t.at layout schema rows number bytes (block_fault layout schema number rows bytes)) t
 
--- the blocks of so many columns from this number on, in a segment of so many rows, behind bytes
+-- the blocks of so many columns from this number on, in a segment of so many rows, after bytes
 -- that were read before
 unfoldable pub blocks : Layout → List Column → ℕ → ℕ → ℕ → List ℕ → Reading (List ℕ)
 blocks layout schema rows number zero before = give before
@@ -206,7 +206,7 @@ has_bytes (byte ∷ bytes) = true
 unfoldable pub end : Reading (Unit {0})
 end t = refused_if (has_bytes t.bytes) (at_byte 309 t.at) (Ok (tt, t))
 
--- what stands behind the header, or is left of it behind groups that were read before: groups of
+-- what stands after the header, or is left of it after groups that were read before: groups of
 -- these sizes, and the end
 unfoldable pub body : Layout → List Column → List ℕ → List (List (List Value))
     → Reading (List (List (List Value)))
@@ -230,7 +230,7 @@ found_in layout schema (Ok x) = Ok (found_as layout schema (together x.0))
 found_in layout schema (Err fault) = Err fault
 
 -- What bytes are read as: a table, or the first fault in them. The header comes first; what stands
--- behind it is read under columns that are those of the header.
+-- after it is read under columns that are those of the header.
 abbrev pub IsReadBehind : Result (HeaderShape × Tail) Fault → Result Found Fault → Type 0
 IsReadBehind (Ok x) read =
     (schema : Schema) × (schema_shape schema ≡ x.0.schema)

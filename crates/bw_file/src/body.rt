@@ -1,4 +1,4 @@
-//! What stands behind a table file's header, read from a source: segments, block by block, and the
+//! What stands after a table file's header, read from a source: segments, block by block, and the
 //! end.
 ghost use Rattle.std.specs.Prelude.{◌≡◌, ◌+◌, ◌-◌, ◌^◌, ◌<◌, ◌≤◌, [], length, None, OnOk, IfOk, IfErr};
 ghost use Rattle.std.specs.Io.KnownBytes.{IsAtEnd};
@@ -201,7 +201,7 @@ fn plane_has_padding(rows: u32, at: usize, byte: u8) -> bool
     false
 }
 
-/// Asks for one byte more, behind the last block: a byte that comes is 309.
+/// Asks for one byte more, after the last block: a byte that comes is 309.
 pub(crate) fn read_end<S: Source>(source: &mut S, offset: &mut u64) -> Result<(), Fault>
     requires countable { S.failures source.old < 2 ^ 64 - 1 }
     requires room { offset.old < 2 ^ 63 }

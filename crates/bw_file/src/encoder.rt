@@ -12,7 +12,7 @@ ghost use Rattle.bw_file.specs.FileText.{are_bounds, AreRows, file_text, front_t
 use crate::fields::{MAGIC, are_bounds};
 use crate::layout::Layout;
 use crate::segments::append;
-use bw_model::{Column, Fault, Name, Row, Schema};
+use bw_model::{Column, Fault, Name, Row, RowTaker, Schema};
 use bw_segment::{ColumnCodes, Shape, clear_rows, keep_row, no_rows};
 use byteorder::{ByteOrder, LittleEndian};
 use std::alloc::Global;
@@ -24,7 +24,7 @@ const GROUP: usize = 512;
 const ROW_COUNT_AT: usize = 12;
 
 /// A table file that is written row by row. Of the rows it keeps no more than one segment, by
-/// columns, and behind it the text of the segments before.
+/// columns, and after it the text of the segments before.
 #[derive(Drop)]
 pub struct Encoder {
     alloc: Global,
@@ -92,7 +92,7 @@ impl Encoder {
         Ok(())
     }
 
-    /// Keeps a row behind those that aren't in the text yet.
+    /// Keeps a row after those that aren't in the text yet.
     fn keep(&mut self, row: &Row)
         requires admitted { admits_values (encoder_schema self.old).columns.items
             (values_of row.now) ≡ true }
@@ -150,6 +150,20 @@ impl Encoder {
         let rows = self.rows;
         set_row_count(&mut self.bytes, rows);
         Ok(self.bytes)
+    }
+}
+
+impl RowTaker for Encoder {
+    ghost use Rattle.bw_file.specs.Encoder.{TookRows, encoder_schema, rows_in};
+
+    ghost takes = { λ encoder row. admits_values (encoder_schema encoder).columns.items row };
+
+    ghost rows = { λ encoder. rows_in encoder };
+
+    ghost led = { TookRows };
+
+    fn take(&mut self, row: &Row) -> Result<(), Fault> {
+        self.add(row)
     }
 }
 
@@ -222,7 +236,7 @@ fn byte_of(layout: Layout) -> u8
     }
 }
 
-/// Adds a name, behind a byte for its length.
+/// Adds a name, after a byte for its length.
 #[tactic(auto, using(crate::proofs::EncoderLemmas::short_name))]
 fn push_name(bytes: &mut Vec<u8>, name: &Name) -> Result<(), Fault>
     ensures name { OnOk result (bytes.new.items ≡ bytes.old.items ++ name_text name.now) }

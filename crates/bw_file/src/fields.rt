@@ -6,13 +6,10 @@ ghost use Rattle.bw_file.specs.Reading.{placed};
 ghost use Rattle.bw_file.specs.TableReading.{bound_in, magic_says, version_says, layout_says, count_says, rows_say, bounds_say, nullable_says, name_says};
 
 use crate::layout::Layout;
-use bw_model::{Column, Fault, code, is_name};
+use bw_model::{Column, Fault, MAX_ROWS, code, is_name};
 
 /// The bytes that a table file begins with.
 pub(crate) const MAGIC: &[u8; 8] = b"BWCOLUMN";
-
-/// A table has at most this many rows.
-pub(crate) const MAX_ROWS: u32 = 1 << 24;
 
 /// What bytes say, or their fault, which stands at a place.
 pub(crate) fn placed<T>(at: u64, said: Result<T, u16>) -> Result<T, Fault>

@@ -129,7 +129,7 @@ fn read_nullable<S: Source>(source: &mut S, offset: &mut u64) -> Result<bool, Fa
     placed(at, nullable_says(&bytes))
 }
 
-/// A name, behind a byte for its length. What isn't a name, or is one of these columns' names,
+/// A name, after a byte for its length. What isn't a name, or is one of these columns' names,
 /// ignoring case, is 304 at that byte.
 #[tactic(auto, unfolding(crate::specs::TableReading::name_says))]
 fn read_name<S: Source>(
@@ -178,7 +178,7 @@ fn has_name(columns: &[Column], name: &[u8]) -> bool
     columns.iter().any(|column| column.name.is(name))
 }
 
-/// A column behind these.
+/// A column after these.
 #[tactic(auto, unfolding(crate::specs::TableReading::column))]
 fn read_column<S: Source>(
     alloc: Global,

@@ -22,7 +22,7 @@ pub fn bytes_were_taken()
 
 /// A law: where the bytes to come are a table's text, a reader tells of that table and gives its
 /// groups, one after the other; what was read whole is the table; and no fault is answered but a
-/// failed read and want of memory.
+/// failed read and out of memory.
 pub fn a_file_text_is_read_whole()
     ensures groups { (bytes : List ℕ) (layout : Layout) (schema : Schema) (rows : List (List Value))
         → IsFileText bytes layout schema rows

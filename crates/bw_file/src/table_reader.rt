@@ -80,10 +80,10 @@ impl TableReader {
         })
     }
 
-    /// The next segment, in the file's layout, of 512 rows or, the last one, of fewer; or None behind
+    /// The next segment, in the file's layout, of 512 rows or, the last one, of fewer; or None after
     /// the last one, where the source has ended. Takes a block at a time, and judges it before the
     /// next: 308 at the first byte with a bit of a padding row, 307, 306 at the block's first byte,
-    /// 305 at the end of a file that ends before, 309 at a byte behind the last block, or 701; and no
+    /// 305 at the end of a file that ends before, 309 at a byte after the last block, or 701; and no
     /// byte that isn't needed to tell. From None on it answers None, and from a fault on, want of
     /// memory too, that fault, and takes nothing.
     pub fn next_segment<S: Source>(&mut self, source: &mut S) -> Result<Option<AnySegment>, Fault>

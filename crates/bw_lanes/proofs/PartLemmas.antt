@@ -48,7 +48,7 @@ bytes_more word words bytes some eight all long lt before is =
     ∙ sym (map-append as_byte (lanes_of_words (take word words)) (lanes_of_words (here ∷ []))) ∙ ap (map as_byte) (sym (lanes_of_words-append (take word words) (here ∷ [])))
     ∙ ap (λ l. map as_byte (lanes_of_words l)) (sym (take_more words word 0 (omega (arith, eight))))
 
--- bytes that were zipped with something a row: those before a part and it, and those behind it
+-- bytes that were zipped with something a row: those before a part and it, and those after it
 pub zipped_more : {B : Type 0} (f : ℕ → B → ℕ) (word : ℕ) (old rows some : List ℕ) (before here : List B) → length old ≡ 512 → length rows ≡ 512 → length some ≡ 64 → length before ≡ 64 * word → word < 8
     → take (64 * word) rows ≡ zip2 f (take (64 * word) old) before → drop (64 * word) rows ≡ drop (64 * word) old → some ≡ zip2 f (part word rows) here
     → take (64 * (word + 1)) (put_chunk (64 * word) rows some) ≡ zip2 f (take (64 * (word + 1)) old) (before ++ here)

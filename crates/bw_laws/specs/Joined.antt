@@ -6,7 +6,8 @@ use Rattle.bw_model.specs.declared.schema.Schema.{Schema}
 use Rattle.bw_shell.specs.Direct.{answer_of}
 
 -- a sink took the text of the answer, over the rows that a CSV text spells under a schema, to a query that is asked
-pub record AnswersCsv (asks : Query → Type 0) (schema : Schema) (csv : List ℕ) (old new : Option (List ℕ)) : Type 0 where
+pub record AnswersCsv (asks : Query → Type 0) (schema : Schema) (csv : List ℕ)
+    (old new : Option (List ℕ)) : Type 0 where
   pub query : Query
   pub asked : asks query
   pub text : List ℕ

@@ -91,7 +91,7 @@ nothing_in n (c ∷ cs) e = absurd (omega arith)
 pub cons-words : (n : ℕ) (w v : List (List ℕ)) (rest : List NumberedWords) → w ≡ v → numbered n w ∷ rest ≡ numbered n v ∷ rest
 cons-words n w v rest e = ap (λ (x : List (List ℕ)). numbered n x ∷ rest) e
 
--- before the first line feed there is none, and behind it comes the rest
+-- before the first line feed there is none, and after it comes the rest
 
 before_by : (b : Bool) (c : ℕ) (cs : List ℕ) (n : ℕ) → is_line_feed c ≡ b → list_all (λ x. not (is_line_feed x)) (take n cs) ≡ true
     → list_all (λ x. not (is_line_feed x)) (take (cond (not b) (1 + n) 0) (c ∷ cs)) ≡ true

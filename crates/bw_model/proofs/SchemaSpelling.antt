@@ -18,7 +18,7 @@ bind_ok : {A B : Type 0} (r : Result A Fault) (f : A → Result B Fault) (y : B)
 bind_ok (Ok x) f y e = (x, refl, e)
 bind_ok (Err fault) f y e = absurd (cc e)
 
--- an answer behind a test
+-- an answer after a test
 not_refused : {A : Type 0} (b : Bool) (fault : Fault) (r : Result A Fault) (x : A) → refused_if b fault r ≡ Ok x → (b ≡ false) × (r ≡ Ok x)
 not_refused true fault r x e = absurd (cc e)
 not_refused false fault r x e = (refl, e)
@@ -56,7 +56,7 @@ shape_names-push : (columns : List ColumnShape) (column : ColumnShape) → shape
 shape_names-push [] column = refl
 shape_names-push (c ∷ columns) column = ap (λ (names : List (List ℕ)). c.name ∷ names) (shape_names-push columns column)
 
--- columns that were read behind others
+-- columns that were read after others
 record Added (before : List ColumnShape) (lines : List NumberedWords) (columns rest : List ColumnShape) : Type 0 where
   behind : columns ≡ before ++ rest
   spelled : AllZip SpellsColumn lines rest

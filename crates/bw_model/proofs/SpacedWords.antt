@@ -1,4 +1,4 @@
--- A line of words, each but the first behind a blank, is cut into these words.
+-- A line of words, each but the first after a blank, is cut into these words.
 use Rattle.std.proofs.Common.{◌≡◌, ◌∙◌, refl, ap, ℕ, zero, suc, ◌+◌, ◌-◌, ◌<◌, Bool, true, false, not, ◌&&◌, ◌==◌, List, [], ◌∷◌, ◌++◌, length, filter, nat_le, nat_lt, get_or, arith}
 use Rattle.std.specs.List.{list_all, slice_split, onto_first}
 use Rattle.std.proofs.lemmas.Bool.{ne_eqb, ltb-true, lt-ltb}
@@ -64,7 +64,7 @@ inside (c ∷ word) h =
     let above : 32 < c = ltb-true 32 c here.0 in
     rw (lt-ltb 31 c (omega arith)) (inside word here.1)
 
--- words that follow another in a line, each behind a blank
+-- words that follow another in a line, each after a blank
 unfoldable pub behind : List (List ℕ) → List ℕ
 behind [] = []
 behind (word ∷ words) = 32 ∷ (word ++ behind words)
@@ -77,7 +77,7 @@ behind_inside (word ∷ words) h =
     let plain = both (not (is_empty word)) (list_all is_plain word) here.0 in
     rw (list_all-append is_inside word (behind words), inside word plain.1) (behind_inside words here.1)
 
--- a word, cut off at the blank behind it
+-- a word, cut off at the blank after it
 split_word : (word rest : List ℕ) → list_all is_plain word ≡ true → slice_split is_blank (word ++ 32 ∷ rest) ≡ word ∷ slice_split is_blank rest
 split_word [] rest h = slice_split-cons_yes is_blank 32 rest refl
 split_word (c ∷ word) rest h =

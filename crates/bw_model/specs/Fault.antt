@@ -18,14 +18,14 @@ at_line c at = record { code = c; place = Line at }
 abbrev pub at_record : ℕ → ℕ → Fault
 at_record c at = record { code = c; place = Rec at }
 
--- how a place is shown, behind what it is the place of
+-- how a place is shown, after what it is the place of
 abbrev pub place_text : Place → List ℕ
 place_text Nowhere = []
 place_text (Byte at) = codes " at byte " ++ decimal at
 place_text (Line at) = codes " at line " ++ decimal at
 place_text (Rec at) = codes " at record " ++ decimal at
 
--- want of memory
+-- out of memory
 abbrev pub no_memory : Fault
 no_memory = nowhere 801
 
@@ -36,7 +36,7 @@ stands_nowhere (Byte at) = false
 stands_nowhere (Line at) = false
 stands_nowhere (Rec at) = false
 
--- the fault is want of memory, which no rule of a format foresees
+-- the fault is out of memory, which no rule of a format foresees
 abbrev pub is_memory : Fault → Bool
 is_memory fault = (fault.code == 801) && stands_nowhere fault.place
 
@@ -51,7 +51,7 @@ abbrev pub refused_if : {A : Type 0} → Bool → Fault → Result A Fault → R
 refused_if true fault next = Err fault
 refused_if false fault next = next
 
--- What a call answered, seen by view, is what is expected, want of memory aside.
+-- What a call answered, seen by view, is what is expected, out of memory aside.
 abbrev pub Gives : {A B : Type 0} → (A → B) → Result A Fault → Result B Fault → Type 0
 Gives view (Ok x) expected = expected ≡ Ok (view x)
 Gives view (Err fault) expected = is_memory fault ≡ false → expected ≡ Err fault

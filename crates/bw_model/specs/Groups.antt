@@ -13,7 +13,8 @@ group_size = 512
 abbrev pub groups_within : {A : Type 0} → ℕ → List A → List (List A)
 groups_within zero rows = []
 groups_within (suc count) [] = []
-groups_within (suc count) (row ∷ rows) = take group_size (row ∷ rows) ∷ groups_within count (drop group_size (row ∷ rows))
+groups_within (suc count) (row ∷ rows) = take group_size (row ∷ rows) ∷ groups_within
+    count (drop group_size (row ∷ rows))
 
 -- the groups of a table's rows, of which there are no more than rows
 unfoldable pub groups_of : {A : Type 0} → List A → List (List A)
@@ -26,4 +27,5 @@ together (group ∷ groups) = group ++ together groups
 
 -- the lanes of a group: the assignments of its rows, and then assignments of zeros up to 512
 unfoldable pub lanes_of : List Column → List (List Value) → List Assignment
-lanes_of columns rows = map (λ row. assignment_of (bits_of columns row)) rows ++ replicate (group_size - length rows) no_bits
+lanes_of columns rows = map (λ row. assignment_of (bits_of columns row)) rows
+    ++ replicate (group_size - length rows) no_bits

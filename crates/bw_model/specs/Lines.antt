@@ -17,12 +17,12 @@ with_first c (line ∷ lines) = (c ∷ line) ∷ lines
 abbrev pub is_line_feed : ℕ → Bool
 is_line_feed c = c == 10
 
--- a text cut at its line feeds, of which the last may be missing; an empty rest behind the last one is no line
+-- a text cut at its line feeds, of which the last may be missing; an empty rest after the last one is no line
 unfoldable pub cut_lines : List ℕ → List (List ℕ)
 cut_lines [] = []
 cut_lines (c ∷ cs) = if is_line_feed c then [] ∷ cut_lines cs else with_first c (cut_lines cs)
 
--- A line stands first in a text, and the rest behind its line feed, which is byte 10; or it is the whole text, and nothing
+-- A line stands first in a text, and the rest after its line feed, which is byte 10; or it is the whole text, and nothing
 -- is left.
 abbrev pub IsFirstLine : List ℕ → List ℕ → List ℕ → Type 0
 IsFirstLine text line rest =

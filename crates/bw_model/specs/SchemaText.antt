@@ -92,7 +92,7 @@ after_room before line column =
     (refused_if (not (is_range column.lo column.hi)) (at_line 103 line)
     (Ok column)))
 
--- the column on a line, behind columns of these names, or the first fault there: the form, the 65th column, and then
+-- the column on a line, after columns of these names, or the first fault there: the form, the 65th column, and then
 -- the column's own
 abbrev pub next_column : List (List ℕ) → ℕ → Option ColumnShape → Result ColumnShape Fault
 next_column before line None = Err (at_line 101 line)
@@ -105,26 +105,31 @@ column_on before line = next_column before line.number (column_words line.words)
 abbrev pub shape_names : List ColumnShape → List (List ℕ)
 shape_names columns = map (λ column. column.name) columns
 
--- the columns on lines, behind columns that came before
+-- the columns on lines, after columns that came before
 unfoldable pub columns_on : List ColumnShape → List NumberedWords → Result (List ColumnShape) Fault
 columns_on before [] = Ok before
-columns_on before (line ∷ lines) = column_on (shape_names before) line >>= λ column. columns_on (before ++ column ∷ []) lines
+columns_on before (line ∷ lines) = column_on (shape_names before) line
+    >>= λ column. columns_on (before ++ column ∷ []) lines
 
 -- the schema on lines whose end is numbered so
 abbrev pub with_columns : List ℕ → ℕ → List ColumnShape → Result SchemaShape Fault
-with_columns name end columns = refused_if (is_empty columns) (at_line 105 end) (Ok (record { name = name; columns = columns }))
+with_columns name end columns = refused_if (is_empty columns) (at_line 105 end)
+    (Ok (record { name = name; columns = columns }))
 
 unfoldable pub schema_on : List NumberedWords → ℕ → Result SchemaShape Fault
 schema_on [] end = Err (at_line 101 end)
-schema_on (line ∷ lines) end = table_on line >>= λ name. columns_on [] lines >>= λ columns. with_columns name end columns
+schema_on (line ∷ lines) end = table_on line >>= λ name. columns_on [] lines
+    >>= λ columns. with_columns name end columns
 
 -- what a schema text says, or the first fault in it: its length, and then its lines
 unfoldable pub schema_of : List ℕ → Result SchemaShape Fault
-schema_of text = refused_if (nat_lt longest_schema (length text)) (nowhere 106) (schema_on (lines_in (whole text)) (end_in (whole text)))
+schema_of text = refused_if (nat_lt longest_schema (length text)) (nowhere 106)
+    (schema_on (lines_in (whole text)) (end_in (whole text)))
 
 -- the words of a line spell a column
 abbrev pub SpellsColumn : NumberedWords → ColumnShape → Type 0
-SpellsColumn line column = (column_words line.words ≡ Some column) × IsTrue (is_name column.name) × IsTrue (is_range column.lo column.hi)
+SpellsColumn line column = (column_words line.words ≡ Some column) × IsTrue (is_name column.name)
+    × IsTrue (is_range column.lo column.hi)
 
 -- Lines spell a schema: the first its table, and each other one its next column. It has at least one column and at most
 -- 64, and no two of them have one name, ignoring case.
@@ -142,7 +147,7 @@ SpellsSchema (line ∷ lines) schema =
 abbrev pub IsSchemaText : List ℕ → SchemaShape → Type 0
 IsSchemaText text schema = (length text ≤ longest_schema) × SpellsSchema (lines_in (whole text)) schema
 
--- one of 101 to 106, or want of memory
+-- one of 101 to 106, or out of memory
 abbrev pub is_schema_fault : Fault → Bool
 is_schema_fault fault = (nat_le 101 fault.code && nat_le fault.code 106) || is_memory fault
 

@@ -12,7 +12,8 @@ stored_at columns column value = unwrap_or (code_at columns column value) 0
 -- The number that so many bits of a column spell in an assignment, from the bit `start` upwards, which is the least of
 -- them. A column's variables go from its top bit to bit 0, so these end `start` variables before the next column's.
 abbrev pub number_spelled : List Column → ℕ → ℕ → ℕ → Assignment → ℕ
-number_spelled columns column start count bits = spelled bits (first_variable columns (suc column) - (start + count)) count
+number_spelled columns column start count bits = spelled bits
+    (first_variable columns (suc column) - (start + count)) count
 
 -- the byte `slice` of a number, of which byte 0 is the least
 abbrev pub byte_of : ℕ → ℕ → ℕ
@@ -24,7 +25,8 @@ bits_in_slice columns column slice = min 8 (width_at columns column - 8 * slice)
 
 -- the byte of a column's code that an assignment spells, padded by zero bits at its top
 abbrev pub byte_spelled : List Column → ℕ → ℕ → Assignment → ℕ
-byte_spelled columns column slice bits = number_spelled columns column (8 * slice) (bits_in_slice columns column slice) bits
+byte_spelled columns column slice bits = number_spelled columns column (8 * slice)
+    (bits_in_slice columns column slice) bits
 
 -- the assignment of zeros, which padding rows have
 abbrev pub no_bits : Assignment

@@ -64,6 +64,15 @@ holds Gt x y = int_lt y x
 holds Le x y = int_le x y
 holds Ge x y = int_le y x
 
+-- the comparison that holds where this one holds of the operands the other way round
+abbrev pub turned : Op → Op
+turned Eq = Eq
+turned Ne = Ne
+turned Lt = Gt
+turned Gt = Lt
+turned Le = Ge
+turned Ge = Le
+
 -- a comparison is UNKNOWN where an operand is null
 abbrev pub compared : Op → Value → Value → Truth
 compared op None y = Unknown

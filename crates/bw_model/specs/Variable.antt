@@ -67,12 +67,14 @@ spelled bits first (suc count) = (if bits first then 2 ^ count else 0) + spelled
 -- spell, which may be an unused one
 abbrev pub value_spelled : Column → Assignment → ℕ → Value
 value_spelled column bits first =
-    if column.nullable && bits first then None else Some (value_of_code column (spelled bits (first + null_count column) (width_of column)))
+    if column.nullable && bits first then None else Some (value_of_code column
+    (spelled bits (first + null_count column) (width_of column)))
 
 -- the row of an assignment, for columns whose first variable is this
 abbrev pub row_from : List Column → Assignment → ℕ → List Value
 row_from [] bits first = []
-row_from (column ∷ columns) bits first = value_spelled column bits first ∷ row_from columns bits (first + variable_count column)
+row_from (column ∷ columns) bits first = value_spelled column bits first
+    ∷ row_from columns bits (first + variable_count column)
 
 -- the row of an assignment
 abbrev pub row_of : List Column → Assignment → List Value
@@ -83,4 +85,5 @@ row_of columns bits = row_from columns bits 0
 abbrev pub value_assigned : List Column → Assignment → ℕ → Value
 value_assigned columns bits column =
     if is_nullable columns column && bits (first_variable columns column) then None
-    else Some (value_at columns column (spelled bits (bit_variable columns column (width_at columns column - 1)) (width_at columns column)))
+    else Some (value_at columns column (spelled bits (bit_variable columns column (width_at columns column - 1))
+    (width_at columns column)))

@@ -1,4 +1,6 @@
 //! Conditions of rows: comparisons of columns and constants, joined by NOT, AND and OR.
+ghost use Rattle.std.specs.Prelude.{◌≡◌};
+ghost use Rattle.bw_model.specs.Truth.{holds, truth_from, turned};
 
 /// A truth value of SQL-92: `No` is FALSE and `Yes` is TRUE.
 #[derive(Clone, Copy, Debug, PartialEq, Eq)]
@@ -6,6 +8,15 @@ pub enum Truth {
     No,
     Unknown,
     Yes,
+}
+
+impl Truth {
+    /// TRUE or FALSE.
+    pub const fn of(holds: bool) -> Self
+        ensures { result ≡ truth_from holds }
+    {
+        if holds { Truth::Yes } else { Truth::No }
+    }
 }
 
 /// A comparison: `=`, `<>`, `<`, `>`, `<=` or `>=`.
@@ -17,6 +28,36 @@ pub enum Op {
     Gt,
     Le,
     Ge,
+}
+
+impl Op {
+    /// Whether the comparison holds of two numbers.
+    pub fn holds(self, x: i64, y: i64) -> bool
+        ensures { result ≡ holds self x y }
+    {
+        match self {
+            Op::Eq => x == y,
+            Op::Ne => x != y,
+            Op::Lt => x < y,
+            Op::Gt => x > y,
+            Op::Le => x <= y,
+            Op::Ge => x >= y,
+        }
+    }
+
+    /// The comparison that holds where this one holds of the operands the other way round.
+    pub const fn turned(self) -> Self
+        ensures { result ≡ turned self }
+    {
+        match self {
+            Op::Eq => Op::Eq,
+            Op::Ne => Op::Ne,
+            Op::Lt => Op::Gt,
+            Op::Gt => Op::Lt,
+            Op::Le => Op::Ge,
+            Op::Ge => Op::Le,
+        }
+    }
 }
 
 /// What is compared: a column by its number from 0, a literal, or NULL.

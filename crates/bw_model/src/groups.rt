@@ -9,7 +9,7 @@ ghost use Rattle.bw_model.specs.Selection.{positions_from, positions_of, picked,
 ghost use Rattle.bw_model.specs.Stored.{no_bits};
 ghost use Rattle.bw_model.specs.Variable.{assignment_of, bits_of};
 
-/// A law: a table is its first 512 rows and then the groups of the rows behind them, and groups put together
+/// A law: a table is its first 512 rows and then the groups of the rows after them, and groups put together
 /// are the table.
 pub fn groups_make_the_table()
     ensures size { group_size ≡ 512 }
@@ -18,7 +18,8 @@ pub fn groups_make_the_table()
         → groups_of rows ≡ take group_size rows ∷ groups_of (drop group_size rows) }
     ensures table { (rows : List (List Value)) → together (groups_of rows) ≡ rows }
     ensures count { (rows : List (List Value)) → length (groups_of rows) ≡ (length rows + 511) / 512 }
-    ensures sizes { (rows : List (List Value)) → All (λ group. (1 ≤ length group) × (length group ≤ group_size)) (groups_of rows) }
+    ensures sizes { (rows : List (List Value)) → All (λ group. (1 ≤ length group) × (length group ≤ group_size))
+        (groups_of rows) }
 {}
 
 /// A law: a group has 512 lanes, which are the assignments of its rows and then zeros.
@@ -26,7 +27,8 @@ pub fn lanes_are_rows_and_zeros()
     ensures count { (columns : List Column) (rows : List (List Value)) → length rows ≤ group_size
         → length (lanes_of columns rows) ≡ group_size }
     ensures row { (columns : List Column) (rows : List (List Value)) (lane : ℕ) → lane < length rows
-        → slice_index_or (lanes_of columns rows) lane no_bits ≡ assignment_of (bits_of columns (slice_index_or rows lane [])) }
+        → slice_index_or (lanes_of columns rows) lane no_bits
+        ≡ assignment_of (bits_of columns (slice_index_or rows lane [])) }
     ensures padding { (columns : List Column) (rows : List (List Value)) (lane : ℕ) → length rows ≤ lane
         → slice_index_or (lanes_of columns rows) lane no_bits ≡ no_bits }
 {}
@@ -37,14 +39,17 @@ pub fn kept_rows_are_selected()
     ensures bits { (cond : Cond) (rows : List (List Value)) → kept cond rows ≡ picked (selection cond rows) rows }
     ensures positions { (cond : Cond) (rows : List (List Value))
         → kept cond rows ≡ map (λ position. slice_index_or rows position []) (selected cond rows) }
-    ensures kept { (cond : Cond) (front back : List (List Value)) → kept cond (front ++ back) ≡ kept cond front ++ kept cond back }
+    ensures kept { (cond : Cond) (front back : List (List Value)) → kept cond (front ++ back) ≡ kept cond front
+        ++ kept cond back }
     ensures joined { (front back : List Bool) (position : ℕ)
-        → positions_from position (front ++ back) ≡ positions_from position front ++ positions_from (position + length front) back }
+        → positions_from position (front ++ back) ≡ positions_from position front
+        ++ positions_from (position + length front) back }
     ensures picked { (front back : List Bool) (rows others : List (List Value)) → length front ≡ length rows
         → picked (front ++ back) (rows ++ others) ≡ picked front rows ++ picked back others }
 {}
 
 /// A law: a row that columns admit has a value for each of them.
 pub fn admitted_rows_have_each_value()
-    ensures { (columns : List Column) (row : List Value) → IsTrue (admits_values columns row) → length row ≡ length columns }
+    ensures { (columns : List Column) (row : List Value) → IsTrue (admits_values columns row) → length row
+        ≡ length columns }
 {}

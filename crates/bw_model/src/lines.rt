@@ -82,11 +82,13 @@ impl<'a> Lines<'a> {
         Some(line)
     }
 
-    /// The next line that says something, or none at the end of the text. Where memory is wanting, no such
+    /// The next line that says something, or none at the end of the text. Where memory runs out, no such
     /// line is lost, so the caller may ask again.
     pub fn next_line(&mut self, alloc: Global) -> Result<Option<Line<'a>>, AllocError>
-        ensures line { IfOk result (λ found. IfSome found (λ line. lines_in self.old ≡ line_of line ∷ lines_in self.new)) }
-        ensures none { IfOk result (λ found. IfNone found ((lines_in self.old ≡ []) × (end_in self.old ≡ self.new.number))) }
+        ensures line { IfOk result (λ found. IfSome found (λ line. lines_in self.old ≡ line_of line ∷ lines_in
+            self.new)) }
+        ensures none { IfOk result (λ found. IfNone found ((lines_in self.old ≡ [])
+            × (end_in self.old ≡ self.new.number))) }
         ensures end { OnOk result (end_in self.new ≡ end_in self.old) }
         ensures refused { OnErr result
             ((lines_in self.new ≡ lines_in self.old) × (end_in self.new ≡ end_in self.old)) }
@@ -106,7 +108,7 @@ impl<'a> Lines<'a> {
     }
 }
 
-/// The first line, without its line feed, and the text behind it.
+/// The first line, without its line feed, and the text after it.
 fn split_line(text: &[u8]) -> (&[u8], &[u8])
     requires { 0 < length text.now }
     ensures cut { cut_lines text.now ≡ result.0.now ∷ cut_lines result.1.now }
@@ -175,7 +177,8 @@ fn without_carriage_return(line: &[u8]) -> &[u8]
 }
 
 fn words_between_blanks(alloc: Global, line: &[u8]) -> Result<Vec<&[u8]>, AllocError>
-    ensures { IfOk result (λ words. map (λ word. word.now) words.items ≡ filter (λ word. not (is_empty word)) (slice_split is_blank line.now)) }
+    ensures { IfOk result (λ words. map (λ word. word.now) words.items
+        ≡ filter (λ word. not (is_empty word)) (slice_split is_blank line.now)) }
 {
     line.split(|c| is_blank(*c))
         .filter(|word| !word.is_empty())

@@ -163,7 +163,8 @@ fn with_sign(is_negative: bool, magnitude: u64) -> i64
 
 /// The whole number of a sign and the magnitude of digits, where 64 bits hold it.
 fn signed(is_negative: bool, magnitude: u64) -> Option<i64>
-    ensures { (digits : List ℕ) → magnitude ≡ min (digits_value digits) (2 ^ 64 - 1) → result ≡ number_of is_negative digits }
+    ensures { (digits : List ℕ) → magnitude ≡ min (digits_value digits) (2 ^ 64 - 1) → result
+        ≡ number_of is_negative digits }
 {
     if is_negative {
         0i64.checked_sub_unsigned(magnitude)

@@ -10,18 +10,13 @@ ghost use Rattle.bw_model.specs.Text.{same_text};
 
 use crate::column::Column;
 use crate::fault::{Fault, code};
+use crate::limits::{MAX_COLUMNS, MAX_SCHEMA_LEN};
 use crate::lines::{Line, Lines};
 use crate::name::{Name, is_name};
 use crate::number::number_in;
 use crate::schema::Schema;
 use crate::text::is_same_text;
 use std::alloc::Global;
-
-/// The longest schema text has this many bytes.
-pub const MAX_SCHEMA_LEN: usize = 65_536;
-
-/// A table has at most this many columns.
-pub const MAX_COLUMNS: usize = 64;
 
 impl Schema {
     /// Reads a schema text.
@@ -34,7 +29,8 @@ impl Schema {
     pub fn parse(alloc: Global, text: &[u8]) -> Result<Schema, Fault>
         // What is read is spelled so, and what is spelled so is read.
         ensures spelled { IfOk result (λ schema. IsSchemaText text.now (schema_shape schema)) }
-        ensures accepted { (schema : SchemaShape) → IsSchemaText text.now schema → Gives schema_shape result (Ok schema) }
+        ensures accepted { (schema : SchemaShape) → IsSchemaText text.now schema
+            → Gives schema_shape result (Ok schema) }
 
         // Which fault it is.
         ensures fault { Gives schema_shape result (schema_of text.now) }
@@ -175,12 +171,13 @@ fn is_range(lo: i64, hi: i64) -> bool
     lo <= hi && hi.checked_sub(lo).is_some()
 }
 
-/// The column of a line, behind the columns before it.
+/// The column of a line, after the columns before it.
 #[tactic(auto, using(crate::proofs::SchemaLemmas::list_any_names))]
 fn column_of(alloc: Global, line: &Line, before: &[Column]) -> Result<Column, Fault>
     ensures column { Gives column_shape result (column_on (names_of before.now) (line_of line.now)) }
     ensures room { IfOk result (λ column. length before.now < 64) }
-    ensures apart { IfOk result (λ column. list_any (λ name. same_text name column.name) (names_of before.now) ≡ false) }
+    ensures apart { IfOk result (λ column. list_any (λ name. same_text name column.name) (names_of before.now)
+        ≡ false) }
 {
     let Some(words) = words_of_column(line.words.as_slice()) else {
         return Err(Fault::at_line(code::SCHEMA_FORM, line.number));

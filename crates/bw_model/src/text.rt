@@ -27,7 +27,7 @@ pub fn begins_word(c: u8) -> bool
     c.is_ascii_alphabetic() || c == b'_'
 }
 
-/// Whether a byte may stand behind the first of a word: a letter, a digit or `_`.
+/// Whether a byte may stand after the first of a word: a letter, a digit or `_`.
 pub fn goes_on_in_word(c: u8) -> bool
     ensures { result ≡ goes_on_in_word c }
 {

@@ -66,7 +66,8 @@ impl Schema {
             → stored_at self.now.columns.items col (value_in values col) < 2 ^ width_at self.now.columns.items col }
         ensures bits { (values : List Value) (start count : ℕ) → IsTrue (admits_values self.now.columns.items values)
             → start + count ≤ width_at self.now.columns.items col
-            → number_spelled self.now.columns.items col start count (assignment_of (bits_of self.now.columns.items values))
+            → number_spelled self.now.columns.items col start count
+            (assignment_of (bits_of self.now.columns.items values))
             ≡ stored_at self.now.columns.items col (value_in values col) / 2 ^ start % 2 ^ count }
         ensures bytes { (values : List Value) (slice : ℕ) → IsTrue (admits_values self.now.columns.items values)
             → slice < slices_at self.now.columns.items col

@@ -1,7 +1,7 @@
 //! Instructions, with the node of each register.
 use crate::digits::Digits;
 use bw_cert_lines::{EdgeRows, Entry, InstructionEntry, Keep};
-use bw_derive::{Facts, Kind, Logic, Order, Refusal};
+use bw_plan_facts::{Facts, Kind, Logic, Order, Refusal};
 use bw_program::Instr;
 use std::alloc::Global;
 
@@ -31,7 +31,7 @@ pub(crate) struct Skip {
     nodes: [Option<u32>; 64],
 }
 
-/// The instructions so far, and the lines of the certificate behind those of its facts.
+/// The instructions so far, and the lines of the certificate after those of its facts.
 #[derive(Drop)]
 pub(crate) struct Code<'a> {
     pub(crate) alloc: Global,
@@ -55,7 +55,7 @@ pub(crate) struct Code<'a> {
 }
 
 impl<'a> Code<'a> {
-    /// No instructions, behind the lines of a condition.
+    /// No instructions, after the lines of a condition.
     pub(crate) fn new(
         alloc: Global,
         facts: Facts<'a>,
@@ -379,7 +379,7 @@ impl<'a> Code<'a> {
         Ok(true)
     }
 
-    /// Takes a skip back, with its instruction and its line: what stands behind it moves up by one.
+    /// Takes a skip back, with its instruction and its line: what stands after it moves up by one.
     fn take_back(&mut self, at: usize) {
         let Some((number, line)) = self.skips.get(at).map(|skip| (skip.number, skip.line)) else {
             return;

@@ -2,7 +2,7 @@
 //! then one AND of two registers, and needs no look at the byte.
 use crate::code::Code;
 use crate::sets::groups_from;
-use bw_derive::{Kind, Logic, Refusal};
+use bw_plan_facts::{Kind, Logic, Refusal};
 
 /// Registers that are 1 where the upper digit of a byte is 0, 1 and so on, and where the lower one is. A byte of four bits or
 /// fewer has no upper digit.
@@ -119,7 +119,7 @@ impl Code<'_> {
     }
 
     /// A register that is 1 where a byte is a number, and so is a mask, if there is one. `before` is
-    /// kept from number to number, in their order, and let go behind them.
+    /// kept from number to number, in their order, and let go after them.
     pub(crate) fn same_byte(
         &mut self,
         column: u8,

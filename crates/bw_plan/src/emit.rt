@@ -8,9 +8,9 @@ ghost use Rattle.bw_plan.specs.Named.{is_chain_named, are_chains_named};
 use bw_cert_lines::{
     BodyLine, Certificate, ChainColumns, ChainLine, EndLine, Entry, NodeLine, RowLine,
 };
-use bw_derive::{Answer, Compared, Facts, Link, Node, Question, Refusal};
 use bw_diagram::Reason;
 use bw_model::{Schema, code};
+use bw_plan_facts::{Answer, Compared, Facts, Link, Node, Question, Refusal};
 use bw_program::{Instr, Program};
 use indexmap::IndexMap;
 use std::alloc::{AllocError, Global};
@@ -42,7 +42,7 @@ pub(crate) fn program(
     }
 }
 
-/// What stands behind a keyword.
+/// What stands after a keyword.
 #[derive(Clone, Copy)]
 enum Word {
     Register(u8),

@@ -4,14 +4,14 @@ ghost use Rattle.bw_model.specs.Cond.{names_within};
 ghost use Rattle.bw_program.specs.Program.{fits};
 ghost use Rattle.bw_cert_lines.specs.CertificateFields.{certificate_fields};
 ghost use Rattle.bw_cert_lines.specs.Columns.{has_columns};
-ghost use Rattle.bw_derive.specs.Refused.{IsRefusal};
+ghost use Rattle.bw_plan_facts.specs.Refused.{IsRefusal};
 
 use crate::code::Code;
 use crate::emit;
 use crate::truths::Wanted;
 use bw_cert_lines::Certificate;
-use bw_derive::{Facts, Logic, Order, Refusal, steps_of};
 use bw_model::{Cond, Fault, Schema};
+use bw_plan_facts::{Facts, Logic, Order, Refusal, steps_of};
 use bw_program::Program;
 use std::alloc::Global;
 
@@ -29,7 +29,7 @@ pub struct Proposal {
 
 /// Proposes a program for a condition, and a certificate for it. Both fit the schema; that they are right is the checker's to
 /// say. Refuses at no place: 651 where a limit of instructions, registers, nodes, chains or rows would be passed, two columns of
-/// unequal lowest values are compared, or looking up the rows one by one takes no longer, and want of memory (801). That the
+/// unequal lowest values are compared, or looking up the rows one by one takes no longer, and out of memory (801). That the
 /// condition names columns of the schema is the caller's condition.
 pub fn propose(alloc: Global, schema: &Schema, cond: &Cond) -> Result<Proposal, Fault>
     requires { IsTrue (names_within (length schema.now.columns.items) cond.now) }
@@ -73,7 +73,7 @@ fn planned(
     })
 }
 
-/// The node of a condition, and no instructions yet behind the lines that say so.
+/// The node of a condition, and no instructions yet after the lines that say so.
 fn begun<'a>(
     alloc: Global,
     schema: &'a Schema,
@@ -115,7 +115,7 @@ fn agreeing(code: &mut Code<'_>, register: u8, wanted: u32) -> Result<u32, Refus
     }
 }
 
-/// The certificate of the instructions, behind as many lines as their program has, with the row that ends it.
+/// The certificate of the instructions, after as many lines as their program has, with the row that ends it.
 fn certified(schema: &Schema, code: Code<'_>, row: u32) -> Result<Certificate, Refusal>
     ensures { IfOk result (λ certificate.
         IsTrue (has_columns schema.now.columns.items (certificate_fields certificate))) }

@@ -1,6 +1,6 @@
 //! Instructions that compare the codes of two columns with one another, bit by bit.
 use crate::code::Code;
-use bw_derive::{Kind, Logic, Refusal, Relation};
+use bw_plan_facts::{Kind, Logic, Refusal, Relation};
 
 /// Registers of one bit of two columns.
 #[derive(Clone, Copy)]

@@ -2,7 +2,7 @@
 use crate::code::Code;
 use crate::digits::Upper;
 use crate::sets::{byte_of, first_group, going_on, is_soon_done, most_instructions};
-use bw_derive::{Kind, Logic, Refusal};
+use bw_plan_facts::{Kind, Logic, Refusal};
 
 impl Code<'_> {
     /// A register that is 1 where a column's code has an odd number of bounds above it. The bounds

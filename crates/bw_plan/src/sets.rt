@@ -1,5 +1,5 @@
 //! Sets of a column's codes.
-use bw_derive::{Bound, Kind, Refusal};
+use bw_plan_facts::{Bound, Kind, Refusal};
 use std::alloc::Global;
 
 /// A set of numbers of so many bits: those with an odd number of bounds above them, or, where it is

@@ -2,8 +2,8 @@
 use crate::code::Code;
 use crate::room::leading;
 use crate::sets::Set;
-use bw_derive::{Bound, Comparison, Logic, Order, Refusal, Relation, compare};
 use bw_model::{Cond, Op, Operand, Truth};
+use bw_plan_facts::{Bound, Comparison, Logic, Order, Refusal, Relation, compare};
 
 /// Which truths are wanted.
 #[derive(Clone, Copy)]
@@ -299,8 +299,8 @@ impl Code<'_> {
         Ok(Some(self.in_set(column, &set, wanted)?))
     }
 
-    /// The registers of a comparison of two columns. Its skips meet right behind its own
-    /// instructions: behind a NOT or a null plane, "less so far" would differ by them.
+    /// The registers of a comparison of two columns. Its skips meet right after its own
+    /// instructions: after a NOT or a null plane, "less so far" would differ by them.
     fn related(&mut self, relation: Relation, wanted: Wanted) -> Result<Halves, Refusal> {
         let first = self.waiting()?;
         self.order = relation.order();

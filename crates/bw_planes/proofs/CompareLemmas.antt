@@ -1,9 +1,9 @@
--- Numbers that are compared from their top bit down.
+-- Numbers that are compared bit by bit: from their top bit down, or from their least one up.
 use Rattle.std.proofs.Common.{◌≡◌, ◌∙◌, refl, sym, ap, ap₂, ℕ, zero, suc, ◌+◌, ◌-◌, ◌*◌, ◌/◌, ◌%◌, ◌^◌, ◌<◌, ◌≤◌, Bool, true, false, not, cond, ltb, eqb, ◌==◌, ◌&&◌, ◌||◌, List, [], ◌∷◌, map, length, take, drop, inl, inr, add-one, add-zero, bit_and, replicate, arith}
 use Rattle.std.proofs.lemmas.Bool.Decides.{nat_tests}
 use Rattle.std.proofs.Math.Nat.{div-div-eq-div-mul, div-eq_of_lt, div-add-mod', mod-lt, mul_assoc, mul-le-mul_right, pow-suc, suc-mul, two-pow-succ}
 use Rattle.std.proofs.lemmas.Bool.{cases_lt, lt-ltb, le-ltb, eqb-false, ne_eqb, not-true}
-use Rattle.std.proofs.lemmas.Nat.{pow_pos}
+use Rattle.std.proofs.lemmas.Nat.{mod-pow-add, pow_pos}
 use Rattle.std.specs.List.{list_all}
 use Rattle.bw_model.proofs.BitsLemmas.{both}
 use Rattle.std.proofs.lemmas.Nat.Bits.{shr_and_one}
@@ -28,14 +28,6 @@ spelled_more bits first (suc count) =
     doubled true k m is = is
     doubled false k m is = refl
 
-below_one : (s t : ℕ) (b : Bool) → ltb (2 * s + cond b 1 0) (2 * t + 1) ≡ (ltb s t || (eqb s t && not b))
-below_one s t true = grind (arith, nat_tests)
-below_one s t false = grind (arith, nat_tests)
-
-below_zero : (s t : ℕ) (b : Bool) → ltb (2 * s + cond b 1 0) (2 * t) ≡ ltb s t
-below_zero s t true = grind (arith, nat_tests)
-below_zero s t false = grind (arith, nat_tests)
-
 same_bit : (s t : ℕ) (b one : Bool) → eqb (2 * s + cond b 1 0) (2 * t + cond one 1 0) ≡ (eqb s t && cond one b (not b))
 same_bit s t true true = grind (arith, nat_tests)
 same_bit s t true false = grind (arith, nat_tests)
@@ -54,17 +46,6 @@ pub equal_more : (lanes : List Assignment) (number : Assignment → ℕ) (bit : 
 equal_more lanes number bit t one equal plane same here =
     zip2_of_maps (λ e p. e && cond one p (not p)) (λ bits. eqb (number bits) t) bit lanes same here
     ∙ (λ i. map (λ bits. sym (same_bit (number bits) t (bit bits) one) i) lanes)
-
--- the lanes that are below with one more bit
-pub below_more : (lanes : List Assignment) (number : Assignment → ℕ) (bit : Assignment → Bool) (t : ℕ) (one : Bool) (below equal plane : List Bool)
-    → below ≡ map (λ bits. ltb (number bits) t) lanes → equal ≡ map (λ bits. eqb (number bits) t) lanes → plane ≡ map bit lanes
-    → cond one (zip2 (λ b n. b || n) below (zip2 (λ e p. e && not p) equal plane)) below ≡ map (λ bits. ltb (2 * number bits + cond (bit bits) 1 0) (2 * t + cond one 1 0)) lanes
-below_more lanes number bit t true below equal plane less same here =
-    zip2_of_maps (λ b n. b || n) (λ bits. ltb (number bits) t) (λ bits. eqb (number bits) t && not (bit bits)) lanes less
-    (zip2_of_maps (λ e p. e && not p) (λ bits. eqb (number bits) t) bit lanes same here)
-    ∙ (λ i. map (λ bits. sym (below_one (number bits) t (bit bits)) i) lanes)
-below_more lanes number bit t false below equal plane less same here =
-    less ∙ (λ i. map (λ bits. (sym (below_zero (number bits) t (bit bits)) ∙ ap (ltb (2 * number bits + cond (bit bits) 1 0)) (sym (add-zero (2 * t)))) i) lanes)
 
 -- the constant's bits so far and the next one
 pub constant_more : (c rest : ℕ) → c / 2 ^ rest ≡ 2 * (c / 2 ^ suc rest) + cond (bit_and (c / 2 ^ rest) 1 == 1) 1 0
@@ -121,13 +102,6 @@ stopped bits first place rest c apart =
     mod_below : (c rest : ℕ) → c % 2 ^ rest < 2 ^ rest
     mod_below c rest = mod-lt c (pow_pos rest)
 
-pub below_stopped : (lanes : List Assignment) (first place rest c : ℕ) → list_all not (map (λ bits. eqb (spelled bits first place) (c / 2 ^ rest)) lanes) ≡ true
-    → map (λ bits. ltb (spelled bits first place) (c / 2 ^ rest)) lanes ≡ map (λ bits. ltb (spelled bits first (place + rest)) c) lanes
-below_stopped [] first place rest c none = refl
-below_stopped (bits ∷ lanes) first place rest c none =
-    let each = both (not (eqb (spelled bits first place) (c / 2 ^ rest))) (list_all not (map (λ bits. eqb (spelled bits first place) (c / 2 ^ rest)) lanes)) none in
-    ap₂ ◌∷◌ (sym (stopped bits first place rest c (not-true _ each.0)).0) (below_stopped lanes first place rest c each.1)
-
 pub equal_stopped : (lanes : List Assignment) (first place rest c : ℕ) → list_all not (map (λ bits. eqb (spelled bits first place) (c / 2 ^ rest)) lanes) ≡ true
     → map (λ bits. eqb (spelled bits first place) (c / 2 ^ rest)) lanes ≡ map (λ bits. eqb (spelled bits first (place + rest)) c) lanes
 equal_stopped [] first place rest c none = refl
@@ -152,20 +126,64 @@ constant_next c count place one lt is =
     let before : suc (count - 1 - place) ≡ count - place = omega arith in
     ap₂ (λ k b. 2 * (c / 2 ^ k) + cond b 1 0) (sym before) is ∙ sym (constant_more c (count - 1 - place)) ∙ ap (λ k. c / 2 ^ k) rest
 
-pub below_next : (lanes : List Assignment) (first place count c : ℕ) (one : Bool) (below equal plane : List Bool) → place < count → one ≡ (bit_and (c / 2 ^ (count - 1 - place)) 1 == 1)
-    → below ≡ map (λ bits. ltb (spelled bits first place) (c / 2 ^ (count - place))) lanes → equal ≡ map (λ bits. eqb (spelled bits first place) (c / 2 ^ (count - place))) lanes
-    → plane ≡ map (λ bits. bits (first + place)) lanes
-    → cond one (zip2 (λ b n. b || n) below (zip2 (λ e p. e && not p) equal plane)) below ≡ map (λ bits. ltb (spelled bits first (place + 1)) (c / 2 ^ (count - (place + 1)))) lanes
-below_next lanes first place count c one below equal plane lt is less same here =
-    below_more lanes (λ bits. spelled bits first place) (λ bits. bits (first + place)) (c / 2 ^ (count - place)) one below equal plane less same here
-    ∙ (λ i. map (λ bits. ltb (number_next bits first place i) (constant_next c count place one lt is i)) lanes)
-
 pub equal_next : (lanes : List Assignment) (first place count c : ℕ) (one : Bool) (equal plane : List Bool) → place < count → one ≡ (bit_and (c / 2 ^ (count - 1 - place)) 1 == 1)
     → equal ≡ map (λ bits. eqb (spelled bits first place) (c / 2 ^ (count - place))) lanes → plane ≡ map (λ bits. bits (first + place)) lanes
     → zip2 (λ e p. e && cond one p (not p)) equal plane ≡ map (λ bits. eqb (spelled bits first (place + 1)) (c / 2 ^ (count - (place + 1)))) lanes
 equal_next lanes first place count c one equal plane lt is same here =
     equal_more lanes (λ bits. spelled bits first place) (λ bits. bits (first + place)) (c / 2 ^ (count - place)) one equal plane same here
     ∙ (λ i. map (λ bits. eqb (number_next bits first place i) (constant_next c count place one lt is i)) lanes)
+
+-- the constant's low bits and the next one
+constant_low : (c low : ℕ) → c % 2 ^ suc low ≡ cond (bit_and (c / 2 ^ low) 1 == 1) (2 ^ low) 0 + c % 2 ^ low
+constant_low c low =
+    let next : suc low ≡ 1 + low = omega arith in
+    ap (λ k. c % 2 ^ k) next ∙ mod-pow-add c 1 low ∙ ap (λ b. b * 2 ^ low + c % 2 ^ low) (sym (shr_and_one c low))
+    ∙ ap (λ n. n + c % 2 ^ low) (worth (bit_and (c / 2 ^ low) 1) (2 ^ low) (omega (arith, shr_and_one c low)))
+  where
+    worth : (b p : ℕ) → b < 2 → b * p ≡ cond (b == 1) p 0
+    worth zero p lt = omega arith
+    worth (suc zero) p lt = omega arith
+    worth (suc (suc b)) p lt = absurd (omega arith)
+
+-- numbers are in order by their highest bit, and where that is the same, by those below it
+at_least_more : (s t p : ℕ) (b one : Bool) → s < p → t < p → cond one (not (ltb s t) && b) (not (ltb s t) || b) ≡ not (ltb (cond b p 0 + s) (cond one p 0 + t))
+at_least_more s t p true true ls lt = grind (arith, nat_tests, ls, lt)
+at_least_more s t p true false ls lt = grind (arith, nat_tests, ls, lt)
+at_least_more s t p false true ls lt = grind (arith, nat_tests, ls, lt)
+at_least_more s t p false false ls lt = grind (arith, nat_tests, ls, lt)
+
+pub at_least_next : (lanes : List Assignment) (first count low c : ℕ) (one : Bool) (at_least plane : List Bool) → low < count → one ≡ (bit_and (c / 2 ^ low) 1 == 1)
+    → at_least ≡ map (λ bits. not (ltb (spelled bits (first + (count - low)) low) (c % 2 ^ low))) lanes → plane ≡ map (λ bits. bits (first + (count - 1 - low))) lanes
+    → zip2 (λ a p. cond one (a && p) (a || p)) at_least plane ≡ map (λ bits. not (ltb (spelled bits (first + (count - (low + 1))) (low + 1)) (c % 2 ^ (low + 1)))) lanes
+at_least_next lanes first count low c one at_least plane within is same here =
+    zip2_of_maps (λ a p. cond one (a && p) (a || p)) (λ bits. not (ltb (spelled bits (first + (count - low)) low) (c % 2 ^ low))) (λ bits. bits (first + (count - 1 - low))) lanes same here
+    ∙ (λ i. map (λ bits. step bits i) lanes)
+  where
+    place : ℕ
+    place = first + (count - 1 - low)
+
+    number : (bits : Assignment) → cond (bits place) (2 ^ low) 0 + spelled bits (first + (count - low)) low ≡ spelled bits (first + (count - (low + 1))) (low + 1)
+    number bits =
+        let above : first + (count - low) ≡ suc place = omega arith in
+        let at : place ≡ first + (count - (low + 1)) = omega arith in
+        ap (λ k. cond (bits place) (2 ^ low) 0 + spelled bits k low) above ∙ ap₂ (spelled bits) at (sym (add-one low))
+
+    constant : cond one (2 ^ low) 0 + c % 2 ^ low ≡ c % 2 ^ (low + 1)
+    constant = ap (λ b. cond b (2 ^ low) 0 + c % 2 ^ low) is ∙ sym (constant_low c low) ∙ ap (λ k. c % 2 ^ k) (sym (add-one low))
+
+    step : (bits : Assignment) → cond one (not (ltb (spelled bits (first + (count - low)) low) (c % 2 ^ low)) && bits place) (not (ltb (spelled bits (first + (count - low)) low) (c % 2 ^ low)) || bits place)
+        ≡ not (ltb (spelled bits (first + (count - (low + 1))) (low + 1)) (c % 2 ^ (low + 1)))
+    step bits =
+        at_least_more (spelled bits (first + (count - low)) low) (c % 2 ^ low) (2 ^ low) (bits place) one (spelled_below bits (first + (count - low)) low) (mod-lt c (pow_pos low))
+        ∙ ap₂ (λ x y. not (ltb x y)) (number bits) constant
+
+-- once all bits are compared
+pub at_least_all : (lanes : List Assignment) (first count low c : ℕ) (at_least : List Bool) → low ≡ count → c / 2 ^ count ≡ 0
+    → at_least ≡ map (λ bits. not (ltb (spelled bits (first + (count - low)) low) (c % 2 ^ low))) lanes → at_least ≡ map (λ bits. not (ltb (spelled bits first count) c)) lanes
+at_least_all lanes first count low c at_least all none same =
+    let at : first + (count - low) ≡ first = omega arith in
+    let whole : c % 2 ^ count ≡ c = omega (arith, div-add-mod' c (2 ^ count), ap (λ q. q * 2 ^ count) none) in
+    same ∙ ap₂ (λ k n. map (λ bits. not (ltb (spelled bits k n) (c % 2 ^ n))) lanes) at all ∙ ap (λ n. map (λ bits. not (ltb (spelled bits first count) n)) lanes) whole
 
 -- the plane of a variable, as it is loaded
 pub plane_loaded : (bytes : List ℕ) (first count place : ℕ) (lanes : List Assignment) (plane : List Bool) → ArePlanesOf bytes first count lanes → place < count → 64 * (first + count) ≤ length bytes

@@ -30,14 +30,13 @@ planes_of_lanes planes count long = record {
 above_or_not : (s m : ℕ) → not (ltb s (m + 1)) ≡ ltb m s
 above_or_not s m = grind (arith, nat_tests)
 
-pub above_lanes : (planes : List ℕ) (count most : ℕ) (below : List Bool) → 64 * count ≡ length planes
-    → ((lanes : List Assignment) → length lanes ≡ 512 → ArePlanesOf planes 0 count lanes → below ≡ map (λ bits. ltb (spelled bits 0 count) (most + 1)) lanes)
-    → map not below ≡ map (ltb most) (planes_codes count planes)
+pub above_lanes : (planes : List ℕ) (count most : ℕ) (least : List Bool) → 64 * count ≡ length planes
+    → ((lanes : List Assignment) → length lanes ≡ 512 → ArePlanesOf planes 0 count lanes → least ≡ map (λ bits. not (ltb (spelled bits 0 count) (most + 1))) lanes)
+    → least ≡ map (ltb most) (planes_codes count planes)
 unfolding planes_codes group_size
-above_lanes planes count most below long is =
+above_lanes planes count most least long is =
     let rows = range_with_len 0 512 in
-    ap (map not) (is (lanes_in planes) (length-lanes_in planes) (planes_of_lanes planes count long) ∙ map-map (λ bits. ltb (spelled bits 0 count) (most + 1)) (row_bits planes) rows)
-    ∙ map-map not (λ row. ltb (spelled (row_bits planes row) 0 count) (most + 1)) rows
+    is (lanes_in planes) (length-lanes_in planes) (planes_of_lanes planes count long) ∙ map-map (λ bits. not (ltb (spelled bits 0 count) (most + 1))) (row_bits planes) rows
     ∙ (λ i. map (λ row. above_or_not (spelled (row_bits planes row) 0 count) most i) rows)
     ∙ sym (map-map (ltb most) (λ row. spelled (row_bits planes row) 0 count) rows)
 

@@ -41,4 +41,5 @@ pub record ArePlanes (meaning : Meaning) (count : ℕ) (bytes : List ℕ) : Type
 
 -- The planes of so many variables, from the first of them on, have in each lane the bit of the assignment there.
 pub record ArePlanesOf (bytes : List ℕ) (first count : ℕ) (lanes : List Assignment) : Type 0 where
-  pub planes : (variable : ℕ) → first ≤ variable → variable < first + count → plane_lanes bytes variable ≡ map (λ bits. bits variable) lanes
+  pub planes : (variable : ℕ) → first ≤ variable → variable < first + count → plane_lanes bytes variable
+      ≡ map (λ bits. bits variable) lanes

@@ -1,6 +1,6 @@
-//! Comparisons of the numbers that planes spell with a constant, by two masks from the top plane down, after
-//! BitWeaving: the lanes that are below it, and those that are equal to it so far. Once none is equal, the
-//! planes that remain change nothing.
+//! Comparisons of the numbers that planes spell with a constant. Which numbers are below it is told from the lowest plane up,
+//! by one operation a plane; which are equal, after BitWeaving, from the top plane down: once none is, the planes that remain
+//! change nothing.
 ghost use Rattle.std.specs.Prelude.{◌≡◌, ◌==◌, ◌&&◌, ◌||◌, if◌then◌else◌, ◌+◌, ◌*◌, ◌^◌, ◌<◌, ◌≤◌, List, length, map, nat_lt, not};
 ghost use lib.Lanes.{zip2};
 ghost use Rattle.bw_lanes.specs.Lanes.{lanes_of_words};
@@ -20,21 +20,26 @@ pub(crate) fn lt(bytes: &[u8], first: usize, count: u32, c: u64) -> Plane
         → ArePlanesOf bytes.now first count lanes
         → lanes_of_words result ≡ map (λ bits. nat_lt (spelled bits first count) c) lanes }
 {
+    not(&at_least(bytes, first, count, c))
+}
+
+/// The lanes whose number, which so many planes spell from the top plane on, isn't below c.
+pub(crate) fn at_least(bytes: &[u8], first: usize, count: u32, c: u64) -> Plane
+    requires planes { 64 * (first + count) ≤ length bytes.now }
+    requires count { count ≤ 63 }
+    ensures { (lanes : List Assignment) → length lanes ≡ 512
+        → ArePlanesOf bytes.now first count lanes
+        → lanes_of_words result ≡ map (λ bits. not (nat_lt (spelled bits first count) c)) lanes }
+{
     if c >> count != 0 {
-        return ONES;
+        return [0; 8];
     }
-    let mut below = [0; 8];
-    let mut equal = ONES;
-    for place in 0..count {
-        if is_zero(&equal) {
-            return below;
-        }
-        let plane = load(&bytes[64 * (first + place as usize)..]);
-        let one = c >> (count - 1 - place) & 1 == 1;
-        below = widened(&below, &equal, &plane, one);
-        equal = narrowed(&equal, &plane, one);
+    let mut at_least = ONES;
+    for low in 0..count {
+        let plane = load(&bytes[64 * (first + (count - 1 - low) as usize)..]);
+        at_least = risen(&at_least, &plane, c >> low & 1 == 1);
     }
-    below
+    at_least
 }
 
 /// The lanes whose number, which so many planes spell from the top plane on, is c.
@@ -60,17 +65,16 @@ pub(crate) fn eq(bytes: &[u8], first: usize, count: u32, c: u8) -> Plane
     equal
 }
 
-/// The lanes that were below so far, and those that were equal and have a 0 where the constant has a 1.
-#[tactic(auto, using(crate::proofs::CompareLemmas::zip2_map_right))]
-fn widened(below: &Plane, equal: &Plane, plane: &Plane, one: bool) -> Plane
-    ensures { lanes_of_words result ≡ (if one then zip2 (λ b n. b || n) (lanes_of_words below.now)
-        (zip2 (λ e p. e && not p) (lanes_of_words equal.now) (lanes_of_words plane.now))
-        else lanes_of_words below.now) }
+/// The lanes that aren't below the constant in one bit more, its highest so far: where it has a 1, those that have one too
+/// and weren't below so far; where it has a 0, those that have a 1 or weren't below.
+fn risen(at_least: &Plane, plane: &Plane, one: bool) -> Plane
+    ensures { lanes_of_words result ≡ zip2 (λ a p. if one then a && p else (a || p))
+        (lanes_of_words at_least.now) (lanes_of_words plane.now) }
 {
     if one {
-        or(below, &and(equal, &not(plane)))
+        and(at_least, plane)
     } else {
-        *below
+        or(at_least, plane)
     }
 }
 

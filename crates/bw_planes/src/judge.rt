@@ -6,9 +6,9 @@ ghost use Rattle.bw_segment.specs.BlockFault.{block_fault, TellsCodes};
 ghost use Rattle.bw_segment.specs.Layout.{block_size};
 ghost use Rattle.bw_planes.specs.Planes.{plane_layout, planes_codes};
 
-use crate::compare::lt;
+use crate::compare::at_least;
 use crate::segment::PlaneSegment;
-use bw_lanes::{Plane, is_zero, load, not, or};
+use bw_lanes::{Plane, is_zero, load, or};
 use bw_segment::{Shape, fault_of_lanes};
 
 impl PlaneSegment {
@@ -55,5 +55,5 @@ fn above(planes: &[u8], count: u32, most: u64) -> Plane
     requires most { most < 2 ^ 63 }
     ensures { lanes_of_words result ≡ map (nat_lt most) (planes_codes count planes.now) }
 {
-    not(&lt(planes, 0, count, most + 1))
+    at_least(planes, 0, count, most + 1)
 }

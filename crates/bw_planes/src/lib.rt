@@ -6,6 +6,14 @@
 //! answers as [`bw_segment::Segment`] says.
 //!
 //! Read `specs/Planes.antt` first, and then `segment.rt` and `build.rt`.
+//!
+//! `bw` itself makes segments of a file's blocks. [`PlaneSegment::build`] is the library's public face, for 1 to 512 rows that
+//! are in memory:
+//!
+//! ```
+//! let segment = PlaneSegment::build(rt.alloc(), &schema, &rows)?;
+//! let first_bits = segment.plane(schema.var_bit(0, 0));
+//! ```
 #![tactic(auto)]
 
 mod build;

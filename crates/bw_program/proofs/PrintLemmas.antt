@@ -18,7 +18,7 @@ pub operands_text-end : (columns : List Column) (operands : List Operand) (i : �
 unfolding operands_text
 operands_text-end columns operands i le = rw (drop_all i operands le) refl
 
--- the item at a position, in front of those behind it
+-- the item at a position, in front of those after it
 drop-found : (instrs : List Instr) (i : ℕ) (instr : Instr) → slice_get instrs i ≡ Some instr → drop i instrs ≡ instr ∷ drop (suc i) instrs
 drop-found [] i instr found = absurd (cc)
 drop-found (x ∷ instrs) zero instr found = cc

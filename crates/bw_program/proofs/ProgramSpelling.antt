@@ -49,7 +49,7 @@ within_more : (end : ℕ) (before : List Placed) (p : Placed) → AllWithin end 
 within_more end [] p all here = (here, tt)
 within_more end (q ∷ before) p all here = (all.0, within_more end before p all.1 here)
 
--- what was read of lines behind instructions: those, and then the instructions that the lines spell
+-- what was read of lines after instructions: those, and then the instructions that the lines spell
 record Read (columns : List Column) (before : List Placed) (lines : List NumberedWords) (program : ProgramShape) : Type 0 where
   rest : List Placed
   instrs : program.instrs ≡ instrs_of (before ++ rest)
@@ -80,7 +80,7 @@ result_spelled columns end number line (word ∷ r ∷ []) lines result is e las
     go (Some op.ByteEq) n o r is e = absurd (cc is)
     go (Some op.Skip) n o r is e = absurd (cc is)
 
--- the lines behind the result's line, and the end
+-- the lines after the result's line, and the end
 finished_read : (columns : List Column) (before : List Placed) (line : NumberedWords) (lines : List NumberedWords) (program : ProgramShape) →
     is_result_line line ≡ true → length before ≤ most_instructions →
     (result_behind line.number (drop 1 line.words) >>= λ result. finished before lines result) ≡ Ok program → Read columns before (line ∷ lines) program

@@ -1,4 +1,4 @@
--- What stands behind an opcode in a line of a program text.
+-- What stands after an opcode in a line of a program text.
 use Rattle.std.specs.Prelude.{ℕ, Bool, true, List, [], ◌∷◌, ◌++◌, length, nat_lt}
 use Rattle.std.specs.Fmt.{decimal}
 use Rattle.bw_model.specs.declared.column.Column.{Column}
@@ -6,7 +6,7 @@ use Rattle.bw_program.specs.declared.print.Operand.{Operand}
 use Rattle.bw_program.specs.declared.print.Operand.TheVariants as operand
 use Rattle.bw_program.specs.PrintText.{register_text, column_text}
 
--- its text under a schema's columns, behind a blank, which is byte 32; nothing is written without one
+-- its text under a schema's columns, after a blank, which is byte 32; nothing is written without one
 abbrev pub operand_text : List Column → Operand → List ℕ
 operand_text columns (operand.Register r) = 32 ∷ register_text r
 operand_text columns (operand.Column column) = 32 ∷ column_text columns column

@@ -23,7 +23,8 @@ bit_text bit = decimal (if bit then 1 else 0)
 
 -- the words of an instruction's line
 abbrev pub instr_words : List Column → Instr → List (List ℕ)
-instr_words columns (Load r column bit) = opcode_spelling op.Load ∷ register_text r ∷ column_text columns column ∷ decimal bit ∷ []
+instr_words columns (Load r column bit) = opcode_spelling op.Load ∷ register_text r ∷ column_text columns column
+    ∷ decimal bit ∷ []
 instr_words columns (Nulls r column) = opcode_spelling op.Nulls ∷ register_text r ∷ column_text columns column ∷ []
 instr_words columns (Fill r bit) = opcode_spelling op.Fill ∷ register_text r ∷ bit_text bit ∷ []
 instr_words columns (And r x y) = opcode_spelling op.And ∷ register_text r ∷ register_text x ∷ register_text y ∷ []
@@ -40,7 +41,7 @@ instr_words columns (Skip x target) = opcode_spelling op.Skip ∷ register_text 
 abbrev pub result_words : ℕ → List (List ℕ)
 result_words result = opcode_spelling op.Result ∷ register_text result ∷ []
 
--- more words of a line, each behind a blank, which is byte 32, and then a line feed, which is byte 10
+-- more words of a line, each after a blank, which is byte 32, and then a line feed, which is byte 10
 unfoldable pub line_end : List (List ℕ) → List ℕ
 line_end [] = 10 ∷ []
 line_end (word ∷ words) = 32 ∷ word ++ line_end words

@@ -23,7 +23,8 @@ register_below (Some n) = if is_register n then Some n else None
 
 unfoldable pub register_of : List ℕ → Option ℕ
 register_of word =
-    if (slice_index word 0 == 114) || (slice_index word 0 == 82) then register_below (natural_of (drop 1 word)) else None
+    if (slice_index word 0 == 114) || (slice_index word 0 == 82) then register_below
+    (natural_of (drop 1 word)) else None
 
 -- what was found, or a fault of the line of this number
 abbrev pub found_on : {A : Type 0} → ℕ → ℕ → Option A → Result A Fault
@@ -40,8 +41,8 @@ register_on line word = found_on 502 line (register_of word)
 abbrev pub column_on : List Column → ℕ → List ℕ → Result ℕ Fault
 column_on columns line word = found_on 503 line (column_named columns word)
 
--- what the words behind an opcode say, or the first fault of the line: the number of words and the numbers among them,
--- the registers, the column with its bit, slice or null plane, and a skip's target, which lies behind the instruction
+-- what the words after an opcode say, or the first fault of the line: the number of words and the numbers among them,
+-- the registers, the column with its bit, slice or null plane, and a skip's target, which lies after the instruction
 abbrev pub load_on : List Column → ℕ → List (List ℕ) → Result Instr Fault
 load_on columns line (r ∷ c ∷ b ∷ []) =
     natural_on line b >>= λ bit. register_on line r >>= λ register. column_on columns line c >>= λ column.
@@ -91,12 +92,14 @@ instr_behind columns number line (Some op.And) words = three_on line words >>= �
 instr_behind columns number line (Some op.Or) words = three_on line words >>= λ three. Ok (Or three.0 three.1 three.2)
 instr_behind columns number line (Some op.Xor) words = three_on line words >>= λ three. Ok (Xor three.0 three.1 three.2)
 instr_behind columns number line (Some op.Not) words = not_on line words
-instr_behind columns number line (Some op.ByteLt) words = byte_on columns line words >>= λ four. Ok (ByteLt four.0 four.1 four.2 four.3)
-instr_behind columns number line (Some op.ByteEq) words = byte_on columns line words >>= λ four. Ok (ByteEq four.0 four.1 four.2 four.3)
+instr_behind columns number line (Some op.ByteLt) words = byte_on columns line words
+    >>= λ four. Ok (ByteLt four.0 four.1 four.2 four.3)
+instr_behind columns number line (Some op.ByteEq) words = byte_on columns line words
+    >>= λ four. Ok (ByteEq four.0 four.1 four.2 four.3)
 instr_behind columns number line (Some op.Skip) words = skip_on number line words
 instr_behind columns number line (Some op.Result) words = Err (at_line 501 line)
 
--- a line's opcode, and the words behind it
+-- a line's opcode, and the words after it
 abbrev pub opcode_in : List (List ℕ) → Option Opcode
 opcode_in [] = None
 opcode_in (word ∷ words) = opcode_of word
@@ -151,7 +154,7 @@ ended placed result = within_end (length placed) placed (record { instrs = instr
 abbrev pub finished : List Placed → List NumberedWords → ℕ → Result ProgramShape Fault
 finished placed lines result = last_line lines result >>= λ register. ended placed register
 
--- the program on lines, behind instructions that came before; the lines end with this number
+-- the program on lines, after instructions that came before; the lines end with this number
 unfoldable pub program_on : List Column → List Placed → List NumberedWords → ℕ → Result ProgramShape Fault
 program_on columns before [] end = Err (at_line 506 end)
 program_on columns before (line ∷ lines) end =
@@ -169,7 +172,8 @@ program_of columns text = program_on columns [] (lines_in (whole text)) (end_in 
 -- The words of a line spell the instruction of this number in a program of so many: an opcode, and then registers,
 -- columns and numbers in its order; a skip goes forward, and no further than the end.
 pub data SpellsInstr (columns : List Column) (end number : ℕ) : List (List ℕ) → Instr → Type 0 where
-  load : {word r c b : List ℕ} {register column bit : ℕ} → opcode_of word ≡ Some op.Load → register_of r ≡ Some register →
+  load : {word r c b : List ℕ} {register column bit : ℕ} → opcode_of word ≡ Some op.Load → register_of r
+      ≡ Some register →
       column_named columns c ≡ Some column → natural_of b ≡ Some bit → bit < width_at columns column →
       SpellsInstr columns end number (word ∷ r ∷ c ∷ b ∷ []) (Load register column bit)
   nulls : {word r c : List ℕ} {register column : ℕ} → opcode_of word ≡ Some op.Nulls → register_of r ≡ Some register →
@@ -177,29 +181,40 @@ pub data SpellsInstr (columns : List Column) (end number : ℕ) : List (List ℕ
       SpellsInstr columns end number (word ∷ r ∷ c ∷ []) (Nulls register column)
   fill : {word r b : List ℕ} {register bit : ℕ} → opcode_of word ≡ Some op.Fill → register_of r ≡ Some register →
       natural_of b ≡ Some bit → bit ≤ 1 → SpellsInstr columns end number (word ∷ r ∷ b ∷ []) (Fill register (bit == 1))
-  conjunction : {word r a b : List ℕ} {register x y : ℕ} → opcode_of word ≡ Some op.And → register_of r ≡ Some register →
-      register_of a ≡ Some x → register_of b ≡ Some y → SpellsInstr columns end number (word ∷ r ∷ a ∷ b ∷ []) (And register x y)
+  conjunction : {word r a b : List ℕ} {register x y : ℕ} → opcode_of word ≡ Some op.And → register_of r
+      ≡ Some register →
+      register_of a ≡ Some x → register_of b ≡ Some y → SpellsInstr columns end number (word ∷ r ∷ a ∷ b ∷ [])
+      (And register x y)
   disjunction : {word r a b : List ℕ} {register x y : ℕ} → opcode_of word ≡ Some op.Or → register_of r ≡ Some register →
-      register_of a ≡ Some x → register_of b ≡ Some y → SpellsInstr columns end number (word ∷ r ∷ a ∷ b ∷ []) (Or register x y)
+      register_of a ≡ Some x → register_of b ≡ Some y → SpellsInstr columns end number (word ∷ r ∷ a ∷ b ∷ [])
+      (Or register x y)
   difference : {word r a b : List ℕ} {register x y : ℕ} → opcode_of word ≡ Some op.Xor → register_of r ≡ Some register →
-      register_of a ≡ Some x → register_of b ≡ Some y → SpellsInstr columns end number (word ∷ r ∷ a ∷ b ∷ []) (Xor register x y)
+      register_of a ≡ Some x → register_of b ≡ Some y → SpellsInstr columns end number (word ∷ r ∷ a ∷ b ∷ [])
+      (Xor register x y)
   negation : {word r a : List ℕ} {register x : ℕ} → opcode_of word ≡ Some op.Not → register_of r ≡ Some register →
       register_of a ≡ Some x → SpellsInstr columns end number (word ∷ r ∷ a ∷ []) (Not register x)
-  below : {word r c s b : List ℕ} {register column slice byte : ℕ} → opcode_of word ≡ Some op.ByteLt → register_of r ≡ Some register →
-      column_named columns c ≡ Some column → natural_of s ≡ Some slice → slice < slices_at columns column → natural_of b ≡ Some byte → byte ≤ 255 →
+  below : {word r c s b : List ℕ} {register column slice byte : ℕ} → opcode_of word ≡ Some op.ByteLt → register_of r
+      ≡ Some register →
+      column_named columns c ≡ Some column → natural_of s ≡ Some slice → slice < slices_at columns column → natural_of b
+      ≡ Some byte → byte ≤ 255 →
       SpellsInstr columns end number (word ∷ r ∷ c ∷ s ∷ b ∷ []) (ByteLt register column slice byte)
-  same : {word r c s b : List ℕ} {register column slice byte : ℕ} → opcode_of word ≡ Some op.ByteEq → register_of r ≡ Some register →
-      column_named columns c ≡ Some column → natural_of s ≡ Some slice → slice < slices_at columns column → natural_of b ≡ Some byte → byte ≤ 255 →
+  same : {word r c s b : List ℕ} {register column slice byte : ℕ} → opcode_of word ≡ Some op.ByteEq → register_of r
+      ≡ Some register →
+      column_named columns c ≡ Some column → natural_of s ≡ Some slice → slice < slices_at columns column → natural_of b
+      ≡ Some byte → byte ≤ 255 →
       SpellsInstr columns end number (word ∷ r ∷ c ∷ s ∷ b ∷ []) (ByteEq register column slice byte)
-  skip : {word a l : List ℕ} {x target : ℕ} → opcode_of word ≡ Some op.Skip → register_of a ≡ Some x → natural_of l ≡ Some target →
+  skip : {word a l : List ℕ} {x target : ℕ} → opcode_of word ≡ Some op.Skip → register_of a ≡ Some x → natural_of l
+      ≡ Some target →
       number < target → target ≤ end → SpellsInstr columns end number (word ∷ a ∷ l ∷ []) (Skip x target)
 
 -- Lines spell the instructions from this number on and the result register: each line its instruction, and the last one
 -- the result.
 pub data SpellsLines (columns : List Column) (end : ℕ) : ℕ → List NumberedWords → List Instr → ℕ → Type 0 where
-  result_line : {number line result : ℕ} {word r : List ℕ} → opcode_of word ≡ Some op.Result → register_of r ≡ Some result →
+  result_line : {number line result : ℕ} {word r : List ℕ} → opcode_of word ≡ Some op.Result → register_of r
+      ≡ Some result →
       SpellsLines columns end number (record { number = line; words = word ∷ r ∷ [] } ∷ []) [] result
-  instr_line : {number result : ℕ} {line : NumberedWords} {lines : List NumberedWords} {instr : Instr} {instrs : List Instr} →
+  instr_line : {number result : ℕ} {line : NumberedWords} {lines : List NumberedWords} {instr : Instr}
+      {instrs : List Instr} →
       SpellsInstr columns end number line.words instr → SpellsLines columns end (suc number) lines instrs result →
       SpellsLines columns end number (line ∷ lines) (instr ∷ instrs) result
 
@@ -209,7 +224,7 @@ IsProgramText columns text program =
     (length program.instrs ≤ most_instructions)
     × SpellsLines columns (length program.instrs) 0 (lines_in (whole text)) program.instrs program.result
 
--- one of 501 to 507, or want of memory
+-- one of 501 to 507, or out of memory
 abbrev pub is_program_fault : Fault → Bool
 is_program_fault fault = (nat_le 501 fault.code && nat_le fault.code 507) || is_memory fault
 

@@ -21,7 +21,7 @@ pub enum Instr {
     ByteLt(u8, u8, u8, u8),
     /// The same, with the byte that they are.
     ByteEq(u8, u8, u8, u8),
-    /// The register, and the instruction that comes next where it is 0 in all 512 lanes. The number behind the
+    /// The register, and the instruction that comes next where it is 0 in all 512 lanes. The number after the
     /// last instruction is the end.
     Skip(u8, usize),
 }

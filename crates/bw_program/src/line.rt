@@ -5,10 +5,7 @@ ghost use Rattle.bw_program.specs.ProgramText.{register_of, natural_on, register
 
 use crate::instr::Instr;
 use crate::opcode::Opcode;
-use bw_model::{Fault, Line, Schema, code, natural_number};
-
-/// How many registers there are.
-const REGISTERS: u64 = 64;
+use bw_model::{Fault, Line, REGISTERS, Schema, code, natural_number};
 
 /// The instruction of this number that a line says, or the first fault there: its form (501), a register (502), a
 /// column, bit or slice (503), a column without nulls (507), a skip that doesn't go forward (504).

@@ -19,7 +19,7 @@ impl Program {
     /// Reads a program text under a schema, whose columns, bits, null planes and slices it names.
     ///
     /// Refused is the first line that is wrong, and on one line the first of: an instruction past 4,096 (505); another
-    /// form, a number that isn't one, or anything behind the result (501); a register that isn't r0 to r63 (502); a
+    /// form, a number that isn't one, or anything after the result (501); a register that isn't r0 to r63 (502); a
     /// column, bit or slice that the schema lacks (503); a null plane of a column that has none (507); a skip that
     /// doesn't go forward (504). At the end of the text, one line after the last, a result that is missing is 506; and
     /// where all else is right, the first skip that goes past the end is 504.
@@ -74,7 +74,8 @@ fn read_lines(
     placed: &mut Vec<Placed>,
 ) -> Result<u8, Fault>
     requires { placed.old.items ≡ [] }
-    ensures read { IfOk result (λ register. program_on schema.now.columns.items [] (lines_in lines.old) (end_in lines.old)
+    ensures read { IfOk result (λ register. program_on schema.now.columns.items [] (lines_in lines.old) (end_in
+        lines.old)
         ≡ finished placed.new.items (lines_in lines.new) register) }
     ensures fault { IfErr result (λ fault. is_memory fault ≡ false
         → program_on schema.now.columns.items [] (lines_in lines.old) (end_in lines.old) ≡ Err fault) }
@@ -98,10 +99,11 @@ fn read_lines(
     Err(Fault::at_line(code::NO_RESULT, lines.number()))
 }
 
-/// Refuses a line behind that of the result.
+/// Refuses a line after that of the result.
 fn refuse_more(alloc: Global, mut lines: Lines<'_>) -> Result<(), Fault>
     ensures none { OnOk result ((x : ℕ) → last_line (lines_in lines.entry) x ≡ Ok x) }
-    ensures some { IfErr result (λ fault. is_memory fault ≡ false → (x : ℕ) → last_line (lines_in lines.entry) x ≡ Err fault) }
+    ensures some { IfErr result (λ fault. is_memory fault ≡ false → (x : ℕ) → last_line (lines_in lines.entry) x
+        ≡ Err fault) }
     ensures code { IfErr result IsProgramFault }
 {
     let more = lines.next_line(alloc)?;
@@ -128,7 +130,8 @@ fn instrs_of(alloc: Global, placed: &[Placed]) -> Result<Vec<Instr>, AllocError>
 /// Refuses the first skip that goes past the end of the instructions.
 fn check_targets(placed: &[Placed]) -> Result<(), Fault>
     ensures within { OnOk result ((x : ProgramShape) → within_end (length placed.now) placed.now x ≡ Ok x) }
-    ensures past { IfErr result (λ fault. (x : ProgramShape) → within_end (length placed.now) placed.now x ≡ Err fault) }
+    ensures past { IfErr result (λ fault. (x : ProgramShape) → within_end (length placed.now) placed.now x
+        ≡ Err fault) }
     ensures code { IfErr result IsProgramFault }
 {
     for each in placed {

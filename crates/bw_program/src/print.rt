@@ -22,7 +22,7 @@ impl Program {
     /// The program's canonical text under a schema that has all that it names: capital keywords,
     /// single blanks, names in the schema's spelling, numbers without leading zeros, and one line
     /// feed after each line, of which the last is that of the result. It spells the program. Refused
-    /// is want of memory alone (801).
+    /// is out of memory alone (801).
     pub fn print(&self, alloc: Global, schema: &Schema) -> Result<Vec<u8>, Fault>
         requires { IsTrue (fits schema.now.columns.items self.now) }
         ensures text { IfOk result
@@ -50,7 +50,7 @@ pub fn canonical_texts_spell_programs()
         → IsProgramText columns (print_text columns program) program }
 {}
 
-/// What stands behind an opcode.
+/// What stands after an opcode.
 #[derive(Clone, Copy)]
 pub(crate) enum Operand {
     Register(u8),
@@ -88,7 +88,7 @@ fn put_result(
     put_line(alloc, schema, Opcode::Result, &operands, text)
 }
 
-/// An instruction's opcode, and what stands behind it.
+/// An instruction's opcode, and what stands after it.
 #[tactic(auto, unfolding(crate::specs::Operand::operands_text, crate::specs::PrintText::line_end))]
 fn parts_of(instr: Instr) -> (Opcode, [Operand; 4])
     ensures text { (columns : List Column) → opcode_spelling result.0

@@ -1,4 +1,4 @@
--- Who finds a query's rows, and what is told of that.
+-- Who finds a query's rows, and what is reported of that.
 use Rattle.std.proofs.Common.{◌≡◌, ◌∙◌, ℕ, Bool, true, false, List, [], ◌∷◌, Option, Some, None, inl, inr, refl}
 use Rattle.std.specs.List.{sum_by}
 use Rattle.bw_model.specs.declared.column.Column.{Column}
@@ -31,7 +31,7 @@ no_skips : (columns : List Column) (groups : List (List (List Value))) → sum_b
 no_skips columns [] = refl
 no_skips columns (group ∷ groups) = no_skips columns groups
 
--- what is told of a scan over the groups of a table's rows
+-- what is reported of a scan over the groups of a table's rows
 abbrev pub served : Option (List ℕ) → Scan → Scanned → Schema → Query → List (List Value) → Type 0
 served file scan scanned schema query rows = IsServed file schema query rows (told_by scan scanned)
 
@@ -56,7 +56,7 @@ serves None schema query rows Rows scanned chosen counts = record {
   });
 }
 
--- a fault that can't be another one is want of memory
+-- a fault that can't be another one is out of memory
 pub only_memory : (fault : Fault) → (is_memory fault ≡ false → ⊥) → is_memory fault ≡ true
 only_memory fault other = by_case (is_memory fault) refl
   where

@@ -82,7 +82,7 @@ segment_exit asks start now old offset reader query fault told asked answers = (
   },
 )
 
--- the text of the meaning, over a table's rows, and what is told of the scan over their groups
+-- the text of the meaning, over a table's rows, and what is reported of the scan over their groups
 pub text_over : (asks : Schema → Result Query Fault → Type 0) (start now : State) (schema : Schema) (query : Query) (scan : Scan) (text : List ℕ) (scanned : Scanned)
     (Told : Schema → Query → List (List Value) → Type 0)
     → ((rows : List (List Value)) → IsScanOf schema.columns.items scan (groups_of rows) scanned → Told schema query rows)
@@ -189,7 +189,7 @@ no_failed_read allowed fault is none = by_code (fault.code == 701) refl
 pub no_read : (fault : Fault) → is_read_fault fault ≡ false → failed_reads fault ≡ 0
 no_read fault e = rw e refl
 
--- a failed read and want of memory are no verdicts
+-- a failed read and out of memory are no verdicts
 pub input_verdict : (fault : Fault) → is_input_fault fault ≡ true → is_no_verdict fault ≡ true
 input_verdict fault is = either (is_input_fault fault) (is_write_fault fault) is
   where

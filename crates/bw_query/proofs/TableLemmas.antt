@@ -36,7 +36,7 @@ goes_on start old new groups rows first next = record {
       (append_assoc before (together groups) rows ∙ ap (λ (l : List (List Value)). before ++ l) (sym (together_more groups rows))) then;
 }
 
--- want of memory, once bytes were taken, none of which could be spared, and no read failed
+-- out of memory, once bytes were taken, none of which could be spared, and no read failed
 pub memory_answers : (start old now : State) (fault : Fault) → ((bytes : List ℕ) × Took start now bytes × NoneToSpare bytes) → now.failures ≡ old.failures → fault ≡ no_memory
     → AnswersFault start old now fault
 memory_answers start old now fault taken failures memory = record {

@@ -11,14 +11,15 @@ use Rattle.bw_program.specs.Program.{ProgramShape}
 use Rattle.bw_cert_lines.specs.CertificateFields.{CertificateFields}
 use Rattle.bw_cert_lines.specs.CertificateShape.{CertificateShape}
 use Rattle.bw_cert_text.specs.PrintText as certificate_text
-use Rattle.bw_check.specs.Judged.{Certifies}
+use Rattle.bw_cert_file.specs.Judged.{Certifies}
 use Rattle.bw_sql.specs.Statement.{IsReadAs}
 
 -- the printed text of a program, the line CERTIFICATE, and the printed text of a certificate
 pub record IsPrinted (columns : List Column) (file : List ℕ) : Type 0 where
   pub shown : ProgramShape
   pub stated : CertificateFields
-  pub is : file ≡ program_text.print_text columns shown ++ codes "CERTIFICATE\n" ++ certificate_text.print_text columns stated
+  pub is : file ≡ program_text.print_text columns shown ++ codes "CERTIFICATE\n"
+      ++ certificate_text.print_text columns stated
 
 -- A text spells a schema, a statement a query under it, and the file, which is printed so, a program and a certificate
 -- that is valid for it and the query's condition.
@@ -40,7 +41,7 @@ pub data IsPlanFault (text sql : List ℕ) : Fault → Type 0 where
   unplanned : {schema : Schema} (query : Query) → IsSchemaText text (schema_shape schema) →
       IsReadAs schema sql (Ok query) → IsPlanFault text sql (nowhere 651)
 
--- a plan, or the first fault, want of memory aside
+-- a plan, or the first fault, out of memory aside
 abbrev pub IsPlanned : List ℕ → List ℕ → Result (List ℕ) Fault → Type 0
 IsPlanned text sql (Ok file) = IsPlan text sql file
 IsPlanned text sql (Err fault) = is_memory fault ≡ false → IsPlanFault text sql fault

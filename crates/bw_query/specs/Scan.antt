@@ -13,25 +13,28 @@ use Rattle.bw_program.specs.Program.{ProgramShape}
 use Rattle.bw_cert_lines.specs.CertificateShape.{CertificateShape}
 use Rattle.bw_cert.specs.declared.certified.Certified.{Certified}
 use Rattle.bw_cert.specs.Valid.{Valid}
-use Rattle.bw_check.specs.Judged.{Certifies, IsFileFault}
+use Rattle.bw_cert_file.specs.Judged.{Certifies, IsFileFault}
 use Rattle.bw_query.specs.declared.scan.Scan.{Scan}
 use Rattle.bw_query.specs.declared.scan.Scan.TheVariants.{Program, Rows}
 
 -- a scan program is certified for these columns and for a condition of the same tree
 abbrev pub IsFor : List Column → Cond → Scan → Type 0
-IsFor columns cond (Program certified) = (certified.schema.columns.items ≡ columns) × (tree_of certified.condition ≡ tree_of cond)
+IsFor columns cond (Program certified) = (certified.schema.columns.items ≡ columns)
+    × (tree_of certified.condition ≡ tree_of cond)
 IsFor columns cond Rows = Unit {0}
 
 -- The program of a program file is used, where there is one. Else it's some program that with some certificate is valid,
 -- or none.
 abbrev pub IsChosen : Option (List ℕ) → List Column → Cond → Scan → Type 0
-IsChosen (Some file) columns cond (Program certified) = (certificate : CertificateShape) × Certifies columns cond file certified.program certificate
+IsChosen (Some file) columns cond (Program certified) = (certificate : CertificateShape)
+    × Certifies columns cond file certified.program certificate
 IsChosen (Some file) columns cond Rows = ⊥
-IsChosen None columns cond (Program certified) = (certificate : CertificateShape) × Valid columns cond certified.program certificate
+IsChosen None columns cond (Program certified) = (certificate : CertificateShape)
+    × Valid columns cond certified.program certificate
 IsChosen None columns cond Rows = Unit {0}
 
 -- The scan by what came of a search for a program: by the program; row by row, where none was found by a fault other than
--- want of memory; and want of memory is no scan.
+-- out of memory; and out of memory is no scan.
 abbrev pub scan_by : Result Certified Fault → Result Scan Fault
 scan_by (Ok certified) = Ok (Program certified)
 scan_by (Err fault) = if is_memory fault then Err fault else Ok Rows
@@ -42,7 +45,8 @@ given_file program = option_map (λ file. file.now) program
 
 -- a program file, where there is one, is accepted
 abbrev pub IsUsable : Option (List ℕ) → List Column → Cond → Type 0
-IsUsable (Some file) columns cond = (program : ProgramShape) × (certificate : CertificateShape) × Certifies columns cond file program certificate
+IsUsable (Some file) columns cond = (program : ProgramShape) × (certificate : CertificateShape)
+    × Certifies columns cond file program certificate
 IsUsable None columns cond = Unit {0}
 
 -- only a program file has a fault

@@ -10,7 +10,7 @@ use Rattle.bw_model.specs.Row.{Value}
 use Rattle.bw_program.specs.Program.{ProgramShape}
 use Rattle.bw_cert_lines.specs.CertificateShape.{CertificateShape}
 use Rattle.bw_cert.specs.Valid.{Valid}
-use Rattle.bw_check.specs.Judged.{Certifies}
+use Rattle.bw_cert_file.specs.Judged.{Certifies}
 use Rattle.bw_query.specs.declared.scan.Scan.{Scan}
 use Rattle.bw_query.specs.declared.scan.Scan.TheVariants.{Program, Rows}
 use Rattle.bw_report.specs.declared.served.By.{By}
@@ -20,7 +20,8 @@ use Rattle.bw_query.specs.Scan.{run_over}
 use Rattle.bw_query.specs.TableAnswer.{group_count}
 
 -- by a program, with the machine's counts of its runs over the groups of the rows, all together
-pub record ByProgram (program : ProgramShape) (columns : List Column) (rows : List (List Value)) (served : Served) : Type 0 where
+pub record ByProgram (program : ProgramShape) (columns : List Column) (rows : List (List Value))
+    (served : Served) : Type 0 where
   pub by : served.by ≡ By.Program
   pub loads : served.loads ≡ sum_by (λ group. (run_over program columns group).loads) (groups_of rows)
   pub skips : served.skips ≡ sum_by (λ group. (run_over program columns group).skips) (groups_of rows)
@@ -35,13 +36,16 @@ pub record ByRows (served : Served) : Type 0 where
 -- that with some certificate is, or row by row.
 abbrev pub IsServedBy : Option (List ℕ) → List Column → Cond → List (List Value) → Served → Type 0
 IsServedBy (Some file) columns cond rows served =
-    (program : ProgramShape) × (certificate : CertificateShape) × Certifies columns cond file program certificate × ByProgram program columns rows served
+    (program : ProgramShape) × (certificate : CertificateShape) × Certifies columns cond file program certificate
+    × ByProgram program columns rows served
 IsServedBy None columns cond rows served =
-    ((program : ProgramShape) × (certificate : CertificateShape) × Valid columns cond program certificate × ByProgram program columns rows served)
+    ((program : ProgramShape) × (certificate : CertificateShape) × Valid columns cond program certificate
+    × ByProgram program columns rows served)
     ⊎ ByRows served
 
 -- over the groups of a table's rows
-pub record IsServed (file : Option (List ℕ)) (schema : Schema) (query : Query) (rows : List (List Value)) (served : Served) : Type 0 where
+pub record IsServed (file : Option (List ℕ)) (schema : Schema) (query : Query) (rows : List (List Value))
+    (served : Served) : Type 0 where
   pub segments : served.segments ≡ group_count rows
   pub how : IsServedBy file schema.columns.items query.cond rows served
 
@@ -50,6 +54,11 @@ abbrev pub finder_of : Scan → By
 finder_of (Program certified) = By.Program
 finder_of Rows = By.Rows
 
--- what is told of a scan
+-- what is reported of a scan
 abbrev pub told_by : Scan → Scanned → Served
-told_by scan scanned = record { by = finder_of scan; segments = scanned.segments; loads = scanned.loads; skips = scanned.skips }
+told_by scan scanned = record {
+  by = finder_of scan;
+  segments = scanned.segments;
+  loads = scanned.loads;
+  skips = scanned.skips;
+}

@@ -48,7 +48,8 @@ pub record TableText (asks : Schema → Result Query Fault → Type 0) (start no
 
 -- the bytes are the text of the table file of these rows, and a sink took the text of the meaning of what is asked, over
 -- the rows
-pub record AnswersFile (asks : Schema → Result Query Fault → Type 0) (bytes : List ℕ) (old new : Option (List ℕ)) : Type 0 where
+pub record AnswersFile (asks : Schema → Result Query Fault → Type 0) (bytes : List ℕ)
+    (old new : Option (List ℕ)) : Type 0 where
   pub layout : Layout
   pub schema : Schema
   pub rows : List (List Value)
@@ -61,16 +62,17 @@ pub record AnswersFile (asks : Schema → Result Query Fault → Type 0) (bytes 
 abbrev pub group_count : List (List Value) → ℕ
 group_count rows = length (groups_of rows)
 
--- the header was read and nothing behind it, and what is asked was refused, or memory was wanting
+-- the header was read and nothing after it, and what is asked was refused, or memory ran out
 pub record AskedRefused (asks : Schema → Result Query Fault → Type 0) (start now : State) (fault : Fault) : Type 0 where
   pub schema : Schema
   pub head : HeaderRead start now schema
   pub asked : is_memory fault ≡ false → asks schema (Err fault)
 
 -- The header was read and what is asked is a query; and then, once bytes were taken none of which could be spared, a read
--- failed, where another byte or the end was to be seen; or memory was wanting; or the file has its first fault behind the
+-- failed, where another byte or the end was to be seen; or memory ran out; or the file has its first fault after the
 -- header.
-pub record SegmentRefused (asks : Schema → Result Query Fault → Type 0) (start now : State) (fault : Fault) : Type 0 where
+pub record SegmentRefused (asks : Schema → Result Query Fault → Type 0) (start now : State)
+    (fault : Fault) : Type 0 where
   pub schema : Schema
   pub query : Query
   pub behind : State
@@ -83,7 +85,7 @@ pub record SegmentRefused (asks : Schema → Result Query Fault → Type 0) (sta
   pub first : is_input_fault fault ≡ false → HasFirstFault now bytes fault
 
 -- What is asked of a table file is answered by this text, or by the first fault in the order of the header, what is
--- asked, and the segments; a failed read is answered in its place in that order, and want of memory at any, where no more
+-- asked, and the segments; a failed read is answered in its place in that order, and out of memory at any, where no more
 -- was taken than is needed until then.
 abbrev pub IsTableAnswer : (Schema → Result Query Fault → Type 0) → State → State → Result (List ℕ) Fault → Type 0
 IsTableAnswer asks start now (Ok text) = TableText asks start now text
@@ -91,7 +93,8 @@ IsTableAnswer asks start now (Err fault) =
     Fails header start now fault ⊎ AskedRefused asks start now fault ⊎ SegmentRefused asks start now fault
 
 -- so it is by what a source gave, whose failures rose where a failed read is answered
-pub record TableGave (asks : Schema → Result Query Fault → Type 0) (start now : State) (given : Result (List ℕ) Fault) : Type 0 where
+pub record TableGave (asks : Schema → Result Query Fault → Type 0) (start now : State)
+    (given : Result (List ℕ) Fault) : Type 0 where
   pub failures : now.failures ≡ start.failures + failed_by given
   pub answer : IsTableAnswer asks start now given
 
@@ -117,6 +120,6 @@ abbrev pub by_dump : Schema → Result Query Fault → Type 0
 by_dump schema (Ok query) = IsEveryRow schema query
 by_dump schema (Err fault) = ⊥
 
--- a refusal that no bytes and no statement call for: a failed read, a failed write, or want of memory
+-- a refusal that no bytes and no statement call for: a failed read, a failed write, or out of memory
 abbrev pub is_no_verdict : Fault → Bool
 is_no_verdict fault = is_input_fault fault || is_write_fault fault

@@ -20,13 +20,15 @@ use Rattle.bw_query.specs.declared.table_text.Scanned.{Scanned}
 use Rattle.bw_query.specs.Scan.{loads_in, skips_in}
 
 -- so many segments were scanned, of these groups of rows, with the scan's loads and skips over each
-pub record IsScanOf (columns : List Column) (scan : Scan) (groups : List (List (List Value))) (scanned : Scanned) : Type 0 where
+pub record IsScanOf (columns : List Column) (scan : Scan) (groups : List (List (List Value)))
+    (scanned : Scanned) : Type 0 where
   pub segments : scanned.segments ≡ length groups
   pub loads : scanned.loads ≡ sum_by (loads_in columns scan) groups
   pub skips : scanned.skips ≡ sum_by (skips_in columns scan) groups
 
 -- an answer has taken all rows of a file, scanned in groups, of which a reader had read the header
-pub record TookAll (old now : State) (reader : TableReader) (scan : Scan) (before after : Answer) (scanned : Scanned) : Type 0 where
+pub record TookAll (old now : State) (reader : TableReader) (scan : Scan) (before after : Answer)
+    (scanned : Scanned) : Type 0 where
   pub groups : List (List (List Value))
   pub over : GoesOver before (together groups) after
   pub counts : IsScanOf (schema_in reader).columns.items scan groups scanned
@@ -35,7 +37,8 @@ pub record TookAll (old now : State) (reader : TableReader) (scan : Scan) (befor
 
 -- The file was read whole, as a table of this schema and of the rows of groups that were scanned, and the text is that of
 -- the query's meaning over them.
-pub record TextOver (start now : State) (schema : Schema) (query : Query) (scan : Scan) (text : List ℕ) (scanned : Scanned) : Type 0 where
+pub record TextOver (start now : State) (schema : Schema) (query : Query) (scan : Scan) (text : List ℕ)
+    (scanned : Scanned) : Type 0 where
   pub found : Found
   pub groups : List (List (List Value))
   pub read : ReadWhole start now found

@@ -5,13 +5,13 @@ ghost use Rattle.bw_model.specs.Cond.{names_within};
 ghost use Rattle.bw_model.specs.Fault.{is_memory, nowhere};
 ghost use Rattle.bw_program.specs.Program.{ProgramShape, fits};
 ghost use Rattle.bw_cert_lines.specs.CertificateShape.{CertificateShape};
-ghost use Rattle.bw_check.specs.Judged.{Certifies};
+ghost use Rattle.bw_cert_file.specs.Judged.{Certifies};
 ghost use Rattle.bw_device.specs.Sink.{Wrote, is_write_fault};
 ghost use Rattle.bw_device.specs.Source.{EndsWith};
 ghost use Rattle.bw_query.specs.Plan.{IsPlanned, IsPrinted};
 
+use bw_cert_file::certify;
 use bw_cert_text::print_certificate;
-use bw_check::certify;
 use bw_device::{Sink, write_whole};
 use bw_model::{Cond, Fault, Place, Schema, code};
 use bw_plan::{Proposal, propose};
@@ -23,7 +23,7 @@ use std::alloc::Global;
 /// statement.
 ///
 /// Refuses in this order: the schema text (106, 101 to 105), the statement (401 to 408), a condition for which the
-/// planner has no program that the checker accepts (651), and the sink (702); want of memory (801) wherever it comes.
+/// planner has no program that the checker accepts (651), and the sink (702); out of memory (801) wherever it comes.
 /// That the sink's count of failures can rise is the caller's condition.
 #[tactic(auto, using(crate::specs::Plan::schema_refused, crate::specs::Plan::statement_refused, crate::specs::Plan::unplanned))]
 pub fn plan_text<K: Sink>(
@@ -83,7 +83,7 @@ fn file_of(alloc: Global, schema: &Schema, proposal: &Proposal) -> Result<Vec<u8
     Ok(file)
 }
 
-/// Want of memory, or else that there is no plan.
+/// Out of memory, or else that there is no plan.
 fn unplanned_unless_memory(fault: Fault) -> Fault
     ensures { is_memory result ≡ false → result ≡ nowhere 651 }
 {

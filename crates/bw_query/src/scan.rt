@@ -4,14 +4,14 @@ ghost use Rattle.bw_model.specs.declared.cond.Cond.{Cond};
 ghost use Rattle.bw_model.specs.Cond.{names_within};
 ghost use Rattle.bw_model.specs.CondTree.{tree_of};
 ghost use Rattle.bw_model.specs.Fault.{is_memory};
-ghost use Rattle.bw_check.specs.Judged.{is_file_fault};
+ghost use Rattle.bw_cert_file.specs.Judged.{is_file_fault};
 ghost use Rattle.bw_cert.specs.declared.certified.Certified.{Certified};
 ghost use Rattle.bw_model.specs.declared.fault.Fault.{Fault};
 ghost use Rattle.bw_query.specs.declared.scan.Scan.TheVariants.{Program};
 ghost use Rattle.bw_query.specs.Scan.{IsFor, IsChosen, IsScanFault, IsUsable, given_file, scan_by};
 
 use bw_cert::{Certified, check};
-use bw_check::certify;
+use bw_cert_file::certify;
 use bw_model::{Cond, Fault, Place, Schema, code};
 use bw_plan::propose;
 use std::alloc::Global;
@@ -28,7 +28,7 @@ pub(crate) enum Scan {
 /// proposes one that the checker accepts; else row by row.
 ///
 /// Refuses a program file as [`certify`] does (501 to 508, 601 to 610). A proposal that isn't accepted is no fault of
-/// the statement's: it isn't used. Want of memory is 801, in the planner too.
+/// the statement's: it isn't used. Out of memory is 801, in the planner too.
 pub(crate) fn scan_for(
     alloc: Global,
     schema: &Schema,
@@ -41,7 +41,7 @@ pub(crate) fn scan_for(
     ensures fault { IfErr result (λ fault. is_memory fault ≡ false
         → IsScanFault (given_file program.entry) schema.now.columns.items cond.now fault) }
     ensures code { IfErr result (λ fault. IsTrue (is_file_fault fault)) }
-    // A program file that is accepted for a condition of the same tree is refused for want of memory alone.
+    // A program file that is accepted for a condition of the same tree is refused only where memory runs out.
     ensures accepted { (same : Cond) → tree_of same ≡ tree_of cond.now
         → IsUsable (given_file program.entry) schema.now.columns.items same
         → IfErr result (λ fault. IsTrue (is_memory fault)) }
@@ -64,7 +64,7 @@ fn planned(alloc: Global, schema: &Schema, cond: &Cond) -> Result<Scan, Fault>
 }
 
 /// The planner's program, which the checker has accepted; else the fault that one of the two answered, the planner (651) or
-/// the checker (601 to 610), or want of memory (801).
+/// the checker (601 to 610), or out of memory (801).
 fn accepted(alloc: Global, schema: &Schema, cond: &Cond) -> Result<Certified, Fault>
     requires { IsTrue (names_within (length schema.now.columns.items) cond.now) }
     ensures certified { IfOk result (λ certified. IsFor schema.now.columns.items cond.now (Program certified)) }
@@ -74,7 +74,7 @@ fn accepted(alloc: Global, schema: &Schema, cond: &Cond) -> Result<Certified, Fa
     check(alloc, schema, cond, proposal.program, &proposal.certificate).map_err(|(_, fault)| fault)
 }
 
-/// The scan by a program that was found; row by row, where there is none by a fault other than want of memory; and want of
+/// The scan by a program that was found; row by row, where there is none by a fault other than out of memory; and out of
 /// memory as it is.
 fn scan_by(found: Result<Certified, Fault>) -> Result<Scan, Fault>
     ensures { result ≡ scan_by found }

@@ -6,7 +6,7 @@ use crate::scan::Scan;
 use crate::table_text::Scanned;
 use bw_report::{By, Served};
 
-/// What is told of a scan.
+/// What is reported of a scan.
 pub(crate) fn served_by(scan: &Scan, scanned: Scanned) -> Served
     ensures { result ≡ told_by scan.now scanned }
 {

@@ -39,7 +39,7 @@ use std::alloc::Global;
 ///
 /// Refuses in this order: the file's header (301 to 305, 310), the statement (401 to 408), the program file (508, 501 to
 /// 507, 605, 601 to 604 and 606 to 610), the file's segments (305 to 309) and the sink (702); a failed read (701) in the
-/// place of what was to be read, and want of memory (801) wherever it comes. Nothing behind the header is read before the
+/// place of what was to be read, and out of memory (801) wherever it comes. Nothing after the header is read before the
 /// statement and the program file are accepted, and nothing is written before the last segment was found good and the file
 /// has ended. One segment is in memory, and the answer's text. That each device's count of failures can rise is the
 /// caller's condition.
@@ -53,11 +53,13 @@ pub fn answer<S: Source, K: Sink>(
     requires table { S.failures table.old < 2 ^ 64 - 1 }
     requires sink { K.failures sink.old < 2 ^ 64 - 1 }
     ensures answer { (offset : ℕ) × (given : Result (List ℕ) Fault)
-        × TableGave (by_statement (given_file program.entry) sql.now) (state (S.to_come table.old) 0 (S.failures table.old))
+        × TableGave (by_statement (given_file program.entry) sql.now)
+        (state (S.to_come table.old) 0 (S.failures table.old))
         (state (S.to_come table.new) offset (S.failures table.new)) given
         × Wrote (K.taken sink.old) (K.taken sink.new) (K.failures sink.old) (K.failures sink.new) given result }
     ensures served { IfOk result (λ served. (offset : ℕ) × (text : List ℕ)
-        × (found : TableText (by_statement (given_file program.entry) sql.now) (state (S.to_come table.old) 0 (S.failures table.old))
+        × (found : TableText (by_statement (given_file program.entry) sql.now)
+        (state (S.to_come table.old) 0 (S.failures table.old))
         (state (S.to_come table.new) offset (S.failures table.new)) text)
         × Appends (K.taken sink.old) (K.taken sink.new) text
         × IsServed (given_file program.entry) found.schema found.query found.rows served) }
@@ -66,7 +68,8 @@ pub fn answer<S: Source, K: Sink>(
     // the statement spells a query, and the program file is accepted for its condition, it's only a device or memory
     // that can fail.
     ensures file { (bytes : List ℕ) → S.to_come table.old ≡ Some bytes → IfOk result (λ served.
-        (file : AnswersFile (by_statement (given_file program.entry) sql.now) bytes (K.taken sink.old) (K.taken sink.new))
+        (file : AnswersFile (by_statement (given_file program.entry) sql.now) bytes (K.taken sink.old)
+        (K.taken sink.new))
         × IsServed (given_file program.entry) file.schema file.query file.rows served) }
     ensures accepted { (bytes : List ℕ) (layout : Layout) (schema : Schema) (rows : List (List Value)) (query : Query)
         → S.to_come table.old ≡ Some bytes → IsFileText bytes layout schema rows
@@ -103,7 +106,8 @@ fn answered<S: Source>(
         (state (S.to_come table.old) 0 (S.failures table.old))
         (state (S.to_come table.new) offset (S.failures table.new)) (text_in result) }
     ensures served { IfOk result (λ answered. (offset : ℕ)
-        × (found : TableText (by_statement (given_file program.entry) sql.now) (state (S.to_come table.old) 0 (S.failures table.old))
+        × (found : TableText (by_statement (given_file program.entry) sql.now)
+        (state (S.to_come table.old) 0 (S.failures table.old))
         (state (S.to_come table.new) offset (S.failures table.new)) answered.text.items)
         × IsServed (given_file program.entry) found.schema found.query found.rows answered.served) }
     ensures accepted { (bytes : List ℕ) (layout : Layout) (schema : Schema) (rows : List (List Value)) (query : Query)
@@ -137,7 +141,8 @@ fn prepare(
     sql: &[u8],
     program: Option<&[u8]>,
 ) -> Result<Prepared, Fault>
-    ensures asked { IfOk result (λ prepared. by_statement (given_file program.entry) sql.now schema.now (Ok prepared.query)) }
+    ensures asked { IfOk result (λ prepared. by_statement (given_file program.entry) sql.now schema.now
+        (Ok prepared.query)) }
     ensures chosen { IfOk result (λ prepared.
         IsChosen (given_file program.entry) schema.now.columns.items prepared.query.cond prepared.scan) }
     ensures certified { IfOk result (λ prepared. IsFor schema.now.columns.items prepared.query.cond prepared.scan) }
@@ -149,7 +154,7 @@ fn prepare(
         → by_statement (given_file program.entry) sql.now schema.now (Err fault)) }
     ensures unread { IfErr result (λ fault. is_read_fault fault ≡ false) }
     // A statement that spells a query under a schema of the same shape, with a program file that is accepted for its
-    // condition, is refused for want of memory alone.
+    // condition, is refused only where memory runs out.
     ensures accepted { (other : Schema) (query : Query) → schema_shape schema.now ≡ schema_shape other
         → by_statement (given_file program.entry) sql.now other (Ok query)
         → IfErr result (λ fault. IsTrue (is_memory fault)) }
@@ -164,7 +169,7 @@ fn prepare(
 /// Writes every row of a table file in every column, as CSV text.
 ///
 /// Refuses in this order: the file's header (301 to 305, 310), its segments (305 to 309) and the sink (702); 701 where a
-/// read fails, and want of memory (801) wherever it comes. Nothing is written before the last segment was found good
+/// read fails, and out of memory (801) wherever it comes. Nothing is written before the last segment was found good
 /// and the file has ended.
 pub fn dump<S: Source, K: Sink>(alloc: Global, table: &mut S, sink: &mut K) -> Result<(), Fault>
     requires table { S.failures table.old < 2 ^ 64 - 1 }
@@ -197,7 +202,8 @@ pub fn dump<S: Source, K: Sink>(alloc: Global, table: &mut S, sink: &mut K) -> R
 #[tactic(auto, using(bw_model::proofs::CondLemmas::truths))]
 fn every_row(alloc: Global, schema: &Schema) -> Result<Query, Fault>
     ensures every { IfOk result (IsEveryRow schema.now) }
-    ensures items { IfOk result (λ query. IsTrue (list_all (item_within (vec_len schema.now.columns)) query.items.items)) }
+    ensures items { IfOk result (λ query. IsTrue (list_all (item_within
+        (vec_len schema.now.columns)) query.items.items)) }
     ensures some { IfOk result (λ query. 1 ≤ length query.items.items) }
     ensures kinds { IfOk result (λ query. AreOfOneKind query.items.items) }
     ensures only_memory { IfErr result (λ fault. fault ≡ no_memory) }

@@ -1,4 +1,4 @@
-//! What is told of an accepted program file.
+//! What is reported of an accepted program file.
 
 /// The numbers of a program and of its certificate: of instructions, skips among them, and of the NODE, CHAIN and ROW
 /// lines.

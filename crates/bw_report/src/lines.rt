@@ -21,7 +21,7 @@ const LONG_LINE: usize = 192;
 const WORDS: usize = 100;
 
 /// Gives the exit status of a fault: 3 for one of the schema, the CSV, the table file, the statement or the
-/// program text, 4 for one of the certificate, 5 for one of a device, 6 for want of memory.
+/// program text, 4 for one of the certificate, 5 for one of a device, 6 for out of memory.
 fn status_of(fault: &Fault) -> u8
     ensures { result ≡ status_of fault.now }
 {

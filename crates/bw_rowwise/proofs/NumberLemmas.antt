@@ -45,7 +45,7 @@ null_among_some (n ∷ numbers) len same some = null_among n numbers
 equal_numbers : (x y : ℤ) → int_eq x y ≡ true → x ≡ y
 equal_numbers x y = (Decides-int_eq x y).0
 
--- a number is below those behind a place, and above those before it
+-- a number is below those after a place, and above those before it
 not_at : (n : ℤ) (numbers : List ℤ) (i k : ℕ) → IsPartitionPoint (λ m. int_cmp m n ≡ Less) (λ m. int_cmp m n ≡ Greater) numbers i → k < length numbers
     → get_or numbers k n ≡ n → ((leb i k ≡ true) × (i ≤ k)) ⊎ ((leb i k ≡ false) × (k < i)) → ⊥
 not_at n numbers i k parted lt is (inl above) =

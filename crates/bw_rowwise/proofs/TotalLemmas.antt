@@ -54,18 +54,6 @@ small_both rows more a b total small other is x e =
     let o = other b refl in
     let same : total ≡ x = cc in (omega (arith, ints), omega (arith, ints))
 
-pub small_least : (rows more : ℕ) (a b total : ℤ) → IsTotalOfRows rows (Some a) → IsTotalOfRows more (Some b) → total ≡ int_min a b → IsTotalOfRows (rows + more) (Some total)
-small_least rows more a b total small other is x e =
-    let s = small a refl in
-    let o = other b refl in
-    let same : total ≡ x = cc in (omega (arith, ints, clamps), omega (arith, ints, clamps))
-
-pub small_most : (rows more : ℕ) (a b total : ℤ) → IsTotalOfRows rows (Some a) → IsTotalOfRows more (Some b) → total ≡ int_max a b → IsTotalOfRows (rows + more) (Some total)
-small_most rows more a b total small other is x e =
-    let s = small a refl in
-    let o = other b refl in
-    let same : total ≡ x = cc in (omega (arith, ints, clamps), omega (arith, ints, clamps))
-
 reduce_append : (f : ℤ → ℤ → ℤ) (xs : List ℤ) (value : Value) → reduce f (xs ++ option_to_list value) ≡ including f (reduce f xs) value
 reduce_append f [] None = refl
 reduce_append f [] (Some n) = refl

@@ -37,7 +37,11 @@ answer_with item answer row = including (of_both item) answer (added_by item row
 
 -- a tally and one more row
 abbrev pub tally_with : Tally → List Value → Tally
-tally_with tally row = record { item = tally.item; count = tally.count + 1; answer = answer_with tally.item tally.answer row }
+tally_with tally row = record {
+  item = tally.item;
+  count = tally.count + 1;
+  answer = answer_with tally.item tally.answer row;
+}
 
 -- a tally of rows that are counted alone, and so many more
 abbrev pub counted : Tally → ℕ → Tally
@@ -45,7 +49,11 @@ counted tally more = record { item = tally.item; count = tally.count + more; ans
 
 -- a tally and the total of so many more rows
 abbrev pub tally_joined : Tally → ℕ → Option ℤ → Tally
-tally_joined tally more others = record { item = tally.item; count = tally.count + more; answer = joined tally.item tally.answer others }
+tally_joined tally more others = record {
+  item = tally.item;
+  count = tally.count + more;
+  answer = joined tally.item tally.answer others;
+}
 
 -- A total of so many rows is at most as many times 2^73 in size. A value is at most 2^63, and the total of a segment's
 -- rows, of which there are at most 512 and one at least, is within 2^73.

@@ -16,7 +16,8 @@ prepared_step row Always = Yes
 prepared_step row (Cmp op x y) = compared op (operand_value row x) (operand_value row y)
 prepared_step row (Between x y z) = between (operand_value row x) (operand_value row y) (operand_value row z)
 prepared_step row (Among x numbers others) =
-    greatest (among_numbers (operand_value row x) numbers.sorted.items) (among (operand_value row x) (map (operand_value row) others.items))
+    greatest (among_numbers (operand_value row x) numbers.sorted.items)
+    (among (operand_value row x) (map (operand_value row) others.items))
 prepared_step row (IsNull x) = truth_from (is_null (operand_value row x))
 prepared_step row (And parts) = all_of parts.items
 prepared_step row (Or parts) = any_of parts.items

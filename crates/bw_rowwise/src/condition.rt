@@ -7,7 +7,7 @@ ghost use Rattle.bw_model.specs.Selection.{kept};
 ghost use Rattle.bw_model.specs.Row.{Value, values_of};
 ghost use Rattle.bw_model.specs.Fault.{no_memory};
 
-use crate::logic::{between, both, compared, either, opposite, truth_from};
+use crate::logic::{between, both, compared, either, opposite};
 use bw_model::{Cond, Fault, Op, Operand, Row, Truth, Value};
 use std::alloc::Global;
 
@@ -25,11 +25,11 @@ pub fn truth(cond: &Cond, row: &Row) -> Truth
             between(value_of(*x, row), value_of(*y, row), value_of(*z, row))
         }
         Cond::Among(x, items) => among(value_of(*x, row), items, row),
-        Cond::IsNull(x) => truth_from(value_of(*x, row).is_none()),
+        Cond::IsNull(x) => Truth::of(value_of(*x, row).is_none()),
         Cond::And(parts) => all_of(parts, row),
         Cond::Or(parts) => any_of(parts, row),
         Cond::Not(part) => opposite(truth(part, row)),
-        Cond::Test(part, wanted) => truth_from(truth(part, row) == *wanted),
+        Cond::Test(part, wanted) => Truth::of(truth(part, row) == *wanted),
     }
 }
 

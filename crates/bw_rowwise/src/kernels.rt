@@ -7,7 +7,7 @@ ghost use Rattle.bw_model.specs.Truth.{compared, greatest, is_null, is_truth, le
 ghost use Rattle.bw_model.specs.declared.cond.Truth.TheVariants.{No, Yes};
 ghost use Rattle.bw_rowwise.specs.Numbers.{among_numbers};
 
-use crate::logic::{both, compared, either, opposite, truth_from};
+use crate::logic::{both, compared, either, opposite};
 use crate::numbers::Numbers;
 use bw_lanes::{Plane, bytes_eq};
 use bw_model::{Op, Truth, Value};
@@ -49,7 +49,7 @@ pub fn nulls_in_lanes(xs: &Values) -> Truths
 {
     let mut truths = [Truth::Unknown; 512];
     for lane in 0..512 {
-        truths[lane] = truth_from(xs[lane].is_none());
+        truths[lane] = Truth::of(xs[lane].is_none());
     }
     truths
 }
@@ -97,7 +97,7 @@ pub fn tested_in_lanes(a: &Truths, wanted: Truth) -> Truths
 {
     let mut truths = [Truth::Unknown; 512];
     for lane in 0..512 {
-        truths[lane] = truth_from(a[lane] == wanted);
+        truths[lane] = Truth::of(a[lane] == wanted);
     }
     truths
 }

@@ -7,6 +7,14 @@
 //!
 //! The source of the rules is SQL-92: its predicates, search conditions and set functions, whose meaning
 //! stands in the `specs/` of `bw_model`. Read `condition.rt` first, and then `accumulator.rt`.
+//!
+//! `bw` itself calls [`Prepared`] and [`Accumulator`]. [`truth`], [`select`] and [`aggregate`] are the library's public face,
+//! for rows that are in memory, and what tests compare the faster ways with:
+//!
+//! ```
+//! let kept = select(rt.alloc(), &query.cond, &rows)?;
+//! let sum = aggregate(&Item::Sum(3), &kept);
+//! ```
 #![tactic(auto)]
 
 mod accumulator;

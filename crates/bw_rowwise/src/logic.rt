@@ -1,15 +1,8 @@
 //! Three-valued logic, and comparisons in it, after SQL-92.
 ghost use Rattle.std.specs.Prelude.{◌≡◌};
-ghost use Rattle.bw_model.specs.Truth.{truth_from, least, greatest, negation, compared, between, holds};
+ghost use Rattle.bw_model.specs.Truth.{least, greatest, negation, compared, between};
 
 use bw_model::{Op, Truth, Value};
-
-/// TRUE or FALSE.
-pub fn truth_from(holds: bool) -> Truth
-    ensures { result ≡ truth_from holds }
-{
-    if holds { Truth::Yes } else { Truth::No }
-}
 
 /// AND of two truth values, the least of them.
 pub fn both(a: Truth, b: Truth) -> Truth
@@ -49,7 +42,7 @@ pub fn compared(op: Op, x: Value, y: Value) -> Truth
     ensures { result ≡ compared op x y }
 {
     match (x, y) {
-        (Some(x), Some(y)) => truth_from(holds(op, x, y)),
+        (Some(x), Some(y)) => Truth::of(op.holds(x, y)),
         _ => Truth::Unknown,
     }
 }
@@ -59,18 +52,4 @@ pub fn between(x: Value, y: Value, z: Value) -> Truth
     ensures { result ≡ between x y z }
 {
     both(compared(Op::Ge, x, y), compared(Op::Le, x, z))
-}
-
-/// Whether a comparison holds of two numbers.
-fn holds(op: Op, x: i64, y: i64) -> bool
-    ensures { result ≡ holds op x y }
-{
-    match op {
-        Op::Eq => x == y,
-        Op::Ne => x != y,
-        Op::Lt => x < y,
-        Op::Gt => x > y,
-        Op::Le => x <= y,
-        Op::Ge => x >= y,
-    }
 }

@@ -6,7 +6,6 @@ ghost use Rattle.std.specs.Ordering.{int_cmp, int_eq};
 ghost use Rattle.bw_model.specs.Row.{Value};
 ghost use Rattle.bw_rowwise.specs.Numbers.{among_numbers};
 
-use crate::logic::truth_from;
 use bw_model::{Truth, Value};
 
 /// Whole numbers, ascending, in which a number is found by halving.
@@ -32,7 +31,7 @@ impl Numbers {
         ensures { result ≡ among_numbers x self.now.sorted.items }
     {
         match x {
-            Some(n) => truth_from(self.have(n)),
+            Some(n) => Truth::of(self.have(n)),
             None if self.sorted.is_empty() => Truth::No,
             None => Truth::Unknown,
         }

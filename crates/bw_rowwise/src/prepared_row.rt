@@ -5,7 +5,7 @@ ghost use Rattle.bw_model.specs.Row.{values_of};
 ghost use Rattle.bw_model.specs.Truth.{all_of, among, any_of};
 ghost use Rattle.bw_rowwise.specs.Prepared.{prepared_truth};
 
-use crate::logic::{between, both, compared, either, opposite, truth_from};
+use crate::logic::{between, both, compared, either, opposite};
 use crate::prepared::Prepared;
 use bw_model::{Op, Operand, Row, Truth, Value};
 
@@ -26,11 +26,11 @@ impl Prepared {
                 let x = value_of(*x, row);
                 either(numbers.among(x), among(x, others, row))
             }
-            Prepared::IsNull(x) => truth_from(value_of(*x, row).is_none()),
+            Prepared::IsNull(x) => Truth::of(value_of(*x, row).is_none()),
             Prepared::And(parts) => all_of(parts, row),
             Prepared::Or(parts) => any_of(parts, row),
             Prepared::Not(part) => opposite(part.truth(row)),
-            Prepared::Test(part, wanted) => truth_from(part.truth(row) == *wanted),
+            Prepared::Test(part, wanted) => Truth::of(part.truth(row) == *wanted),
         }
     }
 }

@@ -6,7 +6,7 @@ ghost use Rattle.bw_program.specs.Machine.{State, end_state, step};
 ghost use Rattle.bw_program.specs.Program.{ProgramShape, is_program};
 ghost use Rattle.bw_program.specs.declared.instr.Instr.{Instr};
 
-/// A law: each instruction of a program raises the place, and no further than behind the last instruction, and every
+/// A law: each instruction of a program raises the place, and no further than after the last instruction, and every
 /// run, over any lanes and whichever skips it takes, ends there.
 pub fn runs_come_to_the_end()
     ensures raises { (columns : List Column) (lanes : List Assignment) (program : ProgramShape)

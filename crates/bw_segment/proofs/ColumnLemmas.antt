@@ -18,7 +18,7 @@ pub empty_kept : (columns : List Column) (kept : List ColumnCodes) → length ke
 unfolding stored_codes stored_nulls group_size
 empty_kept columns kept all each = record { all = all; codes = λ col lt. (each col lt).0; nulls = λ col lt. (each col lt).1 }
 
--- what holds of the items so far, and of an item that is put behind them, holds of one more
+-- what holds of the items so far, and of an item that is put after them, holds of one more
 pub each_more : {A : Type 0} (P : ℕ → A → Type 0) (d : A) (xs : List A) (i : ℕ) (x : A) → i < length xs → ((k : ℕ) → k < i → P k (get_or xs k d)) → P i x → (k : ℕ) → k < i + 1 → P k (get_or (set xs i x) k d)
 each_more P d xs i x lt before here =
     below_more (λ k. P k (get_or (set xs i x) k d)) i
@@ -43,7 +43,7 @@ row_put columns row lane col code null value old new is coded some codes nulls =
     null_is true (Some n) some = cc
     null_is false None some = cc
 
--- what is put into the lane behind those of some rows is the lane of one row more
+-- what is put into the lane after those of some rows is the lane of one row more
 lane_put : (f : List Value → ℕ) (rows : List (List Value)) (row : List Value) (lane : ℕ) → lane < 512 → length rows ≡ lane
     → set (map f rows ++ replicate (512 - length rows) 0) lane (f row) ≡ map f (rows ++ row ∷ []) ++ replicate (512 - length (rows ++ row ∷ [])) 0
 lane_put f rows row lane lt long =

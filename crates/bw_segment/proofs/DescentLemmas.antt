@@ -192,7 +192,7 @@ pub greatest_same : (all left : List ℕ) (bit places head : ℕ) → IsDescende
 greatest_same all left bit places head so_far none =
     same_heads max (λ n. has_bit n bit) all left bit places head false (λ n is. is) so_far none
 
--- before the first bit nothing is known, and behind the last one all that are left are the same number
+-- before the first bit nothing is known, and after the last one all that are left are the same number
 pub descent_begins : (f : ℕ → ℕ → ℕ) (all : List ℕ) (width : ℕ) → AllByRecursion (λ n. n < 2 ^ width) all → is_none all ≡ false → IsDescended f all all width 0 0
 descent_begins f all width small some = record {
   some = some;

@@ -8,7 +8,7 @@ use Rattle.bw_model.specs.declared.column.Column.{Column}
 use Rattle.bw_segment.specs.Layout.{Layout, block_size, bytes_before, segment_size, block_at}
 use Rattle.bw_segment.specs.BlockFault.{block_fault, AreSound}
 
--- a piece of bytes behind which others are put, and the last piece
+-- a piece of bytes after which others are put, and the last piece
 pub piece_kept : (size at : ℕ) (bytes added : List ℕ) → at + size ≤ length bytes → take size (drop at (bytes ++ added)) ≡ take size (drop at bytes)
 piece_kept size at bytes added le =
     ap (take size) (drop-append-le at bytes added (omega arith)) ∙ take-append-le size (drop at bytes) added (omega (arith, length-drop at bytes))

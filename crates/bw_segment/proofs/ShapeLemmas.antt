@@ -34,7 +34,7 @@ starts_count start columns starts found = ap length found ∙ length-map-range_w
 pub start_at : (start : ℕ → ℕ) (columns : List Column) (starts : List ℕ) (col d : ℕ) → starts ≡ map start (range_with_len 0 (length columns + 1)) → col ≤ length columns → get_or starts col d ≡ start col
 start_at start columns starts col d found le = ap (λ l. get_or l col d) found ∙ get_or-map-range_with_len start 0 (length columns + 1) col col d (omega arith) (omega arith)
 
--- behind the last column all variables are counted
+-- after the last column all variables are counted
 pub next_of_last : (columns : List Column) (col : ℕ) → length columns ≤ col → first_variable columns col ≡ variables_of columns
 next_of_last columns col le = ap variables_of (take_all col columns le)
 

@@ -27,23 +27,28 @@ first_fault fault (suc row) = or_else (first_fault fault row) (fault row)
 -- the first fault of 512 lanes, of which so many are rows: of the padding, or else of the rows
 unfoldable pub lanes_fault : ℕ → ℕ → List Bool → List ℕ → Option ℕ
 lanes_fault span count nulls codes =
-    or_else (first_fault (λ row. padding_fault (slice_index_or nulls (count + row) false) (slice_index codes (count + row))) (group_size - count))
+    or_else (first_fault (λ row. padding_fault (slice_index_or nulls (count + row) false)
+    (slice_index codes (count + row))) (group_size - count))
     (first_fault (λ row. row_fault span (slice_index_or nulls row false) (slice_index codes row)) count)
 
 -- the first fault of a column's block
 unfoldable pub block_fault : Layout → List Column → ℕ → ℕ → List ℕ → Option ℕ
 block_fault layout columns column count block =
-    lanes_fault (span_at columns column) count (block_nulls columns column block) (block_codes layout columns column block)
+    lanes_fault (span_at columns column) count (block_nulls columns column block)
+    (block_codes layout columns column block)
 
 -- In the lanes that are padding or null the bits tell whether the code isn't 0.
 pub record TellsCodes (count : ℕ) (nulls : List Bool) (codes : List ℕ) (used : List Bool) : Type 0 where
-  pub padding : (row : ℕ) → count ≤ row → row < group_size → slice_index_or used row false ≡ not (slice_index codes row == 0)
-  pub null : (row : ℕ) → row < group_size → slice_index_or nulls row false ≡ true → slice_index_or used row false ≡ not (slice_index codes row == 0)
+  pub padding : (row : ℕ) → count ≤ row → row < group_size → slice_index_or used row false
+      ≡ not (slice_index codes row == 0)
+  pub null : (row : ℕ) → row < group_size → slice_index_or nulls row false ≡ true → slice_index_or used row false
+      ≡ not (slice_index codes row == 0)
 
 -- The bytes are the first so many blocks of a segment of `count` rows: as long, and each without fault.
 pub record AreSound (layout : Layout) (columns : List Column) (count blocks : ℕ) (bytes : List ℕ) : Type 0 where
   pub size : length bytes ≡ bytes_before layout columns blocks
-  pub without : (column : ℕ) → column < blocks → block_fault layout columns column count (block_at layout columns column bytes) ≡ None
+  pub without : (column : ℕ) → column < blocks → block_fault layout columns column count
+      (block_at layout columns column bytes) ≡ None
 
 -- The bytes are those of a segment of so many rows: each block is without fault.
 abbrev pub IsSound : Layout → List Column → ℕ → List ℕ → Type 0

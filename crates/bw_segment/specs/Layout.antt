@@ -21,10 +21,14 @@ pub record Layout : Type 0 where
 
 -- The bytes of codes spell these, and codes that are spelled have these bytes.
 pub record IsLayout (layout : Layout) : Type 0 where
-  pub text_length : (width : ℕ) (codes : List ℕ) → length codes ≡ group_size → length (layout.text width codes) ≡ layout.size width
-  pub codes_length : (width : ℕ) (bytes : List ℕ) → length bytes ≡ layout.size width → length (layout.codes width bytes) ≡ group_size
-  pub text_spells : (width : ℕ) (codes : List ℕ) → length codes ≡ group_size → All (λ code. code < 2 ^ width) codes → layout.codes width (layout.text width codes) ≡ codes
-  pub codes_spelled : (width : ℕ) (bytes : List ℕ) → length bytes ≡ layout.size width → All (λ byte. byte < 2 ^ 8) bytes → layout.text width (layout.codes width bytes) ≡ bytes
+  pub text_length : (width : ℕ) (codes : List ℕ) → length codes ≡ group_size → length (layout.text width codes)
+      ≡ layout.size width
+  pub codes_length : (width : ℕ) (bytes : List ℕ) → length bytes ≡ layout.size width → length (layout.codes width bytes)
+      ≡ group_size
+  pub text_spells : (width : ℕ) (codes : List ℕ) → length codes ≡ group_size → All (λ code. code < 2 ^ width) codes
+      → layout.codes width (layout.text width codes) ≡ codes
+  pub codes_spelled : (width : ℕ) (bytes : List ℕ) → length bytes ≡ layout.size width → All (λ byte. byte < 2 ^ 8) bytes
+      → layout.text width (layout.codes width bytes) ≡ bytes
 
 -- in each of the 512 lanes whether the row there is null in a column; past the last row none is
 unfoldable pub null_bits : List (List Value) → ℕ → List Bool
@@ -54,15 +58,18 @@ block_text layout columns column rows =
 
 -- the bytes of some rows, at most 512: the blocks of the columns, in order
 unfoldable pub segment_text : Layout → List Column → List (List Value) → List ℕ
-segment_text layout columns rows = flat_map (λ column. block_text layout columns column rows) (range_with_len 0 (length columns))
+segment_text layout columns rows = flat_map (λ column. block_text layout columns column rows)
+    (range_with_len 0 (length columns))
 
 -- the block of a column among the bytes of a segment
 abbrev pub block_at : Layout → List Column → ℕ → List ℕ → List ℕ
-block_at layout columns column bytes = take (block_size layout columns column) (drop (bytes_before layout columns column) bytes)
+block_at layout columns column bytes = take (block_size layout columns column)
+    (drop (bytes_before layout columns column) bytes)
 
 -- the null bits of the 512 lanes of a block, and their codes
 unfoldable pub block_nulls : List Column → ℕ → List ℕ → List Bool
-block_nulls columns column block = if is_nullable columns column then lanes_of_bytes (take 64 block) else replicate group_size false
+block_nulls columns column block = if is_nullable columns column then lanes_of_bytes
+    (take 64 block) else replicate group_size false
 
 unfoldable pub block_codes : Layout → List Column → ℕ → List ℕ → List ℕ
 block_codes layout columns column block = layout.codes (width_at columns column) (drop (null_size columns column) block)
@@ -74,14 +81,20 @@ value_held columns column null code = if null then None else Some (value_at colu
 -- the value of a row in a block of a column
 abbrev pub value_in_block : Layout → List Column → ℕ → List ℕ → ℕ → Value
 value_in_block layout columns column block row =
-    value_held columns column (slice_index_or (block_nulls columns column block) row false) (slice_index (block_codes layout columns column block) row)
+    value_held columns column (slice_index_or (block_nulls columns column block) row false)
+    (slice_index (block_codes layout columns column block) row)
 
 -- so many rows, each of the values that the blocks among these bytes have in it
 unfoldable pub rows_spelled : Layout → List Column → ℕ → List ℕ → List (List Value)
 rows_spelled layout columns count bytes =
-    map (λ row. map (λ column. value_in_block layout columns column (block_at layout columns column bytes) row) (range_with_len 0 (length columns))) (range_with_len 0 count)
+    map (λ row. map (λ column. value_in_block layout columns column (block_at layout columns column bytes) row)
+    (range_with_len 0 (length columns))) (range_with_len 0 count)
 
 -- what so many rows, spelled by bytes, mean
 abbrev pub meaning_spelled : Layout → Schema → ℕ → List ℕ → Meaning
 meaning_spelled layout schema count bytes =
-    record { name = schema.name; columns = schema.columns.items; rows = rows_spelled layout schema.columns.items count bytes }
+    record {
+      name = schema.name;
+      columns = schema.columns.items;
+      rows = rows_spelled layout schema.columns.items count bytes;
+    }

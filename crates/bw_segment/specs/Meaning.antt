@@ -27,7 +27,8 @@ variable_lanes meaning variable = map (λ bits. bits variable) (lanes_of meaning
 
 -- the byte `slice` of a column's padded code in each of the lanes, of which byte 0 is the least
 abbrev pub byte_lanes : Meaning → ℕ → ℕ → List ℕ
-byte_lanes meaning column slice = map (byte_spelled meaning.columns column slice) (lanes_of meaning.columns meaning.rows)
+byte_lanes meaning column slice = map (byte_spelled meaning.columns column slice)
+    (lanes_of meaning.columns meaning.rows)
 
 -- the code of a column in each of the 512 lanes of some rows as it is stored, that of null and of padding rows being 0
 unfoldable pub stored_codes : List Column → List (List Value) → ℕ → List ℕ
@@ -40,7 +41,8 @@ code_lanes meaning column = stored_codes meaning.columns meaning.rows column
 
 -- in each of the 512 lanes of some rows 1 where a column is null, and else 0
 unfoldable pub stored_nulls : List (List Value) → ℕ → List ℕ
-stored_nulls rows column = map (λ row. if is_null (value_in row column) then 1 else 0) rows ++ replicate (group_size - length rows) 0
+stored_nulls rows column = map (λ row. if is_null (value_in row column) then 1 else 0) rows
+    ++ replicate (group_size - length rows) 0
 
 -- the same of a group's rows
 abbrev pub null_lanes : Meaning → ℕ → List ℕ

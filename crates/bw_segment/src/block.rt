@@ -80,7 +80,7 @@ impl Shape {
         }
     }
 
-    /// The bytes of a column's block behind its null plane.
+    /// The bytes of a column's block after its null plane.
     pub fn codes_in<'a>(&self, col: usize, block: &'a [u8]) -> &'a [u8]
         requires column { col < length self.now.schema.columns.items }
         requires size { null_size self.now.schema.columns.items col ≤ length block.now }

@@ -66,7 +66,7 @@ pub fn clear_rows(kept: &mut [ColumnCodes])
     }
 }
 
-/// Keeps a row, which the schema admits, in the lane behind those of the rows before it. It takes no memory.
+/// Keeps a row, which the schema admits, in the lane after those of the rows before it. It takes no memory.
 pub fn keep_row(kept: &mut [ColumnCodes], schema: &Schema, lane: usize, row: &Row)
     requires all { length kept.old ≡ length schema.now.columns.items }
     requires lane { lane < 512 }

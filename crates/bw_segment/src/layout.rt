@@ -41,7 +41,7 @@ pub fn text_of_a_group_is_sound()
         (segment_text layout meaning.columns meaning.rows) ≡ meaning.rows }
 {}
 
-/// A law: a block without fault behind blocks without fault.
+/// A law: a block without fault after blocks without fault.
 pub fn blocks_are_added()
     ensures { (layout : Layout) (columns : List Column) (count blocks : ℕ) (bytes block : List ℕ)
         → AreSound layout columns count blocks bytes

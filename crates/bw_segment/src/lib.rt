@@ -8,6 +8,15 @@
 //! Segments as bytes, and the first fault of such bytes, are said once for both layouts in `specs/Layout.antt` and
 //! `specs/BlockFault.antt`. What variables, codes and lanes are stands in the `specs/` of `bw_model`; the layouts are those of
 //! BitWeaving's vertical one (Li and Patel) and of ByteSlice (Feng, Lo, Kao and Xu). Read `segment.rt` first.
+//!
+//! [`is_group`] is for those who build segments of rows in memory: whether rows are 1 to 512 that a schema admits, which
+//! `build` of either layout demands:
+//!
+//! ```
+//! if is_group(&schema, &rows) {
+//!     let segment = PlaneSegment::build(rt.alloc(), &schema, &rows)?;
+//! }
+//! ```
 #![tactic(auto)]
 
 mod block;

@@ -12,9 +12,9 @@ use std::alloc::Global;
 #[derive(Drop)]
 pub struct Shape {
     pub schema: Schema,
-    /// The first variable of each column, and behind them the number of variables.
+    /// The first variable of each column, and after them the number of variables.
     pub firsts: Vec<u32>,
-    /// The first byte of each column's block in a segment kept as byte slices, and behind them the number of bytes.
+    /// The first byte of each column's block in a segment kept as byte slices, and after them the number of bytes.
     pub blocks: Vec<u32>,
     pub ghost found: { firsts.items
         ≡ map (first_variable schema.columns.items) (range_with_len 0 (length schema.columns.items + 1)) },

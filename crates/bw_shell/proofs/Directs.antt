@@ -1,4 +1,4 @@
--- What a call that reads a schema was told.
+-- What a call that reads a schema is told.
 use Rattle.std.proofs.Common.{◌≡◌, ℕ, List, Bool, true, false, Option, Some, Result, Ok, Err, IfOk, refl, sym, subst}
 use Rattle.std.specs.Prelude.{MatchBool}
 use Rattle.bw_model.specs.declared.fault.Fault.{Fault}

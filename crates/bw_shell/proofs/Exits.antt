@@ -11,7 +11,8 @@ use Rattle.bw_csv.specs.Bare.{records_of}
 use Rattle.bw_csv.specs.Rows.{StopsUnder, is_aside, is_any_record, is_rows_fault, IsRowsFault}
 use Rattle.bw_device.specs.Sink.{is_write_fault, TookPart, GoesOut, Went}
 use Rattle.bw_device.specs.Source.{Came}
-use Rattle.bw_shell.specs.Arrived.{CsvStopped, SchemaCame, IsSchemaFrom, SchemaTold, CsvTold, csv_from}
+use Rattle.bw_csv.specs.Input.{csv_from, CsvTold}
+use Rattle.bw_shell.specs.Arrived.{CsvStopped, SchemaCame, IsSchemaFrom, SchemaTold}
 
 -- what came of a source, and the text that goes out, or a fault
 abbrev pub Arrival : Type 0

@@ -1,6 +1,5 @@
 -- What the sources of a schema and of a CSV say, by what came of them.
-use Rattle.std.specs.Prelude.{◌≡◌, ℕ, List, Option, Some, None, Result, Ok, Err, MatchBool, Vec}
-use Rattle.std.specs.declared.alloc.Global.{Global}
+use Rattle.std.specs.Prelude.{◌≡◌, ℕ, List, Option, Some, None, Result, Ok, Err, MatchBool}
 use Rattle.bw_model.specs.declared.fault.Fault.{Fault}
 use Rattle.bw_model.specs.declared.schema.Schema.{Schema}
 use Rattle.bw_model.specs.Fault.{nowhere, no_memory, is_memory}
@@ -27,19 +26,9 @@ pub record SchemaCame (came : Result (Option (List ℕ)) Fault → Type 0) (sche
   pub whole : came (Ok (Some text))
   pub spelled : IsSchemaText text (schema_shape schema)
 
--- A CSV text came whole, and the reader's own error stands at the heading, or at the record behind those whose rows are
+-- A CSV text came whole, and the reader's own error stands at the heading, or at the record after those whose rows are
 -- good.
 pub record CsvStopped (came : Result (Option (List ℕ)) Fault → Type 0) (schema : Schema) (fault : Fault) : Type 0 where
   pub text : List ℕ
   pub whole : came (Ok (Some text))
   pub stops : StopsUnder schema.columns.items (records_of text) fault
-
--- the bytes that came of a CSV, or the fault: a failed read, or a text past the limit
-abbrev pub csv_from : Result (Option (List ℕ)) Fault → Result (List ℕ) Fault
-csv_from (Ok (Some text)) = Ok text
-csv_from (Ok None) = Err (nowhere 208)
-csv_from (Err fault) = Err fault
-
-abbrev pub CsvTold : Result (Option (List ℕ)) Fault → Result (Vec ℕ Global) Fault → Type 0
-CsvTold came (Ok bytes) = came ≡ Ok (Some bytes.items)
-CsvTold came (Err fault) = MatchBool (is_memory fault) (came ≡ Err no_memory) (csv_from came ≡ Err fault)

@@ -9,24 +9,31 @@ use Rattle.bw_model.specs.declared.column.Column.{Column}
 use Rattle.bw_model.specs.Column.{names_of}
 use Rattle.bw_csv.specs.Rows.{rows_of}
 use Rattle.bw_answer.specs.Answer.{csv_text, meaning}
-use Rattle.bw_shell.specs.Arrived.{IsSchemaFrom, csv_from}
+use Rattle.bw_csv.specs.Input.{csv_from}
+use Rattle.bw_shell.specs.Arrived.{IsSchemaFrom}
 
 -- a fault of a schema text or of a statement, which is answered before the CSV is read
 abbrev pub is_before_csv : Fault → Bool
-is_before_csv fault = (nat_le 101 fault.code && nat_le fault.code 106) || (nat_le 401 fault.code && nat_le fault.code 408)
+is_before_csv fault = (nat_le 101 fault.code && nat_le fault.code 106)
+    || (nat_le 401 fault.code && nat_le fault.code 408)
 
 -- the text of the answer to a query over the rows that a CSV text spells, or the first fault in that text
 abbrev pub answer_of : List Column → Query → List ℕ → Result (List ℕ) Fault
 answer_of columns query csv = rows_of columns csv >>= λ rows. Ok (csv_text (meaning (names_of columns) query rows))
 
--- the text of the answer to a statement that was read, or the first fault behind it
+-- the text of the answer to a statement that was read, or the first fault after it
 abbrev pub answer_from : Schema → Result Query Fault → Result (Option (List ℕ)) Fault → Result (List ℕ) Fault
-answer_from schema statement csv = statement >>= λ query. csv_from csv >>= λ text. answer_of schema.columns.items query text
+answer_from schema statement csv = statement >>= λ query. csv_from csv
+    >>= λ text. answer_of schema.columns.items query text
 
 -- The text of the answer, or the first fault in the order of the schema, the statement and the CSV.
-abbrev pub IsAnswerUnder : Result Schema Fault → List ℕ → Result (Option (List ℕ)) Fault → Result (List ℕ) Fault → Type 0
-IsAnswerUnder (Ok schema) sql csv given = (statement : Result Query Fault) × IsReadAs schema sql statement × (given ≡ answer_from schema statement csv)
+abbrev pub IsAnswerUnder : Result Schema Fault → List ℕ → Result (Option (List ℕ)) Fault → Result (List ℕ) Fault
+    → Type 0
+IsAnswerUnder (Ok schema) sql csv given = (statement : Result Query Fault) × IsReadAs schema sql statement
+    × (given ≡ answer_from schema statement csv)
 IsAnswerUnder (Err fault) sql csv given = given ≡ Err fault
 
-abbrev pub IsAnswer : Result (Option (List ℕ)) Fault → List ℕ → Result (Option (List ℕ)) Fault → Result (List ℕ) Fault → Type 0
-IsAnswer came sql csv given = (schema : Result Schema Fault) × IsSchemaFrom came schema × IsAnswerUnder schema sql csv given
+abbrev pub IsAnswer : Result (Option (List ℕ)) Fault → List ℕ → Result (Option (List ℕ)) Fault → Result (List ℕ) Fault
+    → Type 0
+IsAnswer came sql csv given = (schema : Result Schema Fault) × IsSchemaFrom came schema
+    × IsAnswerUnder schema sql csv given

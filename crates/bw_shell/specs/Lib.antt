@@ -1,4 +1,3 @@
 pub mod Arrived
 pub mod Direct
 pub mod Load
-pub mod Loaded

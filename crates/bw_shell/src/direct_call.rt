@@ -16,9 +16,9 @@ ghost use Rattle.bw_csv.specs.Bare.{records_of};
 ghost use Rattle.bw_csv.specs.Rows.{is_aside, is_reader_fault, GivesButAside, IsRowsFault, StopsUnder};
 ghost use Rattle.bw_shell.specs.Direct.{IsAnswer, answer_of, is_before_csv};
 
-use crate::inputs::{read_csv, read_schema};
+use crate::inputs::read_schema;
 use bw_answer::Answer;
-use bw_csv::read_rows;
+use bw_csv::{read_csv, read_rows};
 use bw_device::{Sink, Source, write_whole};
 use bw_model::{Fault, Query, Schema};
 use bw_sql::parse;
@@ -29,7 +29,7 @@ use std::alloc::Global;
 /// line feed.
 ///
 /// Refuses in this order: the schema's source (701) and text (106, 101 to 105), the statement (401 to 408), the
-/// CSV's source (701) and text (208, 201 to 209), and the sink (702); want of memory (801) wherever it comes.
+/// CSV's source (701) and text (208, 201 to 209), and the sink (702); out of memory (801) wherever it comes.
 /// Nothing is written before all else has succeeded. That each device's count of failures can rise is the
 /// caller's condition.
 pub fn direct<S: Source, C: Source, K: Sink>(
@@ -54,7 +54,7 @@ pub fn direct<S: Source, C: Source, K: Sink>(
         × Went is_aside (K.taken sink.old) (K.taken sink.new) (K.failures sink.old) (K.failures sink.new) given result }
 
     // Where the CSV's reader has an error of its own, the schema and the statement were accepted, the CSV came whole, and
-    // the error's place is the heading, or the record behind those whose rows are good.
+    // the error's place is the heading, or the record after those whose rows are good.
     ensures reader { IfErr result (λ fault. is_reader_fault fault ≡ true → (schema : Schema) × (query : Query)
         × SchemaCame (Came longest_schema (S.to_come schema_source.old) (S.to_come schema_source.new)
         (S.failures schema_source.old) (S.failures schema_source.new)) schema
@@ -63,7 +63,8 @@ pub fn direct<S: Source, C: Source, K: Sink>(
         (C.failures csv_source.old) (C.failures csv_source.new)) schema fault) }
 
     // Where a device failed, the call ends with that; and no more is taken of a source than one byte past its limit.
-    ensures schema_failed { EndsWith (nowhere 701) (S.failures schema_source.old) (S.failures schema_source.new) result }
+    ensures schema_failed { EndsWith (nowhere 701) (S.failures schema_source.old)
+        (S.failures schema_source.new) result }
     ensures csv_failed { EndsWith (nowhere 701) (C.failures csv_source.old) (C.failures csv_source.new) result }
     ensures sink_failed { EndsWith (nowhere 702) (K.failures sink.old) (K.failures sink.new) result }
     ensures took { TookAtMost (longest_schema + 1) (S.to_come schema_source.old) (S.to_come schema_source.new)

@@ -1,15 +1,13 @@
-//! The texts that a call reads whole: a schema's and a CSV's.
+//! The text of a schema, read whole.
 ghost use Rattle.std.specs.Prelude.{◌≡◌, ◌+◌, ◌-◌, ◌^◌, ◌<◌, ℕ, List, Option, Result, false, IfErr};
 ghost use Rattle.bw_model.specs.declared.fault.Fault.{Fault};
 ghost use Rattle.bw_csv.specs.Rows.{is_reader_fault};
 ghost use Rattle.bw_device.specs.Sink.{is_write_fault};
 ghost use Rattle.bw_model.specs.Fault.{nowhere};
-ghost use Rattle.bw_model.specs.Limits.{longest_schema, longest_csv};
+ghost use Rattle.bw_model.specs.Limits.{longest_schema};
 ghost use Rattle.bw_device.specs.Source.{Came, TookAtMost, EndsWith};
-ghost use Rattle.bw_shell.specs.Arrived.{SchemaTold, CsvTold};
-ghost use Rattle.bw_shell.specs.Direct.{is_before_csv};
+ghost use Rattle.bw_shell.specs.Arrived.{SchemaTold};
 
-use bw_csv::MAX_CSV_LEN;
 use bw_device::{Input, Source, read_limited};
 use bw_model::{Fault, MAX_SCHEMA_LEN, Schema, code};
 use std::alloc::Global;
@@ -18,7 +16,8 @@ use std::alloc::Global;
 pub(crate) fn read_schema<S: Source>(alloc: Global, source: &mut S) -> Result<Schema, Fault>
     requires { S.failures source.old < 2 ^ 64 - 1 }
     ensures told { (came : Result (Option (List ℕ)) Fault)
-        × Came longest_schema (S.to_come source.old) (S.to_come source.new) (S.failures source.old) (S.failures source.new) came
+        × Came longest_schema (S.to_come source.old) (S.to_come source.new) (S.failures source.old)
+        (S.failures source.new) came
         × SchemaTold came result }
     ensures took { TookAtMost (longest_schema + 1) (S.to_come source.old) (S.to_come source.new) }
     ensures failed { EndsWith (nowhere 701) (S.failures source.old) (S.failures source.new) result }
@@ -28,23 +27,5 @@ pub(crate) fn read_schema<S: Source>(alloc: Global, source: &mut S) -> Result<Sc
     match read_limited(alloc, source, MAX_SCHEMA_LEN as u64)? {
         Input::Whole(text) => Schema::parse(alloc, &text),
         Input::Over => Err(Fault::new(code::SCHEMA_TOO_LONG)),
-    }
-}
-
-/// A CSV text, whole. Refuses its source (701), and a text past its limit (208).
-pub(crate) fn read_csv<C: Source>(alloc: Global, source: &mut C) -> Result<Vec<u8>, Fault>
-    requires { C.failures source.old < 2 ^ 64 - 1 }
-    ensures told { (came : Result (Option (List ℕ)) Fault)
-        × Came longest_csv (C.to_come source.old) (C.to_come source.new) (C.failures source.old) (C.failures source.new) came
-        × CsvTold came result }
-    ensures took { TookAtMost (longest_csv + 1) (C.to_come source.old) (C.to_come source.new) }
-    ensures failed { EndsWith (nowhere 701) (C.failures source.old) (C.failures source.new) result }
-    ensures fault { IfErr result (λ fault. is_write_fault fault ≡ false) }
-    ensures later { IfErr result (λ fault. is_before_csv fault ≡ false) }
-    ensures own { IfErr result (λ fault. is_reader_fault fault ≡ false) }
-{
-    match read_limited(alloc, source, MAX_CSV_LEN)? {
-        Input::Whole(text) => Ok(text),
-        Input::Over => Err(Fault::new(code::CSV_TOO_LONG)),
     }
 }

@@ -2,10 +2,8 @@
 ghost use Rattle.std.specs.Prelude.{◌≡◌, ◌+◌, ◌-◌, ◌^◌, ◌<◌, ℕ, List, Option, Result, true, false, IfErr, IsTrue, OnOk};
 ghost use Rattle.bw_model.specs.declared.fault.Fault.{Fault};
 ghost use Rattle.bw_model.specs.declared.schema.Schema.{Schema};
-ghost use Rattle.bw_model.specs.Column.{admits_values};
 ghost use Rattle.bw_model.specs.Fault.{nowhere};
 ghost use Rattle.bw_model.specs.Limits.{longest_schema, longest_csv};
-ghost use Rattle.bw_file.specs.Encoder.{encoder_schema, rows_in};
 ghost use Rattle.bw_device.specs.Sink.{is_write_fault, Went};
 ghost use Rattle.bw_device.specs.Source.{Came, TookAtMost, EndsWith};
 ghost use Rattle.bw_csv.specs.Bare.{records_of};
@@ -14,17 +12,17 @@ ghost use Rattle.bw_shell.specs.Arrived.{CsvStopped, SchemaCame};
 ghost use Rattle.bw_shell.specs.Direct.{is_before_csv};
 ghost use Rattle.bw_shell.specs.Load.{IsFile, file_of};
 
-use crate::inputs::{read_csv, read_schema};
-use bw_csv::{RowTaker, read_rows};
+use crate::inputs::read_schema;
+use bw_csv::{read_csv, read_rows};
 use bw_device::{Sink, Source, write_whole};
 use bw_file::{Encoder, Layout};
-use bw_model::{Fault, Row, Schema};
+use bw_model::{Fault, Schema};
 use std::alloc::Global;
 
 /// Writes the table file of the rows of a CSV text, under the schema of a schema text.
 ///
 /// Refuses in this order: the schema's source (701) and text (106, 101 to 105), the CSV's source (701) and text
-/// (208, 201 to 209), and the sink (702); want of memory (801) wherever it comes. Nothing is written before all else
+/// (208, 201 to 209), and the sink (702); out of memory (801) wherever it comes. Nothing is written before all else
 /// has succeeded. Beside the CSV text and the file's bytes, one segment is in memory. That each device's count of
 /// failures can rise is the caller's condition.
 pub fn load<S: Source, C: Source, K: Sink>(
@@ -49,7 +47,7 @@ pub fn load<S: Source, C: Source, K: Sink>(
         × Went is_aside (K.taken sink.old) (K.taken sink.new) (K.failures sink.old) (K.failures sink.new) given result }
 
     // Where the CSV's reader has an error of its own, the schema was accepted, the CSV came whole, and the error's place is
-    // the heading, or the record behind those whose rows are good.
+    // the heading, or the record after those whose rows are good.
     ensures reader { IfErr result (λ fault. is_reader_fault fault ≡ true → (schema : Schema)
         × SchemaCame (Came longest_schema (S.to_come schema_source.old) (S.to_come schema_source.new)
         (S.failures schema_source.old) (S.failures schema_source.new)) schema
@@ -57,7 +55,8 @@ pub fn load<S: Source, C: Source, K: Sink>(
         (C.failures csv_source.old) (C.failures csv_source.new)) schema fault) }
 
     // Where a device failed, the call ends with that; and no more is taken of a source than one byte past its limit.
-    ensures schema_failed { EndsWith (nowhere 701) (S.failures schema_source.old) (S.failures schema_source.new) result }
+    ensures schema_failed { EndsWith (nowhere 701) (S.failures schema_source.old)
+        (S.failures schema_source.new) result }
     ensures csv_failed { EndsWith (nowhere 701) (C.failures csv_source.old) (C.failures csv_source.new) result }
     ensures sink_failed { EndsWith (nowhere 702) (K.failures sink.old) (K.failures sink.new) result }
     ensures took { TookAtMost (longest_schema + 1) (S.to_come schema_source.old) (S.to_come schema_source.new)
@@ -85,30 +84,7 @@ fn file_text(alloc: Global, layout: Layout, schema: &Schema, csv: &[u8]) -> Resu
     ensures reader { IfErr result (λ fault. is_reader_fault fault ≡ true
         → StopsUnder schema.now.columns.items (records_of csv.now) fault) }
 {
-    let mut loading = Loading {
-        encoder: Encoder::new(alloc, layout, schema)?,
-    };
-    read_rows(alloc, schema, csv, &mut loading)?;
-    let Loading { encoder } = loading;
+    let mut encoder = Encoder::new(alloc, layout, schema)?;
+    read_rows(alloc, schema, csv, &mut encoder)?;
     encoder.finish()
-}
-
-/// Takes the rows of a table file.
-#[derive(Drop)]
-pub struct Loading {
-    encoder: Encoder,
-}
-
-impl RowTaker for Loading {
-    ghost takes = { λ loading row. admits_values (encoder_schema loading.encoder).columns.items row };
-
-    ghost rows = { λ loading. rows_in loading.encoder };
-
-    ghost use Rattle.bw_shell.specs.Loaded.{LoadsRows};
-
-    ghost led = { LoadsRows };
-
-    fn take(&mut self, row: &Row) -> Result<(), Fault> {
-        self.encoder.add(row)
-    }
 }

@@ -22,7 +22,7 @@ blocks_in_order columns a b le =
     let first = sum_by-take-le block_size (take b columns) a in
     subst (λ (l : List Column). sum_by block_size l ≤ block_start columns b) (take-take a b columns le) first
 
--- a slice stands within all blocks, and behind the null plane of its column
+-- a slice stands within all blocks, and after the null plane of its column
 pub slice_within : (columns : List Column) (col slice : ℕ) → col < length columns → slice < slices_at columns col
     → (slice_start columns col slice + 512 ≤ block_start columns (length columns)) × (block_start columns col + 64 * cond (is_nullable columns col) 1 0 ≤ slice_start columns col slice)
 slice_within columns col slice lt there =

@@ -105,7 +105,7 @@ module _ (slices : List ℕ) (small : (at : ℕ) → get_or slices at 0 < 256) w
   used_is count =
       map-map not (λ row. are_zero slices row count) rows ∙ (λ i. map (λ row. not (zero_is row count i)) rows) ∙ sym (map-map (λ code. not (code == 0)) (λ row. number row count) rows)
 
-  -- what is left of a number behind its low bytes
+  -- what is left of a number after its low bytes
   abbrev pub high : ℕ → ℕ → ℕ → ℕ
   high most count place = most / 2 ^ (8 * (count - place))
 

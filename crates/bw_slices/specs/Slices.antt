@@ -39,11 +39,13 @@ code_spelled columns bytes column row =
 
 -- the row is null in a column
 abbrev pub null_spelled : List Column → List ℕ → ℕ → ℕ → Bool
-null_spelled columns bytes column row = is_nullable columns column && slice_index_or (null_plane_lanes columns bytes column) row false
+null_spelled columns bytes column row = is_nullable columns column
+    && slice_index_or (null_plane_lanes columns bytes column) row false
 
 abbrev pub value_spelled : List Column → List ℕ → ℕ → ℕ → Value
 value_spelled columns bytes row column =
-    if null_spelled columns bytes column row then None else Some (value_at columns column (code_spelled columns bytes column row))
+    if null_spelled columns bytes column row then None else Some
+    (value_at columns column (code_spelled columns bytes column row))
 
 -- so many low slices of codes, from the most significant down
 abbrev pub slices_text : ℕ → List ℕ → List ℕ
@@ -52,7 +54,8 @@ slices_text (suc slices) codes = map (byte_of slices) codes ++ slices_text slice
 
 -- the numbers that so many slices spell in the 512 lanes, the most significant first
 unfoldable pub slices_codes : ℕ → List ℕ → List ℕ
-slices_codes count bytes = map (λ row. number_from (λ place. slice_index bytes (512 * place + row)) count) (range_with_len 0 group_size)
+slices_codes count bytes = map (λ row. number_from (λ place. slice_index bytes (512 * place + row)) count)
+    (range_with_len 0 group_size)
 
 -- codes that are kept as slices, one a byte
 abbrev pub slice_layout : Layout
@@ -70,7 +73,9 @@ slices_meaning schema count bytes = meaning_spelled slice_layout schema count by
 -- the row, or of a row of zeros.
 pub record AreSlices (meaning : Meaning) (count : ℕ) (bytes : List ℕ) : Type 0 where
   pub size : length bytes ≡ count
-  pub nulls : (column : ℕ) → column < length meaning.columns → is_nullable meaning.columns column ≡ true → block_start meaning.columns column + 64 ≤ count
+  pub nulls : (column : ℕ) → column < length meaning.columns → is_nullable meaning.columns column ≡ true
+      → block_start meaning.columns column + 64 ≤ count
       → null_plane_lanes meaning.columns bytes column ≡ map (λ null. has_bit null 0) (null_lanes meaning column)
-  pub codes : (column slice : ℕ) → column < length meaning.columns → slice < slices_at meaning.columns column → slice_start meaning.columns column slice + 512 ≤ count
+  pub codes : (column slice : ℕ) → column < length meaning.columns → slice < slices_at meaning.columns column
+      → slice_start meaning.columns column slice + 512 ≤ count
       → slice_bytes meaning.columns bytes column slice ≡ map (byte_of slice) (code_lanes meaning column)

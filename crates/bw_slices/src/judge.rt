@@ -102,7 +102,7 @@ fn widened(above: &Plane, equal: &Plane, next: &Plane, slice: &[u8; 512], byte: 
     or(above, &and(&left, &not(&bytes_lt(slice, byte))))
 }
 
-/// The same at the last slice, behind which no lane's equality is asked for.
+/// The same at the last slice, after which no lane's equality is asked for.
 fn widened_last(above: &Plane, equal: &Plane, slice: &[u8; 512], byte: u8) -> Plane
     ensures { lanes_of_words result ≡ zip2 (λ a x. a || x) (lanes_of_words above.now)
         (zip2 (λ e b. e && nat_lt byte b) (lanes_of_words equal.now) slice.now) }

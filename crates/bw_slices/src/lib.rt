@@ -6,6 +6,14 @@
 //! answers as [`bw_segment::Segment`] says.
 //!
 //! Read `specs/Slices.antt` first, and then `segment.rt` and `build.rt`.
+//!
+//! `bw` itself makes segments of a file's blocks. [`SliceSegment::build`] is the library's public face, for 1 to 512 rows that
+//! are in memory:
+//!
+//! ```
+//! let segment = SliceSegment::build(rt.alloc(), &schema, &rows)?;
+//! let first_byte_below_8 = segment.byte_lt(0, 0, 8);
+//! ```
 #![tactic(auto)]
 
 mod build;

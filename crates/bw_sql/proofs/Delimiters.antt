@@ -117,7 +117,3 @@ none_begins text c rest e none short (x ∷ []) after t g is =
 none_begins text c rest e none short (x ∷ d ∷ more) after t g is =
     let most = at_most_one c rest none (x ∷ d ∷ more) after t (sym e ∙ g) is in
     omega arith
-
-pub none_in_nothing : (text : List ℕ) → text ≡ [] → BeginsNoDelimiter text
-none_in_nothing text e [] after t g is = no_empty_delimiter t is
-none_in_nothing text e (x ∷ more) after t g is = let f : [] ≡ x ∷ (more ++ after) = sym e ∙ g in cc

@@ -40,7 +40,7 @@ run_whole schema stack (t ∷ tokens) e = go (step (is_met schema) stack t) refl
     go (Ok next) f onward = let p = onward next (rw f at e) in (p.0, there f p.1, p.2)
     go (Err halted) f onward = let g = rw f at e in cc
 
--- behind all tokens no fault but 402 stands
+-- after all tokens no fault but 402 stands
 only_syntax : (schema : Schema) (tokens : List Lexeme) (why : Refusal) (place : ℕ) → Stands schema tokens why place → length tokens ≤ place → why ≡ Syntax
 only_syntax schema tokens why place (at_token before behind t e v unless) h = absurd (omega (arith, beyond tokens before behind t e))
 only_syntax schema tokens why place (at_sign before behind t digits s e v unless) h = absurd (omega (arith, beyond tokens before (_ ∷ behind) t e))

@@ -19,7 +19,7 @@ use Rattle.bw_sql.proofs.Spelled.{Outcome, reads, excused, statement_read}
 use Rattle.bw_sql.proofs.Stops.{path_weaker, asked_for_weaker, step_lower, step_sign, path_kept, kept, below_free, begins_signed, all_free, kept_below, stop_signed, signed_stop, run_path, run_stop, RunStops, ends, stops, run_stops}
 use Rattle.bw_sql.proofs.Viable.{Path, here, there, path_viable}
 
--- what one list has before a token lies before, at or behind what another has
+-- what one list has before a token lies before, at or after what another has
 data Order (before behind : List Lexeme) (t : Lexeme) (front rest : List Lexeme) : Type 0 where
   sooner : (gap : List Lexeme) → front ≡ (before ++ t ∷ []) ++ gap → behind ≡ gap ++ rest → Order before behind t front rest
   there_too : before ≡ front → t ∷ behind ≡ rest → Order before behind t front rest

@@ -11,10 +11,10 @@ use Rattle.bw_sql.specs.Demand.{Demand, IsTable, IsColumn, Fits, OfOneKind, Dept
 use Rattle.bw_sql.specs.Reading.{Halt, same_keyword}
 use Rattle.bw_sql.specs.Token.{Lexeme, Name, Digits, Reserved, Compare, Punct}
 
--- What is to come: a word, a bracket, an operand, the digits behind a sign, what follows the first operand of a
+-- What is to come: a word, a bracket, an operand, the digits after a sign, what follows the first operand of a
 -- predicate, its NOT or its IS, further operands; a factor or a primary inside of so many brackets and NOTs, what
 -- may follow a primary, its IS, a truth value, further factors and terms; the items, further items, an item
--- behind a first one of a kind, what stands in brackets; a table, a selection, the end, a statement.
+-- after a first one of a kind, what stands in brackets; a table, a selection, the end, a statement.
 pub data Symbol : Type 0 where
   AWord : Keyword → Symbol
   Opening : Symbol
@@ -43,7 +43,7 @@ pub data Symbol : Type 0 where
   AnEnd : Symbol
   AStatement : Symbol
 
--- A token is taken freely, or if a demand is met, or if a column and its kind are right, or as digits behind a
+-- A token is taken freely, or if a demand is met, or if a column and its kind are right, or as digits after a
 -- sign, at which a refusal stands then.
 pub data Choice : Type 0 where
   Take : List Symbol → Choice
@@ -56,7 +56,7 @@ pub data Choice : Type 0 where
 abbrev pub in_brackets : ℕ → List Symbol → List Symbol
 in_brackets depth behind = AFactor depth ∷ FactorTail depth ∷ TermTail depth ∷ Closing ∷ behind
 
--- an operand, and then what stands behind it
+-- an operand, and then what stands after it
 abbrev pub operand_choice : List Symbol → Lexeme → Choice
 operand_choice behind (Reserved word.Null) = Take behind
 operand_choice behind (Name text) = Ask (IsColumn text) behind

@@ -35,7 +35,7 @@ run_most p (x ∷ xs) ys h =
 pub run_from : (p : ℕ → Bool) (c : ℕ) (rest : List ℕ) → p c ≡ true → take_while p (c ∷ rest) ≡ c ∷ take_while p rest
 run_from p c rest h = rw (take_while-cons, h) refl
 
--- the kinds of pieces, by the first byte and the bytes behind it
+-- the kinds of pieces, by the first byte and the bytes after it
 pub data Kind : ℕ → List ℕ → Type 0 where
   blank : {c : ℕ} → is_blank c ≡ true → Kind c []
   comment : {c d : ℕ} {inside : List ℕ} → c ≡ 45 → d ≡ 45 → list_all is_in_comment inside ≡ true → Kind c (d ∷ inside)
@@ -149,7 +149,7 @@ digits_go c d tail (word w h) = absurd (word_no_digit c w d)
 digits_go c d tail (digits v h) = h
 digits_go c d tail (delimiter t h) = absurd (both_ways (is_ascii_digit c) (other_parts c (no_other t c tail h)).2 d)
 
--- what goes on behind a dash
+-- what goes on after a dash
 pub dash_delimiter : (t : Lexeme) (c : ℕ) (tail : List ℕ) → c ≡ 45 → IsDelimiter (c ∷ tail) t → tail ≡ []
 dash_delimiter t c [] is h = refl
 dash_delimiter t c (d ∷ more) is h = let none : is_long_delimiter 45 d ≡ true = rw is at (is_long t c d more h).is_long in cc
@@ -188,7 +188,7 @@ blank_longest text c rest e b = record {
       omega arith;
 }
 
--- a text that is split behind the bytes that pass
+-- a text that is split after the bytes that pass
 pub record Split (p : ℕ → Bool) (text front back : List ℕ) : Type 0 where
   pub front_is : front ≡ take_while p text
   pub cut : text ≡ front ++ back

@@ -58,7 +58,7 @@ module _ (schema : Schema) where
   closing_runs stack (Punct mark.Close ∷ tokens) = refl
   closing_runs stack _ = refl
 
-  -- digits behind a sign
+  -- digits after a sign
   operand_chosen : (behind stack : List Symbol) (passed : _) (t : Lexeme) (tokens : List Lexeme) →
       proceed (chosen (is_met schema) (operand_choice behind t) stack passed) (length tokens) (λ next. run schema next tokens) ≡
       (operand_at schema (t ∷ tokens) >>= λ x. run schema (behind ++ stack) x.1)
@@ -75,7 +75,7 @@ module _ (schema : Schema) where
   operand_runs stack [] = refl
   operand_runs stack (t ∷ tokens) = operand_chosen [] stack (step (is_met schema) stack t) t tokens
 
--- What is behind a first thing: more of them, as long as something introduces them.
+-- What is after a first thing: more of them, as long as something introduces them.
 record TailLaws (schema : Schema) {A : Type 0} (tail : Symbol) (ones : List Symbol → List Symbol) (after : List Lexeme → Option (List Lexeme)) (one : List Lexeme → Result (A × List Lexeme) Halt) : Type 0 where
   one_runs : (stack : List Symbol) (tokens : List Lexeme) → run schema (ones stack) tokens ≡ (one tokens >>= λ x. run schema stack x.1)
   ends : (stack : List Symbol) (tokens : List Lexeme) → after tokens ≡ None → run schema (tail ∷ stack) tokens ≡ run schema stack tokens
@@ -178,7 +178,7 @@ module _ (schema : Schema) where
 too_deep : (depth : ℕ) → 0 + depth ≡ deepest_nesting → nat_le (suc depth) deepest_nesting ≡ false
 too_deep depth e = grind (arith, nat_tests)
 
--- what stands one level deeper, behind `(` and behind NOT
+-- what stands one level deeper, after `(` and after NOT
 record LevelRuns (schema : Schema) (depth : ℕ) (inner : Nested) : Type 0 where
   enclosed_runs : (behind stack : List Symbol) (next : List Lexeme) →
       proceed (ask (is_met schema) (Depth (suc depth)) false (Ok (in_brackets (suc depth) behind ++ stack))) (length next) (λ s. run schema s next) ≡

@@ -215,7 +215,7 @@ module _ (schema : Schema) (depth : ℕ) (inner : Nested) (deeper : Deeper schem
   factors_read (suc n) (Reserved word.And ∷ tokens) = bind _ (factor_read tokens) (λ c p. bind _ (factors_read n c.1) (λ cs q. gives (next_factor p q)))
   factors_read (suc n) tokens = gives last_factor
 
-  -- behind the word comes another
+  -- after the word comes another
   some_factors : (next : List Lexeme) → Sound (λ r. (d : CondTree) × (ds : List CondTree) × (r.0 ≡ d ∷ ds) × MoreFactors schema (is_met schema) depth (Reserved word.And ∷ next) r.1 (d ∷ ds))
       (repeated (suc (length next)) (after_keyword word.And) (factor_in schema inner) (Reserved word.And ∷ next))
   unfolding repeated after_keyword

@@ -39,7 +39,7 @@ fitting false digits n e = some_or_none (nat_lt (digits_value digits) (2 ^ 63)) 
 too_deep : (depth : ℕ) → 0 + depth ≡ deepest_nesting → nat_le (suc depth) deepest_nesting ≡ false
 too_deep depth e = grind (arith, nat_tests)
 
--- Behind a test no IS comes, behind a term no AND, and behind a condition no OR.
+-- After a test no IS comes, after a term no AND, and after a condition no OR.
 pub record TermEnds (rest : List Lexeme) : Type 0 where
   pub is_ends : after_keyword word.Is rest ≡ None
   pub and_ends : after_keyword word.And rest ≡ None

@@ -127,7 +127,7 @@ unfolding step
 step_sign schema halted [] t a e = let same : halted ≡ record { why = Syntax; is_behind_sign = false } = cc in ap (λ h. h.why) same
 step_sign schema halted (s ∷ stack) t a e = chosen_sign schema halted (decide s t) stack (step (is_met schema) stack t) (decide_sign s t a) (step_sign schema halted stack t a) e
 
--- Digits behind a sign are to come exactly behind a sign, and nowhere below.
+-- Digits after a sign are to come exactly after a sign, and nowhere below.
 abbrev pub is_free : Symbol → Bool
 is_free (SignedDigits is_negative) = false
 is_free _ = true
@@ -216,7 +216,7 @@ module _ (schema : Schema) where
       let after = path_kept next u (kept_below (is_sign t) next (step_kept stack t next f e)) d p in
       (t ∷ after.0, after.1, ap (λ ts. t ∷ ts) after.2, after.3)
 
--- a refusal stands behind a sign exactly where digits behind a sign are to come
+-- a refusal stands after a sign exactly where digits after a sign are to come
 abbrev pub Signed : List Symbol → Lexeme → Halted → Type 0
 Signed stack t halted = (is_negative : Bool) × (below : List Symbol) × (digits : List ℕ) × (stack ≡ SignedDigits is_negative ∷ below) × (t ≡ Digits digits) × (halted.why ≡ Literal)
 

@@ -48,7 +48,8 @@ pub data MoreOperands (schema : Schema) (met : Demand → Bool) : List Lexeme �
       MoreOperands schema met (Punct mark.Comma ∷ tokens) rest (x ∷ xs)
 
 -- BETWEEN operand AND operand | IN ( operand { , operand } ), said of an operand x
-pub data RangeIs (schema : Schema) (met : Demand → Bool) (x : Operand) : List Lexeme → List Lexeme → CondTree → Type 0 where
+pub data RangeIs (schema : Schema) (met : Demand → Bool) (x : Operand) : List Lexeme → List Lexeme → CondTree
+    → Type 0 where
   between : {low high rest : List Lexeme} {y z : Operand} →
       OperandIs schema met low (Reserved word.And ∷ high) y → OperandIs schema met high rest z →
       RangeIs schema met x (Reserved word.Between ∷ low) rest (Between x y z)
@@ -83,7 +84,8 @@ mutual
         ConditionIs schema met depth tokens rest (joined Or c cs)
 
   -- { OR term }
-  pub data MoreTerms (schema : Schema) (met : Demand → Bool) : ℕ → List Lexeme → List Lexeme → List CondTree → Type 0 where
+  pub data MoreTerms (schema : Schema) (met : Demand → Bool) : ℕ → List Lexeme → List Lexeme → List CondTree
+      → Type 0 where
     last_term : {depth : ℕ} {rest : List Lexeme} → MoreTerms schema met depth rest rest []
     next_term : {depth : ℕ} {tokens others rest : List Lexeme} {c : CondTree} {cs : List CondTree} →
         TermIs schema met depth tokens others c → MoreTerms schema met depth others rest cs →
@@ -96,7 +98,8 @@ mutual
         TermIs schema met depth tokens rest (joined And c cs)
 
   -- { AND factor }
-  pub data MoreFactors (schema : Schema) (met : Demand → Bool) : ℕ → List Lexeme → List Lexeme → List CondTree → Type 0 where
+  pub data MoreFactors (schema : Schema) (met : Demand → Bool) : ℕ → List Lexeme → List Lexeme → List CondTree
+      → Type 0 where
     last_factor : {depth : ℕ} {rest : List Lexeme} → MoreFactors schema met depth rest rest []
     next_factor : {depth : ℕ} {tokens others rest : List Lexeme} {c : CondTree} {cs : List CondTree} →
         FactorIs schema met depth tokens others c → MoreFactors schema met depth others rest cs →
@@ -107,7 +110,8 @@ mutual
     test : {depth : ℕ} {tokens rest : List Lexeme} {c : CondTree} →
         TestIs schema met depth tokens rest c → FactorIs schema met depth tokens rest c
     not_test : {depth : ℕ} {tokens rest : List Lexeme} {c : CondTree} → IsTrue (met (Depth (suc depth))) →
-        TestIs schema met (suc depth) tokens rest c → FactorIs schema met depth (Reserved word.Not ∷ tokens) rest (Not c)
+        TestIs schema met (suc depth) tokens rest c → FactorIs schema met depth (Reserved word.Not ∷ tokens) rest
+        (Not c)
 
   -- test = primary [ IS [ NOT ] ( TRUE | FALSE | UNKNOWN ) ]
   pub data TestIs (schema : Schema) (met : Demand → Bool) : ℕ → List Lexeme → List Lexeme → CondTree → Type 0 where
@@ -133,17 +137,22 @@ pub data ItemIs (schema : Schema) (met : Demand → Bool) : Bool → List Lexeme
   plain : {rest : List Lexeme} {text : List ℕ} → IsTrue (met (IsColumn text)) →
       ItemIs schema met true (Name text ∷ rest) rest (Plain (column_number schema text))
   count_all : {rest : List Lexeme} →
-      ItemIs schema met false (Reserved word.Count ∷ Punct mark.Open ∷ Punct mark.Star ∷ Punct mark.Close ∷ rest) rest CountAll
+      ItemIs schema met false (Reserved word.Count ∷ Punct mark.Open ∷ Punct mark.Star ∷ Punct mark.Close
+      ∷ rest) rest CountAll
   count : {rest : List Lexeme} {text : List ℕ} → IsTrue (met (IsColumn text)) →
-      ItemIs schema met false (Reserved word.Count ∷ Punct mark.Open ∷ Name text ∷ Punct mark.Close ∷ rest) rest (Count (column_number schema text))
+      ItemIs schema met false (Reserved word.Count ∷ Punct mark.Open ∷ Name text ∷ Punct mark.Close ∷ rest) rest
+      (Count (column_number schema text))
   sum : {rest : List Lexeme} {text : List ℕ} → IsTrue (met (IsColumn text)) →
-      ItemIs schema met false (Reserved word.Sum ∷ Punct mark.Open ∷ Name text ∷ Punct mark.Close ∷ rest) rest (Sum (column_number schema text))
+      ItemIs schema met false (Reserved word.Sum ∷ Punct mark.Open ∷ Name text ∷ Punct mark.Close ∷ rest) rest
+      (Sum (column_number schema text))
   least : {rest : List Lexeme} {text : List ℕ} → IsTrue (met (IsColumn text)) →
-      ItemIs schema met false (Reserved word.Min ∷ Punct mark.Open ∷ Name text ∷ Punct mark.Close ∷ rest) rest (Min (column_number schema text))
+      ItemIs schema met false (Reserved word.Min ∷ Punct mark.Open ∷ Name text ∷ Punct mark.Close ∷ rest) rest
+      (Min (column_number schema text))
   greatest : {rest : List Lexeme} {text : List ℕ} → IsTrue (met (IsColumn text)) →
-      ItemIs schema met false (Reserved word.Max ∷ Punct mark.Open ∷ Name text ∷ Punct mark.Close ∷ rest) rest (Max (column_number schema text))
+      ItemIs schema met false (Reserved word.Max ∷ Punct mark.Open ∷ Name text ∷ Punct mark.Close ∷ rest) rest
+      (Max (column_number schema text))
 
--- { , item }, behind a first item that is a plain column or isn't
+-- { , item }, after a first item that is a plain column or isn't
 pub data MoreItems (schema : Schema) (met : Demand → Bool) : Bool → List Lexeme → List Lexeme → List Item → Type 0 where
   last_item : {first : Bool} {rest : List Lexeme} → MoreItems schema met first rest rest []
   next_item : {first is_plain : Bool} {tokens others rest : List Lexeme} {item : Item} {items : List Item} →
@@ -172,7 +181,8 @@ pub data EndIs : List Lexeme → Type 0 where
 -- query = SELECT list FROM name [ WHERE cond ] [ ; ]
 pub data StatementIs (schema : Schema) (met : Demand → Bool) : List Lexeme → Asked → Type 0 where
   statement : {tokens selection last : List Lexeme} {table : List ℕ} {asked : Asked} →
-      ItemsAre schema met tokens (Reserved word.From ∷ Name table ∷ selection) asked.items → IsTrue (met (IsTable table)) →
+      ItemsAre schema met tokens (Reserved word.From ∷ Name table ∷ selection) asked.items
+      → IsTrue (met (IsTable table)) →
       SelectionIs schema met selection last asked.cond → EndIs last →
       StatementIs schema met (Reserved word.Select ∷ tokens) asked
 

@@ -13,7 +13,7 @@ use Rattle.bw_sql.specs.Reading.{Halt, statement_at}
 use Rattle.bw_sql.specs.Refusal.{code_of}
 use Rattle.bw_sql.specs.Statement.{tokens_of}
 
--- A refusal stands at its token. Behind the last token the byte that begins no piece comes first (401), and
+-- A refusal stands at its token. After the last token the byte that begins no piece comes first (401), and
 -- else the refusal stands at the end.
 abbrev pub fault_at : Option Spot → Option ℕ → ℕ → Refusal → Fault
 fault_at (Some spot) stop end why = at_byte (code_of why) spot.at
@@ -37,7 +37,7 @@ pub record IsRead (schema : Schema) (text : List ℕ) (outcome : Result Asked Fa
   pub cut : IsCut 0 text tokens stop
   pub is : outcome ≡ judged tokens stop (length text) (statement_at schema (tokens_of tokens))
 
--- the answer is what the text is read as, want of memory aside
+-- the answer is what the text is read as, out of memory aside
 abbrev pub Answers : Schema → List ℕ → Result Query Fault → Type 0
 Answers schema text (Ok query) = IsRead schema text (Ok (asked query))
 Answers schema text (Err fault) = is_memory fault ≡ false → IsRead schema text (Err fault)

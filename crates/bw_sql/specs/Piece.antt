@@ -92,7 +92,8 @@ BeginsNoDelimiter text = BeginsNone IsDelimiter text
 
 -- a byte that is a delimiter, and two bytes that are one
 abbrev pub is_short_delimiter : ℕ → Bool
-is_short_delimiter c = (c == 40) || (c == 41) || (c == 42) || (c == 43) || (c == 44) || (c == 45) || (c == 59) || (c == 60) || (c == 61) || (c == 62)
+is_short_delimiter c = (c == 40) || (c == 41) || (c == 42) || (c == 43) || (c == 44) || (c == 45) || (c == 59)
+    || (c == 60) || (c == 61) || (c == 62)
 
 abbrev pub is_long_delimiter : ℕ → ℕ → Bool
 is_long_delimiter c d = ((c == 60) && ((d == 61) || (d == 62))) || ((c == 62) && (d == 61))

@@ -1,5 +1,5 @@
 -- Reading a statement from its tokens: each reader takes the tokens that are left, and gives what it read and
--- the tokens behind it, or where and why it stopped.
+-- the tokens after it, or where and why it stopped.
 use Rattle.std.specs.Prelude.{ℕ, ℤ, Bool, true, false, suc, zero, List, [], ◌∷◌, ◌++◌, length, Option, Some, None, Result, Ok, Err, if◌then◌else◌}
 use Rattle.std.specs.Str.{bytes_eq}
 use Rattle.bw_model.specs.declared.cond.Op.{Op}
@@ -36,7 +36,7 @@ pub record Halt : Type 0 where
   pub why : Refusal
   pub left : ℕ
 
--- what was read, and the tokens behind it, or where and why reading stopped
+-- what was read, and the tokens after it, or where and why reading stopped
 abbrev pub Read : Type 0 → Type 0
 Read A = Result (A × List Lexeme) Halt
 
@@ -61,7 +61,7 @@ same_keyword a b = bytes_eq (spelling a) (spelling b)
 abbrev pub same_mark : Mark → Mark → Bool
 same_mark a b = bytes_eq (mark_spelling a) (mark_spelling b)
 
--- the tokens behind a reserved word or a mark, where it comes first
+-- the tokens after a reserved word or a mark, where it comes first
 unfoldable pub after_keyword : Keyword → List Lexeme → Option (List Lexeme)
 after_keyword word [] = None
 after_keyword word (Reserved found ∷ tokens) = if same_keyword found word then Some tokens else None
@@ -100,7 +100,7 @@ digits_at (Reserved found ∷ tokens) = refuse Syntax (Reserved found ∷ tokens
 digits_at (Compare op ∷ tokens) = refuse Syntax (Compare op ∷ tokens)
 digits_at (Punct found ∷ tokens) = refuse Syntax (Punct found ∷ tokens)
 
--- whether a minus comes first, and the tokens behind the sign, where there is one
+-- whether a minus comes first, and the tokens after the sign, where there is one
 abbrev pub behind_plus : Option (List Lexeme) → List Lexeme → Bool × List Lexeme
 behind_plus (Some rest) tokens = (false, rest)
 behind_plus None tokens = (false, tokens)
@@ -150,7 +150,8 @@ literal_operand tokens = do
 
 abbrev pub operand_behind : Option (List Lexeme) → Schema → List Lexeme → Read Operand
 operand_behind (Some rest) schema tokens = Ok (Null, rest)
-operand_behind None schema tokens = if begins_with_name tokens then column_operand schema tokens else literal_operand tokens
+operand_behind None schema tokens =
+    if begins_with_name tokens then column_operand schema tokens else literal_operand tokens
 
 unfoldable pub operand_at : Schema → List Lexeme → Read Operand
 operand_at schema tokens = operand_behind (after_keyword word.Null tokens) schema tokens
@@ -177,7 +178,7 @@ with_front front read = do
 abbrev pub more_operands : Schema → List Lexeme → Read (List Operand)
 more_operands schema tokens = repeated (length tokens) (after_mark mark.Comma) (operand_at schema) tokens
 
--- what follows an operand: a range behind BETWEEN, or a list behind IN
+-- what follows an operand: a range after BETWEEN, or a list after IN
 abbrev pub range_at : Schema → Operand → List Lexeme → Read CondTree
 range_at schema x tokens = do
   low ← operand_at schema tokens
@@ -205,7 +206,7 @@ range_or_list_behind None schema x tokens = list_at schema x tokens
 unfoldable pub range_or_list_at : Schema → Operand → List Lexeme → Read CondTree
 range_or_list_at schema x tokens = range_or_list_behind (after_keyword word.Between tokens) schema x tokens
 
--- [ NOT ] NULL behind IS
+-- [ NOT ] NULL after IS
 abbrev pub null_behind : Option (List Lexeme) → Operand → List Lexeme → Read CondTree
 null_behind (Some next) x tokens = do
   rest ← keyword_at word.Null next
@@ -250,7 +251,7 @@ predicate_at schema tokens = do
   x ← operand_at schema tokens
   predicate_of schema x.0 x.1
 
--- a truth value, and a test for it behind IS
+-- a truth value, and a test for it after IS
 abbrev pub behind_true : Option (List Lexeme) → Option (List Lexeme) → Option (List Lexeme) → List Lexeme → Read Truth
 behind_true (Some rest) second third tokens = Ok (Yes, rest)
 behind_true None (Some rest) third tokens = Ok (No, rest)
@@ -258,7 +259,8 @@ behind_true None None (Some rest) tokens = Ok (Unknown, rest)
 behind_true None None None tokens = refuse Syntax tokens
 
 unfoldable pub truth_value_at : List Lexeme → Read Truth
-truth_value_at tokens = behind_true (after_keyword word.True tokens) (after_keyword word.False tokens) (after_keyword word.Unknown tokens) tokens
+truth_value_at tokens = behind_true (after_keyword word.True tokens) (after_keyword word.False tokens)
+    (after_keyword word.Unknown tokens) tokens
 
 abbrev pub value_test_at : CondTree → List Lexeme → Read CondTree
 value_test_at c tokens = do
@@ -278,8 +280,8 @@ truth_behind c None tokens = Ok (c, tokens)
 unfoldable pub truth_test_at : CondTree → List Lexeme → Read CondTree
 truth_test_at c tokens = truth_behind c (after_keyword word.Is tokens) tokens
 
--- what stands one level deeper: a condition behind `(`, and a test behind NOT, given the tokens from the mark
--- or word on and those behind it
+-- what stands one level deeper: a condition after `(`, and a test after NOT, given the tokens from the mark
+-- or word on and those after it
 pub record Nested : Type 0 where
   pub enclosed : List Lexeme → List Lexeme → Read CondTree
   pub negated : List Lexeme → List Lexeme → Read CondTree
@@ -341,7 +343,8 @@ unfoldable pub joined_in : Schema → Nested → Connective → List Lexeme → 
 joined_in schema inner c tokens = series_at (word_of c) (join_of c) (part_in schema inner c) tokens
 
 abbrev pub more_parts_in : Schema → Nested → Connective → List Lexeme → Read (List CondTree)
-more_parts_in schema inner c tokens = repeated (length tokens) (after_keyword (word_of c)) (part_in schema inner c) tokens
+more_parts_in schema inner c tokens = repeated (length tokens) (after_keyword (word_of c)) (part_in
+    schema inner c) tokens
 
 -- so many levels of nesting are left
 unfoldable pub nested : Schema → ℕ → Nested
@@ -359,7 +362,7 @@ nested schema (suc n) = record {
     Ok (Not c.0, c.1);
 }
 
--- the condition behind WHERE, where it comes
+-- the condition after WHERE, where it comes
 abbrev pub behind_where : Schema → Option (List Lexeme) → List Lexeme → Read CondTree
 behind_where schema None tokens = Ok (Always, tokens)
 behind_where schema (Some rest) tokens = condition_in schema (nested schema deepest_nesting) rest
@@ -367,7 +370,7 @@ behind_where schema (Some rest) tokens = condition_in schema (nested schema deep
 unfoldable pub selection_at : Schema → List Lexeme → Read CondTree
 selection_at schema tokens = behind_where schema (after_keyword word.Where tokens) tokens
 
--- the end of a statement, behind a semicolon, where it comes
+-- the end of a statement, after a semicolon, where it comes
 abbrev pub nothing_left : List Lexeme → Result (Unit {0}) Halt
 nothing_left [] = Ok tt
 nothing_left (t ∷ tokens) = refuse Syntax (t ∷ tokens)
@@ -380,7 +383,8 @@ unfoldable pub end_at : List Lexeme → Result (Unit {0}) Halt
 end_at tokens = nothing_left (behind_semicolon (after_mark mark.Semicolon tokens) tokens)
 
 -- the aggregates, by their words
-abbrev pub aggregate_behind : Option (List Lexeme) → Option (List Lexeme) → Option (List Lexeme) → Option (List Lexeme) → Option (Aggregate × List Lexeme)
+abbrev pub aggregate_behind : Option (List Lexeme) → Option (List Lexeme) → Option (List Lexeme) → Option (List Lexeme)
+    → Option (Aggregate × List Lexeme)
 aggregate_behind (Some rest) sum min max = Some (aggregate.Count, rest)
 aggregate_behind None (Some rest) min max = Some (aggregate.Sum, rest)
 aggregate_behind None None (Some rest) max = Some (aggregate.Min, rest)
@@ -388,7 +392,8 @@ aggregate_behind None None None (Some rest) = Some (aggregate.Max, rest)
 aggregate_behind None None None None = None
 
 unfoldable pub after_aggregate : List Lexeme → Option (Aggregate × List Lexeme)
-after_aggregate tokens = aggregate_behind (after_keyword word.Count tokens) (after_keyword word.Sum tokens) (after_keyword word.Min tokens) (after_keyword word.Max tokens)
+after_aggregate tokens = aggregate_behind (after_keyword word.Count tokens) (after_keyword word.Sum tokens)
+    (after_keyword word.Min tokens) (after_keyword word.Max tokens)
 
 abbrev pub of_column : Aggregate → ℕ → Item
 of_column aggregate.Count column = Count column
@@ -428,7 +433,8 @@ aggregate_item schema None tokens = refuse Syntax tokens
 aggregate_item schema (Some found) tokens = argument_at schema found.0 found.1
 
 unfoldable pub item_at : Schema → List Lexeme → Read Item
-item_at schema tokens = if begins_with_name tokens then plain_item schema tokens else aggregate_item schema (after_aggregate tokens) tokens
+item_at schema tokens = if begins_with_name tokens then plain_item schema tokens else aggregate_item schema
+    (after_aggregate tokens) tokens
 
 -- An item of the other kind is refused at its first token, which tells its kind; a column that isn't the
 -- schema's comes before.
@@ -442,7 +448,8 @@ mixed_aggregate None tokens = Ok tt
 mixed_aggregate (Some found) tokens = refuse MixedItems tokens
 
 unfoldable pub of_one_kind : Schema → Bool → List Lexeme → Result (Unit {0}) Halt
-of_one_kind schema true tokens = if begins_with_name tokens then Ok tt else mixed_aggregate (after_aggregate tokens) tokens
+of_one_kind schema true tokens = if begins_with_name tokens then Ok tt else mixed_aggregate
+    (after_aggregate tokens) tokens
 of_one_kind schema false tokens = if begins_with_name tokens then mixed_name schema tokens else Ok tt
 
 unfoldable pub next_item_at : Schema → Bool → List Lexeme → Read Item
@@ -451,7 +458,8 @@ next_item_at schema is_plain tokens = do
   item_at schema tokens
 
 abbrev pub more_items : Schema → Bool → List Lexeme → Read (List Item)
-more_items schema is_plain tokens = repeated (length tokens) (after_mark mark.Comma) (next_item_at schema is_plain) tokens
+more_items schema is_plain tokens = repeated (length tokens) (after_mark mark.Comma)
+    (next_item_at schema is_plain) tokens
 
 abbrev pub items_behind : Schema → Option (List Lexeme) → List Lexeme → Read (List Item)
 items_behind schema (Some rest) tokens = Ok (every_column schema, rest)

@@ -13,7 +13,7 @@ code_of Literal = 405
 code_of MixedItems = 406
 code_of Nesting = 408
 
--- one of 401 to 408, or want of memory
+-- one of 401 to 408, or out of memory
 abbrev pub is_statement_fault : Fault → Bool
 is_statement_fault fault = (nat_le 401 fault.code && nat_le fault.code 408) || is_memory fault
 

@@ -25,15 +25,19 @@ pub record Spells (schema : Schema) (text : List ℕ) (query : Asked) : Type 0 w
   pub spelled : IsQuery schema (tokens_of tokens) query
 
 -- The fault of a text that isn't too long: the first at which its tokens are refused, at the byte of its token, or at
--- the end of the text behind all tokens; but where a byte begins no piece, 401 there, unless a fault stands at a token
+-- the end of the text after all tokens; but where a byte begins no piece, 401 there, unless a fault stands at a token
 -- before it.
 pub data IsRefusal (schema : Schema) (text : List ℕ) : Fault → Type 0 where
-  token_refused : {tokens : List Spot} {stop : Option ℕ} {why : Refusal} {place : ℕ} {spot : Spot} → IsCut 0 text tokens stop →
-      IsFirst schema (tokens_of tokens) why place → slice_get tokens place ≡ Some spot → IsRefusal schema text (at_byte (code_of why) spot.at)
+  token_refused : {tokens : List Spot} {stop : Option ℕ} {why : Refusal} {place : ℕ} {spot : Spot}
+      → IsCut 0 text tokens stop →
+      IsFirst schema (tokens_of tokens) why place → slice_get tokens place ≡ Some spot
+      → IsRefusal schema text (at_byte (code_of why) spot.at)
   end_refused : {tokens : List Spot} → IsCut 0 text tokens None →
-      IsFirst schema (tokens_of tokens) Syntax (length tokens) → IsRefusal schema text (at_byte (code_of Syntax) (length text))
+      IsFirst schema (tokens_of tokens) Syntax (length tokens)
+      → IsRefusal schema text (at_byte (code_of Syntax) (length text))
   byte_refused : {tokens : List Spot} {at : ℕ} → IsCut 0 text tokens (Some at) →
-      ((why : Refusal) (place : ℕ) → IsFirst schema (tokens_of tokens) why place → length tokens ≤ place) → IsRefusal schema text (at_byte 401 at)
+      ((why : Refusal) (place : ℕ) → IsFirst schema (tokens_of tokens) why place → length tokens ≤ place)
+      → IsRefusal schema text (at_byte 401 at)
 
 -- the fault of a text: 407 at its first byte past the most, where it is too long
 pub data IsFault (schema : Schema) (text : List ℕ) : Fault → Type 0 where
@@ -45,7 +49,7 @@ abbrev pub IsReadAs : Schema → List ℕ → Result Query Fault → Type 0
 IsReadAs schema text (Ok query) = Spells schema text (asked query)
 IsReadAs schema text (Err fault) = IsFault schema text fault
 
--- so it is by a call, want of memory aside
+-- so it is by a call, out of memory aside
 abbrev pub Parses : Schema → List ℕ → Result Query Fault → Type 0
 Parses schema text (Ok query) = IsReadAs schema text (Ok query)
 Parses schema text (Err fault) = is_memory fault ≡ false → IsReadAs schema text (Err fault)

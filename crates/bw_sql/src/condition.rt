@@ -67,7 +67,7 @@ pub fn condition<'t>(
     joined(alloc, schema, levels, Connective::Or, tokens)
 }
 
-/// A part that has to come, alone, or it and those that follow behind the connective's word, joined: a
+/// A part that has to come, alone, or it and those that follow after the connective's word, joined: a
 /// condition of terms, or a term of factors.
 #[cycle(condition)]
 #[tactic(auto, unfolding(crate::specs::Reading::joined_in))]
@@ -91,7 +91,7 @@ fn joined<'t>(
     Ok((connective.join(parts), rest))
 }
 
-/// The parts, and those that follow behind the connective's word.
+/// The parts, and those that follow after the connective's word.
 #[cycle(condition)]
 fn more_parts<'t>(
     alloc: Global,

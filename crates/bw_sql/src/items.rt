@@ -41,7 +41,7 @@ fn every_column(alloc: Global, schema: &Schema) -> Result<Vec<Item>, AllocError>
         .collect(alloc)
 }
 
-/// The items, and those that follow behind commas, all of one kind.
+/// The items, and those that follow after commas, all of one kind.
 fn more_items<'t>(
     schema: &Schema,
     is_plain: bool,
@@ -98,7 +98,7 @@ enum Aggregate {
     Max,
 }
 
-/// The aggregate whose word comes first, and the tokens behind it.
+/// The aggregate whose word comes first, and the tokens after it.
 #[tactic(auto, unfolding(crate::specs::Reading::after_aggregate))]
 fn after_aggregate<'t>(tokens: &'t [Placed<'t>]) -> Option<(Aggregate, &'t [Placed<'t>])>
     ensures is { option_map (λ found. (found.0, lexemes found.1.now)) result

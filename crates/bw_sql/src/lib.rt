@@ -3,7 +3,7 @@
 //! The contract that the crates above use is that of [`parse`]. A text is cut into tokens by the longest piece
 //! (`specs/Cut.antt`), in one way, as [`one_cut`] says. It is parsed exactly where it isn't too long and its
 //! tokens spell a query by the grammar (`specs/Grammar.antt`), a relation by cases that knows no parser, and to
-//! that query, want of memory aside; a list of tokens spells at most one, as [`one_query`] says. Another text is
+//! that query, out of memory aside; a list of tokens spells at most one, as [`one_query`] says. Another text is
 //! refused for its fault: that it is too long, or else the first token with which no statement can go on, as
 //! far as the demands of the fault's number go (`specs/Frontier.antt`). A text has at most one fault, and none
 //! where it spells a query, as [`one_fault`] says, and it has one where it spells none, as
@@ -147,7 +147,7 @@ pub fn query_or_fault()
     ensures { (schema : Schema) (text : List ℕ) → SpellsOrFails schema text }
 {}
 
-/// The fault of a reader that stopped: behind the last token, the byte that begins no token comes first.
+/// The fault of a reader that stopped: after the last token, the byte that begins no token comes first.
 fn refusal(stop: Stop, lexed: &Lexed<'_>, text: &[u8]) -> Fault
     ensures is { IsFaultOf (spots lexed.now.tokens.items) lexed.now.stopped (length text.now) stop result }
     ensures fault { IsStatementFault result }

@@ -58,7 +58,7 @@ fn predicate_of<'t>(
     range_or_list(alloc, schema, x, tokens)
 }
 
-/// The comparison that comes first, and the tokens behind it.
+/// The comparison that comes first, and the tokens after it.
 #[tactic(auto, unfolding(crate::specs::Reading::after_comparison))]
 fn after_comparison<'t>(tokens: &'t [Placed<'t>]) -> Option<(Op, &'t [Placed<'t>])>
     ensures is { option_map (λ found. (found.0, lexemes found.1.now)) result
@@ -95,7 +95,7 @@ fn null_test<'t>(alloc: Global, x: Operand, tokens: &'t [Placed<'t>]) -> Read<'t
     Ok((Cond::IsNull(x), rest))
 }
 
-/// What follows an operand: a range behind BETWEEN, or a list behind IN.
+/// What follows an operand: a range after BETWEEN, or a list after IN.
 #[tactic(auto, unfolding(crate::specs::Reading::range_or_list_at))]
 fn range_or_list<'t>(
     alloc: Global,
@@ -124,7 +124,7 @@ fn range<'t>(schema: &Schema, x: Operand, tokens: &'t [Placed<'t>]) -> Read<'t, 
     Ok((Cond::Between(x, low, high), rest))
 }
 
-/// The list, in brackets behind IN, of what an operand may be, which has to come.
+/// The list, in brackets after IN, of what an operand may be, which has to come.
 #[tactic(auto, unfolding(bw_model::specs::CondTree::tree_of))]
 fn list<'t>(alloc: Global, schema: &Schema, x: Operand, tokens: &'t [Placed<'t>]) -> Read<'t, Cond>
     ensures read { ReadsFrom tree_of tokens.now result (list_at schema.now x) }
@@ -137,7 +137,7 @@ fn list<'t>(alloc: Global, schema: &Schema, x: Operand, tokens: &'t [Placed<'t>]
     Ok((Cond::Among(x, items), rest))
 }
 
-/// The operand that has to come, and those that follow behind commas.
+/// The operand that has to come, and those that follow after commas.
 fn operands<'t>(alloc: Global, schema: &Schema, tokens: &'t [Placed<'t>]) -> Read<'t, Vec<Operand>>
     ensures read { ReadsFrom (λ xs. xs.items) tokens.now result (operands_at schema.now) }
     ensures shorter { IfOk result (λ read. length read.1.now ≤ length tokens.now) }
@@ -146,7 +146,7 @@ fn operands<'t>(alloc: Global, schema: &Schema, tokens: &'t [Placed<'t>]) -> Rea
     more_operands(schema, vec![in alloc; first]?, rest)
 }
 
-/// The operands, and those that follow behind commas.
+/// The operands, and those that follow after commas.
 fn more_operands<'t>(
     schema: &Schema,
     mut items: Vec<Operand>,

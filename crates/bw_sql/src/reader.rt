@@ -1,5 +1,5 @@
 //! What the readers of the grammar share: each takes the tokens that are left, and answers what it read and
-//! the tokens behind it, or where and why it stopped.
+//! the tokens after it, or where and why it stopped.
 ghost use Rattle.std.specs.Prelude.{◌≡◌, ◌<◌, length, IfOk, IfSome};
 ghost use Rattle.std.specs.Option.{option_map};
 ghost use Rattle.bw_sql.specs.declared.reader.Stop.TheVariants.{OutOfMemory};
@@ -59,7 +59,7 @@ impl Stop {
     }
 }
 
-/// What a reader answers: what it read, and the tokens behind it.
+/// What a reader answers: what it read, and the tokens after it.
 pub type Read<'t, T> = Result<(T, &'t [Placed<'t>]), Stop>;
 
 /// The tokens that a loop has left.
@@ -84,7 +84,7 @@ impl<T: Drop> From<AllocFailed<T>> for Stop {
     }
 }
 
-/// The tokens behind a keyword, where it comes first.
+/// The tokens after a keyword, where it comes first.
 #[tactic(auto, unfolding(crate::specs::Reading::after_keyword))]
 pub fn after_keyword<'t>(word: Keyword, tokens: &'t [Placed<'t>]) -> Option<&'t [Placed<'t>]>
     ensures is { option_map (λ rest. lexemes rest.now) result ≡ after_keyword word (lexemes tokens.now) }
@@ -99,7 +99,7 @@ pub fn after_keyword<'t>(word: Keyword, tokens: &'t [Placed<'t>]) -> Option<&'t 
     None
 }
 
-/// The tokens behind a mark, where it comes first.
+/// The tokens after a mark, where it comes first.
 #[tactic(auto, unfolding(crate::specs::Reading::after_mark))]
 pub fn after_mark<'t>(mark: Mark, tokens: &'t [Placed<'t>]) -> Option<&'t [Placed<'t>]>
     ensures is { option_map (λ rest. lexemes rest.now) result ≡ after_mark mark (lexemes tokens.now) }
@@ -114,7 +114,7 @@ pub fn after_mark<'t>(mark: Mark, tokens: &'t [Placed<'t>]) -> Option<&'t [Place
     None
 }
 
-/// The tokens behind a keyword, which has to come.
+/// The tokens after a keyword, which has to come.
 #[tactic(auto, unfolding(crate::specs::Reading::keyword_at))]
 pub fn keyword<'t>(word: Keyword, tokens: &'t [Placed<'t>]) -> Result<&'t [Placed<'t>], Stop>
     ensures read { Reads (λ rest. lexemes rest.now) result (keyword_at word (lexemes tokens.now)) }
@@ -126,7 +126,7 @@ pub fn keyword<'t>(word: Keyword, tokens: &'t [Placed<'t>]) -> Result<&'t [Place
     }
 }
 
-/// The tokens behind a mark, which has to come.
+/// The tokens after a mark, which has to come.
 #[tactic(auto, unfolding(crate::specs::Reading::mark_at))]
 pub fn mark<'t>(mark: Mark, tokens: &'t [Placed<'t>]) -> Result<&'t [Placed<'t>], Stop>
     ensures read { Reads (λ rest. lexemes rest.now) result (mark_at mark (lexemes tokens.now)) }
@@ -138,7 +138,7 @@ pub fn mark<'t>(mark: Mark, tokens: &'t [Placed<'t>]) -> Result<&'t [Placed<'t>]
     }
 }
 
-/// The name that has to come, and the tokens behind it.
+/// The name that has to come, and the tokens after it.
 #[tactic(auto, unfolding(crate::specs::Reading::name_at))]
 pub fn name<'t>(tokens: &'t [Placed<'t>]) -> Read<'t, &'t [u8]>
     ensures read { ReadsFrom (λ text. text.now) tokens.now result name_at }

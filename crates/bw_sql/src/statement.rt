@@ -32,7 +32,7 @@ pub fn statement(alloc: Global, schema: &Schema, tokens: &[Placed<'_>]) -> Resul
     Ok(Query { items, cond })
 }
 
-/// The table, behind FROM, and the condition on its rows.
+/// The table, after FROM, and the condition on its rows.
 #[tactic(auto, unfolding(crate::specs::Reading::table_expression_at))]
 fn table_expression<'t>(alloc: Global, schema: &Schema, tokens: &'t [Placed<'t>]) -> Read<'t, Cond>
     ensures { ReadsFrom tree_of tokens.now result (table_expression_at schema.now) }
@@ -42,7 +42,7 @@ fn table_expression<'t>(alloc: Global, schema: &Schema, tokens: &'t [Placed<'t>]
     selection(alloc, schema, rest)
 }
 
-/// The tokens behind the schema's name, which has to come.
+/// The tokens after the schema's name, which has to come.
 #[tactic(auto, unfolding(crate::specs::Reading::table_at))]
 fn table<'t>(schema: &Schema, tokens: &'t [Placed<'t>]) -> Result<&'t [Placed<'t>], Stop>
     ensures { Reads (λ rest. lexemes rest.now) result (table_at schema.now (lexemes tokens.now)) }
@@ -55,7 +55,7 @@ fn table<'t>(schema: &Schema, tokens: &'t [Placed<'t>]) -> Result<&'t [Placed<'t
     }
 }
 
-/// The condition behind WHERE, or none where WHERE doesn't come.
+/// The condition after WHERE, or none where WHERE doesn't come.
 #[tactic(auto, unfolding(crate::specs::Reading::selection_at, bw_model::specs::CondTree::tree_of))]
 fn selection<'t>(alloc: Global, schema: &Schema, tokens: &'t [Placed<'t>]) -> Read<'t, Cond>
     ensures { ReadsFrom tree_of tokens.now result (selection_at schema.now) }
@@ -66,7 +66,7 @@ fn selection<'t>(alloc: Global, schema: &Schema, tokens: &'t [Placed<'t>]) -> Re
     }
 }
 
-/// The end of a statement, behind a semicolon where there is one.
+/// The end of a statement, after a semicolon where there is one.
 #[tactic(auto, unfolding(crate::specs::Reading::end_at))]
 fn end(tokens: &[Placed<'_>]) -> Result<(), Stop>
     ensures { Reads (λ ended. ended) result (end_at (lexemes tokens.now)) }

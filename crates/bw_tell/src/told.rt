@@ -1,10 +1,9 @@
 //! The lines below a fault's own line.
 use crate::by_rows::of_rows;
-use bw_csv::MAX_CSV_LEN;
 use bw_device::{FromRead, Input, read_limited};
 use bw_explain::{of_csv, of_program, of_statement};
 use bw_file::TableReader;
-use bw_model::{Fault, Place, Schema, code};
+use bw_model::{Fault, MAX_CSV_LEN, Place, Schema, code};
 use bw_words::Words;
 use std::fmt;
 use std::fs::File;
@@ -65,7 +64,7 @@ fn said_of_rows(rt: &HostRuntime, table: &str, sql: &str) -> Option<String> {
     of_rows(rt.alloc(), reader.schema(), sql.as_bytes()).ok()
 }
 
-/// Writes what is to be said, a line each, behind the name of its file; and tells whether that was something.
+/// Writes what is to be said, a line each, after the name of its file; and tells whether that was something.
 fn say(rt: &HostRuntime, file: &str, said: Option<String>) -> bool {
     let Some(said) = said else {
         return false;

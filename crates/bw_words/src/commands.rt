@@ -1,6 +1,6 @@
 //! What the command line may be: `bw direct SCHEMA CSV SQL`, `bw infer [--table NAME] CSV`,
 //! `bw load [--layout planes|slices] SCHEMA CSV OUT`, `bw query [--program FILE] [--stats] TABLE SQL`, `bw plan SCHEMA SQL`,
-//! `bw check SCHEMA SQL FILE`, `bw info TABLE` or `bw dump TABLE`, each with `--explain` before the command or behind it.
+//! `bw check SCHEMA SQL FILE`, `bw info TABLE` or `bw dump TABLE`, each with `--explain` before the command or after it.
 use crate::words::Words;
 use bw_file::Layout;
 use clap::{Arg, ArgAction, ArgMatches, Command, Error};
@@ -267,7 +267,7 @@ fn layout<'a>(alloc: Global) -> Arg<'a> {
         .help("How segments are kept: bit planes, unless told otherwise, or byte slices")
 }
 
-/// The option that each command takes, before its name or behind it.
+/// The option that each command takes, before its name or after it.
 fn explained<'a>(alloc: Global) -> Arg<'a> {
     Arg::new(alloc, "explain")
         .long("explain")

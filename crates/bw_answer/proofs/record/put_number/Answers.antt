@@ -1,4 +1,4 @@
--- 64 bits have at most 19 digits behind a sign.
+-- 64 bits have at most 19 digits after a sign.
 use Rattle.std.proofs.Common.{arith}
 use Rattle.std.proofs.lemmas.Fmt.{length-decimal-le}
 use Rattle.bw_answer.proofs.record.put_number.Goals as goal

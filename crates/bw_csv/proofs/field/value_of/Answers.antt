@@ -1,4 +1,4 @@
--- A field of digits, alone or behind a minus sign, spells their number.
+-- A field of digits, alone or after a minus sign, spells their number.
 use Rattle.std.proofs.Common.{◌∙◌, sym, subst}
 use Rattle.bw_csv.specs.Rows.{GivesButAside}
 use Rattle.bw_csv.proofs.DigitsAlone.{read_digits}

@@ -1,4 +1,4 @@
--- Each turn puts one more value behind those so far.
+-- Each turn puts one more value after those so far.
 use Rattle.std.proofs.Common.{◌∙◌, sym, ap, Err}
 use Rattle.std.proofs.lemmas.List.{drop_all}
 use Rattle.std.proofs.lemmas.Result.{err_from_is_err_and}

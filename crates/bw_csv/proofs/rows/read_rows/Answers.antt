@@ -1,4 +1,4 @@
--- What is handed of the rows behind the heading is what is handed of the text's rows.
+-- What is handed of the rows after the heading is what is handed of the text's rows.
 use Rattle.std.proofs.Common.{◌∙◌, sym}
 use Rattle.bw_csv.proofs.RowLemmas.{rows_behind-rows}
 use Rattle.bw_csv.proofs.rows.read_rows.Goals as goal

@@ -1,4 +1,4 @@
--- The header's bytes, and those behind it.
+-- The header's bytes, and those after it.
 use Rattle.std.proofs.Common.{◌∙◌, ◌++◌, inl}
 use Rattle.bw_file.proofs.ReaderLemmas.{ends_early}
 use Rattle.bw_file.proofs.ReadingLemmas.{took_more}

@@ -1,4 +1,4 @@
--- Want of memory before, behind or among the segments; and the text of all rows.
+-- Out of memory before, after or among the segments; and the text of all rows.
 use Rattle.std.proofs.Common.{◌∙◌, [], refl, sym}
 use Rattle.std.proofs.lemmas.Result.{err_from_is_err_and}
 use Rattle.bw_model.specs.Column.{names_of}

@@ -1,4 +1,4 @@
--- The rows are taken behind those that the answer had taken.
+-- The rows are taken after those that the answer had taken.
 use Rattle.std.proofs.Common.{[], sym}
 use Rattle.std.proofs.lemmas.Result.{on_ok_weaker}
 use Rattle.bw_query.proofs.TableLemmas.{goes_nowhere}

@@ -1,4 +1,4 @@
--- The rows that a program picks are taken behind those that the answer had taken.
+-- The rows that a program picks are taken after those that the answer had taken.
 use Rattle.std.proofs.Common.{[]}
 use Rattle.bw_query.proofs.TableLemmas.{goes_nowhere}
 use Rattle.bw_query.proofs.table_text.take_segment.Goals as goal

@@ -1,4 +1,4 @@
--- Each exit, by what its calls told.
+-- Each exit, by what its calls' contracts say.
 use Rattle.std.proofs.Common.{◌≡◌, Ok, Err, Some, Result, refl}
 use Rattle.std.proofs.lemmas.Result.{err_from_is_err_and}
 use Rattle.bw_model.specs.declared.fault.Fault.{Fault}
@@ -6,7 +6,8 @@ use Rattle.bw_model.specs.declared.schema.Schema.{Schema}
 use Rattle.bw_model.specs.Fault.{◌>>=◌}
 use Rattle.bw_model.specs.Limits.{longest_csv}
 use Rattle.bw_file.specs.declared.layout.Layout.{Layout}
-use Rattle.bw_shell.specs.Arrived.{IsSchemaFrom, csv_from}
+use Rattle.bw_csv.specs.Input.{csv_from}
+use Rattle.bw_shell.specs.Arrived.{IsSchemaFrom}
 use Rattle.bw_shell.specs.Load.{IsFile, file_of}
 use Rattle.bw_shell.proofs.Exits.{Arrival, Given, came_of, stopped_of, schema_exit, csv_exit, text_exit, never_read, unread, wrote_nothing, went_out, rows_write_nothing}
 use Rattle.bw_shell.proofs.load_call.load.Goals as goal

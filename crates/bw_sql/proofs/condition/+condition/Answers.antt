@@ -1,4 +1,4 @@
--- Brackets and NOT read one level deeper; each part goes behind those before it.
+-- Brackets and NOT read one level deeper; each part goes after those before it.
 use Rattle.std.proofs.Common.{◌<◌, [], ◌∷◌, length, map, Err, refl, sym, ◌∙◌, ap, subst, arith}
 use Rattle.std.proofs.lemmas.List.{map-append}
 use Rattle.std.proofs.lemmas.Result.{err_from_is_err_and}

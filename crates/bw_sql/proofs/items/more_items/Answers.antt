@@ -1,4 +1,4 @@
--- Each item goes behind those before it.
+-- Each item goes after those before it.
 use Rattle.std.proofs.Common.{◌<◌, length, sym, subst, arith}
 use Rattle.std.proofs.lemmas.Result.{err_from_is_err_and}
 use Rattle.bw_sql.specs.declared.token.Mark.TheVariants.{Comma}

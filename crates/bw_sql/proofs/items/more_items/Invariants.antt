@@ -1,4 +1,4 @@
--- What is left to read goes behind the items so far.
+-- What is left to read goes after the items so far.
 use Rattle.std.proofs.Common.{length}
 use Rattle.bw_sql.specs.declared.token.Mark.TheVariants.{Comma}
 use Rattle.bw_sql.specs.Reading.{after_mark, next_item_at, more_items, with_front}

@@ -1,4 +1,4 @@
--- What is left to read goes behind the operands so far.
+-- What is left to read goes after the operands so far.
 use Rattle.std.proofs.Common.{◌≤◌, length}
 use Rattle.bw_sql.specs.declared.token.Mark.TheVariants.{Comma}
 use Rattle.bw_sql.specs.Reading.{after_mark, operand_at, more_operands, with_front}

@@ -1,4 +1,4 @@
--- The segment's rows, behind those that the answer had taken.
+-- The segment's rows, after those that the answer had taken.
 use Rattle.std.proofs.Common.{◌≡◌, ◌∙◌, List, ◌++◌, length, subst, sym, append_assoc}
 use Rattle.std.proofs.lemmas.List.{with_items_is}
 use Rattle.bw_rowwise.specs.Accumulator.{Tally}

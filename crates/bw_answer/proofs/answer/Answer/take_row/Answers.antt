@@ -1,4 +1,4 @@
--- One more row, behind those that the answer had taken.
+-- One more row, after those that the answer had taken.
 use Rattle.std.proofs.Common.{◌≡◌, ◌∙◌, List, [], ◌∷◌, ◌++◌, length, subst, sym, append_assoc}
 use Rattle.std.proofs.lemmas.List.{with_items_is}
 use Rattle.bw_model.specs.Row.{values_of}

@@ -1,0 +1,24 @@
+-- What is known of a program's registers at a place: for each of the 64 the node that it is worth in every lane, or none.
+use Rattle.std.specs.Prelude.{ℕ, Bool, ◌&&◌, ◌||◌, List, replicate, Option, Some, None, nat_le, slice_index_or, slice_set}
+use Rattle.bw_model.specs.declared.fault.Fault.{Fault}
+use Rattle.bw_model.specs.Fault.{is_memory}
+use Rattle.bw_program.specs.Program.{register_count}
+
+abbrev pub Known : Type 0
+Known = List (Option ℕ)
+
+-- the node of a register, where one is known
+abbrev pub node_of : Known → ℕ → Option ℕ
+node_of known register = slice_index_or known register None
+
+-- nothing is known, as at the start
+unfoldable pub nothing_known : Known
+nothing_known = replicate register_count None
+
+-- a register has this node now, and the others what they had
+abbrev pub with_node : Known → ℕ → ℕ → Known
+with_node known register node = slice_set known register (Some node)
+
+-- one of 607 to 609, or out of memory
+abbrev pub is_known_fault : Fault → Bool
+is_known_fault fault = (nat_le 607 fault.code && nat_le fault.code 609) || is_memory fault

@@ -1,0 +1,33 @@
+//! A CSV text, read whole.
+ghost use Rattle.std.specs.Prelude.{◌≡◌, ◌+◌, ◌-◌, ◌^◌, ◌<◌, ℕ, List, Option, Result, false, IfErr, IsTrue};
+ghost use Rattle.bw_model.specs.declared.fault.Fault.{Fault};
+ghost use Rattle.bw_csv.specs.Rows.{is_reader_fault};
+ghost use Rattle.bw_device.specs.Sink.{is_write_fault};
+ghost use Rattle.bw_model.specs.Fault.{nowhere};
+ghost use Rattle.bw_model.specs.Limits.{longest_csv};
+ghost use Rattle.bw_device.specs.Source.{Came, TookAtMost, EndsWith};
+ghost use Rattle.bw_csv.specs.Input.{is_csv_input_fault, CsvTold};
+
+use bw_device::{Input, Source, read_limited};
+use bw_model::{Fault, MAX_CSV_LEN, code};
+use std::alloc::Global;
+
+/// The bytes of a CSV text, whole: at most 2^30. Refuses its source (701), and a text past that (208); of that it takes one
+/// byte more. That the source's count of failures can rise is the caller's condition.
+pub fn read_csv<C: Source>(alloc: Global, source: &mut C) -> Result<Vec<u8>, Fault>
+    requires { C.failures source.old < 2 ^ 64 - 1 }
+    ensures told { (came : Result (Option (List ℕ)) Fault)
+        × Came longest_csv (C.to_come source.old) (C.to_come source.new) (C.failures source.old)
+        (C.failures source.new) came
+        × CsvTold came result }
+    ensures took { TookAtMost (longest_csv + 1) (C.to_come source.old) (C.to_come source.new) }
+    ensures failed { EndsWith (nowhere 701) (C.failures source.old) (C.failures source.new) result }
+    ensures fault { IfErr result (λ fault. is_write_fault fault ≡ false) }
+    ensures own { IfErr result (λ fault. is_reader_fault fault ≡ false) }
+    ensures input { IfErr result (λ fault. IsTrue (is_csv_input_fault fault)) }
+{
+    match read_limited(alloc, source, MAX_CSV_LEN)? {
+        Input::Whole(text) => Ok(text),
+        Input::Over => Err(Fault::new(code::CSV_TOO_LONG)),
+    }
+}

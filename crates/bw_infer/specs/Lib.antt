@@ -1,4 +1,0 @@
-pub mod Heading
-pub mod Infer
-pub mod Inferred
-pub mod Seen

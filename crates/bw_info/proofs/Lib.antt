@@ -1,3 +1,0 @@
-pub mod FactLemmas
-pub mod InfoExits
-pub mod SizeLemmas

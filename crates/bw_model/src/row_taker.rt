@@ -1,0 +1,30 @@
+//! Who takes rows that come one after another: of a CSV text, or out of a table file.
+ghost use Rattle.std.specs.Prelude.{◌≡◌, ◌+◌, ◌<◌, ℕ, List, [], ◌∷◌, ◌++◌, Bool, OnOk, IfErr, IsTrue};
+ghost use Rattle.bw_model.specs.Fault.{no_memory};
+ghost use Rattle.bw_model.specs.Limits.{most_rows};
+ghost use Rattle.bw_model.specs.Row.{Value, values_of};
+
+use crate::fault::Fault;
+use crate::row::{Row, Value};
+
+/// Who is handed the rows of a text, one after another.
+pub trait RowTaker {
+    /// Whether it can take a row of these values.
+    ghost takes: { Self → List Value → Bool };
+
+    /// How many rows it has been handed.
+    ghost rows: { Self → ℕ };
+
+    /// The first taker, handed these rows, becomes the second.
+    ghost led: { Self → List (List Value) → Self → Type 0 };
+
+    /// Takes the next row. An `Err`, which is out of memory, ends the reading.
+    fn take(&mut self, row: &Row) -> Result<(), Fault>
+        requires fits { IsTrue (takes self.old (values_of row.now)) }
+        requires room { rows self.old < most_rows }
+        ensures takes { OnOk result (takes self.new ≡ takes self.old) }
+        ensures rows { OnOk result (rows self.new ≡ rows self.old + 1) }
+        ensures led { OnOk result ((start : Self) → (before : List (List Value)) → led start before self.old
+            → led start (before ++ values_of row.now ∷ []) self.new) }
+        ensures only_memory { IfErr result (λ fault. fault ≡ no_memory) };
+}

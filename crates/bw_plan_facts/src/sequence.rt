@@ -1,0 +1,114 @@
+//! In which order the columns of a condition are best tested.
+use bw_model::{Cond, Operand, Schema};
+
+/// Some columns, the one that is tested first at the front, and how much is compared with them.
+#[derive(Clone, Copy)]
+pub(crate) struct Sequence {
+    columns: [u8; 64],
+    count: usize,
+    weight: u64,
+}
+
+impl Sequence {
+    /// No columns.
+    fn new() -> Self {
+        Sequence {
+            columns: [0; 64],
+            count: 0,
+            weight: 0,
+        }
+    }
+
+    /// The place of a column, or 64 where it isn't there.
+    pub(crate) fn place(&self, column: u8) -> u8 {
+        for (place, other) in self.columns.iter().enumerate() {
+            if place < self.count && *other == column {
+                return u8::try_from(place).unwrap_or(64);
+            }
+        }
+        64
+    }
+
+    /// Puts a column after the others, if it isn't among them.
+    fn push(&mut self, column: u8) {
+        if self.place(column) < 64 {
+            return;
+        }
+        if let Some(slot) = self.columns.get_mut(self.count) {
+            *slot = column;
+            self.count += 1;
+        }
+    }
+
+    /// Puts the column of an operand after the others, with which so many numbers are compared.
+    fn push_operand(&mut self, schema: &Schema, operand: Operand, times: usize) {
+        let Operand::Col(column) = operand else {
+            return;
+        };
+        if column >= schema.columns.len() {
+            return;
+        }
+        let width = u64::from(schema.width(column));
+        self.weight = self
+            .weight
+            .saturating_add(width.saturating_mul(times as u64));
+        if let Ok(column) = u8::try_from(column) {
+            self.push(column);
+        }
+    }
+
+    /// These columns, and then others.
+    fn then(mut self, others: Self) -> Self {
+        for (place, column) in others.columns.iter().enumerate() {
+            if place < others.count {
+                self.push(*column);
+            }
+        }
+        self.weight = self.weight.saturating_add(others.weight);
+        self
+    }
+}
+
+/// The columns of a condition. Where parts are joined, the smaller one comes first: the nodes of the
+/// larger one then stand below it as they are.
+#[cycle(sequence)]
+pub(crate) fn sequence_of(schema: &Schema, cond: &Cond) -> Sequence {
+    let mut sequence = Sequence::new();
+    match cond {
+        Cond::Always => {}
+        Cond::Cmp(_, x, y) => {
+            sequence.push_operand(schema, *x, 1);
+            sequence.push_operand(schema, *y, 1);
+        }
+        Cond::Between(x, y, z) => {
+            sequence.push_operand(schema, *x, 2);
+            sequence.push_operand(schema, *y, 1);
+            sequence.push_operand(schema, *z, 1);
+        }
+        Cond::Among(x, items) => {
+            sequence.push_operand(schema, *x, items.len());
+            for item in items {
+                sequence.push_operand(schema, *item, 1);
+            }
+        }
+        Cond::IsNull(x) => sequence.push_operand(schema, *x, 1),
+        Cond::And(parts) | Cond::Or(parts) => return sequence_of_all(schema, parts),
+        Cond::Not(part) | Cond::Test(part, _) => return sequence_of(schema, part),
+    }
+    sequence
+}
+
+/// The columns of some parts.
+#[cycle(sequence)]
+fn sequence_of_all(schema: &Schema, parts: &[Cond]) -> Sequence {
+    let mut made = Sequence::new();
+    for part in parts {
+        let next = sequence_of(schema, part);
+        made = if next.weight <= made.weight {
+            next.then(made)
+        } else {
+            made.then(next)
+        };
+    }
+    made
+}

@@ -1,3 +1,0 @@
-pub mod PrintedLines
-pub mod PrintedBounds
-pub mod PrintedText

@@ -1,0 +1,54 @@
+-- The columns of names, one more at a time.
+use Rattle.std.proofs.Common.{◌≡◌, ◌∙◌, refl, sym, ap, ℕ, suc, ◌+◌, ◌<◌, ◌≤◌, List, [], ◌∷◌, ◌++◌, length, map, take, drop, get_or, add-one, Ok, Err}
+use Rattle.std.proofs.lemmas.List.{append-nil, drop_all, take_more}
+use Rattle.std.proofs.Math.Seq.{drop-cons}
+use Rattle.bw_model.specs.declared.column.Column.{Column}
+use Rattle.bw_model.specs.declared.fault.Fault.{Fault}
+use Rattle.bw_model.specs.Column.{names_of}
+use Rattle.bw_model.specs.SchemaText.{ColumnShape, column_shape}
+use Rattle.bw_csv.proofs.FieldLemmas.{behind, behind-cons}
+use Rattle.bw_schemas.specs.declared.seen.Seen.{Seen}
+use Rattle.bw_schemas.specs.Inferred.{ranged, ranged_column}
+use Rattle.bw_schemas.specs.Seen.{column_seen, columns_seen}
+
+abbrev columns_at : List (List ℕ) → List Seen → ℕ → List ColumnShape
+columns_at names seen i = columns_seen (drop i names) (drop i seen)
+
+column_there : (names : List (List ℕ)) (seen : List Seen) (i : ℕ) (name : List ℕ) (d : Seen) → i < length names → i < length seen → name ≡ get_or names i name
+    → columns_at names seen i ≡ column_seen name (get_or seen i d) ∷ columns_at names seen (i + 1)
+unfolding columns_seen
+column_there names seen i name d h k e =
+    let first : drop i names ≡ name ∷ drop (suc i) names = drop-cons names i name h ∙ ap (λ (n : List ℕ). n ∷ drop (suc i) names) (sym e) in
+    let second = drop-cons seen i d k in
+    rw (first, second, add-one) refl
+
+-- bounds that are too far apart
+pub out_of_range : (names : List (List ℕ)) (seen : List Seen) (i : ℕ) (name : List ℕ) (d : Seen) (done : List ColumnShape) (fault : Fault) → i < length names → i < length seen → name ≡ get_or names i name
+    → ranged_column (column_seen name (get_or seen i d)) ≡ Err fault → behind done (ranged (columns_at names seen i)) ≡ Err fault
+unfolding ranged
+out_of_range names seen i name d done fault h k e wide = rw (column_there names seen i name d h k e, wide) refl
+
+-- one column more
+pub column_more : (names : List (List ℕ)) (seen : List Seen) (i : ℕ) (name : List ℕ) (d : Seen) (done : List ColumnShape) (column : ColumnShape) → i < length names → i < length seen → name ≡ get_or names i name
+    → ranged_column (column_seen name (get_or seen i d)) ≡ Ok column
+    → behind done (ranged (columns_at names seen i)) ≡ behind (done ++ column ∷ []) (ranged (columns_at names seen (i + 1)))
+unfolding ranged
+column_more names seen i name d done column h k e within =
+    rw (column_there names seen i name d h k e, within) (behind-cons done column (ranged (columns_at names seen (i + 1))))
+
+pub columns_end : (names : List (List ℕ)) (seen : List Seen) (i : ℕ) (done : List ColumnShape) → length names ≤ i → behind done (ranged (columns_at names seen i)) ≡ Ok done
+unfolding ranged columns_seen
+columns_end names seen i done all = rw (drop_all i names all) (ap Ok (append-nil done))
+
+-- the shapes and the names of columns, and of one more
+pub shapes-push : (columns : List Column) (column : Column) → map column_shape (columns ++ column ∷ []) ≡ map column_shape columns ++ column_shape column ∷ []
+shapes-push [] column = refl
+shapes-push (c ∷ columns) column = ap (λ (l : List ColumnShape). column_shape c ∷ l) (shapes-push columns column)
+
+pub names-push : (columns : List Column) (column : Column) (names : List (List ℕ)) (i : ℕ) → i < length names → names_of columns ≡ take i names → column.name ≡ get_or names i column.name
+    → names_of (columns ++ column ∷ []) ≡ take (i + 1) names
+names-push columns column names i h e n = pushed columns ∙ rw (e, n) (sym (take_more names i column.name h))
+  where
+    pushed : (columns : List Column) → names_of (columns ++ column ∷ []) ≡ names_of columns ++ column.name ∷ []
+    pushed [] = refl
+    pushed (c ∷ columns) = ap (λ (l : List (List ℕ)). c.name ∷ l) (pushed columns)

@@ -1,0 +1,11 @@
+pub mod PrintedLines
+pub mod PrintedBounds
+pub mod PrintedText
+pub mod ColumnLemmas
+pub mod ExactLemmas
+pub mod HeadingLemmas
+pub mod NarrowLemmas
+pub mod SeenLemmas
+pub mod FactLemmas
+pub mod InfoExits
+pub mod SizeLemmas

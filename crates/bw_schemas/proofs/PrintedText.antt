@@ -1,0 +1,175 @@
+-- The text of a schema spells it.
+use Rattle.std.proofs.Common.{◌≡◌, ◌∙◌, refl, sym, ap, subst, ℕ, ℤ, pos, ◌+◌, ◌*◌, ◌^◌, ◌<◌, ◌≤◌, ◌≤ℤ◌, ◌<ℤ◌, ◌-ℤ◌, Bool, true, false, not, ◌&&◌, All, List, [], ◌∷◌, ◌++◌, length, map, drop, get_or, add-one, Some, nat_le, int_le, int_lt, append_assoc, length-append, codes, arith, rules}
+use Rattle.std.specs.Fmt.{signed_decimal}
+use Rattle.std.specs.List.{list_all, AllZip}
+use Rattle.std.proofs.lemmas.Bool.{leb-true}
+use Rattle.std.proofs.lemmas.List.{append-nil, drop_all, length-map}
+use Rattle.std.proofs.lemmas.List.Elements.{All-head, All-tail}
+use Rattle.std.proofs.Math.Seq.{drop-cons}
+use Rattle.bw_model.specs.declared.column.Column.{Column}
+use Rattle.bw_model.specs.declared.schema.Schema.{Schema}
+use Rattle.bw_model.specs.Column.{names_of}
+use Rattle.bw_model.specs.Keyword.{is_reserved}
+use Rattle.bw_model.specs.Limits.{longest_name}
+use Rattle.bw_model.specs.Lines.{NumberedWords, cut_lines, numbered, numbered_from}
+use Rattle.bw_model.specs.Name.{is_name, are_apart}
+use Rattle.bw_model.specs.SchemaText.{shape, shape_names, column_shape, schema_shape, column_words, table_words, is_range, SpellsColumn, SpellsSchema, IsSchemaText}
+use Rattle.bw_model.specs.Text.{same_text, is_word}
+use Rattle.bw_schemas.specs.Printed.{AreComments, IsColumn, column_line, columns_text, line_text, schema_text, table_line}
+use Rattle.bw_model.proofs.BitsLemmas.{both}
+use Rattle.bw_model.proofs.SpacedWords.{is_plain_word, plain_word}
+use Rattle.bw_schemas.proofs.PrintedLines.{line_said}
+use Rattle.bw_schemas.proofs.PrintedBounds.{bound_spelled, bound_plain, bound_length}
+
+-- a name is a plain word of at most 63 bytes
+record IsShortWord (text : List ℕ) : Type 0 where
+  plain : is_plain_word text ≡ true
+  short : length text ≤ 63
+
+short_word : (text : List ℕ) → is_name text ≡ true → IsShortWord text
+unfolding is_name
+short_word text h =
+    let named = both (is_word text && nat_le (length text) longest_name) (not (is_reserved text)) h in
+    let word = both (is_word text) (nat_le (length text) longest_name) named.0 in
+    record { plain = plain_word text word.0; short = leb-true (length text) 63 word.1 }
+
+-- the line of a table
+table_said : (name rest : List ℕ) → is_name name ≡ true
+    → numbered_from 1 (cut_lines (line_text (table_line name) ++ rest)) ≡ numbered 1 (table_line name) ∷ numbered_from 2 (cut_lines rest)
+table_said name rest is =
+    let plain : list_all is_plain_word (name ∷ []) ≡ true = rw ((short_word name is).plain) refl in
+    line_said 1 _ (name ∷ []) rest refl refl plain
+
+table_spelled : (name : List ℕ) → table_words (table_line name) ≡ Some name
+unfolding table_words same_text
+table_spelled name = refl
+
+-- the line of a column
+column_said : (number : ℕ) (name : List ℕ) (lo hi : ℤ) (nullable : Bool) (rest : List ℕ) → IsColumn (shape name lo hi nullable)
+    → numbered_from number (cut_lines (line_text (column_line (shape name lo hi nullable)) ++ rest))
+    ≡ numbered number (column_line (shape name lo hi nullable)) ∷ numbered_from (number + 1) (cut_lines rest)
+column_said number name lo hi true rest is =
+    line_said number _ (name ∷ signed_decimal lo ∷ signed_decimal hi ∷ []) rest refl refl
+    (rw ((short_word name is.name).plain, bound_plain lo is.lo, bound_plain hi is.hi) refl)
+column_said number name lo hi false rest is =
+    line_said number _ (name ∷ signed_decimal lo ∷ signed_decimal hi ∷ _ ∷ _ ∷ []) rest refl refl
+    (rw ((short_word name is.name).plain, bound_plain lo is.lo, bound_plain hi is.hi) refl)
+
+column_spelled : (name : List ℕ) (lo hi : ℤ) (nullable : Bool) → IsColumn (shape name lo hi nullable)
+    → column_words (column_line (shape name lo hi nullable)) ≡ Some (shape name lo hi nullable)
+unfolding column_words same_text
+column_spelled name lo hi true is = rw (bound_spelled lo is.lo, bound_spelled hi is.hi) refl
+column_spelled name lo hi false is = rw (bound_spelled lo is.lo, bound_spelled hi is.hi) refl
+
+column_short : (name : List ℕ) (lo hi : ℤ) (nullable : Bool) → IsColumn (shape name lo hi nullable) → length (line_text (column_line (shape name lo hi nullable))) ≤ 122
+column_short name lo hi true is =
+    let n = (short_word name is.name).short in
+    let l = bound_length lo is.lo in
+    let h = bound_length hi is.hi in
+    simp length-append (omega arith)
+column_short name lo hi false is =
+    let n = (short_word name is.name).short in
+    let l = bound_length lo is.lo in
+    let h = bound_length hi is.hi in
+    simp length-append (omega arith)
+
+ordered : (l h : ℤ) → l ≤ℤ h → int_le l h ≡ true
+ordered l h o = search rules
+
+narrow : (n m : ℤ) → n <ℤ m → int_lt n m ≡ true
+narrow n m l = search rules
+
+in_range : (column : Column) → is_range column.lo column.hi ≡ true
+unfolding is_range
+in_range column = rw (ordered column.lo column.hi column.ordered, narrow (column.hi -ℤ column.lo) (pos (2 ^ 63)) column.narrow) refl
+
+abbrev AreColumns : List Column → Type 0
+AreColumns columns = All IsColumn (map column_shape columns)
+
+-- the lines of columns spell them, with comments after
+columns_spelled : (number : ℕ) (columns : List Column) (comments : List ℕ) → AreColumns columns → AreComments comments
+    → AllZip SpellsColumn (numbered_from number (cut_lines (columns_text (map column_shape columns) ++ comments))) (map column_shape columns)
+unfolding columns_text
+columns_spelled number [] comments are none = rw (none number) tt
+columns_spelled number (column ∷ columns) comments are none =
+    let first : IsColumn (column_shape column) = All-head IsColumn (column_shape column) (map column_shape columns) are in
+    let rest = columns_spelled (number + 1) columns comments (All-tail IsColumn (column_shape column) (map column_shape columns) are) none in
+    let more = columns_text (map column_shape columns) in
+    let text : (line_text (column_line (column_shape column)) ++ more) ++ comments ≡ line_text (column_line (column_shape column)) ++ (more ++ comments) =
+    append_assoc (line_text (column_line (column_shape column))) more comments in
+    let said = column_said number column.name column.lo column.hi column.nullable (more ++ comments) first in
+    let lines = ap (λ (l : List ℕ). numbered_from number (cut_lines l)) text ∙ said in
+    subst (λ (l : List NumberedWords). AllZip SpellsColumn l (map column_shape (column ∷ columns))) (sym lines)
+    ((column_spelled column.name column.lo column.hi column.nullable first, first.name, in_range column), rest)
+
+columns_short : (columns : List Column) → AreColumns columns → length (columns_text (map column_shape columns)) ≤ 122 * length columns
+unfolding columns_text
+columns_short [] are = omega arith
+columns_short (column ∷ columns) are =
+    let first : IsColumn (column_shape column) = All-head IsColumn (column_shape column) (map column_shape columns) are in
+    let rest = columns_short columns (All-tail IsColumn (column_shape column) (map column_shape columns) are) in
+    let here = column_short column.name column.lo column.hi column.nullable first in
+    omega (arith, length-append (line_text (column_line (column_shape column))) (columns_text (map column_shape columns)))
+
+names_same : (columns : List Column) → shape_names (map column_shape columns) ≡ names_of columns
+names_same [] = refl
+names_same (c ∷ columns) = ap (λ (names : List (List ℕ)). c.name ∷ names) (names_same columns)
+
+table_short : (name : List ℕ) → is_name name ≡ true → length (line_text (table_line name)) ≤ 70
+table_short name is = let n = (short_word name is).short in simp length-append (omega arith)
+
+-- the text of a schema with comments after it spells the schema
+pub text_spells : (schema : Schema) (comments : List ℕ) → is_name schema.name ≡ true → AreColumns schema.columns.items → AreComments comments → length comments ≤ 4096
+    → IsSchemaText (schema_text (schema_shape schema) ++ comments) (schema_shape schema)
+unfolding schema_text
+text_spells schema comments named are none few =
+    let columns = schema.columns.items in
+    let first = line_text (table_line schema.name) in
+    let more = columns_text (map column_shape columns) in
+    let size : length ((first ++ more) ++ comments) ≤ 65536 =
+    omega (arith, length-append (first ++ more) comments, length-append first more, table_short schema.name named, columns_short columns are, schema.limited) in
+    let lines : numbered_from 1 (cut_lines ((first ++ more) ++ comments)) ≡ numbered 1 (table_line schema.name) ∷ numbered_from 2 (cut_lines (more ++ comments)) =
+    ap (λ (l : List ℕ). numbered_from 1 (cut_lines l)) (append_assoc first more comments) ∙ table_said schema.name (more ++ comments) named in
+    let apart : are_apart (shape_names (map column_shape columns)) ≡ true = ap are_apart (names_same columns) ∙ schema.apart in (
+      size,
+      subst (λ (l : List NumberedWords). SpellsSchema l (schema_shape schema)) (sym lines) (
+        table_spelled schema.name,
+        named,
+        columns_spelled 2 columns comments are none,
+        omega (arith, length-map columns column_shape, schema.inhabited),
+        omega (arith, length-map columns column_shape, schema.limited),
+        apart,
+      ),
+    )
+
+-- no comments are comments
+pub no_comments : AreComments []
+unfolding cut_lines numbered_from
+no_comments number = refl
+
+-- the text of columns, one more at a time
+pub columns_text-next : (columns : List Column) (i : ℕ) (d : Column) → i < length columns →
+    columns_text (map column_shape (drop i columns)) ≡ line_text (column_line (column_shape (get_or columns i d))) ++ columns_text (map column_shape (drop (i + 1) columns))
+unfolding columns_text
+columns_text-next columns i d lt = rw (add-one, drop-cons columns i d lt) refl
+
+pub columns_text-end : (columns : List Column) (i : ℕ) → length columns ≤ i → columns_text (map column_shape (drop i columns)) ≡ []
+unfolding columns_text
+columns_text-end columns i le = rw (drop_all i columns le) refl
+
+-- a piece that is written and what is left after it
+pub written : (now piece left rest start new : List ℕ) → new ≡ now ++ piece → left ≡ piece ++ rest → now ++ left ≡ start → new ++ rest ≡ start
+written now piece left rest start new is parts e = rw is (append_assoc now piece rest ∙ ap (λ (t : List ℕ). now ++ t) (sym parts) ∙ e)
+
+pub all_written : (schema : Schema) (text : List ℕ) → text ++ [] ≡ line_text (table_line schema.name) ++ columns_text (map column_shape schema.columns.items)
+    → text ≡ schema_text (schema_shape schema)
+unfolding schema_text
+all_written schema text e = sym (append-nil text) ∙ e
+
+-- a column's line, put together piece by piece
+pub column_put : (old name lo hi end a b c d e : List ℕ) → a ≡ old ++ codes "COLUMN " → b ≡ a ++ name → c ≡ b ++ 32 ∷ lo → d ≡ c ++ 32 ∷ hi → e ≡ d ++ end
+    → e ≡ old ++ (codes "COLUMN" ++ 32 ∷ name ++ (32 ∷ lo ++ (32 ∷ hi ++ end)))
+column_put old name lo hi end a b c d e p q r s t =
+    t ∙ ap (λ (l : List ℕ). l ++ end) s ∙ append_assoc c (32 ∷ hi) end ∙ ap (λ (l : List ℕ). l ++ (32 ∷ hi ++ end)) r ∙ append_assoc b (32 ∷ lo) (32 ∷ hi ++ end)
+    ∙ ap (λ (l : List ℕ). l ++ (32 ∷ lo ++ (32 ∷ hi ++ end))) q ∙ append_assoc a name (32 ∷ lo ++ (32 ∷ hi ++ end))
+    ∙ ap (λ (l : List ℕ). l ++ (name ++ (32 ∷ lo ++ (32 ∷ hi ++ end)))) p ∙ append_assoc old (codes "COLUMN ") (name ++ (32 ∷ lo ++ (32 ∷ hi ++ end)))

@@ -1,0 +1,92 @@
+-- How long the header of a table file is, and the whole file.
+use Rattle.std.proofs.Common.{◌≡◌, ◌∙◌, sym, ap, subst, ℕ, ◌+◌, ◌*◌, ◌≤◌, All, true, List, [], ◌∷◌, ◌++◌, length, length-append, inl, inr, arith}
+use Rattle.std.specs.List.{flat_map, list_all}
+use Rattle.std.proofs.lemmas.List.{append-nil}
+use Rattle.std.proofs.lemmas.List.Elements.{All-nil, All-cons, All-head, All-tail}
+use Rattle.std.proofs.lemmas.List.Folds.{list_all-append}
+use Rattle.bw_model.specs.declared.column.Column.{Column}
+use Rattle.bw_model.specs.declared.schema.Schema.{Schema}
+use Rattle.bw_model.specs.Column.{admits_values}
+use Rattle.bw_model.specs.Groups.{groups_of, group_size, together}
+use Rattle.bw_model.specs.Row.{Value}
+use Rattle.bw_model.proofs.BitsLemmas.{both}
+use Rattle.bw_model.proofs.GroupLemmas.{groups_of-count, groups_of-sizes, groups_of-table}
+use Rattle.bw_segment.specs.Meaning.{IsGroup, Meaning}
+use Rattle.bw_segment.proofs.TextLemmas.{length-text}
+use Rattle.bw_file.specs.declared.layout.Layout.{Layout}
+use Rattle.bw_file.specs.declared.table_reader.TableReader.{TableReader}
+use Rattle.bw_file.specs.Blocks.{form_of, segment_size, segment_text}
+use Rattle.bw_file.specs.FileText.{AreRows, IsFileText, front_text, header_text, segments_text, text_of_version, version_for}
+use Rattle.bw_file.specs.Reading.{State, GoesOn, give, tail}
+use Rattle.bw_file.specs.TableReader.{header_told, layout_in, rows_told, schema_in, version_in}
+use Rattle.bw_file.specs.TableReading.{header}
+use Rattle.bw_file.proofs.FileSpelling.{head_is}
+use Rattle.bw_file.proofs.ReaderLemmas.{head_at}
+use Rattle.bw_file.proofs.SegmentLemmas.{is_layout}
+use Rattle.bw_file.proofs.SpellingLemmas.{IsBytes, head_text, header_takes}
+use Rattle.bw_schemas.specs.Info.{file_size, segment_count}
+
+-- a reader took the bytes of its header
+pub header_taken : (start now : State) (reader : TableReader) → start.offset ≡ 0 → GoesOn header start (give (header_told (version_in reader) reader)) now
+    → now.offset ≡ length (header_text (version_in reader) (layout_in reader) (schema_in reader).name (schema_in reader).columns.items (rows_told reader))
+header_taken start now reader first read =
+    let h = header_told (version_in reader) reader in
+    let bytes = read.bytes in
+    let e = head_at start now h [] first read in
+    let fits : IsBytes (bytes ++ []) = subst IsBytes (sym (append-nil bytes)) read.took.each in
+    let takes = header_takes (tail 0 (bytes ++ [])) (h, tail now.offset []) fits e in
+    let same : bytes ≡ head_text h = sym (append-nil bytes) ∙ takes.0.parts ∙ append-nil (head_text h) in
+    let size : length bytes ≡ length (head_text h) = ap length same in
+    let shaped = ap length (head_is (version_in reader) (rows_told reader) (layout_in reader) (schema_in reader)) in
+    omega (arith, read.took.counted, size, shaped, first)
+
+-- the sizes of groups, and what is said of each of them
+abbrev HasSize : List (List Value) → Type 0
+HasSize group = (1 ≤ length group) × (length group ≤ group_size)
+
+abbrev Admits : List Column → List (List Value) → Type 0
+Admits columns group = list_all (admits_values columns) group ≡ true
+
+abbrev group_under : List Column → List (List Value) → Meaning
+group_under columns rows = record { name = []; columns = columns; rows = rows }
+
+each_admitted : (columns : List Column) (groups : List (List (List Value))) → list_all (admits_values columns) (together groups) ≡ true → All (Admits columns) groups
+each_admitted columns [] all = All-nil (Admits columns)
+each_admitted columns (group ∷ groups) all =
+    let p = both (list_all (admits_values columns) group) (list_all (admits_values columns) (together groups)) (sym (list_all-append (admits_values columns) group (together groups)) ∙ all) in
+    All-cons (Admits columns) group groups p.0 (each_admitted columns groups p.1)
+
+-- each group has a segment's bytes
+groups_sized : (layout : Layout) (columns : List Column) (groups : List (List (List Value))) → All HasSize groups → All (Admits columns) groups
+    → length (flat_map (segment_text layout columns) groups) ≡ length groups * segment_size layout columns
+groups_sized layout columns [] sized admitted = omega arith
+groups_sized layout columns (group ∷ groups) sized admitted =
+    let size = All-head HasSize group groups sized in
+    let is : IsGroup (group_under columns group) = record { some = size.0; few = size.1; admitted = All-head (Admits columns) group groups admitted } in
+    let first : length (segment_text layout columns group) ≡ segment_size layout columns = length-text (form_of layout) (is_layout layout) (group_under columns group) is in
+    let rest = groups_sized layout columns groups (All-tail HasSize group groups sized) (All-tail (Admits columns) group groups admitted) in
+    omega (arith, length-append (segment_text layout columns group) (flat_map (segment_text layout columns) groups), first, rest)
+
+pub table_sized : (version : ℕ) (layout : Layout) (schema : Schema) (rows : List (List Value)) → AreRows schema.columns.items rows
+    → length (text_of_version version layout schema.name schema.columns.items rows) ≡ file_size version layout schema (length rows)
+unfolding text_of_version segments_text
+table_sized version layout schema rows are =
+    let columns = schema.columns.items in
+    let head = header_text version layout schema.name columns (length rows) in
+    let each = each_admitted columns (groups_of rows) (ap (list_all (admits_values columns)) (groups_of-table rows) ∙ are.admitted) in
+    let sized = groups_sized layout columns (groups_of rows) (groups_of-sizes rows) each in
+    length-append head (flat_map (segment_text layout columns) (groups_of rows)) ∙ ap (λ (n : ℕ). length head + n) (sized ∙ ap (λ (n : ℕ). n * segment_size layout columns) (groups_of-count rows))
+
+-- a header is as long in either version
+header_sized : (v w : ℕ) (layout : Layout) (schema : Schema) (rows : ℕ) → file_size v layout schema rows ≡ file_size w layout schema rows
+unfolding header_text front_text
+header_sized v w layout schema rows = ap (λ (n : ℕ). n + segment_count rows * segment_size layout schema.columns.items) (simp length-append)
+
+pub file_sized : (bytes : List ℕ) (layout : Layout) (schema : Schema) (rows : List (List Value)) (version : ℕ) → IsFileText bytes layout schema rows
+    → length bytes ≡ file_size version layout schema (length rows)
+file_sized bytes layout schema rows version file =
+    elim file.text [
+      | inl shorter ↦
+          ap length shorter ∙ table_sized (version_for schema.columns.items) layout schema rows file.admitted ∙ header_sized (version_for schema.columns.items) version layout schema (length rows)
+      | inr longer ↦ ap length longer ∙ table_sized 2 layout schema rows file.admitted ∙ header_sized 2 version layout schema (length rows)
+    ]

@@ -1,0 +1,44 @@
+-- What a call that infers a schema is to write, by what came of the CSV's source.
+use Rattle.std.specs.Prelude.{◌≡◌, ◌||◌, ◌&&◌, Bool, ℕ, List, length, nat_le, not, Option, Result, Ok}
+use Rattle.std.specs.Io.KnownBytes.{Appends}
+use Rattle.bw_model.specs.declared.fault.Fault.{Fault}
+use Rattle.bw_model.specs.declared.schema.Schema.{Schema}
+use Rattle.bw_model.specs.Fault.{nowhere, ◌>>=◌, refused_if}
+use Rattle.bw_model.specs.Name.{is_name}
+use Rattle.bw_model.specs.SchemaText.{schema_shape, IsSchemaText}
+use Rattle.bw_csv.specs.Bare.{bare_rows, records_of}
+use Rattle.bw_csv.specs.Input.{csv_from}
+use Rattle.bw_csv.specs.Rows.{Stops, StopsBehind, is_rows_fault}
+use Rattle.bw_schemas.specs.Printed.{schema_text}
+use Rattle.bw_schemas.specs.Heading.{heading_names}
+use Rattle.bw_schemas.specs.Inferred.{inferred, IsExact}
+
+-- the text of the schema that is inferred from a CSV text, or the first fault in it
+abbrev pub inferred_text : List ℕ → List ℕ → Result (List ℕ) Fault
+inferred_text table csv = inferred table csv >>= λ schema. Ok (schema_text schema)
+
+-- the same by what came, once it's certain that the table's name is a name
+abbrev pub text_from : List ℕ → Result (Option (List ℕ)) Fault → Result (List ℕ) Fault
+text_from table csv = refused_if (not (is_name table)) (nowhere 102) (csv_from csv >>= inferred_text table)
+
+-- an error of the reader's own stands at the heading, or at a record after a heading of names and records that have rows
+abbrev pub StopsInferring : List ℕ → Fault → Type 0
+StopsInferring csv =
+    Stops (λ heading more fault. (names : List (List ℕ)) × (heading_names heading ≡ Ok names)
+    × StopsBehind (bare_rows (length names)) more fault) (records_of csv)
+
+-- a text spells a schema that is exact for a CSV text
+pub record SpellsExactly (text csv : List ℕ) : Type 0 where
+  pub schema : Schema
+  pub spelled : IsSchemaText text (schema_shape schema)
+  pub exact : IsExact schema.columns.items csv
+
+-- a sink took such a text for the bytes of a CSV
+pub record InfersExactly (csv : List ℕ) (old new : Option (List ℕ)) : Type 0 where
+  pub text : List ℕ
+  pub took : Appends old new text
+  pub exact : SpellsExactly text csv
+
+-- a fault of a heading or of the bounds (102 to 105), or of a CSV text
+abbrev pub is_inferring_fault : Fault → Bool
+is_inferring_fault fault = (nat_le 102 fault.code && nat_le fault.code 105) || is_rows_fault fault

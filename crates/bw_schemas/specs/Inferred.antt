@@ -1,0 +1,72 @@
+-- The schema that is inferred from a CSV text: the columns of its heading, as narrow as the values that stand in them.
+use Rattle.std.specs.Prelude.{◌≡◌, ℕ, ℤ, suc, pos, ◌<◌, Bool, not, List, [], ◌∷◌, length, Option, Some, None, Result, Ok, Err, slice_index_or}
+use Rattle.std.specs.List.{list_any}
+use Rattle.bw_model.specs.declared.column.Column.{Column}
+use Rattle.bw_model.specs.declared.fault.Fault.{Fault}
+use Rattle.bw_model.specs.declared.query.Item.TheVariants.{Min, Max}
+use Rattle.bw_model.specs.Fault.{at_record, ◌>>=◌, refused_if}
+use Rattle.bw_model.specs.Row.{Value, value_in}
+use Rattle.bw_model.specs.SchemaText.{ColumnShape, SchemaShape, shape, is_range}
+use Rattle.bw_model.specs.Total.{total}
+use Rattle.bw_model.specs.Truth.{is_null}
+use Rattle.bw_csv.specs.Bare.{bare_rows, records_of}
+use Rattle.bw_csv.specs.Rows.{rows_of}
+use Rattle.bw_schemas.specs.Heading.{heading_names}
+
+-- a bound where there is a number, and else 0
+abbrev pub or_zero : Option ℤ → ℤ
+or_zero None = pos 0
+or_zero (Some n) = n
+
+-- a row has null in the column
+abbrev pub has_null : ℕ → List (List Value) → Bool
+has_null column rows = list_any (λ row. is_null (value_in row column)) rows
+
+-- the column of a name, from the least to the greatest number that the rows have in it, and nullable where one has null
+abbrev pub column_over : List (List Value) → ℕ → List ℕ → ColumnShape
+column_over rows column name =
+    shape name (or_zero (total (Min column) rows)) (or_zero (total (Max column) rows)) (has_null column rows)
+
+-- the columns of names, the first of which has this number
+unfoldable pub columns_over : List (List Value) → ℕ → List (List ℕ) → List ColumnShape
+columns_over rows column [] = []
+columns_over rows column (name ∷ names) = column_over rows column name ∷ columns_over rows (suc column) names
+
+-- a column, unless its bounds are 2^63 or more apart, which is a fault at the heading; and columns
+abbrev pub ranged_column : ColumnShape → Result ColumnShape Fault
+ranged_column column = refused_if (not (is_range column.lo column.hi)) (at_record 103 0) (Ok column)
+
+unfoldable pub ranged : List ColumnShape → Result (List ColumnShape) Fault
+ranged [] = Ok []
+ranged (column ∷ columns) = ranged_column column >>= λ first. ranged columns >>= λ rest. Ok (first ∷ rest)
+
+abbrev pub table_of : List ℕ → List ColumnShape → SchemaShape
+table_of table columns = record { name = table; columns = columns }
+
+-- the schema over rows of columns of these names
+abbrev pub schema_over : List ℕ → List (List ℕ) → List (List Value) → Result SchemaShape Fault
+schema_over table names rows = ranged (columns_over rows 0 names) >>= λ columns. Ok (table_of table columns)
+
+-- the schema of records, the first of which is the heading and has number 0, or the first fault in them: the heading, the
+-- records after it, and then the bounds
+unfoldable pub inferred_behind : List ℕ → List (List (List ℕ)) → Result SchemaShape Fault
+inferred_behind table [] = Err (at_record 201 0)
+inferred_behind table (heading ∷ more) =
+    heading_names heading >>= λ names. bare_rows (length names) 1 more >>= λ rows. schema_over table names rows
+
+-- the schema of this name that is inferred from a text, after a byte order mark where it has one, or the first fault
+abbrev pub inferred : List ℕ → List ℕ → Result SchemaShape Fault
+inferred table text = inferred_behind table (records_of text)
+
+-- a column is as narrow as what the rows have in it
+pub record IsNarrowest (rows : List (List Value)) (number : ℕ) (column : Column) : Type 0 where
+  pub lo : column.lo ≡ or_zero (total (Min number) rows)
+  pub hi : column.hi ≡ or_zero (total (Max number) rows)
+  pub nullable : column.nullable ≡ has_null number rows
+
+-- a text has rows under columns, without a fault, and each column is as narrow as they are
+pub record IsExact (columns : List Column) (text : List ℕ) : Type 0 where
+  pub rows : List (List Value)
+  pub spelled : rows_of columns text ≡ Ok rows
+  pub narrow : (number : ℕ) (column : Column) → number < length columns
+      → IsNarrowest rows number (slice_index_or columns number column)

@@ -1,0 +1,51 @@
+-- The text that a schema is written as: keywords in capitals, words one blank apart, names in the schema's spelling, bounds
+-- in decimal without leading zeros, and one line feed after each line.
+use Rattle.std.specs.Prelude.{◌≡◌, ℕ, Bool, true, false, FitsSigned, List, [], ◌∷◌, ◌++◌, codes}
+use Rattle.std.specs.Fmt.{signed_decimal}
+use Rattle.std.specs.Int.{w64}
+use Rattle.bw_model.specs.Lines.{cut_lines, numbered_from}
+use Rattle.bw_model.specs.Name.{is_name}
+use Rattle.bw_model.specs.SchemaText.{ColumnShape, SchemaShape}
+
+-- the words of a table's line and of a column's
+abbrev pub table_line : List ℕ → List (List ℕ)
+table_line name = codes "TABLE" ∷ name ∷ []
+
+abbrev pub not_null_words : Bool → List (List ℕ)
+not_null_words true = []
+not_null_words false = codes "NOT" ∷ codes "NULL" ∷ []
+
+abbrev pub column_line : ColumnShape → List (List ℕ)
+column_line column =
+    codes "COLUMN" ∷ column.name ∷ signed_decimal column.lo ∷ signed_decimal column.hi ∷ not_null_words column.nullable
+
+-- more words of a line, each after a blank, which is byte 32, and then a line feed, which is byte 10
+abbrev pub line_end : List (List ℕ) → List ℕ
+line_end [] = 10 ∷ []
+line_end (word ∷ words) = 32 ∷ word ++ line_end words
+
+-- a line of words, of which there is at least one
+abbrev pub line_text : List (List ℕ) → List ℕ
+line_text [] = line_end []
+line_text (word ∷ words) = word ++ line_end words
+
+unfoldable pub columns_text : List ColumnShape → List ℕ
+columns_text [] = []
+columns_text (column ∷ columns) = line_text (column_line column) ++ columns_text columns
+
+unfoldable pub schema_text : SchemaShape → List ℕ
+schema_text schema = line_text (table_line schema.name) ++ columns_text schema.columns
+
+-- a text of lines that say nothing, whatever the number of the first
+abbrev pub AreComments : List ℕ → Type 0
+AreComments text = (number : ℕ) → numbered_from number (cut_lines text) ≡ []
+
+-- so many bytes of comments have room after the text of every schema
+abbrev pub most_comments : ℕ
+most_comments = 4096
+
+-- a column as every column is: its name is a name, and 64 bits hold its bounds
+pub record IsColumn (column : ColumnShape) : Type 0 where
+  pub name : is_name column.name ≡ true
+  pub lo : FitsSigned w64 column.lo
+  pub hi : FitsSigned w64 column.hi

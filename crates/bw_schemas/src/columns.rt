@@ -1,0 +1,73 @@
+//! The columns of a schema, by what was seen of them.
+ghost use Rattle.std.specs.Prelude.{◌≡◌, ◌≤ℤ◌, ◌<ℤ◌, ◌-ℤ◌, ◌^◌, pos, length, map, true, false, IfOk, IfErr, IsTrue};
+ghost use Rattle.bw_model.specs.Column.{names_of};
+ghost use Rattle.bw_model.specs.SchemaText.{column_shape, is_range};
+ghost use Rattle.bw_csv.specs.Rows.{GivesButAside, is_reader_fault};
+ghost use Rattle.bw_schemas.specs.Infer.{is_inferring_fault};
+ghost use Rattle.bw_schemas.specs.Inferred.{or_zero, ranged, ranged_column};
+ghost use Rattle.bw_schemas.specs.Seen.{column_seen, columns_seen};
+
+use crate::seen::Seen;
+use bw_model::{Column, Fault, Name, code};
+use std::alloc::Global;
+
+/// The columns of these names. Refuses bounds that are 2^63 or more apart (103, at record 0).
+pub(crate) fn columns_seen(
+    alloc: Global,
+    names: &[Name],
+    seen: &[Seen],
+) -> Result<Vec<Column>, Fault>
+    requires { length names.now ≡ length seen.now }
+    ensures columns { GivesButAside (λ columns. map column_shape columns.items) result
+        (ranged (columns_seen names.now seen.now)) }
+    ensures names { IfOk result (λ columns. names_of columns.items ≡ names.now) }
+    ensures fault { IfErr result (λ fault. is_inferring_fault fault ≡ true) }
+    ensures own { IfErr result (λ fault. is_reader_fault fault ≡ false) }
+{
+    let mut columns: Vec<Column> = Vec::new(alloc);
+    for i in 0..names.len() {
+        let column = column_seen(alloc, &names[i], &seen[i])?;
+        columns.push(column)?;
+    }
+    Ok(columns)
+}
+
+/// The column of this name.
+fn column_seen(alloc: Global, name: &Name, seen: &Seen) -> Result<Column, Fault>
+    ensures column { GivesButAside column_shape result (ranged_column (column_seen name.now seen.now)) }
+    ensures name { IfOk result (λ column. column.name ≡ name.now) }
+    ensures fault { IfErr result (λ fault. is_inferring_fault fault ≡ true) }
+    ensures own { IfErr result (λ fault. is_reader_fault fault ≡ false) }
+{
+    let lo = or_zero(seen.least);
+    let hi = or_zero(seen.greatest);
+    if !is_range(lo, hi) {
+        return Err(Fault::at_record(code::SCHEMA_RANGE, 0));
+    }
+    Ok(Column {
+        name: Name::new(alloc, name.as_bytes())?,
+        lo,
+        hi,
+        nullable: seen.has_null,
+    })
+}
+
+/// A bound where there is a number, and else 0.
+fn or_zero(bound: Option<i64>) -> i64
+    ensures { result ≡ or_zero bound }
+{
+    match bound {
+        None => 0,
+        Some(n) => n,
+    }
+}
+
+/// Whether bounds are in order, and less than 2^63 apart.
+#[tactic(auto, unfolding(bw_model::specs::SchemaText::is_range))]
+fn is_range(lo: i64, hi: i64) -> bool
+    ensures test { result ≡ is_range lo hi }
+    ensures ordered { IsTrue result → lo ≤ℤ hi }
+    ensures narrow { IsTrue result → (hi -ℤ lo) <ℤ pos (2 ^ 63) }
+{
+    lo <= hi && hi.checked_sub(lo).is_some()
+}

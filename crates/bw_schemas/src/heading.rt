@@ -1,0 +1,53 @@
+//! The names of the columns that a heading makes.
+ghost use Rattle.std.specs.Prelude.{◌≡◌, ◌≤◌, IfOk, IfErr, length, true, false};
+ghost use Rattle.std.specs.List.{list_any};
+ghost use Rattle.bw_model.specs.Limits.{most_columns};
+ghost use Rattle.bw_model.specs.Name.{are_apart};
+ghost use Rattle.bw_model.specs.Text.{same_text};
+ghost use Rattle.bw_csv.specs.Records.{fields_in};
+ghost use Rattle.bw_csv.specs.Rows.{GivesButAside, is_reader_fault};
+ghost use Rattle.bw_schemas.specs.Heading.{heading_names};
+ghost use Rattle.bw_schemas.specs.Infer.{is_inferring_fault};
+
+use bw_csv::Records;
+use bw_model::{Fault, MAX_COLUMNS, Name, code, is_name};
+use std::alloc::Global;
+
+/// The names that the fields of the record that was read last are, without the spaces and tabs at their ends. Refuses at
+/// the first field from the left, each at record 0: the 65th column (105), what isn't a name (102), and the name of an
+/// earlier column, ignoring case (104).
+#[tactic(auto, unfolding(crate::specs::Heading::heading_names))]
+pub(crate) fn heading_names(alloc: Global, records: &Records<'_>) -> Result<Vec<Name>, Fault>
+    ensures names { GivesButAside (λ names. names.items) result (heading_names (fields_in records.now)) }
+    ensures some { IfOk result (λ names. 1 ≤ length names.items) }
+    ensures few { IfOk result (λ names. length names.items ≤ most_columns) }
+    ensures apart { IfOk result (λ names. are_apart names.items ≡ true) }
+    ensures fault { IfErr result (λ fault. is_inferring_fault fault ≡ true) }
+    ensures own { IfErr result (λ fault. is_reader_fault fault ≡ false) }
+{
+    let mut names: Vec<Name> = Vec::new(alloc);
+    for i in 0..records.field_count() {
+        let name = records.field(i);
+        if names.len() >= MAX_COLUMNS {
+            return Err(Fault::at_record(code::COLUMN_COUNT, 0));
+        }
+        if !is_name(name) {
+            return Err(Fault::at_record(code::SCHEMA_NAME, 0));
+        }
+        if has_name(&names, name) {
+            return Err(Fault::at_record(code::NAME_TWICE, 0));
+        }
+        names.push(Name::new(alloc, name)?)?;
+    }
+    if names.is_empty() {
+        return Err(Fault::at_record(code::COLUMN_COUNT, 0));
+    }
+    Ok(names)
+}
+
+/// Whether one of these names is this one, ignoring case.
+fn has_name(names: &[Name], name: &[u8]) -> bool
+    ensures { result ≡ list_any (λ other. same_text other name.now) names.now }
+{
+    names.iter().any(|other| other.is(name))
+}

@@ -1,0 +1,87 @@
+//! A schema text written from a CSV text.
+ghost use Rattle.std.specs.Prelude.{◌≡◌, ◌+◌, ◌-◌, ◌^◌, ◌<◌, ℕ, List, Option, Result, Ok, Some, true, false, IfOk, IfErr, IsTrue, OnOk};
+ghost use Rattle.bw_model.specs.declared.fault.Fault.{Fault};
+ghost use Rattle.bw_model.specs.Fault.{nowhere};
+ghost use Rattle.bw_model.specs.Limits.{longest_csv};
+ghost use Rattle.bw_model.specs.Name.{is_name};
+ghost use Rattle.bw_device.specs.Sink.{is_write_fault, Went};
+ghost use Rattle.bw_device.specs.Source.{Came, TookAtMost, EndsWith};
+ghost use Rattle.bw_csv.specs.Rows.{is_aside, is_reader_fault, GivesButAside};
+ghost use Rattle.bw_schemas.specs.Infer.{inferred_text, is_inferring_fault, text_from, InfersExactly, SpellsExactly, StopsInferring};
+
+use crate::print::print_schema;
+use crate::schema::{infer_schema, inferred_schemas_are_exact};
+use bw_csv::read_csv;
+use bw_device::{Sink, Source, write_whole};
+use bw_model::{Fault, code, is_name};
+use std::alloc::Global;
+
+/// Writes a schema text for a CSV text: a table of this name, and a column for each heading, from the least to the
+/// greatest number that stands in it, with `NOT NULL` where no field is null. A column without a number has `0 0`.
+///
+/// Refuses in this order: a table's name that isn't one (102, at no place, and the CSV's source isn't read), the CSV's source
+/// (701) and length (208), its first record that is wrong (201; a heading that makes no columns, 105, 102 and 104 at record
+/// 0; 203, 207, 204 and 205, and 209), a column whose values are 2^63 or more apart (103, at record 0), and the sink (702);
+/// out of memory (801) wherever it comes. Nothing is written before all else has succeeded. Beside the CSV text, which is
+/// read whole, up to 1 GiB, a row and three values a column are in memory. That each device's count of failures can rise is
+/// the caller's condition.
+pub fn infer<C: Source, K: Sink>(
+    alloc: Global,
+    table: &[u8],
+    csv_source: &mut C,
+    sink: &mut K,
+) -> Result<(), Fault>
+    requires csv { C.failures csv_source.old < 2 ^ 64 - 1 }
+    requires sink { K.failures sink.old < 2 ^ 64 - 1 }
+
+    // What went out is the text of the schema that is inferred from what came of the source, or nothing, where that is a
+    // fault. A source that wasn't reached, or whose text found no memory, stands as one that found no memory.
+    ensures schema { (csv : Result (Option (List ℕ)) Fault) × (given : Result (List ℕ) Fault)
+        × Came longest_csv (C.to_come csv_source.old) (C.to_come csv_source.new)
+        (C.failures csv_source.old) (C.failures csv_source.new) csv
+        × (given ≡ text_from table.now csv)
+        × Went is_aside (K.taken sink.old) (K.taken sink.new) (K.failures sink.old) (K.failures sink.new) given result }
+
+    // Where the bytes to come are known: the text that went out spells a schema under which they have their rows without a
+    // fault, and no column of it could be narrower.
+    ensures exact { (csv : List ℕ) → C.to_come csv_source.old ≡ Some csv
+        → OnOk result (InfersExactly csv (K.taken sink.old) (K.taken sink.new)) }
+
+    // Where the reader has an error of its own, the CSV came whole, and its place is the heading, or the record after
+    // those whose rows are good.
+    ensures reader { IfErr result (λ fault. is_reader_fault fault ≡ true → (csv : List ℕ)
+        × Came longest_csv (C.to_come csv_source.old) (C.to_come csv_source.new)
+        (C.failures csv_source.old) (C.failures csv_source.new) (Ok (Some csv))
+        × StopsInferring csv fault) }
+
+    // Where a device failed, the call ends with that; and no more is taken of the source than one byte past its limit.
+    ensures csv_failed { EndsWith (nowhere 701) (C.failures csv_source.old) (C.failures csv_source.new) result }
+    ensures sink_failed { EndsWith (nowhere 702) (K.failures sink.old) (K.failures sink.new) result }
+    ensures took { TookAtMost (longest_csv + 1) (C.to_come csv_source.old) (C.to_come csv_source.new) }
+    ensures unneeded { is_name table.now ≡ false → csv_source.new ≡ csv_source.old }
+
+    // Where it refuses, but for a write that failed, it has written nothing.
+    ensures unwritten { IfErr result (λ fault. is_write_fault fault ≡ false
+        → (K.taken sink.new ≡ K.taken sink.old) × (K.failures sink.new ≡ K.failures sink.old)) }
+    ensures done { OnOk result (K.failures sink.new ≡ K.failures sink.old) }
+{
+    if !is_name(table) {
+        return Err(Fault::new(code::SCHEMA_NAME));
+    }
+    let csv = read_csv(alloc, csv_source)?;
+    let text = inferred_text(alloc, table, &csv)?;
+    write_whole(sink, &text)
+}
+
+/// The text of the schema that is inferred from a CSV text.
+fn inferred_text(alloc: Global, table: &[u8], csv: &[u8]) -> Result<Vec<u8>, Fault>
+    requires { IsTrue (is_name table.now) }
+    ensures text { GivesButAside (λ text. text.items) result (inferred_text table.now csv.now) }
+    ensures exact { IfOk result (λ text. SpellsExactly text.items csv.now) }
+    ensures fault { IfErr result (λ fault. is_inferring_fault fault ≡ true) }
+    ensures reader { IfErr result (λ fault. is_reader_fault fault ≡ true → StopsInferring csv.now fault) }
+{
+    inferred_schemas_are_exact();
+    let schema = infer_schema(alloc, table, csv)?;
+    print_schema(alloc, &schema)
+}

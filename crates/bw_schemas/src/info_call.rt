@@ -1,0 +1,63 @@
+//! The header of a table file, written as text.
+ghost use Rattle.std.specs.Prelude.{◌≡◌, ◌-◌, ◌^◌, ◌<◌, ℕ, List, Result, Some, false, length, IfErr, IsTrue, OnOk};
+ghost use Rattle.bw_model.specs.declared.fault.Fault.{Fault};
+ghost use Rattle.bw_model.specs.declared.schema.Schema.{Schema};
+ghost use Rattle.bw_model.specs.Fault.{nowhere};
+ghost use Rattle.bw_model.specs.Groups.{groups_of};
+ghost use Rattle.bw_model.specs.Row.{Value};
+ghost use Rattle.bw_device.specs.Sink.{Wrote, is_write_fault};
+ghost use Rattle.bw_device.specs.Source.{EndsWith};
+ghost use Rattle.bw_file.specs.declared.layout.Layout.{Layout};
+ghost use Rattle.bw_file.specs.FileText.{AreRows, IsFileText, text_of_version};
+ghost use Rattle.bw_file.specs.Reading.{state};
+ghost use Rattle.bw_schemas.specs.Info.{InfoGave, TellsFile, file_size, is_no_verdict, segment_count};
+
+use crate::text::info_text;
+use bw_device::{Sink, Source, write_whole};
+use bw_file::{TableReader, a_file_text_is_read_whole};
+use bw_model::Fault;
+use std::alloc::Global;
+
+/// Writes what the header of a table file says: the schema text that spells the table's schema, and then the numbers of
+/// its rows and segments, its layout, its version and the length of the whole file, a comment line each. The header alone
+/// is read, and nothing after it.
+///
+/// Refuses in this order: the header (301 to 305, 310) and the sink (702); 701 where a read fails, and out of memory (801)
+/// wherever it comes. Nothing is written before the header was found good. That each device's count of failures can rise is
+/// the caller's condition.
+pub fn info<S: Source, K: Sink>(alloc: Global, table: &mut S, sink: &mut K) -> Result<(), Fault>
+    requires table { S.failures table.old < 2 ^ 64 - 1 }
+    requires sink { K.failures sink.old < 2 ^ 64 - 1 }
+    ensures info { (offset : ℕ) × (given : Result (List ℕ) Fault)
+        × InfoGave (state (S.to_come table.old) 0 (S.failures table.old))
+        (state (S.to_come table.new) offset (S.failures table.new)) given
+        × Wrote (K.taken sink.old) (K.taken sink.new) (K.failures sink.old) (K.failures sink.new) given result }
+
+    // Where the bytes to come are a table file's: its schema, its rows and its length are reported, and it's only a device or
+    // memory that can fail.
+    ensures file { (bytes : List ℕ) (layout : Layout) (schema : Schema) (rows : List (List Value))
+        → S.to_come table.old ≡ Some bytes → IsFileText bytes layout schema rows
+        → OnOk result (TellsFile bytes layout schema rows (K.taken sink.old) (K.taken sink.new)) }
+    ensures accepted { (bytes : List ℕ) (layout : Layout) (schema : Schema) (rows : List (List Value))
+        → S.to_come table.old ≡ Some bytes → IsFileText bytes layout schema rows
+        → IfErr result (λ fault. IsTrue (is_no_verdict fault)) }
+    ensures table_failed { EndsWith (nowhere 701) (S.failures table.old) (S.failures table.new) result }
+    ensures sink_failed { EndsWith (nowhere 702) (K.failures sink.old) (K.failures sink.new) result }
+    ensures unwritten { IfErr result (λ fault. is_write_fault fault ≡ false
+        → (K.taken sink.new ≡ K.taken sink.old) × (K.failures sink.new ≡ K.failures sink.old)) }
+    ensures done { OnOk result (K.failures sink.new ≡ K.failures sink.old) }
+{
+    a_file_text_is_read_whole();
+    let reader = TableReader::begin(alloc, table)?;
+    let text = info_text(alloc, &reader)?;
+    write_whole(sink, &text)
+}
+
+/// A law: the file of a table has the size that its header tells, and its rows as many groups.
+pub fn tables_have_their_size()
+    ensures size { (version : ℕ) (layout : Layout) (schema : Schema) (rows : List (List Value))
+        → AreRows schema.columns.items rows
+        → length (text_of_version version layout schema.name schema.columns.items rows)
+        ≡ file_size version layout schema (length rows) }
+    ensures segments { (rows : List (List Value)) → length (groups_of rows) ≡ segment_count (length rows) }
+{}

@@ -1,0 +1,122 @@
+//! The schema that a CSV text makes.
+ghost use Rattle.std.specs.Prelude.{◌≡◌, ℕ, List, Ok, true, length, map, replicate, IfErr, IfOk, OnOk, IsTrue};
+ghost use Rattle.bw_model.specs.declared.schema.Schema.{Schema};
+ghost use Rattle.bw_model.specs.Limits.{most_rows};
+ghost use Rattle.bw_model.specs.Name.{is_name};
+ghost use Rattle.bw_model.specs.Row.{values_of};
+ghost use Rattle.bw_model.specs.SchemaText.{column_shape, schema_shape};
+ghost use Rattle.bw_model.specs.Column.{names_of};
+ghost use Rattle.bw_csv.specs.Records.{IsOpen, coming, fields_in};
+ghost use Rattle.bw_csv.specs.Bare.{bare_rows};
+ghost use Rattle.bw_csv.specs.Rows.{GivesButAside, is_reader_fault, StopsBehind};
+ghost use Rattle.bw_schemas.specs.Infer.{is_inferring_fault, StopsInferring};
+ghost use Rattle.bw_schemas.specs.Inferred.{inferred, IsExact};
+ghost use Rattle.bw_schemas.specs.Seen.{columns_behind, nothing, with_records};
+
+use crate::columns::columns_seen;
+use crate::heading::heading_names;
+use crate::seen::{Seen, take_values};
+use bw_csv::{Records, read_bare_row};
+use bw_model::{Column, Fault, Name, Row, Schema, code};
+use std::alloc::{AllocError, Global};
+
+/// The schema of this name that is inferred from a CSV text. That the table's name is a name is the caller's condition.
+///
+/// Refuses at the first record that is wrong: a text without one (201); a heading that makes no columns (105, 102, 104);
+/// then for each record its number of fields (203), a row past 2^24 (207), and its fields from the left: no whole number
+/// (204), or one that 64 bits don't hold (205); and at last a column whose values are 2^63 or more apart (103, at record
+/// 0). 209 is any other error of the reader.
+#[tactic(auto, unfolding(crate::specs::Inferred::inferred_behind))]
+pub(crate) fn infer_schema(alloc: Global, table: &[u8], text: &[u8]) -> Result<Schema, Fault>
+    requires { IsTrue (is_name table.now) }
+    ensures schema { GivesButAside schema_shape result (inferred table.now text.now) }
+    ensures fault { IfErr result (λ fault. is_inferring_fault fault ≡ true) }
+    ensures reader { IfErr result (λ fault. is_reader_fault fault ≡ true → StopsInferring text.now fault) }
+{
+    let mut records = Records::new(alloc, text);
+    if !records.next(0)? {
+        return Err(Fault::at_record(code::NO_HEADING, 0));
+    }
+    let names = heading_names(alloc, &records)?;
+    let columns = columns_behind(alloc, &mut records, &names)?;
+    Ok(Schema {
+        name: Name::new(alloc, table)?,
+        columns,
+    })
+}
+
+/// The columns of these names, by the rows of the records to come, the first of which has number 1.
+fn columns_behind(
+    alloc: Global,
+    records: &mut Records<'_>,
+    names: &[Name],
+) -> Result<Vec<Column>, Fault>
+    requires { IsOpen records.old }
+    ensures columns { GivesButAside (λ columns. map column_shape columns.items) result
+        (columns_behind names.now (coming records.old)) }
+    ensures names { IfOk result (λ columns. names_of columns.items ≡ names.now) }
+    ensures fault { IfErr result (λ fault. is_inferring_fault fault ≡ true) }
+    ensures reader { IfErr result (λ fault. is_reader_fault fault ≡ true
+        → StopsBehind (bare_rows (length names.now)) (coming records.old) fault) }
+{
+    let seen = rows_seen(alloc, records, names.len())?;
+    columns_seen(alloc, names, &seen)
+}
+
+/// What the rows of the records to come, the first of which has number 1, have in so many columns.
+fn rows_seen(alloc: Global, records: &mut Records<'_>, width: usize) -> Result<Vec<Seen>, Fault>
+    requires { IsOpen records.old }
+    ensures seen { GivesButAside (λ columns. columns.items) result
+        (with_records (replicate width nothing) width 1 (coming records.old)) }
+    ensures width { IfOk result (λ columns. length columns.items ≡ width) }
+    ensures fault { IfErr result (λ fault. is_inferring_fault fault ≡ true) }
+    ensures reader { IfErr result (λ fault. is_reader_fault fault ≡ true
+        → StopsBehind (bare_rows width) (coming records.old) fault) }
+{
+    let mut row = Row {
+        values: Vec::with_capacity(alloc, width)?,
+    };
+    let mut seen = nothing_seen(alloc, width)?;
+    take_rows(records, &mut row, &mut seen)?;
+    Ok(seen)
+}
+
+/// So many columns of which nothing was seen yet.
+fn nothing_seen(alloc: Global, width: usize) -> Result<Vec<Seen>, AllocError>
+    ensures { IfOk result (λ columns. columns.items ≡ replicate width nothing) }
+{
+    let mut columns = Vec::new(alloc);
+    let nothing = Seen {
+        least: None,
+        greatest: None,
+        has_null: false,
+    };
+    columns.resize(width, nothing)?;
+    Ok(columns)
+}
+
+/// Takes the rows of the records to come, the first of which has number 1.
+fn take_rows(records: &mut Records<'_>, row: &mut Row, columns: &mut Vec<Seen>) -> Result<(), Fault>
+    requires { IsOpen records.old }
+    ensures seen { GivesButAside (λ _. columns.new.items) result
+        (with_records columns.old.items (length columns.old.items) 1 (coming records.old)) }
+    ensures width { OnOk result (length columns.new.items ≡ length columns.old.items) }
+    ensures fault { IfErr result (λ fault. is_inferring_fault fault ≡ true) }
+    ensures reader { IfErr result (λ fault. is_reader_fault fault ≡ true
+        → StopsBehind (bare_rows (length columns.old.items)) (coming records.old) fault) }
+{
+    let width = columns.len();
+    let mut number = 1;
+    'rows: while read_bare_row(records, width, number, row)? {
+        take_values(columns, &row.values);
+        number += 1;
+    }
+    Ok(())
+}
+
+/// A law: the schema that is inferred from a CSV text is exact for it: the text has its rows under the schema, and no
+/// column could be narrower.
+pub fn inferred_schemas_are_exact()
+    ensures { (table text : List ℕ) (schema : Schema) → inferred table text ≡ Ok (schema_shape schema)
+        → IsExact schema.columns.items text }
+{}

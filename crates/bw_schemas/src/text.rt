@@ -1,0 +1,67 @@
+//! The text of what a header says.
+ghost use Rattle.std.specs.Prelude.{◌≡◌, ◌++◌, ◌∷◌, ◌≤◌, [], IfOk, IsOkUnless, OnOk, length};
+ghost use Rattle.std.specs.Fmt.{decimal};
+ghost use Rattle.bw_model.specs.Fault.{no_memory};
+ghost use Rattle.bw_model.specs.SchemaText.{IsSchemaText, schema_shape};
+ghost use Rattle.bw_file.specs.FileText.{header_text};
+ghost use Rattle.bw_file.specs.TableReader.{bytes_taken, layout_in, rows_told, schema_in, version_in};
+ghost use Rattle.bw_schemas.specs.Info.{info_text, layout_word};
+
+use crate::print::print_schema;
+use bw_file::{Layout, TableReader};
+use bw_model::Fault;
+use std::alloc::{AllocError, Global};
+
+/// The text of what a reader's header says. That it took the header's bytes, and no other, is the caller's condition.
+pub(crate) fn info_text(alloc: Global, reader: &TableReader) -> Result<Vec<u8>, Fault>
+    requires head { bytes_taken reader.now ≡ length (header_text (version_in reader.now) (layout_in reader.now)
+        (schema_in reader.now).name (schema_in reader.now).columns.items (rows_told reader.now)) }
+    requires short { bytes_taken reader.now ≤ 20000 }
+    ensures text { IfOk result (λ text. text.items
+        ≡ info_text (version_in reader.now) (layout_in reader.now) (schema_in reader.now) (rows_told reader.now)) }
+    ensures spelled { IfOk result (λ text. IsSchemaText text.items (schema_shape (schema_in reader.now))) }
+    ensures only_memory { IsOkUnless result no_memory }
+{
+    let rows = u64::from(reader.rows());
+    let segments = (rows + 511) / 512;
+    let size = reader.offset() + segments * reader.segment_size() as u64;
+    let mut text = print_schema(alloc, reader.schema())?;
+    put_number(alloc, b"# rows ", rows, &mut text)?;
+    put_number(alloc, b"# segments ", segments, &mut text)?;
+    put_word(b"# layout ", layout_word(reader.layout()), &mut text)?;
+    put_number(alloc, b"# version ", u64::from(reader.version()), &mut text)?;
+    put_number(alloc, b"# bytes ", size, &mut text)?;
+    Ok(text)
+}
+
+fn layout_word(layout: Layout) -> &'static [u8]
+    ensures { result.now ≡ layout_word layout }
+{
+    match layout {
+        Layout::Planes => b"planes",
+        Layout::Slices => b"slices",
+    }
+}
+
+/// Appends a line that ends with a number.
+fn put_number(
+    alloc: Global,
+    front: &[u8],
+    number: u64,
+    text: &mut Vec<u8>,
+) -> Result<(), AllocError>
+    ensures { OnOk result (text.new.items ≡ text.old.items ++ (front.now ++ (decimal number ++ 10 ∷ []))) }
+{
+    let digits = number.to_string(alloc)?;
+    put_word(front, digits.as_bytes(), text)
+}
+
+/// Appends a line that ends with a word.
+fn put_word(front: &[u8], word: &[u8], text: &mut Vec<u8>) -> Result<(), AllocError>
+    ensures { OnOk result (text.new.items ≡ text.old.items ++ (front.now ++ (word.now ++ 10 ∷ []))) }
+{
+    text.extend_from_slice(front)?;
+    text.extend_from_slice(word)?;
+    text.push(b'\n')?;
+    Ok(())
+}
