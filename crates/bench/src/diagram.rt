@@ -2,8 +2,9 @@
 //! cofactors. Standard output says how many lines were accepted, and standard error how long each kind took, in
 //! microseconds.
 use crate::failure::Failure;
-use bw_diagram::{ChainKind, ChainLine, Connective, Diagram, Reason};
+use bw_diagram::{ChainColumns, ChainKind, Connective, Diagram, Reason};
 use bw_model::{Fault, Schema};
+use std::alloc::Global;
 use std::rt::Clock;
 use std::time::Instant;
 
@@ -24,17 +25,25 @@ const ROWS: u64 = 1_048_576;
 pub(crate) fn fill(rt: &(impl AllocGlobal + Print + Eprint + Clock)) -> Result<(), Failure> {
     let schema = Schema::parse(rt.alloc(), SCHEMA)?;
     let mut diagram = Diagram::new(rt.alloc(), &schema);
+    fill_in_turn(rt, &mut diagram)
+}
+
+/// Adds the lines, one kind after the other.
+fn fill_in_turn(
+    rt: &(impl AllocGlobal + Print + Eprint + Clock),
+    diagram: &mut Diagram<'_>,
+) -> Result<(), Failure> {
     let start = Instant::now(rt)?;
-    add_nodes(&mut diagram)?;
+    add_nodes(diagram)?;
     let nodes = start.elapsed(rt)?.as_micros();
     let start = Instant::now(rt)?;
-    add_chains(&mut diagram)?;
+    add_chains(rt.alloc(), diagram)?;
     let chains = start.elapsed(rt)?.as_micros();
     let start = Instant::now(rt)?;
-    add_cited_rows(&mut diagram)?;
+    add_cited_rows(diagram)?;
     let cited = start.elapsed(rt)?.as_micros();
     let start = Instant::now(rt)?;
-    add_rows(&mut diagram)?;
+    add_rows(diagram)?;
     let rows = start.elapsed(rt)?.as_micros();
     eprintln!(rt; "nodes {nodes}\nchains {chains}\nshortcuts {cited}\nrows {rows}")?;
     println!(rt; "{} nodes, {CHAINS} chains, {ROWS} rows", NODES - 2)?;
@@ -51,18 +60,18 @@ fn add_nodes(diagram: &mut Diagram<'_>) -> Result<(), Fault> {
 }
 
 /// Chains over no bit and over one bit of the last column, in turn.
-fn add_chains(diagram: &mut Diagram<'_>) -> Result<(), Fault> {
+fn add_chains(alloc: Global, diagram: &mut Diagram<'_>) -> Result<(), Fault> {
     for n in 0..CHAINS {
-        let line = ChainLine::OneColumn {
+        let columns = ChainColumns::One {
             kind: ChainKind::Less,
-            column: b"d",
+            column: Vec::from_slice(alloc, b"d")?,
             start: 0,
             len: n % 2,
             bound: n % 2,
             node: 2 * (n % 2),
             prev: if n % 2 == 1 { Some(n - 1) } else { None },
         };
-        diagram.add_chain(n, line)?;
+        diagram.add_chain(n, &columns)?;
     }
     Ok(())
 }

@@ -2,6 +2,7 @@
 //! number to which each call added.
 ghost use Rattle.std.specs.Prelude.{◌≤◌};
 ghost use Rattle.bw_model.specs.Groups.{group_size};
+ghost use Rattle.bw_segment.specs.Meaning.{meaning_of, IsGroup};
 
 use crate::drawn::{drawn, or_null};
 use crate::failure::Failure;
@@ -192,27 +193,50 @@ fn time_judging<R: Print + Eprint + Clock>(
     if !is_group(&schema, &rows) {
         return Err(Failure::Rows);
     }
-    let planes = PlaneSegment::build(alloc, &schema, &rows)?;
-    let slices = SliceSegment::build(alloc, &schema, &rows)?;
-    let judgings = calls / 4;
-    let mut bytes = Vec::from_slice(alloc, planes.bytes())?;
-    let mut others = Vec::from_slice(alloc, slices.bytes())?;
+    time_judging_planes(rt, alloc, &schema, &rows, calls / 4)?;
+    time_judging_slices(rt, alloc, &schema, &rows, calls / 4)
+}
+
+fn time_judging_planes<R: Print + Eprint + Clock>(
+    rt: &R,
+    alloc: Global,
+    schema: &Schema,
+    rows: &[Row],
+    judgings: u32,
+) -> Result<(), Failure>
+    requires { IsGroup (meaning_of schema.now rows.now) }
+{
+    let segment = PlaneSegment::build(alloc, schema, rows)?;
+    let mut bytes = Vec::from_slice(alloc, segment.bytes())?;
     let start = Instant::now(rt)?;
     let mut seen = 0;
     for call in 0..judgings {
         if let Some(first) = bytes.first_mut() {
             *first = (call & 0xFF) as u8;
         }
-        seen ^= judged_planes(&planes.shape, planes.rows_in(), &bytes) ^ u64::from(call);
+        seen ^= judged_planes(&segment.shape, segment.rows_in(), &bytes) ^ u64::from(call);
     }
-    tell(rt, "judge planes", judgings, start, seen)?;
+    tell(rt, "judge planes", judgings, start, seen)
+}
+
+fn time_judging_slices<R: Print + Eprint + Clock>(
+    rt: &R,
+    alloc: Global,
+    schema: &Schema,
+    rows: &[Row],
+    judgings: u32,
+) -> Result<(), Failure>
+    requires { IsGroup (meaning_of schema.now rows.now) }
+{
+    let segment = SliceSegment::build(alloc, schema, rows)?;
+    let mut bytes = Vec::from_slice(alloc, segment.bytes())?;
     let start = Instant::now(rt)?;
-    seen = 0;
+    let mut seen = 0;
     for call in 0..judgings {
-        if let Some(first) = others.first_mut() {
+        if let Some(first) = bytes.first_mut() {
             *first = (call & 0xFF) as u8;
         }
-        seen ^= judged_slices(&slices.shape, slices.rows_in(), &others) ^ u64::from(call);
+        seen ^= judged_slices(&segment.shape, segment.rows_in(), &bytes) ^ u64::from(call);
     }
     tell(rt, "judge slices", judgings, start, seen)
 }

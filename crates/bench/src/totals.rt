@@ -25,26 +25,62 @@ const PASSES: usize = 1_250;
 
 const ROUNDS: usize = 30;
 
+/// The same segments in both layouts.
+#[derive(Drop)]
+struct Cases {
+    planes: Vec<PlaneSegment>,
+    slices: Vec<SliceSegment>,
+}
+
 pub(crate) fn time_all(rt: &(impl AllocGlobal + Print + Eprint + Clock)) -> Result<(), Failure> {
-    let alloc = rt.alloc();
-    let schema = Schema::parse(alloc, SCHEMA)?;
     let mut state = 1;
-    let mut planes = Vec::with_capacity(alloc, CASES)?;
-    let mut slices = Vec::with_capacity(alloc, CASES)?;
-    for _ in 0..CASES {
-        let rows = drawn_rows(alloc, &mut state)?;
-        if !is_group(&schema, &rows) {
-            return Err(Failure::Rows);
-        }
-        planes.push(PlaneSegment::build(alloc, &schema, &rows)?)?;
-        slices.push(SliceSegment::build(alloc, &schema, &rows)?)?;
-    }
-    let half = drawn_plane(&mut state, 1);
-    let few = drawn_plane(&mut state, 6);
+    let cases = drawn_cases(rt.alloc(), &mut state)?;
+    time_cases(rt, &cases, &mut state)
+}
+
+/// Times totals over half of the rows, and over few.
+fn time_cases(
+    rt: &(impl Print + Eprint + Clock),
+    cases: &Cases,
+    state: &mut u64,
+) -> Result<(), Failure> {
+    let half = drawn_plane(state, 1);
+    let few = drawn_plane(state, 6);
     for (picked, name) in [(half, "half the rows"), (few, "one row in 64")] {
-        time_layout(rt, &planes, &picked, "planes", name)?;
-        time_layout(rt, &slices, &picked, "slices", name)?;
+        time_layout(rt, &cases.planes, &picked, "planes", name)?;
+        time_layout(rt, &cases.slices, &picked, "slices", name)?;
     }
+    Ok(())
+}
+
+fn drawn_cases(alloc: Global, state: &mut u64) -> Result<Cases, Failure> {
+    let schema = Schema::parse(alloc, SCHEMA)?;
+    let mut cases = Cases {
+        planes: Vec::new(alloc),
+        slices: Vec::new(alloc),
+    };
+    for _ in 0..CASES {
+        add_case(alloc, &schema, state, &mut cases)?;
+    }
+    Ok(cases)
+}
+
+fn add_case(
+    alloc: Global,
+    schema: &Schema,
+    state: &mut u64,
+    cases: &mut Cases,
+) -> Result<(), Failure> {
+    let rows = drawn_rows(alloc, state)?;
+    if !is_group(schema, &rows) {
+        return Err(Failure::Rows);
+    }
+    cases
+        .planes
+        .push(PlaneSegment::build(alloc, schema, &rows)?)?;
+    cases
+        .slices
+        .push(SliceSegment::build(alloc, schema, &rows)?)?;
     Ok(())
 }
 

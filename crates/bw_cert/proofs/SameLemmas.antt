@@ -4,12 +4,12 @@ use Rattle.bw_model.specs.declared.column.Column.{Column}
 use Rattle.bw_model.specs.declared.fault.Fault.{Fault}
 use Rattle.bw_model.specs.Fault.{at_line, ◌>>=◌}
 use Rattle.bw_diagram.specs.declared.chain.Chain.{Chain}
-use Rattle.bw_diagram.specs.Chain.{one_named, two_named}
+use Rattle.bw_diagram.specs.declared.chain.ChainColumns.{ChainColumns}
+use Rattle.bw_diagram.specs.declared.chain.ChainColumns.TheVariants as words
+use Rattle.bw_diagram.specs.Chain.{chain_named, one_named, two_named}
 use Rattle.bw_diagram.specs.Facts.{Facts, no_facts, with_chain}
 use Rattle.bw_cert_lines.specs.declared.lines.BodyLine.{BodyLine}
 use Rattle.bw_cert_lines.specs.declared.lines.ChainLine.{ChainLine}
-use Rattle.bw_cert_lines.specs.declared.lines.ChainColumns.{ChainColumns}
-use Rattle.bw_cert_lines.specs.declared.lines.ChainColumns.TheVariants as words
 use Rattle.bw_cert_lines.specs.CertificateFields.{CertificateFields, ChainFields, ColumnFields, BodyFields, One, Two, chain_fields, column_fields, body_fields, certificate_fields}
 use Rattle.bw_cert_lines.specs.CertificateShape.{CertificateShape}
 use Rattle.bw_cert_pair.specs.declared.nodes.Pair.{Pair}
@@ -17,7 +17,7 @@ use Rattle.bw_cert_pair.specs.Pair as pairs
 use Rattle.bw_cert_known.specs.Known.{Known}
 use Rattle.bw_cert_known.specs.Walk.{Taken}
 use Rattle.bw_cert_known.specs.Walk as walk
-use Rattle.bw_cert.specs.Stated.{on_line, with_lines, with_node_line, chain_of, with_chain_line, with_row_line, facts_stated}
+use Rattle.bw_cert.specs.Stated.{on_line, with_lines, with_node_line, with_chain_line, with_row_line, facts_stated}
 use Rattle.bw_cert.specs.Valid.{last_on}
 
 abbrev pub SayTheSame : List BodyLine → List BodyLine → Type 0
@@ -32,7 +32,7 @@ abbrev chain_said : List Column → ColumnFields → Option Chain
 chain_said columns (One kind column start len bound node prev) = one_named columns kind column start len bound node prev
 chain_said columns (Two kind left right len node prev) = two_named columns kind left right len node prev
 
-chain-said : (columns : List Column) (compared : ChainColumns) → chain_of columns compared ≡ chain_said columns (column_fields compared)
+chain-said : (columns : List Column) (compared : ChainColumns) → chain_named columns compared ≡ chain_said columns (column_fields compared)
 chain-said columns (words.One kind column start len bound node prev) = refl
 chain-said columns (words.Two kind left right len node prev) = refl
 

@@ -1,15 +1,12 @@
 -- What the NODE, CHAIN and ROW lines of a certificate state: nodes, chains and product rows, each by the rule of its line.
-use Rattle.std.specs.Prelude.{ℕ, List, [], ◌∷◌, Option, Result, Ok, Err}
+use Rattle.std.specs.Prelude.{ℕ, List, [], ◌∷◌, Result, Ok, Err}
 use Rattle.bw_model.specs.declared.column.Column.{Column}
 use Rattle.bw_model.specs.declared.fault.Fault.{Fault}
 use Rattle.bw_model.specs.Fault.{at_line, ◌>>=◌}
-use Rattle.bw_diagram.specs.declared.chain.Chain.{Chain}
-use Rattle.bw_diagram.specs.Chain.{one_named, two_named}
+use Rattle.bw_diagram.specs.Chain.{chain_named}
 use Rattle.bw_diagram.specs.Facts.{Facts, no_facts, with_node, with_chain, with_row}
 use Rattle.bw_cert_lines.specs.declared.lines.NodeLine.{NodeLine}
 use Rattle.bw_cert_lines.specs.declared.lines.ChainLine.{ChainLine}
-use Rattle.bw_cert_lines.specs.declared.lines.ChainColumns.{ChainColumns}
-use Rattle.bw_cert_lines.specs.declared.lines.ChainColumns.TheVariants.{One, Two}
 use Rattle.bw_cert_lines.specs.declared.lines.RowLine.{RowLine}
 use Rattle.bw_cert_lines.specs.CertificateShape.{CertificateShape}
 
@@ -22,14 +19,8 @@ abbrev pub with_node_line : Facts → NodeLine → Result Facts Fault
 with_node_line facts line = on_line line.line (with_node facts line.n
     (record { v = line.v; low = line.low; high = line.high }))
 
--- the chain that a line names, if its words name columns
-abbrev pub chain_of : List Column → ChainColumns → Option Chain
-chain_of columns (One kind column start len bound node prev) =
-    one_named columns kind column.items start len bound node prev
-chain_of columns (Two kind left right len node prev) = two_named columns kind left.items right.items len node prev
-
 abbrev pub with_chain_line : Facts → ChainLine → Result Facts Fault
-with_chain_line facts line = on_line line.line (with_chain facts line.n (chain_of facts.columns line.columns))
+with_chain_line facts line = on_line line.line (with_chain facts line.n (chain_named facts.columns line.columns))
 
 abbrev pub with_row_line : Facts → RowLine → Result Facts Fault
 with_row_line facts line = on_line line.line (with_row facts line.n

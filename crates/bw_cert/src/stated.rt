@@ -2,11 +2,10 @@
 ghost use Rattle.std.specs.Prelude.{◌≡◌, List, true, false, IfErr, IsTrue};
 ghost use Rattle.bw_model.specs.declared.column.Column.{Column};
 ghost use Rattle.bw_model.specs.Fault.{Gives, is_memory, at_line, no_memory};
-ghost use Rattle.bw_diagram.specs.Chain.{chain_named};
 ghost use Rattle.bw_diagram.specs.Facts.{is_diagram_fault};
-ghost use Rattle.bw_cert.specs.Stated.{chain_of, facts_stated, with_lines, with_node_line, with_chain_line, with_row_line};
+ghost use Rattle.bw_cert.specs.Stated.{facts_stated, with_lines, with_node_line, with_chain_line, with_row_line};
 
-use bw_cert_lines::{Certificate, ChainColumns, ChainLine, NodeLine, RowLine};
+use bw_cert_lines::{Certificate, ChainLine, NodeLine, RowLine};
 use bw_diagram::Diagram;
 use bw_model::{Fault, Place, Schema, code};
 use std::alloc::Global;
@@ -59,7 +58,7 @@ fn add_chain(diagram: &mut Diagram<'_>, line: &ChainLine) -> Result<(), Fault>
     ensures stated { Gives (λ _. diagram.new) result (with_chain_line diagram.old line.now) }
     ensures code { IfErr result (λ fault. IsTrue (is_diagram_fault fault)) }
 {
-    match diagram.add_chain(line.n, fields_of(&line.columns)) {
+    match diagram.add_chain(line.n, &line.columns) {
         Ok(()) => Ok(()),
         Err(fault) => Err(placed(fault, line.line)),
     }
@@ -77,46 +76,6 @@ fn add_rows(diagram: &mut Diagram<'_>, lines: &[RowLine]) -> Result<(), Fault>
         }
     }
     Ok(())
-}
-
-/// The fields of a chain's line, as a diagram takes them.
-fn fields_of(columns: &ChainColumns) -> bw_diagram::ChainLine<'_>
-    ensures { (named : List Column) → chain_named named result ≡ chain_of named columns.now }
-{
-    match columns {
-        ChainColumns::One {
-            kind,
-            column,
-            start,
-            len,
-            bound,
-            node,
-            prev,
-        } => bw_diagram::ChainLine::OneColumn {
-            kind: *kind,
-            column: column.as_slice(),
-            start: *start,
-            len: *len,
-            bound: *bound,
-            node: *node,
-            prev: *prev,
-        },
-        ChainColumns::Two {
-            kind,
-            left,
-            right,
-            len,
-            node,
-            prev,
-        } => bw_diagram::ChainLine::TwoColumns {
-            kind: *kind,
-            left: left.as_slice(),
-            right: right.as_slice(),
-            len: *len,
-            node: *node,
-            prev: *prev,
-        },
-    }
 }
 
 /// A fault of a line that stood nowhere. Out of memory stays so.

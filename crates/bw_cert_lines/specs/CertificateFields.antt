@@ -1,10 +1,10 @@
 -- The lines of a certificate as lists and numbers, apart from how their words lie in memory.
 use Rattle.std.specs.Prelude.{ℕ, List, map, Option}
 use Rattle.bw_diagram.specs.declared.chain.ChainKind.{ChainKind}
+use Rattle.bw_diagram.specs.declared.chain.ChainColumns.{ChainColumns}
+use Rattle.bw_diagram.specs.declared.chain.ChainColumns.TheVariants as columns
 use Rattle.bw_cert_lines.specs.declared.lines.NodeLine.{NodeLine}
 use Rattle.bw_cert_lines.specs.declared.lines.ChainLine.{ChainLine}
-use Rattle.bw_cert_lines.specs.declared.lines.ChainColumns.{ChainColumns}
-use Rattle.bw_cert_lines.specs.declared.lines.ChainColumns.TheVariants as columns
 use Rattle.bw_cert_lines.specs.declared.lines.RowLine.{RowLine}
 use Rattle.bw_cert_lines.specs.declared.lines.BodyLine.{BodyLine}
 use Rattle.bw_cert_lines.specs.declared.lines.Entry.{Entry}

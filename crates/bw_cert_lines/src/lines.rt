@@ -1,6 +1,6 @@
 //! The lines of a certificate, by their sections. Each carries the number of its line in the file.
 
-use bw_diagram::{ChainKind, Connective, Reason};
+use bw_diagram::{ChainColumns, Connective, Reason};
 
 /// `NODE n v low high`: node `n` tests variable `v`.
 #[derive(Clone, Copy)]
@@ -18,30 +18,6 @@ pub struct ChainLine {
     pub line: u64,
     pub n: u64,
     pub columns: ChainColumns,
-}
-
-/// What stands after a chain's number. Columns are words, which may name none.
-#[derive(Drop)]
-pub enum ChainColumns {
-    /// `LT|EQ column start len bound node prev`, the last a number or `-`.
-    One {
-        kind: ChainKind,
-        column: Vec<u8>,
-        start: u64,
-        len: u64,
-        bound: u64,
-        node: u64,
-        prev: Option<u64>,
-    },
-    /// `LT2|EQ2 left right len node prev`.
-    Two {
-        kind: ChainKind,
-        left: Vec<u8>,
-        right: Vec<u8>,
-        len: u64,
-        node: u64,
-        prev: Option<u64>,
-    },
 }
 
 /// `ROW n AND|OR|XOR|DIFF a b c S`, or `.. V v i j` in place of `S`: product row `n`.

@@ -1,17 +1,10 @@
 -- What a line says, as lists and numbers.
-use Rattle.bw_diagram.specs.declared.chain.ChainLine.TheVariants as words
-use Rattle.bw_diagram.specs.declared.chain.ChainLine.{ChainLine}
 use Rattle.bw_cert_text.specs.declared.line.Part.TheVariants as part
 use Rattle.bw_cert_text.specs.declared.line.Said.TheVariants as said
 use Rattle.bw_cert_text.specs.declared.line.Part as declared_part
 use Rattle.bw_cert_text.specs.declared.line.Said as declared_said
-use Rattle.bw_cert_lines.specs.CertificateFields.{ColumnFields, One, Two, chain_fields, body_fields}
+use Rattle.bw_cert_lines.specs.CertificateFields.{chain_fields, body_fields}
 use Rattle.bw_cert_text.specs.LineText.{Part, Node, Chain, Row, Body, Said, Before, End}
-
--- what a chain compares, by words of the text
-abbrev pub word_fields : ChainLine → ColumnFields
-word_fields (words.OneColumn kind column start len bound node prev) = One kind column.now start len bound node prev
-word_fields (words.TwoColumns kind left right len node prev) = Two kind left.now right.now len node prev
 
 abbrev pub part_fields : declared_part.Part → Part
 part_fields (part.Node node) = Node node

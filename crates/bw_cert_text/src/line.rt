@@ -4,15 +4,15 @@ ghost use Rattle.bw_model.specs.Lines.{line_of};
 ghost use Rattle.bw_cert_lines.specs.CertificateFields.{column_fields, chain_fields, keep_fields, entry_fields};
 ghost use Rattle.bw_cert_text.specs.LineText.{node_in, one_column_in, two_columns_in, columns_behind, chain_in, reason_in, row_in, compare_in, compare_columns_in, is_in, condition_in, byte_in, instruction_in, edges_in, keep_in, body_at, said_behind, said_in};
 ghost use Rattle.bw_cert_text.specs.declared.line.Said.TheVariants as said;
-ghost use Rattle.bw_cert_text.specs.SaidFields.{word_fields, part_fields, said_fields};
+ghost use Rattle.bw_cert_text.specs.SaidFields.{part_fields, said_fields};
 
 use crate::kind::{ConditionKind, Form, InstructionKind, LineKind, connective_of};
 use crate::operand::{nothing_in, number_in, optional_of, register_of, two_in};
 use bw_cert_lines::{
-    BodyLine, ChainColumns, ChainLine, ConditionEntry, EdgeRows, EndLine, Entry, InstructionEntry,
-    Keep, NodeLine, RowLine,
+    BodyLine, ChainLine, ConditionEntry, EdgeRows, EndLine, Entry, InstructionEntry, Keep,
+    NodeLine, RowLine,
 };
-use bw_diagram::{ChainKind, ChainLine as ChainWords, Reason};
+use bw_diagram::{ChainColumns, ChainKind, Reason};
 use bw_model::{Line, is_same_text, natural_number};
 use std::alloc::{AllocError, Global};
 
@@ -52,19 +52,30 @@ fn node_in(line: u64, words: &[&[u8]]) -> Option<NodeLine>
     })
 }
 
-/// `column start len const node prev`.
-fn one_column_in<'a>(kind: ChainKind, words: &[&'a [u8]]) -> Option<ChainWords<'a>>
-    ensures { option_map word_fields result ≡ one_column_in kind (map (λ word. word.now) words.now) }
+/// `column start len const node prev`, with the column's word in memory of its own.
+fn one_column_in(
+    alloc: Global,
+    kind: ChainKind,
+    words: &[&[u8]],
+) -> Result<Option<ChainColumns>, AllocError>
+    ensures { IfOk result (λ columns. option_map column_fields columns
+        ≡ one_column_in kind (map (λ word. word.now) words.now)) }
 {
     let [column, start, len, bound, node, prev] = words else {
-        return None;
+        return Ok(None);
     };
-    let start = natural_number(start)?;
-    let len = natural_number(len)?;
-    let bound = natural_number(bound)?;
-    let node = natural_number(node)?;
-    let prev = optional_of(prev)?;
-    Some(ChainWords::OneColumn {
+    let (Some(start), Some(len), Some(bound)) = (
+        natural_number(start),
+        natural_number(len),
+        natural_number(bound),
+    ) else {
+        return Ok(None);
+    };
+    let (Some(node), Some(prev)) = (natural_number(node), optional_of(prev)) else {
+        return Ok(None);
+    };
+    let column = Vec::from_slice(alloc, column)?;
+    Ok(Some(ChainColumns::One {
         kind,
         column,
         start,
@@ -72,85 +83,54 @@ fn one_column_in<'a>(kind: ChainKind, words: &[&'a [u8]]) -> Option<ChainWords<'
         bound,
         node,
         prev,
-    })
+    }))
 }
 
-/// `left right len node prev`.
-fn two_columns_in<'a>(kind: ChainKind, words: &[&'a [u8]]) -> Option<ChainWords<'a>>
-    ensures { option_map word_fields result ≡ two_columns_in kind (map (λ word. word.now) words.now) }
+/// `left right len node prev`, with the columns' words in memory of their own.
+fn two_columns_in(
+    alloc: Global,
+    kind: ChainKind,
+    words: &[&[u8]],
+) -> Result<Option<ChainColumns>, AllocError>
+    ensures { IfOk result (λ columns. option_map column_fields columns
+        ≡ two_columns_in kind (map (λ word. word.now) words.now)) }
 {
     let [left, right, len, node, prev] = words else {
-        return None;
+        return Ok(None);
     };
-    let len = natural_number(len)?;
-    let node = natural_number(node)?;
-    let prev = optional_of(prev)?;
-    Some(ChainWords::TwoColumns {
+    let (Some(len), Some(node), Some(prev)) = (
+        natural_number(len),
+        natural_number(node),
+        optional_of(prev),
+    ) else {
+        return Ok(None);
+    };
+    let left = Vec::from_slice(alloc, left)?;
+    let right = Vec::from_slice(alloc, right)?;
+    Ok(Some(ChainColumns::Two {
         kind,
         left,
         right,
         len,
         node,
         prev,
-    })
+    }))
 }
 
 /// What a chain of this form compares.
-fn columns_behind<'a>(form: Form, words: &[&'a [u8]]) -> Option<ChainWords<'a>>
-    ensures { option_map word_fields result ≡ columns_behind form (map (λ word. word.now) words.now) }
+fn columns_behind(
+    alloc: Global,
+    form: Form,
+    words: &[&[u8]],
+) -> Result<Option<ChainColumns>, AllocError>
+    ensures { IfOk result (λ columns. option_map column_fields columns
+        ≡ columns_behind form (map (λ word. word.now) words.now)) }
 {
     match form {
-        Form::Less => one_column_in(ChainKind::Less, words),
-        Form::Equal => one_column_in(ChainKind::Equal, words),
-        Form::LessTwo => two_columns_in(ChainKind::Less, words),
-        Form::EqualTwo => two_columns_in(ChainKind::Equal, words),
-    }
-}
-
-/// The same, with the columns' words in memory of its own.
-fn kept(alloc: Global, words: ChainWords<'_>) -> Result<ChainColumns, AllocError>
-    ensures { IfOk result (λ columns. column_fields columns ≡ word_fields words.entry) }
-{
-    match words {
-        ChainWords::OneColumn {
-            kind,
-            column,
-            start,
-            len,
-            bound,
-            node,
-            prev,
-        } => {
-            let column = Vec::from_slice(alloc, column)?;
-            Ok(ChainColumns::One {
-                kind,
-                column,
-                start,
-                len,
-                bound,
-                node,
-                prev,
-            })
-        }
-        ChainWords::TwoColumns {
-            kind,
-            left,
-            right,
-            len,
-            node,
-            prev,
-        } => {
-            let left = Vec::from_slice(alloc, left)?;
-            let right = Vec::from_slice(alloc, right)?;
-            Ok(ChainColumns::Two {
-                kind,
-                left,
-                right,
-                len,
-                node,
-                prev,
-            })
-        }
+        Form::Less => one_column_in(alloc, ChainKind::Less, words),
+        Form::Equal => one_column_in(alloc, ChainKind::Equal, words),
+        Form::LessTwo => two_columns_in(alloc, ChainKind::Less, words),
+        Form::EqualTwo => two_columns_in(alloc, ChainKind::Equal, words),
     }
 }
 
@@ -168,10 +148,9 @@ fn chain_in(alloc: Global, line: u64, words: &[&[u8]]) -> Result<Option<ChainLin
     let Some(form) = Form::of(word) else {
         return Ok(None);
     };
-    let Some(columns) = columns_behind(form, rest) else {
+    let Some(columns) = columns_behind(alloc, form, rest)? else {
         return Ok(None);
     };
-    let columns = kept(alloc, columns)?;
     Ok(Some(ChainLine { line, n, columns }))
 }
 

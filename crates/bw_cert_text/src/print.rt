@@ -17,10 +17,10 @@ ghost use Rattle.bw_cert_text.specs.Token.{Key, one_key, two_key, node_tokens, c
 
 use crate::kind::connective_spelling;
 use bw_cert_lines::{
-    BodyLine, Certificate, ChainColumns, ChainLine, ConditionEntry, EdgeRows, Entry,
-    InstructionEntry, Keep, NodeLine, RowLine,
+    BodyLine, Certificate, ChainLine, ConditionEntry, EdgeRows, Entry, InstructionEntry, Keep,
+    NodeLine, RowLine,
 };
-use bw_diagram::{ChainKind, Reason};
+use bw_diagram::{ChainColumns, ChainKind, Reason};
 use bw_model::{Fault, Schema};
 use std::alloc::{AllocError, Global};
 

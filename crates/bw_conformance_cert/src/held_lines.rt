@@ -1,7 +1,8 @@
 //! Whatever a diagram holds, with memory at hand it takes each line that obeys its rule, and refuses each other one by its
 //! own number. No clause can say so, since out of memory is set aside in all of them.
-use bw_diagram::{ChainKind, ChainLine, Connective, Diagram, Reason};
+use bw_diagram::{ChainColumns, ChainKind, Connective, Diagram, Reason};
 use bw_model::{Fault, Schema};
+use std::alloc::Global;
 use std::process::Abort;
 use std::test::Fail;
 
@@ -38,23 +39,29 @@ impl Held {
 }
 
 /// Adds the line after so many others of its kind: one that obeys its rule whatever else is held, or one that breaks it.
-fn add(diagram: &mut Diagram<'_>, kind: Kind, before: u64, obeys: bool) -> Result<(), Fault> {
+fn add(
+    alloc: Global,
+    diagram: &mut Diagram<'_>,
+    kind: Kind,
+    before: u64,
+    obeys: bool,
+) -> Result<(), Fault> {
     match kind {
         Kind::Node => {
             let variable = if obeys { 13 } else { 14 };
             diagram.add_node(before.saturating_add(2), variable, 0, 1)
         }
         Kind::Chain => {
-            let line = ChainLine::OneColumn {
+            let columns = ChainColumns::One {
                 kind: ChainKind::Equal,
-                column: b"a",
+                column: Vec::from_slice(alloc, b"a")?,
                 start: 0,
                 len: 0,
                 bound: 0,
                 node: u64::from(obeys),
                 prev: None,
             };
-            diagram.add_chain(before, line)
+            diagram.add_chain(before, &columns)
         }
         Kind::Row => {
             let product = u64::from(obeys);
@@ -64,15 +71,21 @@ fn add(diagram: &mut Diagram<'_>, kind: Kind, before: u64, obeys: bool) -> Resul
 }
 
 /// The next line of a kind is refused by its own number where it breaks its rule, and else taken.
-fn check_next(rt: &impl Abort, diagram: &mut Diagram<'_>, kind: Kind, code: u16, held: Held) {
+fn check_next(
+    rt: &(impl AllocGlobal + Abort),
+    diagram: &mut Diagram<'_>,
+    kind: Kind,
+    code: u16,
+    held: Held,
+) {
     let before = held.of(kind);
     assert_eq!(rt;
-        add(diagram, kind, before, false),
+        add(rt.alloc(), diagram, kind, before, false),
         Err(Fault::new(code)),
         "{kind:?} at {held:?}"
     );
     assert_eq!(rt;
-        add(diagram, kind, before, true),
+        add(rt.alloc(), diagram, kind, before, true),
         Ok(()),
         "{kind:?} at {held:?}"
     );
@@ -91,7 +104,7 @@ fn each_line_has_its_own_answer_whatever_is_held(rt: HostRuntime) -> Result<(), 
             let mut diagram = Diagram::new(rt.alloc(), &table);
             for (each, _) in KINDS {
                 for before in 0..held.of(each) {
-                    add(&mut diagram, each, before, true)?;
+                    add(rt.alloc(), &mut diagram, each, before, true)?;
                 }
             }
             check_next(&rt, &mut diagram, kind, code, held);

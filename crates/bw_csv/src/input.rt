@@ -3,9 +3,8 @@ ghost use Rattle.std.specs.Prelude.{◌≡◌, ◌+◌, ◌-◌, ◌^◌, ◌<�
 ghost use Rattle.bw_model.specs.declared.fault.Fault.{Fault};
 ghost use Rattle.bw_csv.specs.Rows.{is_reader_fault};
 ghost use Rattle.bw_device.specs.Sink.{is_write_fault};
-ghost use Rattle.bw_model.specs.Fault.{nowhere};
 ghost use Rattle.bw_model.specs.Limits.{longest_csv};
-ghost use Rattle.bw_device.specs.Source.{Came, TookAtMost, EndsWith};
+ghost use Rattle.bw_device.specs.Source.{Came, LeavesSource};
 ghost use Rattle.bw_csv.specs.Input.{is_csv_input_fault, CsvTold};
 
 use bw_device::{Input, Source, read_limited};
@@ -20,8 +19,8 @@ pub fn read_csv<C: Source>(alloc: Global, source: &mut C) -> Result<Vec<u8>, Fau
         × Came longest_csv (C.to_come source.old) (C.to_come source.new) (C.failures source.old)
         (C.failures source.new) came
         × CsvTold came result }
-    ensures took { TookAtMost (longest_csv + 1) (C.to_come source.old) (C.to_come source.new) }
-    ensures failed { EndsWith (nowhere 701) (C.failures source.old) (C.failures source.new) result }
+    ensures source { LeavesSource (longest_csv + 1) (C.to_come source.old) (C.to_come source.new)
+        (C.failures source.old) (C.failures source.new) result }
     ensures fault { IfErr result (λ fault. is_write_fault fault ≡ false) }
     ensures own { IfErr result (λ fault. is_reader_fault fault ≡ false) }
     ensures input { IfErr result (λ fault. IsTrue (is_csv_input_fault fault)) }

@@ -1,12 +1,21 @@
 -- What of a text went out to a sink.
-use Rattle.std.specs.Prelude.{◌≡◌, ◌==◌, ◌⊎◌, ℕ, ◌+◌, ◌<◌, Bool, true, false, List, length, take, Option, Result, Ok, Err, IsOkAnd}
+use Rattle.std.specs.Prelude.{◌≡◌, ◌==◌, ◌⊎◌, ℕ, ◌+◌, ◌<◌, Bool, true, false, List, length, take, Option, Result, Ok, Err, IfErr, IsOkAnd, OnOk}
 use Rattle.std.specs.Io.KnownBytes.{Appends, Keeps}
 use Rattle.bw_model.specs.declared.fault.Fault.{Fault}
 use Rattle.bw_model.specs.Fault.{nowhere}
+use Rattle.bw_device.specs.Source.{EndsWith}
 
 -- the fault tells of a failed write
 abbrev pub is_write_fault : Fault → Bool
 is_write_fault fault = fault.code == 702
+
+-- What a call leaves of a sink to which it writes once all else has succeeded: where a write failed it ends with that; where
+-- it refuses for another reason the sink is as it was; and where it succeeds no write failed.
+abbrev pub LeavesSink : {T : Type 0} → Option (List ℕ) → Option (List ℕ) → ℕ → ℕ → Result T Fault → Type 0
+LeavesSink old new before after result =
+    EndsWith (nowhere 702) before after result
+    × IfErr result (λ fault. is_write_fault fault ≡ false → (new ≡ old) × (after ≡ before))
+    × OnOk result (after ≡ before)
 
 -- a part from the text's front was taken, and not all of it
 abbrev pub TookPart : Option (List ℕ) → Option (List ℕ) → List ℕ → Type 0

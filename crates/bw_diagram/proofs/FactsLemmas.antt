@@ -2,7 +2,6 @@
 use Rattle.std.proofs.Common.{◌≡◌, ◌∙◌, refl, sym, ap₂, subst, ℕ, zero, suc, ◌+◌, ◌<◌, Bool, true, false, not, List, [], ◌∷◌, ◌++◌, length, Option, Some, None, slice_get, ◌⊎◌, inl, inr, ⊎_elim, arith, length-append, Result, Ok, Err}
 use Rattle.std.proofs.Math.Dec.{leb}
 use Rattle.std.proofs.lemmas.Bool.{ltb-true, eqb-true, leb-false}
-use Rattle.bw_model.specs.declared.column.Column.{Column}
 use Rattle.bw_model.specs.Variable.{variables_of}
 use Rattle.bw_model.specs.declared.fault.Fault.{Fault}
 use Rattle.bw_model.specs.Fault.{refused_if, nowhere, ◌>>=◌}
@@ -14,7 +13,7 @@ use Rattle.bw_diagram.specs.Node.{child, obeys_node}
 use Rattle.bw_diagram.specs.declared.chain.Chain.{Chain}
 use Rattle.bw_diagram.specs.Chain.{IsChain, obeys_chain}
 use Rattle.bw_diagram.specs.Product.{joined, IsProduct}
-use Rattle.bw_diagram.specs.Facts.{Facts, AreTrue, no_facts, with_node, with_chain, with_row, judged_node, judged_chain, judged_if_named, judged_row, most_nodes, most_chains}
+use Rattle.bw_diagram.specs.Facts.{Facts, AreTrue, with_node, with_chain, with_row, judged_node, judged_chain, judged_if_named, judged_row, most_nodes, most_chains}
 use Rattle.bw_diagram.proofs.NodeLemmas.{node_value-append}
 use Rattle.bw_diagram.proofs.ChainLemmas.{IsChain-append, obeys_chain-chain}
 use Rattle.bw_diagram.proofs.ProductLemmas.{obeys_row-product}

@@ -11,8 +11,8 @@ use Rattle.bw_diagram.specs.declared.chain.ChainKind.{ChainKind}
 use Rattle.bw_diagram.specs.declared.chain.ChainKind.TheVariants.{Less, Equal}
 use Rattle.bw_diagram.specs.declared.chain.Chain.{Chain}
 use Rattle.bw_diagram.specs.declared.chain.Chain.TheVariants.{One, Two}
-use Rattle.bw_diagram.specs.declared.chain.ChainLine.{ChainLine}
-use Rattle.bw_diagram.specs.declared.chain.ChainLine.TheVariants.{OneColumn, TwoColumns}
+use Rattle.bw_diagram.specs.declared.chain.ChainColumns.{ChainColumns}
+use Rattle.bw_diagram.specs.declared.chain.ChainColumns.TheVariants as words
 use Rattle.bw_diagram.specs.Node.{is_node, IsNode, node_at, node_value, cofactor}
 
 -- less than, or equal to
@@ -200,8 +200,8 @@ two_named columns kind left right len node prev =
     option_and_then (λ l. option_map (λ r. Two kind l r len node prev) (column_named columns right))
     (column_named columns left)
 
-abbrev pub chain_named : List Column → ChainLine → Option Chain
-chain_named columns (OneColumn kind column start len bound node prev) =
-    one_named columns kind column.now start len bound node prev
-chain_named columns (TwoColumns kind left right len node prev) =
-    two_named columns kind left.now right.now len node prev
+abbrev pub chain_named : List Column → ChainColumns → Option Chain
+chain_named columns (words.One kind column start len bound node prev) =
+    one_named columns kind column.items start len bound node prev
+chain_named columns (words.Two kind left right len node prev) =
+    two_named columns kind left.items right.items len node prev

@@ -176,22 +176,24 @@ pub(crate) fn is_choice(nodes: &[Node], v: u32, low: u32, high: u32, node: u32) 
     tested || (low == high && node == low)
 }
 
-/// The fields of a chain's line, but its number. A column is given by its word.
-#[derive(Clone, Copy)]
-pub enum ChainLine<'a> {
-    OneColumn {
+/// What stands after a chain's number in its line. Columns are words, which may name none.
+#[derive(Drop)]
+pub enum ChainColumns {
+    /// `LT|EQ column start len bound node prev`, the last a number or `-`.
+    One {
         kind: ChainKind,
-        column: &'a [u8],
+        column: Vec<u8>,
         start: u64,
         len: u64,
         bound: u64,
         node: u64,
         prev: Option<u64>,
     },
-    TwoColumns {
+    /// `LT2|EQ2 left right len node prev`.
+    Two {
         kind: ChainKind,
-        left: &'a [u8],
-        right: &'a [u8],
+        left: Vec<u8>,
+        right: Vec<u8>,
         len: u64,
         node: u64,
         prev: Option<u64>,

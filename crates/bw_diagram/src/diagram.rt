@@ -10,7 +10,7 @@ ghost use Rattle.bw_diagram.specs.Facts.{is_diagram_fault, no_facts, judged_node
 mod laws;
 mod steps;
 
-use crate::chain::{Chain, ChainLine};
+use crate::chain::{Chain, ChainColumns};
 use crate::node::{self, Node};
 use crate::product::{Connective, Product, Reason};
 use bw_model::{Fault, Schema, code};
@@ -80,13 +80,13 @@ impl<'a> Diagram<'a> {
     /// Adds chain `n`: 604 where there is no room, 603 where `n` isn't the next number, a column's word names
     /// none, the bits aren't there, `prev` isn't the chain over the bits below the top bit, or the node doesn't
     /// choose by the top bits between what follows from that chain's node.
-    pub fn add_chain(&mut self, n: u64, line: ChainLine<'_>) -> Result<(), Fault>
+    pub fn add_chain(&mut self, n: u64, columns: &ChainColumns) -> Result<(), Fault>
         ensures exact { Gives (λ _. self.new) result
-            (with_chain self.old n (chain_named self.old.columns line.entry)) }
+            (with_chain self.old n (chain_named self.old.columns columns.now)) }
         ensures refused { OnErr result (self.new ≡ self.old) }
         ensures code { IfErr result (λ fault. IsTrue (is_diagram_fault fault)) }
     {
-        let chain = self.accepted_chain(n, line)?;
+        let chain = self.accepted_chain(n, columns)?;
         self.chains.push(chain)?;
         Ok(())
     }
@@ -137,14 +137,14 @@ impl<'a> Diagram<'a> {
 
     /// The chain of a line, if it may come next.
     #[tactic(auto, unfolding(crate::specs::Facts::judged_chain, crate::specs::Chain::obeys_chain))]
-    fn accepted_chain(&self, n: u64, line: ChainLine<'_>) -> Result<Chain, Fault>
-        ensures judged { result ≡ judged_chain self.now n (chain_named self.now.columns line.entry) }
+    fn accepted_chain(&self, n: u64, columns: &ChainColumns) -> Result<Chain, Fault>
+        ensures judged { result ≡ judged_chain self.now n (chain_named self.now.columns columns.now) }
         ensures code { IfErr result (λ fault. IsTrue (is_diagram_fault fault)) }
     {
         if self.chains.len() >= MAX_CHAINS {
             return Err(Fault::new(code::LIMIT));
         }
-        match self.in_range(line) {
+        match self.in_range(columns) {
             Some(chain) if n == self.chains.len() as u64 && self.is_step(chain) => Ok(chain),
             _ => Err(Fault::new(code::CHAIN_ROW)),
         }

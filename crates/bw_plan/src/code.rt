@@ -1,7 +1,7 @@
 //! Instructions, with the node of each register.
 use crate::digits::Digits;
 use bw_cert_lines::{EdgeRows, Entry, InstructionEntry, Keep};
-use bw_plan_facts::{Facts, Kind, Logic, Order, Refusal};
+use bw_plan_facts::{Facts, Kind, Logic, Refusal, VariableOrder};
 use bw_program::Instr;
 use std::alloc::Global;
 
@@ -39,7 +39,7 @@ pub(crate) struct Code<'a> {
     pub(crate) lines: Vec<Entry>,
     pub(crate) instrs: Vec<Instr>,
     /// The order of variables in which registers' nodes are worked out.
-    pub(crate) order: Order,
+    pub(crate) order: VariableOrder,
     /// The digits of a byte of the column whose codes are compared, and those of its top byte, where
     /// they are kept.
     pub(crate) digits: Option<Digits>,
@@ -72,7 +72,7 @@ impl<'a> Code<'a> {
             facts,
             lines,
             instrs: Vec::new(alloc),
-            order: Order::Whole,
+            order: VariableOrder::Whole,
             digits: None,
             top_digit: None,
             has_few_skips: false,

@@ -5,12 +5,10 @@ ghost use Rattle.bw_cert_lines.specs.CertificateFields.{certificate_fields};
 ghost use Rattle.bw_cert_lines.specs.Columns.{has_columns, is_column};
 ghost use Rattle.bw_plan.specs.Named.{is_chain_named, are_chains_named};
 
-use bw_cert_lines::{
-    BodyLine, Certificate, ChainColumns, ChainLine, EndLine, Entry, NodeLine, RowLine,
-};
-use bw_diagram::Reason;
+use bw_cert_lines::{BodyLine, Certificate, ChainLine, EndLine, Entry, NodeLine, RowLine};
+use bw_diagram::{ChainColumns, Reason};
 use bw_model::{Schema, code};
-use bw_plan_facts::{Answer, Compared, Facts, Link, Node, Question, Refusal};
+use bw_plan_facts::{Branch, Compared, Facts, Link, Outcome, Question, Refusal};
 use bw_program::{Instr, Program};
 use indexmap::IndexMap;
 use std::alloc::{AllocError, Global};
@@ -168,7 +166,7 @@ pub(crate) fn certificate(
 }
 
 /// The lines of nodes, from a number of a line on.
-fn node_lines(alloc: Global, nodes: &[Node], first: u64) -> Result<Vec<NodeLine>, Refusal> {
+fn node_lines(alloc: Global, nodes: &[Branch], first: u64) -> Result<Vec<NodeLine>, Refusal> {
     let mut lines = Vec::new(alloc);
     for node in nodes {
         let number = lines.len() as u64;
@@ -198,7 +196,7 @@ fn chain_lines(
 /// The lines of product rows.
 fn row_lines(
     alloc: Global,
-    rows: &IndexMap<Question, Answer>,
+    rows: &IndexMap<Question, Outcome>,
     first: u64,
 ) -> Result<Vec<RowLine>, Refusal> {
     let mut lines = Vec::new(alloc);
@@ -220,7 +218,7 @@ fn body_lines(alloc: Global, entries: Vec<Entry>, first: u64) -> Result<Vec<Body
 }
 
 /// The line of a node.
-fn node_line(line: u64, number: u64, node: Node) -> NodeLine {
+fn node_line(line: u64, number: u64, node: Branch) -> NodeLine {
     NodeLine {
         line,
         n: number.saturating_add(2),
@@ -231,7 +229,7 @@ fn node_line(line: u64, number: u64, node: Node) -> NodeLine {
 }
 
 /// The line of a product row.
-fn row_line(line: u64, number: u64, question: Question, answer: Answer) -> RowLine {
+fn row_line(line: u64, number: u64, question: Question, answer: Outcome) -> RowLine {
     let reason = match answer.reason {
         None => Reason::Shortcut,
         Some(cofactors) => Reason::Cofactors {

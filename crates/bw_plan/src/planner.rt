@@ -11,7 +11,7 @@ use crate::emit;
 use crate::truths::Wanted;
 use bw_cert_lines::Certificate;
 use bw_model::{Cond, Fault, Schema};
-use bw_plan_facts::{Facts, Logic, Order, Refusal, steps_of};
+use bw_plan_facts::{Facts, Logic, Refusal, VariableOrder, steps_of};
 use bw_program::Program;
 use std::alloc::Global;
 
@@ -107,7 +107,9 @@ fn programmed(
 /// The row that says that a register holds a node.
 fn agreeing(code: &mut Code<'_>, register: u8, wanted: u32) -> Result<u32, Refusal> {
     let node = code.node(register)?;
-    let row = code.facts.row(Order::Whole, Logic::Xor, node, wanted)?;
+    let row = code
+        .facts
+        .row(VariableOrder::Whole, Logic::Xor, node, wanted)?;
     if row.node == 0 {
         Ok(row.number)
     } else {

@@ -1,6 +1,6 @@
 //! Instructions that compare the codes of two columns with one another, bit by bit.
 use crate::code::Code;
-use bw_plan_facts::{Kind, Logic, Refusal, Relation};
+use bw_plan_facts::{ColumnComparison, Kind, Logic, Refusal};
 
 /// Registers of one bit of two columns.
 #[derive(Clone, Copy)]
@@ -25,7 +25,7 @@ impl Code<'_> {
     /// A register that is 1 where the code of a column is less than (equal to) that of another. Their
     /// top bits are compared from the top down, with skips to where this ends if no row has them
     /// equal so far, and the bits below from the lowest one up.
-    pub(crate) fn relation(&mut self, relation: Relation) -> Result<u8, Refusal> {
+    pub(crate) fn relation(&mut self, relation: ColumnComparison) -> Result<u8, Refusal> {
         let left = self.facts.width(relation.left);
         let bits = left.max(self.facts.width(relation.right));
         let low = bits.saturating_sub(self.skipped_bits());
@@ -54,7 +54,12 @@ impl Code<'_> {
     }
 
     /// What the bits of two columns say from the top down to one of them, if there are any.
-    fn tops(&mut self, relation: Relation, low: u32, bits: u32) -> Result<Option<Tops>, Refusal> {
+    fn tops(
+        &mut self,
+        relation: ColumnComparison,
+        low: u32,
+        bits: u32,
+    ) -> Result<Option<Tops>, Refusal> {
         if low >= bits {
             return Ok(None);
         }
@@ -77,7 +82,7 @@ impl Code<'_> {
     /// bits so far, if that is asked, and, as the result, where the codes have them equal.
     fn next_below(
         &mut self,
-        relation: Relation,
+        relation: ColumnComparison,
         bit: u32,
         less: Option<u8>,
         same: Option<u8>,
@@ -105,7 +110,7 @@ impl Code<'_> {
 
     /// A register that is 1 where so many low bits of a column spell a number that is less than
     /// (equal to) that of another's.
-    fn lows(&mut self, relation: Relation, bits: u32) -> Result<u8, Refusal> {
+    fn lows(&mut self, relation: ColumnComparison, bits: u32) -> Result<u8, Refusal> {
         let made = self.fill(relation.kind == Kind::Equal)?;
         for bit in 0..bits {
             let Bits { differs, below } = self.bits(relation, bit)?;
@@ -127,7 +132,7 @@ impl Code<'_> {
     }
 
     /// The registers of one bit of two columns, of which one has it.
-    fn bits(&mut self, relation: Relation, bit: u32) -> Result<Bits, Refusal> {
+    fn bits(&mut self, relation: ColumnComparison, bit: u32) -> Result<Bits, Refusal> {
         let on_left = bit < self.facts.width(relation.left);
         let on_right = bit < self.facts.width(relation.right);
         let is_less = relation.kind == Kind::Less;

@@ -1,5 +1,5 @@
 //! Sets of a column's codes.
-use bw_plan_facts::{Bound, Kind, Refusal};
+use bw_plan_facts::{Kind, LiteralComparison, Refusal};
 use std::alloc::Global;
 
 /// A set of numbers of so many bits: those with an odd number of bounds above them, or, where it is
@@ -41,7 +41,7 @@ impl Set {
     }
 
     /// The set of a comparison with a number.
-    pub(crate) fn of(alloc: Global, width: u32, bound: Bound) -> Result<Self, Refusal> {
+    pub(crate) fn of(alloc: Global, width: u32, bound: LiteralComparison) -> Result<Self, Refusal> {
         let mut set = Set::new(alloc, width);
         match bound.kind {
             Kind::Less => set.add(0, bound.limit)?,

@@ -3,7 +3,9 @@ use crate::code::Code;
 use crate::room::leading;
 use crate::sets::Set;
 use bw_model::{Cond, Op, Operand, Truth};
-use bw_plan_facts::{Bound, Comparison, Logic, Order, Refusal, Relation, compare};
+use bw_plan_facts::{
+    ColumnComparison, Comparison, LiteralComparison, Logic, Refusal, VariableOrder, compare,
+};
 
 /// Which truths are wanted.
 #[derive(Clone, Copy)]
@@ -196,13 +198,13 @@ impl Code<'_> {
     ) -> Result<Halves, Refusal> {
         match compare(&self.facts, op, x, y)? {
             Comparison::Fixed(truth) => self.constant(truth, wanted),
-            Comparison::Bound(bound) => self.bounded(bound, wanted),
-            Comparison::Relation(relation) => self.related(relation, wanted),
+            Comparison::Literal(bound) => self.bounded(bound, wanted),
+            Comparison::Columns(relation) => self.related(relation, wanted),
         }
     }
 
     /// The registers of a comparison of a column with a number.
-    fn bounded(&mut self, bound: Bound, wanted: Wanted) -> Result<Halves, Refusal> {
+    fn bounded(&mut self, bound: LiteralComparison, wanted: Wanted) -> Result<Halves, Refusal> {
         let set = Set::of(self.alloc, self.facts.width(bound.column), bound)?;
         self.in_set(bound.column, &set, wanted)
     }
@@ -301,7 +303,7 @@ impl Code<'_> {
 
     /// The registers of a comparison of two columns. Its skips meet right after its own
     /// instructions: after a NOT or a null plane, "less so far" would differ by them.
-    fn related(&mut self, relation: Relation, wanted: Wanted) -> Result<Halves, Refusal> {
+    fn related(&mut self, relation: ColumnComparison, wanted: Wanted) -> Result<Halves, Refusal> {
         let first = self.waiting()?;
         self.order = relation.order();
         let held = match relation.terminal() {
@@ -316,7 +318,7 @@ impl Code<'_> {
         let made = self.sides(held, &both[..count], wanted.turned(relation.negated))?;
         self.meet_from(first);
         self.meet()?;
-        self.order = Order::Whole;
+        self.order = VariableOrder::Whole;
         Ok(made.turned(relation.negated))
     }
 

@@ -1,14 +1,14 @@
 //! Comparisons, in the form in which certificates state them.
 use crate::chains::Kind;
 use crate::facts::Facts;
-use crate::order::Order;
+use crate::order::VariableOrder;
 use crate::refusal::Refusal;
 use bw_model::{Op, Operand, Truth};
 
 /// A comparison of a column's code with a number: the code is less than (equal to) `limit`, or,
 /// where it is negated, it isn't.
 #[derive(Clone, Copy)]
-pub struct Bound {
+pub struct LiteralComparison {
     pub column: u8,
     pub kind: Kind,
     pub limit: i128,
@@ -18,7 +18,7 @@ pub struct Bound {
 /// A comparison of the codes of two columns: the left one is less than (equal to) the right one, or,
 /// where it is negated, it isn't.
 #[derive(Clone, Copy)]
-pub struct Relation {
+pub struct ColumnComparison {
     pub kind: Kind,
     pub left: u8,
     pub right: u8,
@@ -27,7 +27,7 @@ pub struct Relation {
     pub columns: [u8; 2],
 }
 
-impl Bound {
+impl LiteralComparison {
     /// The terminal that is worth whether a number of so many bits is less than (equal to) the
     /// limit, if no such number or each of them is.
     pub fn terminal(self, width: u32) -> Option<u32> {
@@ -41,7 +41,7 @@ impl Bound {
     }
 }
 
-impl Relation {
+impl ColumnComparison {
     /// The terminal that is worth whether a column's code compares so to itself.
     pub fn terminal(self) -> Option<u32> {
         match self.kind {
@@ -52,8 +52,8 @@ impl Relation {
     }
 
     /// The order in which the comparison's nodes test the variables of the two columns.
-    pub fn order(self) -> Order {
-        Order::Places(self.right)
+    pub fn order(self) -> VariableOrder {
+        VariableOrder::Places(self.right)
     }
 }
 
@@ -62,8 +62,8 @@ impl Relation {
 pub enum Comparison {
     /// The same truth on every row.
     Fixed(Truth),
-    Bound(Bound),
-    Relation(Relation),
+    Literal(LiteralComparison),
+    Columns(ColumnComparison),
 }
 
 /// What a comparison of operands is: a column's code stands for its value. Refused are, as
@@ -72,13 +72,13 @@ pub enum Comparison {
 pub fn compare(facts: &Facts<'_>, op: Op, x: Operand, y: Operand) -> Result<Comparison, Refusal> {
     match (x, y) {
         (Operand::Col(column), Operand::Lit(n)) => {
-            Ok(Comparison::Bound(with_literal(facts, op, column, n)?))
+            Ok(Comparison::Literal(with_literal(facts, op, column, n)?))
         }
         (Operand::Lit(n), Operand::Col(column)) => {
-            Ok(Comparison::Bound(with_literal(facts, op.turned(), column, n)?))
+            Ok(Comparison::Literal(with_literal(facts, op.turned(), column, n)?))
         }
         (Operand::Col(left), Operand::Col(right)) => {
-            Ok(Comparison::Relation(with_column(facts, op, left, right)?))
+            Ok(Comparison::Columns(with_column(facts, op, left, right)?))
         }
         (Operand::Lit(m), Operand::Lit(n)) if op.holds(m, n) => Ok(Comparison::Fixed(Truth::Yes)),
         (Operand::Lit(_), Operand::Lit(_)) => Ok(Comparison::Fixed(Truth::No)),
@@ -87,7 +87,12 @@ pub fn compare(facts: &Facts<'_>, op: Op, x: Operand, y: Operand) -> Result<Comp
 }
 
 /// The comparison of a column with a literal.
-fn with_literal(facts: &Facts<'_>, op: Op, column: usize, n: i64) -> Result<Bound, Refusal> {
+fn with_literal(
+    facts: &Facts<'_>,
+    op: Op,
+    column: usize,
+    n: i64,
+) -> Result<LiteralComparison, Refusal> {
     let column = facts.column(column)?;
     let distance = i128::from(n) - i128::from(facts.lo(column)?);
     let (kind, limit, negated) = match op {
@@ -98,7 +103,7 @@ fn with_literal(facts: &Facts<'_>, op: Op, column: usize, n: i64) -> Result<Boun
         Op::Eq => (Kind::Equal, distance, false),
         Op::Ne => (Kind::Equal, distance, true),
     };
-    Ok(Bound {
+    Ok(LiteralComparison {
         column,
         kind,
         limit,
@@ -107,7 +112,7 @@ fn with_literal(facts: &Facts<'_>, op: Op, column: usize, n: i64) -> Result<Boun
 }
 
 /// The comparison of two columns, which have one least value.
-fn with_column(facts: &Facts<'_>, op: Op, c: usize, d: usize) -> Result<Relation, Refusal> {
+fn with_column(facts: &Facts<'_>, op: Op, c: usize, d: usize) -> Result<ColumnComparison, Refusal> {
     let (c, d) = (facts.column(c)?, facts.column(d)?);
     if facts.lo(c)? != facts.lo(d)? {
         return Err(Refusal::NoProgram);
@@ -120,7 +125,7 @@ fn with_column(facts: &Facts<'_>, op: Op, c: usize, d: usize) -> Result<Relation
         Op::Eq => (Kind::Equal, c, d, false),
         Op::Ne => (Kind::Equal, c, d, true),
     };
-    Ok(Relation {
+    Ok(ColumnComparison {
         kind,
         left,
         right,

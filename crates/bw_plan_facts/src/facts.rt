@@ -1,8 +1,8 @@
 //! What a certificate states: nodes, chains and product rows.
 use crate::chains::{self, Chains, Compared, Kind, Link};
-use crate::nodes::{Node, Nodes};
-use crate::order::{Order, Ranks};
-use crate::products::{Answer, Cited, Logic, Products, Question};
+use crate::nodes::{Branch, Nodes};
+use crate::order::{Ranks, VariableOrder};
+use crate::products::{Cited, Logic, Outcome, Products, Question};
 use crate::refusal::Refusal;
 use bw_model::{Cond, Schema};
 use indexmap::IndexMap;
@@ -33,7 +33,7 @@ impl<'a> Facts<'a> {
     }
 
     /// The nodes, of which the first has number 2.
-    pub fn nodes(&self) -> &[Node] {
+    pub fn nodes(&self) -> &[Branch] {
         self.nodes.as_slice()
     }
 
@@ -43,13 +43,19 @@ impl<'a> Facts<'a> {
     }
 
     /// The product rows, of which the first has number 0.
-    pub fn rows(&self) -> &IndexMap<Question, Answer> {
+    pub fn rows(&self) -> &IndexMap<Question, Outcome> {
         &self.products.rows
     }
 
     /// The product row of a connective of nodes `a` and `b`, whose variables are tested in this
     /// order. Refused is, as `NoProgram`, what would pass 65,534 nodes or 1,048,576 rows.
-    pub fn row(&mut self, order: Order, op: Logic, a: u32, b: u32) -> Result<Cited, Refusal> {
+    pub fn row(
+        &mut self,
+        order: VariableOrder,
+        op: Logic,
+        a: u32,
+        b: u32,
+    ) -> Result<Cited, Refusal> {
         let asked = Question { order, op, a, b };
         self.products.row(&self.ranks, &mut self.nodes, asked)
     }

@@ -21,10 +21,10 @@ mod sequence;
 mod steps;
 
 pub use chains::{Compared, Kind, Link};
-pub use comparison::{Bound, Comparison, Relation, compare};
+pub use comparison::{ColumnComparison, Comparison, LiteralComparison, compare};
 pub use facts::Facts;
-pub use nodes::Node;
-pub use order::Order;
-pub use products::{Answer, Cited, Cofactors, Logic, Question};
+pub use nodes::Branch;
+pub use order::VariableOrder;
+pub use products::{Cited, Cofactors, Logic, Outcome, Question};
 pub use refusal::Refusal;
-pub use steps::{Pair, steps_of};
+pub use steps::{TruthNodes, steps_of};

@@ -9,7 +9,7 @@ const MAX_NODES: usize = 65_534;
 /// A node: the variable that it tests, and the numbers of its children, where the variable is 0 and
 /// where it is 1. Numbers 0 and 1 are the terminals.
 #[derive(Clone, Copy, PartialEq, Eq, Hash)]
-pub struct Node {
+pub struct Branch {
     pub variable: u32,
     pub low: u32,
     pub high: u32,
@@ -18,7 +18,7 @@ pub struct Node {
 /// The nodes from number 2 on; 0 and 1 are the terminals.
 #[derive(Drop)]
 pub(crate) struct Nodes {
-    set: IndexSet<Node>,
+    set: IndexSet<Branch>,
 }
 
 impl Nodes {
@@ -30,19 +30,19 @@ impl Nodes {
     }
 
     /// The nodes, of which the first has number 2.
-    pub(crate) fn as_slice(&self) -> &[Node] {
+    pub(crate) fn as_slice(&self) -> &[Branch] {
         self.set.as_slice()
     }
 
     /// The node of a number, if it isn't a terminal.
-    pub(crate) fn get(&self, number: u32) -> Option<Node> {
+    pub(crate) fn get(&self, number: u32) -> Option<Branch> {
         let index = (number as usize).checked_sub(2)?;
         self.set.get_index(index).copied()
     }
 
     /// The number of a node, which is added where it isn't there.
     pub(crate) fn test(&mut self, variable: u32, low: u32, high: u32) -> Result<u32, Refusal> {
-        let node = Node {
+        let node = Branch {
             variable,
             low,
             high,

@@ -9,7 +9,7 @@ const NULL_BIT: u32 = 64;
 
 /// An order of the variables of a schema, in which the nodes of a product row test them.
 #[derive(Clone, Copy, PartialEq, Eq, Hash)]
-pub enum Order {
+pub enum VariableOrder {
     /// Column by column, in their sequence, each from the null variable and the top bit down;
     /// columns that are compared with one another place by place, the left column first.
     Whole,
@@ -59,13 +59,13 @@ impl Ranks {
     }
 
     /// How early a variable is tested.
-    pub(crate) fn rank(&self, order: Order, variable: u32) -> u32 {
+    pub(crate) fn rank(&self, order: VariableOrder, variable: u32) -> u32 {
         let Some(standing) = self.standings.get(variable as usize) else {
             return u32::MAX;
         };
         match order {
-            Order::Whole => standing.rank,
-            Order::Places(right) => {
+            VariableOrder::Whole => standing.rank,
+            VariableOrder::Places(right) => {
                 let second = u32::from(standing.column == right);
                 NULL_BIT.saturating_sub(standing.bit).saturating_mul(2) + second
             }

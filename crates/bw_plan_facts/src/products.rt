@@ -1,6 +1,6 @@
 //! Product rows: connectives of nodes, each worked out once.
 use crate::nodes::Nodes;
-use crate::order::{Order, Ranks};
+use crate::order::{Ranks, VariableOrder};
 use crate::refusal::Refusal;
 use bw_diagram::Connective;
 use indexmap::IndexMap;
@@ -37,7 +37,7 @@ impl Logic {
 /// variables.
 #[derive(Clone, Copy, PartialEq, Eq, Hash)]
 pub struct Question {
-    pub order: Order,
+    pub order: VariableOrder,
     pub op: Logic,
     pub a: u32,
     pub b: u32,
@@ -54,7 +54,7 @@ pub struct Cofactors {
 
 /// The number of a product row's node, and the rows that it follows from, where it isn't a shortcut.
 #[derive(Clone, Copy)]
-pub struct Answer {
+pub struct Outcome {
     pub node: u32,
     pub reason: Option<Cofactors>,
 }
@@ -69,7 +69,7 @@ pub struct Cited {
 /// The product rows, in order.
 #[derive(Drop)]
 pub(crate) struct Products {
-    pub(crate) rows: IndexMap<Question, Answer>,
+    pub(crate) rows: IndexMap<Question, Outcome>,
     work: Vec<Question>,
 }
 
@@ -123,7 +123,7 @@ impl Products {
         question: Question,
     ) -> Result<(), Refusal> {
         if let Some(node) = shortcut(question) {
-            return self.add(question, Answer { node, reason: None });
+            return self.add(question, Outcome { node, reason: None });
         }
         let variable = top(ranks, nodes, question)?;
         let low = cofactor(nodes, question, variable, false);
@@ -140,11 +140,11 @@ impl Products {
             low: first.number,
             high: second.number,
         });
-        self.add(question, Answer { node, reason })
+        self.add(question, Outcome { node, reason })
     }
 
     /// Adds a row.
-    fn add(&mut self, question: Question, answer: Answer) -> Result<(), Refusal> {
+    fn add(&mut self, question: Question, answer: Outcome) -> Result<(), Refusal> {
         if self.rows.len() >= MAX_PRODUCTS {
             return Err(Refusal::NoProgram);
         }

@@ -1,8 +1,8 @@
 //! The steps of a condition, operands first, each with its line.
 use crate::chains::Kind;
-use crate::comparison::{Bound, Comparison, Relation, compare};
+use crate::comparison::{ColumnComparison, Comparison, LiteralComparison, compare};
 use crate::facts::Facts;
-use crate::order::Order;
+use crate::order::VariableOrder;
 use crate::products::Logic;
 use crate::refusal::Refusal;
 use bw_cert_lines::{ConditionEntry, Entry};
@@ -10,23 +10,23 @@ use bw_model::{Cond, Op, Operand, Truth};
 
 /// The numbers of a condition's nodes: where it is TRUE, and where it is FALSE.
 #[derive(Clone, Copy)]
-pub struct Pair {
+pub struct TruthNodes {
     pub yes: u32,
     pub no: u32,
 }
 
-impl Pair {
-    /// The pair of a step with one truth on every row.
+impl TruthNodes {
+    /// Those of a step with one truth on every row.
     fn constant(truth: Truth) -> Self {
-        Pair {
+        TruthNodes {
             yes: u32::from(truth == Truth::Yes),
             no: u32::from(truth == Truth::No),
         }
     }
 
-    /// The pair of the opposite condition.
+    /// Those of the opposite condition.
     fn exchanged(self) -> Self {
-        Pair {
+        TruthNodes {
             yes: self.no,
             no: self.yes,
         }
@@ -41,7 +41,7 @@ pub fn steps_of(
     facts: &mut Facts<'_>,
     lines: &mut Vec<Entry>,
     cond: &Cond,
-) -> Result<Pair, Refusal> {
+) -> Result<TruthNodes, Refusal> {
     match cond {
         Cond::Always => constant(lines, Truth::Yes),
         Cond::Cmp(op, x, y) => compared(facts, lines, *op, *x, *y),
@@ -73,7 +73,7 @@ fn all_joined(
     lines: &mut Vec<Entry>,
     any: bool,
     parts: &[Cond],
-) -> Result<Pair, Refusal> {
+) -> Result<TruthNodes, Refusal> {
     let Some((first, others)) = parts.split_first() else {
         return Err(Refusal::NoProgram);
     };
@@ -91,7 +91,7 @@ fn among(
     lines: &mut Vec<Entry>,
     x: Operand,
     items: &[Operand],
-) -> Result<Pair, Refusal> {
+) -> Result<TruthNodes, Refusal> {
     let Some((first, others)) = items.split_first() else {
         return Err(Refusal::NoProgram);
     };
@@ -110,9 +110,9 @@ fn put(lines: &mut Vec<Entry>, entry: ConditionEntry) -> Result<(), Refusal> {
 }
 
 /// The nodes of a step with one truth on every row.
-fn constant(lines: &mut Vec<Entry>, truth: Truth) -> Result<Pair, Refusal> {
+fn constant(lines: &mut Vec<Entry>, truth: Truth) -> Result<TruthNodes, Refusal> {
     put(lines, ConditionEntry::Fixed)?;
-    Ok(Pair::constant(truth))
+    Ok(TruthNodes::constant(truth))
 }
 
 /// The nodes of two parts that are joined by OR, or else by AND.
@@ -120,16 +120,16 @@ fn joined(
     facts: &mut Facts<'_>,
     lines: &mut Vec<Entry>,
     any: bool,
-    a: Pair,
-    b: Pair,
-) -> Result<Pair, Refusal> {
+    a: TruthNodes,
+    b: TruthNodes,
+) -> Result<TruthNodes, Refusal> {
     let (yes, no) = if any {
         (Logic::Or, Logic::And)
     } else {
         (Logic::And, Logic::Or)
     };
-    let yes = facts.row(Order::Whole, yes, a.yes, b.yes)?;
-    let no = facts.row(Order::Whole, no, a.no, b.no)?;
+    let yes = facts.row(VariableOrder::Whole, yes, a.yes, b.yes)?;
+    let no = facts.row(VariableOrder::Whole, no, a.no, b.no)?;
     let (i, j) = (u64::from(yes.number), u64::from(no.number));
     put(
         lines,
@@ -139,7 +139,7 @@ fn joined(
             ConditionEntry::And(i, j)
         },
     )?;
-    Ok(Pair {
+    Ok(TruthNodes {
         yes: yes.node,
         no: no.node,
     })
@@ -150,32 +150,36 @@ fn tested(
     facts: &mut Facts<'_>,
     lines: &mut Vec<Entry>,
     wanted: Truth,
-    made: Pair,
-) -> Result<Pair, Refusal> {
+    made: TruthNodes,
+) -> Result<TruthNodes, Refusal> {
     let half = match wanted {
         Truth::Yes => made.yes,
         Truth::No => made.no,
         Truth::Unknown => {
-            let known = facts.row(Order::Whole, Logic::Or, made.yes, made.no)?;
-            let other = facts.row(Order::Whole, Logic::Diff, 1, known.node)?;
+            let known = facts.row(VariableOrder::Whole, Logic::Or, made.yes, made.no)?;
+            let other = facts.row(VariableOrder::Whole, Logic::Diff, 1, known.node)?;
             let (i, j) = (u64::from(known.number), u64::from(other.number));
             put(lines, ConditionEntry::IsUnknown(i, j))?;
-            return Ok(Pair {
+            return Ok(TruthNodes {
                 yes: other.node,
                 no: known.node,
             });
         }
     };
-    let other = facts.row(Order::Whole, Logic::Diff, 1, half)?;
+    let other = facts.row(VariableOrder::Whole, Logic::Diff, 1, half)?;
     put(lines, ConditionEntry::Is(u64::from(other.number)))?;
-    Ok(Pair {
+    Ok(TruthNodes {
         yes: half,
         no: other.node,
     })
 }
 
 /// The nodes of `IS NULL`.
-fn null_tested(facts: &mut Facts<'_>, lines: &mut Vec<Entry>, x: Operand) -> Result<Pair, Refusal> {
+fn null_tested(
+    facts: &mut Facts<'_>,
+    lines: &mut Vec<Entry>,
+    x: Operand,
+) -> Result<TruthNodes, Refusal> {
     let column = match x {
         Operand::Col(column) => facts.column(column)?,
         Operand::Lit(_) => return constant(lines, Truth::No),
@@ -184,9 +188,9 @@ fn null_tested(facts: &mut Facts<'_>, lines: &mut Vec<Entry>, x: Operand) -> Res
     let Some(nulls) = facts.nulls(column)? else {
         return constant(lines, Truth::No);
     };
-    let values = facts.row(Order::Whole, Logic::Diff, 1, nulls)?;
+    let values = facts.row(VariableOrder::Whole, Logic::Diff, 1, nulls)?;
     put(lines, ConditionEntry::NullTest(u64::from(values.number)))?;
-    Ok(Pair {
+    Ok(TruthNodes {
         yes: nulls,
         no: values.node,
     })
@@ -199,11 +203,11 @@ fn compared(
     op: Op,
     x: Operand,
     y: Operand,
-) -> Result<Pair, Refusal> {
+) -> Result<TruthNodes, Refusal> {
     match compare(facts, op, x, y)? {
         Comparison::Fixed(truth) => constant(lines, truth),
-        Comparison::Bound(bound) => bounded(facts, lines, bound),
-        Comparison::Relation(relation) => related(facts, lines, relation),
+        Comparison::Literal(bound) => bounded(facts, lines, bound),
+        Comparison::Columns(relation) => related(facts, lines, relation),
     }
 }
 
@@ -212,12 +216,16 @@ fn values(facts: &mut Facts<'_>, column: u8) -> Result<(Option<u64>, u32), Refus
     let Some(nulls) = facts.nulls(column)? else {
         return Ok((None, 1));
     };
-    let values = facts.row(Order::Whole, Logic::Diff, 1, nulls)?;
+    let values = facts.row(VariableOrder::Whole, Logic::Diff, 1, nulls)?;
     Ok((Some(u64::from(values.number)), values.node))
 }
 
 /// The nodes of a comparison of a column with a number.
-fn bounded(facts: &mut Facts<'_>, lines: &mut Vec<Entry>, bound: Bound) -> Result<Pair, Refusal> {
+fn bounded(
+    facts: &mut Facts<'_>,
+    lines: &mut Vec<Entry>,
+    bound: LiteralComparison,
+) -> Result<TruthNodes, Refusal> {
     let (value, m) = values(facts, bound.column)?;
     let (chain, e) = match bound.terminal(facts.width(bound.column)) {
         Some(terminal) => (None, terminal),
@@ -228,8 +236,8 @@ fn bounded(facts: &mut Facts<'_>, lines: &mut Vec<Entry>, bound: Bound) -> Resul
             (Some(u64::from(cited.number)), cited.node)
         }
     };
-    let p = facts.row(Order::Whole, Logic::And, m, e)?;
-    let q = facts.row(Order::Whole, Logic::Diff, m, e)?;
+    let p = facts.row(VariableOrder::Whole, Logic::And, m, e)?;
+    let q = facts.row(VariableOrder::Whole, Logic::Diff, m, e)?;
     put(
         lines,
         ConditionEntry::Compare {
@@ -239,7 +247,7 @@ fn bounded(facts: &mut Facts<'_>, lines: &mut Vec<Entry>, bound: Bound) -> Resul
             no: u64::from(q.number),
         },
     )?;
-    let made = Pair {
+    let made = TruthNodes {
         yes: p.node,
         no: q.node,
     };
@@ -254,8 +262,8 @@ fn bounded(facts: &mut Facts<'_>, lines: &mut Vec<Entry>, bound: Bound) -> Resul
 fn related(
     facts: &mut Facts<'_>,
     lines: &mut Vec<Entry>,
-    relation: Relation,
-) -> Result<Pair, Refusal> {
+    relation: ColumnComparison,
+) -> Result<TruthNodes, Refusal> {
     let order = relation.order();
     let [c, d] = relation.columns;
     let (left, first) = values(facts, c)?;
@@ -281,7 +289,7 @@ fn related(
             no: u64::from(q.number),
         },
     )?;
-    let made = Pair {
+    let made = TruthNodes {
         yes: p.node,
         no: q.node,
     };

@@ -1,13 +1,12 @@
 //! Plans: program files that the planner writes.
-ghost use Rattle.std.specs.Prelude.{◌≡◌, ◌-◌, ◌^◌, ◌<◌, ℕ, List, Result, false, length, IfOk, IfErr, IsTrue, OnOk};
+ghost use Rattle.std.specs.Prelude.{◌≡◌, ◌-◌, ◌^◌, ◌<◌, ℕ, List, Result, false, length, IfOk, IfErr, IsTrue};
 ghost use Rattle.bw_model.specs.declared.fault.Fault.{Fault};
 ghost use Rattle.bw_model.specs.Cond.{names_within};
 ghost use Rattle.bw_model.specs.Fault.{is_memory, nowhere};
 ghost use Rattle.bw_program.specs.Program.{ProgramShape, fits};
 ghost use Rattle.bw_cert_lines.specs.CertificateShape.{CertificateShape};
 ghost use Rattle.bw_cert_file.specs.Judged.{Certifies};
-ghost use Rattle.bw_device.specs.Sink.{Wrote, is_write_fault};
-ghost use Rattle.bw_device.specs.Source.{EndsWith};
+ghost use Rattle.bw_device.specs.Sink.{LeavesSink, Wrote};
 ghost use Rattle.bw_query.specs.Plan.{IsPlanned, IsPrinted};
 
 use bw_cert_file::certify;
@@ -35,10 +34,7 @@ pub fn plan_text<K: Sink>(
     requires { K.failures sink.old < 2 ^ 64 - 1 }
     ensures planned { (given : Result (List ℕ) Fault) × IsPlanned schema.now sql.now given
         × Wrote (K.taken sink.old) (K.taken sink.new) (K.failures sink.old) (K.failures sink.new) given result }
-    ensures sink_failed { EndsWith (nowhere 702) (K.failures sink.old) (K.failures sink.new) result }
-    ensures unwritten { IfErr result (λ fault. is_write_fault fault ≡ false
-        → (K.taken sink.new ≡ K.taken sink.old) × (K.failures sink.new ≡ K.failures sink.old)) }
-    ensures done { OnOk result (K.failures sink.new ≡ K.failures sink.old) }
+    ensures sink { LeavesSink (K.taken sink.old) (K.taken sink.new) (K.failures sink.old) (K.failures sink.new) result }
 {
     let schema = Schema::parse(alloc, schema)?;
     let query = parse(alloc, &schema, sql)?;

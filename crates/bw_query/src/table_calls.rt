@@ -15,7 +15,7 @@ ghost use Rattle.bw_model.specs.SchemaText.{schema_shape};
 ghost use Rattle.bw_file.specs.declared.layout.Layout.{Layout};
 ghost use Rattle.bw_file.specs.FileText.{IsFileText};
 ghost use Rattle.bw_file.specs.Reading.{state};
-ghost use Rattle.bw_device.specs.Sink.{Wrote, is_write_fault};
+ghost use Rattle.bw_device.specs.Sink.{LeavesSink, Wrote};
 ghost use Rattle.bw_device.specs.Source.{EndsWith, is_read_fault};
 ghost use Rattle.bw_query.specs.AnswerText.{text_in};
 ghost use Rattle.bw_query.specs.Scan.{IsChosen, IsFor, given_file};
@@ -75,11 +75,8 @@ pub fn answer<S: Source, K: Sink>(
         → S.to_come table.old ≡ Some bytes → IsFileText bytes layout schema rows
         → by_statement (given_file program.entry) sql.now schema (Ok query)
         → IfErr result (λ fault. IsTrue (is_no_verdict fault)) }
-    ensures table_failed { EndsWith (nowhere 701) (S.failures table.old) (S.failures table.new) result }
-    ensures sink_failed { EndsWith (nowhere 702) (K.failures sink.old) (K.failures sink.new) result }
-    ensures unwritten { IfErr result (λ fault. is_write_fault fault ≡ false
-        → (K.taken sink.new ≡ K.taken sink.old) × (K.failures sink.new ≡ K.failures sink.old)) }
-    ensures done { OnOk result (K.failures sink.new ≡ K.failures sink.old) }
+    ensures table { EndsWith (nowhere 701) (S.failures table.old) (S.failures table.new) result }
+    ensures sink { LeavesSink (K.taken sink.old) (K.taken sink.new) (K.failures sink.old) (K.failures sink.new) result }
 {
     let answered = answered(alloc, table, sql, program)?;
     write_whole(sink, &answered.text)?;
@@ -185,11 +182,8 @@ pub fn dump<S: Source, K: Sink>(alloc: Global, table: &mut S, sink: &mut K) -> R
     ensures accepted { (bytes : List ℕ) (layout : Layout) (schema : Schema) (rows : List (List Value))
         → S.to_come table.old ≡ Some bytes → IsFileText bytes layout schema rows
         → IfErr result (λ fault. IsTrue (is_no_verdict fault)) }
-    ensures table_failed { EndsWith (nowhere 701) (S.failures table.old) (S.failures table.new) result }
-    ensures sink_failed { EndsWith (nowhere 702) (K.failures sink.old) (K.failures sink.new) result }
-    ensures unwritten { IfErr result (λ fault. is_write_fault fault ≡ false
-        → (K.taken sink.new ≡ K.taken sink.old) × (K.failures sink.new ≡ K.failures sink.old)) }
-    ensures done { OnOk result (K.failures sink.new ≡ K.failures sink.old) }
+    ensures table { EndsWith (nowhere 701) (S.failures table.old) (S.failures table.new) result }
+    ensures sink { LeavesSink (K.taken sink.old) (K.taken sink.new) (K.failures sink.old) (K.failures sink.new) result }
 {
     a_file_text_is_read_whole();
     let mut reader = TableReader::begin(alloc, table)?;

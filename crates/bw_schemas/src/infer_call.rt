@@ -1,11 +1,10 @@
 //! A schema text written from a CSV text.
 ghost use Rattle.std.specs.Prelude.{◌≡◌, ◌+◌, ◌-◌, ◌^◌, ◌<◌, ℕ, List, Option, Result, Ok, Some, true, false, IfOk, IfErr, IsTrue, OnOk};
 ghost use Rattle.bw_model.specs.declared.fault.Fault.{Fault};
-ghost use Rattle.bw_model.specs.Fault.{nowhere};
 ghost use Rattle.bw_model.specs.Limits.{longest_csv};
 ghost use Rattle.bw_model.specs.Name.{is_name};
-ghost use Rattle.bw_device.specs.Sink.{is_write_fault, Went};
-ghost use Rattle.bw_device.specs.Source.{Came, TookAtMost, EndsWith};
+ghost use Rattle.bw_device.specs.Sink.{LeavesSink, Went};
+ghost use Rattle.bw_device.specs.Source.{Came, LeavesSource};
 ghost use Rattle.bw_csv.specs.Rows.{is_aside, is_reader_fault, GivesButAside};
 ghost use Rattle.bw_schemas.specs.Infer.{inferred_text, is_inferring_fault, text_from, InfersExactly, SpellsExactly, StopsInferring};
 
@@ -54,16 +53,12 @@ pub fn infer<C: Source, K: Sink>(
         (C.failures csv_source.old) (C.failures csv_source.new) (Ok (Some csv))
         × StopsInferring csv fault) }
 
-    // Where a device failed, the call ends with that; and no more is taken of the source than one byte past its limit.
-    ensures csv_failed { EndsWith (nowhere 701) (C.failures csv_source.old) (C.failures csv_source.new) result }
-    ensures sink_failed { EndsWith (nowhere 702) (K.failures sink.old) (K.failures sink.new) result }
-    ensures took { TookAtMost (longest_csv + 1) (C.to_come csv_source.old) (C.to_come csv_source.new) }
+    // Where a device failed, the call ends with that; of the source no more is taken than one byte past its limit; and where
+    // the call refuses, but for a write that failed, it has written nothing.
+    ensures csv { LeavesSource (longest_csv + 1) (C.to_come csv_source.old) (C.to_come csv_source.new)
+        (C.failures csv_source.old) (C.failures csv_source.new) result }
+    ensures sink { LeavesSink (K.taken sink.old) (K.taken sink.new) (K.failures sink.old) (K.failures sink.new) result }
     ensures unneeded { is_name table.now ≡ false → csv_source.new ≡ csv_source.old }
-
-    // Where it refuses, but for a write that failed, it has written nothing.
-    ensures unwritten { IfErr result (λ fault. is_write_fault fault ≡ false
-        → (K.taken sink.new ≡ K.taken sink.old) × (K.failures sink.new ≡ K.failures sink.old)) }
-    ensures done { OnOk result (K.failures sink.new ≡ K.failures sink.old) }
 {
     if !is_name(table) {
         return Err(Fault::new(code::SCHEMA_NAME));

@@ -1,11 +1,11 @@
 //! The header of a table file, written as text.
-ghost use Rattle.std.specs.Prelude.{◌≡◌, ◌-◌, ◌^◌, ◌<◌, ℕ, List, Result, Some, false, length, IfErr, IsTrue, OnOk};
+ghost use Rattle.std.specs.Prelude.{◌≡◌, ◌-◌, ◌^◌, ◌<◌, ℕ, List, Result, Some, length, IfErr, IsTrue, OnOk};
 ghost use Rattle.bw_model.specs.declared.fault.Fault.{Fault};
 ghost use Rattle.bw_model.specs.declared.schema.Schema.{Schema};
 ghost use Rattle.bw_model.specs.Fault.{nowhere};
 ghost use Rattle.bw_model.specs.Groups.{groups_of};
 ghost use Rattle.bw_model.specs.Row.{Value};
-ghost use Rattle.bw_device.specs.Sink.{Wrote, is_write_fault};
+ghost use Rattle.bw_device.specs.Sink.{LeavesSink, Wrote};
 ghost use Rattle.bw_device.specs.Source.{EndsWith};
 ghost use Rattle.bw_file.specs.declared.layout.Layout.{Layout};
 ghost use Rattle.bw_file.specs.FileText.{AreRows, IsFileText, text_of_version};
@@ -41,11 +41,8 @@ pub fn info<S: Source, K: Sink>(alloc: Global, table: &mut S, sink: &mut K) -> R
     ensures accepted { (bytes : List ℕ) (layout : Layout) (schema : Schema) (rows : List (List Value))
         → S.to_come table.old ≡ Some bytes → IsFileText bytes layout schema rows
         → IfErr result (λ fault. IsTrue (is_no_verdict fault)) }
-    ensures table_failed { EndsWith (nowhere 701) (S.failures table.old) (S.failures table.new) result }
-    ensures sink_failed { EndsWith (nowhere 702) (K.failures sink.old) (K.failures sink.new) result }
-    ensures unwritten { IfErr result (λ fault. is_write_fault fault ≡ false
-        → (K.taken sink.new ≡ K.taken sink.old) × (K.failures sink.new ≡ K.failures sink.old)) }
-    ensures done { OnOk result (K.failures sink.new ≡ K.failures sink.old) }
+    ensures table { EndsWith (nowhere 701) (S.failures table.old) (S.failures table.new) result }
+    ensures sink { LeavesSink (K.taken sink.old) (K.taken sink.new) (K.failures sink.old) (K.failures sink.new) result }
 {
     a_file_text_is_read_whole();
     let reader = TableReader::begin(alloc, table)?;

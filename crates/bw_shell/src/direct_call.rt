@@ -1,13 +1,12 @@
 //! A query answered straight from a CSV text.
-ghost use Rattle.std.specs.Prelude.{◌≡◌, ◌+◌, ◌-◌, ◌^◌, ◌<◌, ◌≤◌, ℕ, List, Option, Result, Ok, true, false, length, vec_len, IfErr, IsTrue, OnOk};
+ghost use Rattle.std.specs.Prelude.{◌≡◌, ◌+◌, ◌-◌, ◌^◌, ◌<◌, ◌≤◌, ℕ, List, Option, Result, Ok, true, length, vec_len, IfErr, IsTrue};
 ghost use Rattle.std.specs.List.{list_all};
 ghost use Rattle.bw_model.specs.declared.fault.Fault.{Fault};
 ghost use Rattle.bw_model.specs.declared.query.Query.{Query};
 ghost use Rattle.bw_model.specs.declared.schema.Schema.{Schema};
-ghost use Rattle.bw_device.specs.Sink.{is_write_fault, Went};
-ghost use Rattle.bw_model.specs.Fault.{nowhere};
+ghost use Rattle.bw_device.specs.Sink.{LeavesSink, Went};
 ghost use Rattle.bw_model.specs.Limits.{longest_schema, longest_csv};
-ghost use Rattle.bw_device.specs.Source.{Came, TookAtMost, EndsWith};
+ghost use Rattle.bw_device.specs.Source.{Came, LeavesSource};
 ghost use Rattle.bw_model.specs.Total.{item_within};
 ghost use Rattle.bw_sql.specs.Items.{AreOfOneKind};
 ghost use Rattle.bw_sql.specs.Statement.{IsReadAs};
@@ -62,22 +61,17 @@ pub fn direct<S: Source, C: Source, K: Sink>(
         × CsvStopped (Came longest_csv (C.to_come csv_source.old) (C.to_come csv_source.new)
         (C.failures csv_source.old) (C.failures csv_source.new)) schema fault) }
 
-    // Where a device failed, the call ends with that; and no more is taken of a source than one byte past its limit.
-    ensures schema_failed { EndsWith (nowhere 701) (S.failures schema_source.old)
-        (S.failures schema_source.new) result }
-    ensures csv_failed { EndsWith (nowhere 701) (C.failures csv_source.old) (C.failures csv_source.new) result }
-    ensures sink_failed { EndsWith (nowhere 702) (K.failures sink.old) (K.failures sink.new) result }
-    ensures took { TookAtMost (longest_schema + 1) (S.to_come schema_source.old) (S.to_come schema_source.new)
-        × TookAtMost (longest_csv + 1) (C.to_come csv_source.old) (C.to_come csv_source.new) }
+    // Where a device failed, the call ends with that; of a source no more is taken than one byte past its limit; and where
+    // the call refuses, but for a write that failed, it has written nothing.
+    ensures schema { LeavesSource (longest_schema + 1) (S.to_come schema_source.old) (S.to_come schema_source.new)
+        (S.failures schema_source.old) (S.failures schema_source.new) result }
+    ensures csv { LeavesSource (longest_csv + 1) (C.to_come csv_source.old) (C.to_come csv_source.new)
+        (C.failures csv_source.old) (C.failures csv_source.new) result }
+    ensures sink { LeavesSink (K.taken sink.old) (K.taken sink.new) (K.failures sink.old) (K.failures sink.new) result }
 
     // Where the schema's source failed, or the schema or the statement is refused, the CSV's source is as it was.
     ensures unread { S.failures schema_source.old < S.failures schema_source.new → csv_source.new ≡ csv_source.old }
     ensures unneeded { IfErr result (λ fault. IsTrue (is_before_csv fault) → csv_source.new ≡ csv_source.old) }
-
-    // Where it refuses, but for a write that failed, it has written nothing.
-    ensures unwritten { IfErr result (λ fault. is_write_fault fault ≡ false
-        → (K.taken sink.new ≡ K.taken sink.old) × (K.failures sink.new ≡ K.failures sink.old)) }
-    ensures done { OnOk result (K.failures sink.new ≡ K.failures sink.old) }
 {
     let schema = read_schema(alloc, schema_source)?;
     let query = parse(alloc, &schema, sql)?;

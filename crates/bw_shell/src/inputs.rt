@@ -3,9 +3,8 @@ ghost use Rattle.std.specs.Prelude.{◌≡◌, ◌+◌, ◌-◌, ◌^◌, ◌<�
 ghost use Rattle.bw_model.specs.declared.fault.Fault.{Fault};
 ghost use Rattle.bw_csv.specs.Rows.{is_reader_fault};
 ghost use Rattle.bw_device.specs.Sink.{is_write_fault};
-ghost use Rattle.bw_model.specs.Fault.{nowhere};
 ghost use Rattle.bw_model.specs.Limits.{longest_schema};
-ghost use Rattle.bw_device.specs.Source.{Came, TookAtMost, EndsWith};
+ghost use Rattle.bw_device.specs.Source.{Came, LeavesSource};
 ghost use Rattle.bw_shell.specs.Arrived.{SchemaTold};
 
 use bw_device::{Input, Source, read_limited};
@@ -19,8 +18,8 @@ pub(crate) fn read_schema<S: Source>(alloc: Global, source: &mut S) -> Result<Sc
         × Came longest_schema (S.to_come source.old) (S.to_come source.new) (S.failures source.old)
         (S.failures source.new) came
         × SchemaTold came result }
-    ensures took { TookAtMost (longest_schema + 1) (S.to_come source.old) (S.to_come source.new) }
-    ensures failed { EndsWith (nowhere 701) (S.failures source.old) (S.failures source.new) result }
+    ensures source { LeavesSource (longest_schema + 1) (S.to_come source.old) (S.to_come source.new)
+        (S.failures source.old) (S.failures source.new) result }
     ensures fault { IfErr result (λ fault. is_write_fault fault ≡ false) }
     ensures own { IfErr result (λ fault. is_reader_fault fault ≡ false) }
 {

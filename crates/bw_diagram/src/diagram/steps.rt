@@ -6,20 +6,20 @@ ghost use Rattle.bw_diagram.specs.Node.{is_node};
 ghost use Rattle.bw_diagram.specs.Chain.{chain_named, variable_at, in_range, is_within, is_step, is_earlier, node_before, chooses, leads, leads_always, step, occurs, length_of, end_of};
 
 use super::Diagram;
-use crate::chain::{Chain, ChainKind, ChainLine, is_choice};
+use crate::chain::{Chain, ChainColumns, ChainKind, is_choice};
 use crate::node::{Node, cofactor};
 
 impl Diagram<'_> {
     /// The chain of a line's fields, if they name columns, a node, an earlier chain and bits that are there.
     #[tactic(auto, unfolding(crate::specs::Chain::is_in_range))]
-    pub(super) fn in_range(&self, line: ChainLine<'_>) -> Option<Chain>
+    pub(super) fn in_range(&self, columns: &ChainColumns) -> Option<Chain>
         ensures range { result ≡ in_range self.now.columns self.now.nodes self.now.chains
-            (chain_named self.now.columns line.entry) }
+            (chain_named self.now.columns columns.now) }
         ensures within { IfSome result (λ chain. IsTrue (is_within self.now.columns chain)) }
         ensures short { IfSome result (λ chain. end_of chain ≤ 63) }
     {
-        match line {
-            ChainLine::OneColumn {
+        match columns {
+            ChainColumns::One {
                 kind,
                 column,
                 start,
@@ -30,25 +30,25 @@ impl Diagram<'_> {
             } => {
                 let col = self.schema.column_named(column)?;
                 let width = u64::from(self.schema.width(col));
-                if !self.is_node(node)
-                    || !self.is_earlier(prev)
-                    || start > width
-                    || len > width - start
-                    || bound >= 1 << len
+                if !self.is_node(*node)
+                    || !self.is_earlier(*prev)
+                    || *start > width
+                    || *len > width - *start
+                    || *bound >= 1 << *len
                 {
                     return None;
                 }
                 Some(Chain::One {
-                    kind,
+                    kind: *kind,
                     col: col as u32,
-                    start: start as u32,
-                    len: len as u32,
-                    bound,
-                    node: node as u32,
-                    prev: narrow(prev),
+                    start: *start as u32,
+                    len: *len as u32,
+                    bound: *bound,
+                    node: *node as u32,
+                    prev: narrow(*prev),
                 })
             }
-            ChainLine::TwoColumns {
+            ChainColumns::Two {
                 kind,
                 left,
                 right,
@@ -59,20 +59,20 @@ impl Diagram<'_> {
                 let left = self.schema.column_named(left)?;
                 let right = self.schema.column_named(right)?;
                 let width = self.schema.width(left).max(self.schema.width(right));
-                if !self.is_node(node)
-                    || !self.is_earlier(prev)
+                if !self.is_node(*node)
+                    || !self.is_earlier(*prev)
                     || left == right
-                    || len > u64::from(width)
+                    || *len > u64::from(width)
                 {
                     return None;
                 }
                 Some(Chain::Two {
-                    kind,
+                    kind: *kind,
                     left: left as u32,
                     right: right as u32,
-                    len: len as u32,
-                    node: node as u32,
-                    prev: narrow(prev),
+                    len: *len as u32,
+                    node: *node as u32,
+                    prev: narrow(*prev),
                 })
             }
         }

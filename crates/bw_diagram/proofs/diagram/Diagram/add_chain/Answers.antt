@@ -10,7 +10,7 @@ use Rattle.bw_diagram.proofs.diagram.Diagram.add_chain.Goals as goal
 pub invariant_of-self-2 : goal.invariant_of-self-2
 invariant_of-self-2 c =
     let P : List Chain → Type 0 = λ chains. AreTrue (record (held c.self.inside) { chains = chains }) in
-    let judged = ap (λ facts. judged_chain facts c.args.n (chain_named facts.columns c.args.line)) c.self.view_is ∙ sym c.in_ok-chain.ensures.judged in
+    let judged = ap (λ facts. judged_chain facts c.args.n (chain_named facts.columns c.args.columns.now)) c.self.view_is ∙ sym c.in_ok-chain.ensures.judged in
     record {
       variable_count = c.self.invariant.variable_count;
       few_chains =
