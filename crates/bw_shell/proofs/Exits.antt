@@ -52,7 +52,7 @@ keeps_itself None = tt
 keeps_itself (Some xs) = refl
 
 -- a call that wrote nothing
-pub wrote_nothing : (old : Option (List ℕ)) (count : ℕ) (fault : Fault) (given : Given) → is_write_fault fault ≡ false → IsFaultOf fault given
+wrote_nothing : (old : Option (List ℕ)) (count : ℕ) (fault : Fault) (given : Given) → is_write_fault fault ≡ false → IsFaultOf fault given
     → Went {T = Unit {0}} is_aside old old count count given (Err fault)
 wrote_nothing old count fault given other is =
     let kept : count ≡ count = refl in
@@ -101,12 +101,21 @@ pub text_exit : (P Q : Arrival → Type 0) (Is : Arrival → Arrival → Given �
 text_exit P Q Is W came csv make bytes is p q told w = (came, Ok (Some bytes), make bytes, p, subst Q told q, is, w)
 
 -- the text went out, or up to a failed write
-pub went_out : (old new : Option (List ℕ)) (before after : ℕ) (text : List ℕ) (given : Given) (result : Result (Unit {0}) Fault) → given ≡ Ok text
+went_out : (old new : Option (List ℕ)) (before after : ℕ) (text : List ℕ) (given : Given) (result : Result (Unit {0}) Fault) → given ≡ Ok text
     → GoesOut old new before after text result → Went is_aside old new before after given result
 went_out old new before after text given (Ok x) is goes = (subst (λ g. IsOkAnd g (Appends old new)) (sym is) goes.0, goes.1)
 went_out old new before after text given (Err fault) is goes =
     let write : is_write_fault fault ≡ true = ap is_write_fault goes.0 in
     (λ w. (goes.0, subst (λ g. IsOkAnd g (TookPart old new)) (sym is) goes.1, goes.2), λ other. absurd (cc (write, other)))
+
+-- what was given went out, or a fault was, and nothing went
+pub went_on : (P Q : Arrival → Type 0) (Is : Arrival → Arrival → Given → Type 0) (old new : Option (List ℕ)) (before after : ℕ) (text : List ℕ) (result : Result (Unit {0}) Fault)
+    → Ends P Q Is (λ given. given ≡ Ok text) → GoesOut old new before after text result → Ends P Q Is (λ given. Went is_aside old new before after given result)
+went_on P Q Is old new before after text result e goes = (e.0, e.1, e.2, e.3, e.4, e.5, went_out old new before after text e.2 result e.6 goes)
+
+pub went_nowhere : (P Q : Arrival → Type 0) (Is : Arrival → Arrival → Given → Type 0) (old : Option (List ℕ)) (count : ℕ) (fault : Fault) → is_write_fault fault ≡ false
+    → Ends P Q Is (IsFaultOf fault) → Ends P Q Is (λ given. Went {T = Unit {0}} is_aside old old count count given (Err fault))
+went_nowhere P Q Is old count fault other e = (e.0, e.1, e.2, e.3, e.4, e.5, wrote_nothing old count fault e.2 other e.6)
 
 -- faults of other kinds are no failed writes, whatever their places
 pub other_fault : (allowed : Fault → Bool) (fault : Fault) (write : Bool) → is_write_fault fault ≡ write → allowed fault ≡ true

@@ -1,9 +1,9 @@
 //! A table file written from a CSV text.
-ghost use Rattle.std.specs.Prelude.{◌≡◌, ◌+◌, ◌-◌, ◌^◌, ◌<◌, ℕ, List, Option, Result, true, IfErr, IsTrue};
+ghost use Rattle.std.specs.Prelude.{◌≡◌, ◌+◌, ◌-◌, ◌^◌, ◌<◌, ℕ, List, Option, Result, false, true, IfErr, IsTrue};
 ghost use Rattle.bw_model.specs.declared.fault.Fault.{Fault};
 ghost use Rattle.bw_model.specs.declared.schema.Schema.{Schema};
 ghost use Rattle.bw_model.specs.Limits.{longest_schema, longest_csv};
-ghost use Rattle.bw_device.specs.Sink.{LeavesSink, Went};
+ghost use Rattle.bw_device.specs.Sink.{LeavesSink, Went, is_write_fault};
 ghost use Rattle.bw_device.specs.Source.{Came, LeavesSource};
 ghost use Rattle.bw_csv.specs.Bare.{records_of};
 ghost use Rattle.bw_csv.specs.Rows.{is_aside, is_reader_fault, GivesButAside, IsRowsFault, StopsUnder};
@@ -65,10 +65,42 @@ pub fn load<S: Source, C: Source, K: Sink>(
     ensures unread { S.failures schema_source.old < S.failures schema_source.new → csv_source.new ≡ csv_source.old }
     ensures unneeded { IfErr result (λ fault. IsTrue (is_before_csv fault) → csv_source.new ≡ csv_source.old) }
 {
+    let file = loaded(alloc, schema_source, csv_source, layout)?;
+    write_whole(sink, &file)
+}
+
+/// The table file of the rows of a CSV text, under the schema of a schema text. Refuses as [`load`] does, but for the sink.
+fn loaded<S: Source, C: Source>(
+    alloc: Global,
+    schema_source: &mut S,
+    csv_source: &mut C,
+    layout: Layout,
+) -> Result<Vec<u8>, Fault>
+    requires schema { S.failures schema_source.old < 2 ^ 64 - 1 }
+    requires csv { C.failures csv_source.old < 2 ^ 64 - 1 }
+    ensures file { (schema csv : Result (Option (List ℕ)) Fault) × (given : Result (List ℕ) Fault)
+        × Came longest_schema (S.to_come schema_source.old) (S.to_come schema_source.new)
+        (S.failures schema_source.old) (S.failures schema_source.new) schema
+        × Came longest_csv (C.to_come csv_source.old) (C.to_come csv_source.new)
+        (C.failures csv_source.old) (C.failures csv_source.new) csv
+        × IsFile layout schema csv given
+        × GivesButAside (λ file. file.items) result given }
+    ensures fault { IfErr result (λ fault. is_write_fault fault ≡ false) }
+    ensures reader { IfErr result (λ fault. is_reader_fault fault ≡ true → (schema : Schema)
+        × SchemaCame (Came longest_schema (S.to_come schema_source.old) (S.to_come schema_source.new)
+        (S.failures schema_source.old) (S.failures schema_source.new)) schema
+        × CsvStopped (Came longest_csv (C.to_come csv_source.old) (C.to_come csv_source.new)
+        (C.failures csv_source.old) (C.failures csv_source.new)) schema fault) }
+    ensures schema { LeavesSource (longest_schema + 1) (S.to_come schema_source.old) (S.to_come schema_source.new)
+        (S.failures schema_source.old) (S.failures schema_source.new) result }
+    ensures csv { LeavesSource (longest_csv + 1) (C.to_come csv_source.old) (C.to_come csv_source.new)
+        (C.failures csv_source.old) (C.failures csv_source.new) result }
+    ensures unread { S.failures schema_source.old < S.failures schema_source.new → csv_source.new ≡ csv_source.old }
+    ensures unneeded { IfErr result (λ fault. IsTrue (is_before_csv fault) → csv_source.new ≡ csv_source.old) }
+{
     let schema = read_schema(alloc, schema_source)?;
     let csv = read_csv(alloc, csv_source)?;
-    let file = file_text(alloc, layout, &schema, &csv)?;
-    write_whole(sink, &file)
+    file_text(alloc, layout, &schema, &csv)
 }
 
 /// The table file of the rows of a CSV text. Refuses as [`read_rows`] does.

@@ -1,78 +1,14 @@
 -- Each exit, by what its calls' contracts say.
-use Rattle.std.proofs.Common.{Ok, Some}
 use Rattle.std.proofs.lemmas.Result.{err_from_is_err_and}
-use Rattle.bw_model.specs.Limits.{longest_schema, longest_csv}
-use Rattle.bw_shell.specs.Direct.{answer_of}
-use Rattle.bw_shell.proofs.Exits.{came_of, stopped_of, schema_exit, csv_exit, text_exit, unread_schema, never_read, wrote_nothing, went_out, rows_write_nothing}
-use Rattle.bw_shell.proofs.DirectExits.{AnswerTo, refused_schema, read_statement, statement_exit, statement_writes_nothing}
+use Rattle.bw_shell.proofs.Exits.{went_nowhere, went_on}
+use Rattle.bw_shell.proofs.DirectExits.{AnswerTo}
 use Rattle.bw_shell.proofs.direct_call.direct.Goals as goal
-
-pub returns-in_err-schema-clause-answer : goal.returns-in_err-schema-clause-answer
-returns-in_err-schema-clause-answer g c =
-    let p = err_from_is_err_and c.from_residual.result c.from_residual.ensures.1 in
-    let told = c.in_err-schema.ensures.told in
-    let fault = c.in_err-schema.field-0.0 in
-    let sql = c.args.sql.now in
-    rw (p.1, p.2) (schema_exit _ _ (AnswerTo sql) _ told.0 fault (refused_schema sql) told.1 (never_read longest_csv (g.C.Source.to_come c.args.csv_source.now) _) told.2
-    (λ given is. wrote_nothing _ _ fault given c.in_err-schema.ensures.fault is))
-
-pub returns-in_err-query-clause-answer : goal.returns-in_err-query-clause-answer
-returns-in_err-query-clause-answer g c =
-    let p = err_from_is_err_and c.from_residual-in_err-query.result c.from_residual-in_err-query.ensures.1 in
-    let told = c.in_ok-schema.ensures.told in
-    let fault = c.in_err-query.field-0.0 in
-    rw (p.1, p.2) (statement_exit _ _ c.args.sql.now _ told.0 c.in_ok-schema.schema fault told.1
-    (unread_schema longest_schema _ _ _ _ told.0 c.in_ok-schema.schema told.1 told.2) (never_read longest_csv (g.C.Source.to_come c.args.csv_source.now) _) told.2
-    c.in_err-query.ensures.read
-    (λ given is. wrote_nothing _ _ fault given (statement_writes_nothing fault c.in_err-query.ensures.fault) is))
-
-pub returns-in_err-csv-clause-answer : goal.returns-in_err-csv-clause-answer
-returns-in_err-csv-clause-answer g c =
-    let p = err_from_is_err_and c.from_residual-in_err-csv.result c.from_residual-in_err-csv.ensures.1 in
-    let told = c.in_ok-schema.ensures.told in
-    let csv = c.in_err-csv.ensures.told in
-    let fault = c.in_err-csv.field-0.0 in
-    let schema = c.in_ok-schema.schema in
-    let query = c.in_ok-query.query in
-    let sql = c.args.sql.now in
-    rw (p.1, p.2) (csv_exit _ _ (AnswerTo sql) _ told.0 csv.0 (answer_of schema.columns.items query) fault
-    (read_statement sql told.0 csv.0 schema query told.2 c.in_ok-query.ensures.read) told.1 csv.1 csv.2
-    (λ given is. wrote_nothing _ _ fault given c.in_err-csv.ensures.fault is))
 
 pub returns-in_err-text-clause-answer : goal.returns-in_err-text-clause-answer
 returns-in_err-text-clause-answer g c =
-    let p = err_from_is_err_and c.from_residual-in_err-text.result c.from_residual-in_err-text.ensures.1 in
-    let told = c.in_ok-schema.ensures.told in
-    let csv = c.in_ok-csv.ensures.told in
-    let fault = c.in_err-text.field-0.0 in
-    let schema = c.in_ok-schema.schema in
-    let query = c.in_ok-query.query in
-    let sql = c.args.sql.now in
-    let bytes = c.deref.result.now in
-    rw (p.1, p.2) (text_exit _ _ (AnswerTo sql) _ told.0 csv.0 (answer_of schema.columns.items query) bytes
-    (read_statement sql told.0 (Ok (Some bytes)) schema query told.2 c.in_ok-query.ensures.read) told.1 csv.1 (rw c.deref.ensures.value csv.2)
-    (wrote_nothing _ _ fault _ (rows_write_nothing fault c.in_err-text.ensures.fault) c.in_err-text.ensures.text))
+    let p = err_from_is_err_and c.from_residual.result c.from_residual.ensures.1 in
+    rw (p.1, p.2) (went_nowhere _ _ (AnswerTo c.args.sql.now) _ _ c.in_err-text.field-0.0 c.in_err-text.ensures.fault c.in_err-text.ensures.answer)
 
 pub returns-clause-answer : goal.returns-clause-answer
 returns-clause-answer g c =
-    let told = c.in_ok-schema.ensures.told in
-    let csv = c.in_ok-csv.ensures.told in
-    let schema = c.in_ok-schema.schema in
-    let query = c.in_ok-query.query in
-    let sql = c.args.sql.now in
-    let bytes = c.deref.result.now in
-    text_exit _ _ (AnswerTo sql) _ told.0 csv.0 (answer_of schema.columns.items query) bytes
-    (read_statement sql told.0 (Ok (Some bytes)) schema query told.2 c.in_ok-query.ensures.read) told.1 csv.1 (rw c.deref.ensures.value csv.2)
-    (went_out _ _ _ _ c.in_ok-text.text.items _ c.write_whole.result c.in_ok-text.ensures.text (rw c.deref-2.ensures.value at c.write_whole.ensures))
-
-pub returns-in_err-text-clause-reader : goal.returns-in_err-text-clause-reader
-returns-in_err-text-clause-reader g c =
-    let p = err_from_is_err_and c.from_residual-in_err-text.result c.from_residual-in_err-text.ensures.1 in
-    let schema = c.in_ok-schema.schema in
-    rw (p.1, p.2) (λ own. (
-      schema,
-      c.in_ok-query.query,
-      came_of _ schema c.in_ok-schema.ensures.told,
-      c.in_ok-query.ensures.read,
-      stopped_of _ schema c.in_ok-csv.csv.items _ _ c.in_ok-csv.ensures.told c.deref.ensures.value (c.in_err-text.ensures.reader own),
-    ))
+    went_on _ _ (AnswerTo c.args.sql.now) _ _ _ _ c.in_ok-text.text.items c.write_whole.result c.in_ok-text.ensures.answer (rw c.deref.ensures.value at c.write_whole.ensures)
