@@ -50,37 +50,31 @@ pub header_exit : (asks : Schema → Result Query Fault → Type 0) (start : Sta
 header_exit asks start now fault fails = (fails.0, record { failures = fails.1.failures; answer = inl fails.1 })
 
 -- what is asked was refused
-pub asked_exit : (asks : Schema → Result Query Fault → Type 0) (start : State) (now : ℕ → State) (offset : ℕ) (reader : TableReader) (fault : Fault)
-    → Told start (now offset) reader → failed_reads fault ≡ 0 → (is_memory fault ≡ false → asks (schema_in reader) (Err fault)) → Gives asks start now (Err fault)
-asked_exit asks start now offset reader fault told none asked = (
-  offset,
-  record {
-    failures = omega (arith, told.failures, none);
-    answer = inr (inl (record { schema = schema_in reader; head = head_of start (now offset) reader told; asked = asked }));
-  },
-)
+pub asked_refused : (asks : Schema → Result Query Fault → Type 0) (start now : State) (reader : TableReader) (fault : Fault)
+    → Told start now reader → failed_reads fault ≡ 0 → (is_memory fault ≡ false → asks (schema_in reader) (Err fault)) → TableGave asks start now (Err fault)
+asked_refused asks start now reader fault told none asked = record {
+  failures = omega (arith, told.failures, none);
+  answer = inr (inl (record { schema = schema_in reader; head = head_of start now reader told; asked = asked }));
+}
 
 -- a segment was refused, or a read of one failed
-pub segment_exit : (asks : Schema → Result Query Fault → Type 0) (start : State) (now : ℕ → State) (old : State) (offset : ℕ) (reader : TableReader) (query : Query) (fault : Fault)
-    → Told start old reader → asks (schema_in reader) (Ok query) → AnswersFault start old (now offset) fault → Gives asks start now (Err fault)
-segment_exit asks start now old offset reader query fault told asked answers = (
-  offset,
-  record {
-    failures = answers.failures ∙ ap (λ (n : ℕ). n + failed_reads fault) told.failures;
-    answer = inr (inr (record {
-      schema = schema_in reader;
-      query = query;
-      behind = old;
-      head = head_of start old reader told;
-      asked = asked;
-      bytes = answers.bytes;
-      took = answers.took;
-      needed = answers.needed;
-      unfinished = answers.unfinished;
-      first = answers.first;
-    }));
-  },
-)
+pub segment_refused : (asks : Schema → Result Query Fault → Type 0) (start old now : State) (reader : TableReader) (query : Query) (fault : Fault)
+    → Told start old reader → asks (schema_in reader) (Ok query) → AnswersFault start old now fault → TableGave asks start now (Err fault)
+segment_refused asks start old now reader query fault told asked answers = record {
+  failures = answers.failures ∙ ap (λ (n : ℕ). n + failed_reads fault) told.failures;
+  answer = inr (inr (record {
+    schema = schema_in reader;
+    query = query;
+    behind = old;
+    head = head_of start old reader told;
+    asked = asked;
+    bytes = answers.bytes;
+    took = answers.took;
+    needed = answers.needed;
+    unfinished = answers.unfinished;
+    first = answers.first;
+  }));
+}
 
 -- the text of the meaning, over a table's rows, and what is reported of the scan over their groups
 pub text_over : (asks : Schema → Result Query Fault → Type 0) (start now : State) (schema : Schema) (query : Query) (scan : Scan) (text : List ℕ) (scanned : Scanned)
@@ -154,11 +148,11 @@ answered_or_not asks start now schema query scan text scanned asked over bytes k
 answered_or_not asks start now schema query scan text scanned asked over bytes known old new before after (Err fault) goes = tt
 
 -- the file was read whole
-pub text_exit : (asks : Schema → Result Query Fault → Type 0) (start : State) (now : ℕ → State) (offset : ℕ) (schema : Schema) (query : Query) (scan : Scan) (text : List ℕ) (scanned : Scanned)
-    → asks schema (Ok query) → TextOver start (now offset) schema query scan text scanned → Gives asks start now (Ok text)
-text_exit asks start now offset schema query scan text scanned asked over =
-    let found = text_over asks start (now offset) schema query scan text scanned (λ s q r. Unit {0}) (λ rows counts. tt) asked over in
-    (offset, record { failures = omega (arith, over.read.failures); answer = found.0 })
+pub text_gave : (asks : Schema → Result Query Fault → Type 0) (start now : State) (schema : Schema) (query : Query) (scan : Scan) (text : List ℕ) (scanned : Scanned)
+    → asks schema (Ok query) → TextOver start now schema query scan text scanned → TableGave asks start now (Ok text)
+text_gave asks start now schema query scan text scanned asked over =
+    let found = text_over asks start now schema query scan text scanned (λ s q r. Unit {0}) (λ rows counts. tt) asked over in
+    record { failures = omega (arith, over.read.failures); answer = found.0 }
 
 -- a call that wrote nothing
 keeps_itself : (old : Option (List ℕ)) → Keeps old old

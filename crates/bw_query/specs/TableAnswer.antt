@@ -1,5 +1,5 @@
 -- What an answer from a table file is to be, by the bytes that came of it.
-use Rattle.std.specs.Prelude.{◌≡◌, ◌⊎◌, ℕ, ◌+◌, ◌||◌, Bool, true, false, IsTrue, List, length, map, Option, Result, Ok, Err}
+use Rattle.std.specs.Prelude.{◌≡◌, ◌⊎◌, ℕ, ◌+◌, ◌||◌, Bool, true, false, IsTrue, List, [], length, map, Option, Result, Ok, Err}
 use Rattle.std.specs.Io.KnownBytes.{Appends}
 use Rattle.std.specs.List.{range_with_len}
 use Rattle.bw_model.specs.declared.fault.Fault.{Fault}
@@ -20,7 +20,8 @@ use Rattle.bw_file.specs.declared.layout.Layout.{Layout}
 use Rattle.bw_file.specs.FileText.{IsFileText}
 use Rattle.bw_file.specs.Reading.{State, Took, GoesOn, Fails, give}
 use Rattle.bw_file.specs.TableReading.{HeaderShape, Found, header}
-use Rattle.bw_file.specs.TableReader.{AreUnfinished, HasFirstFault, NoneToSpare, ReadWhole, failed_by}
+use Rattle.bw_file.specs.TableReader.{AreUnfinished, HasFirstFault, NoneToSpare, ReadWhole, SoFar, failed_by, header_told, version_in}
+use Rattle.bw_file.specs.declared.table_reader.TableReader.{TableReader}
 use Rattle.bw_query.specs.Scan.{IsScanFault, IsUsable}
 
 -- the header of the file was read, and tells of this schema
@@ -28,6 +29,11 @@ pub record HeaderRead (start behind : State) (schema : Schema) : Type 0 where
   pub told : HeaderShape
   pub read : GoesOn header start (give told) behind
   pub shape : schema_shape schema ≡ told.schema
+
+-- a reader has read the header, which stands at the start of its file, and nothing after it
+pub record Began (start now : State) (reader : TableReader) : Type 0 where
+  pub so_far : SoFar start now reader []
+  pub told : GoesOn header start (give (header_told (version_in reader) reader)) now
 
 -- all bytes of the file were taken, and they are the text of the table file of these rows under this schema
 pub record WholeTable (start now : State) (schema : Schema) (rows : List (List Value)) : Type 0 where

@@ -71,7 +71,10 @@ fn accepted(alloc: Global, schema: &Schema, cond: &Cond) -> Result<Certified, Fa
     ensures chosen { IfOk result (λ certified. IsChosen None schema.now.columns.items cond.now (Program certified)) }
 {
     let proposal = propose(alloc, schema, cond)?;
-    check(alloc, schema, cond, proposal.program, &proposal.certificate).map_err(|(_, fault)| fault)
+    match check(alloc, schema, cond, proposal.program, &proposal.certificate) {
+        Ok(certified) => Ok(certified),
+        Err((_, fault)) => Err(fault),
+    }
 }
 
 /// The scan by a program that was found; row by row, where there is none by a fault other than out of memory; and out of

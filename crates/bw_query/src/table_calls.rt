@@ -1,5 +1,5 @@
 //! Queries answered from a table file.
-ghost use Rattle.std.specs.Prelude.{◌≡◌, ◌-◌, ◌^◌, ◌<◌, ◌≤◌, ℕ, List, Option, Result, Ok, Err, Some, false, length, vec_len, IsTrue, IfOk, IfErr, OnOk};
+ghost use Rattle.std.specs.Prelude.{◌≡◌, ◌-◌, ◌^◌, ◌<◌, ◌≤◌, ℕ, List, Option, Result, Ok, Err, None, Some, false, length, vec_len, IsTrue, IfOk, IfErr, OnOk};
 ghost use Rattle.std.specs.Io.KnownBytes.{Appends};
 ghost use Rattle.std.specs.List.{list_all};
 ghost use Rattle.bw_model.specs.declared.fault.Fault.{Fault};
@@ -14,13 +14,14 @@ ghost use Rattle.bw_model.specs.Row.{Value};
 ghost use Rattle.bw_model.specs.SchemaText.{schema_shape};
 ghost use Rattle.bw_file.specs.declared.layout.Layout.{Layout};
 ghost use Rattle.bw_file.specs.FileText.{IsFileText};
-ghost use Rattle.bw_file.specs.Reading.{state};
+ghost use Rattle.bw_file.specs.Reading.{State, state};
+ghost use Rattle.bw_file.specs.TableReader.{bytes_taken, rows_given, settled};
 ghost use Rattle.bw_device.specs.Sink.{LeavesSink, Wrote};
 ghost use Rattle.bw_device.specs.Source.{EndsWith, is_read_fault};
 ghost use Rattle.bw_query.specs.AnswerText.{text_in};
 ghost use Rattle.bw_query.specs.Scan.{IsChosen, IsFor, given_file};
 ghost use Rattle.bw_query.specs.Served.{IsServed};
-ghost use Rattle.bw_query.specs.TableAnswer.{AnswersFile, IsEveryRow, TableGave, TableText, by_dump, by_statement, is_no_verdict};
+ghost use Rattle.bw_query.specs.TableAnswer.{AnswersFile, Began, IsEveryRow, TableGave, TableText, by_dump, by_statement, is_no_verdict};
 
 use crate::scan::{Scan, scan_for};
 use crate::served::served_by;
@@ -115,8 +116,41 @@ fn answered<S: Source>(
 {
     a_file_text_is_read_whole();
     let mut reader = TableReader::begin(alloc, table)?;
+    answered_after_header(alloc, &mut reader, table, sql, program)
+}
+
+/// The same of a table file whose header was read, and no segment.
+fn answered_after_header<S: Source>(
+    alloc: Global,
+    reader: &mut TableReader,
+    table: &mut S,
+    sql: &[u8],
+    program: Option<&[u8]>,
+) -> Result<AnswerText, Fault>
+    requires countable { S.failures table.old < 2 ^ 64 - 1 }
+    requires fresh { (rows_given reader.old ≡ 0) × (settled reader.old ≡ None) }
+    ensures answer { (start : State)
+        → Began start (state (S.to_come table.old) (bytes_taken reader.old) (S.failures table.old)) reader.old
+        → TableGave (by_statement (given_file program.entry) sql.now) start
+        (state (S.to_come table.new) (bytes_taken reader.new) (S.failures table.new)) (text_in result) }
+    ensures served { IfOk result (λ answered. (start : State)
+        → Began start (state (S.to_come table.old) (bytes_taken reader.old) (S.failures table.old)) reader.old
+        → (found : TableText (by_statement (given_file program.entry) sql.now) start
+        (state (S.to_come table.new) (bytes_taken reader.new) (S.failures table.new)) answered.text.items)
+        × IsServed (given_file program.entry) found.schema found.query found.rows answered.served) }
+    ensures accepted { (start : State) (bytes : List ℕ) (layout : Layout) (schema : Schema) (rows : List (List Value))
+        (query : Query)
+        → Began start (state (S.to_come table.old) (bytes_taken reader.old) (S.failures table.old)) reader.old
+        → start.known ≡ Some bytes → IsFileText bytes layout schema rows
+        → by_statement (given_file program.entry) sql.now schema (Ok query)
+        → IfErr result (λ fault. IsTrue (is_no_verdict fault)) }
+    ensures failed { (start : State)
+        → Began start (state (S.to_come table.old) (bytes_taken reader.old) (S.failures table.old)) reader.old
+        → EndsWith (nowhere 701) (S.failures table.old) (S.failures table.new) result }
+{
+    a_file_text_is_read_whole();
     let prepared = prepare(alloc, reader.schema(), sql, program)?;
-    let found = table_text(alloc, &mut reader, table, &prepared.query, &prepared.scan)?;
+    let found = table_text(alloc, reader, table, &prepared.query, &prepared.scan)?;
     Ok(AnswerText {
         served: served_by(&prepared.scan, found.scanned),
         text: found.text,

@@ -5,7 +5,7 @@ use Rattle.bw_file.specs.Reading.{State, failed_reads, state}
 use Rattle.bw_file.specs.TableReader.{bytes_taken, schema_in}
 use Rattle.bw_model.specs.Fault.{is_memory}
 use Rattle.bw_query.specs.TableAnswer.{by_dump}
-use Rattle.bw_query.proofs.TableExits.{answered_or_not, asked_exit, ends, header_exit, input_verdict, segment_exit, text_exit, wrote_either, wrote_nothing}
+use Rattle.bw_query.proofs.TableExits.{answered_or_not, asked_refused, ends, header_exit, input_verdict, segment_refused, text_gave, wrote_either, wrote_nothing}
 use Rattle.bw_query.proofs.table_calls.dump.Goals as goal
 
 pub returns-in_err-reader-clause-answer : goal.returns-in_err-reader-clause-answer
@@ -21,7 +21,7 @@ returns-in_err-query-clause-answer g c =
     let reader = c.in_ok-reader.reader in
     let told = c.in_ok-reader.ensures.told in
     let now : ℕ → State = λ offset. state (g.S.Source.to_come c.begin.new.source) offset (g.S.Source.failures c.begin.new.source) in
-    rw (p.1, p.2) (ends by_dump _ now _ _ (asked_exit by_dump _ now (bytes_taken reader) reader fault told (ap failed_reads memory)
+    rw (p.1, p.2) (ends by_dump _ now _ _ (bytes_taken reader, asked_refused by_dump _ (now (bytes_taken reader)) reader fault told (ap failed_reads memory)
     (λ other. let e : true ≡ false = sym (ap is_memory memory) ∙ other in absurd (cc e))) (wrote_nothing (Unit {0}) _ _ _))
 
 pub returns-in_err-found-clause-answer : goal.returns-in_err-found-clause-answer
@@ -32,7 +32,7 @@ returns-in_err-found-clause-answer g c =
     let told = c.in_ok-reader.ensures.told in
     let now : ℕ → State = λ offset. state (g.S.Source.to_come c.table_text.new.source) offset (g.S.Source.failures c.table_text.new.source) in
     let parsed = rw c.schema.ensures at c.in_ok-query.ensures.every in
-    rw (p.1, p.2) (ends by_dump _ now _ _ (segment_exit by_dump _ now _ (bytes_taken c.table_text.new.reader) reader c.in_ok-query.query fault told
+    rw (p.1, p.2) (ends by_dump _ now _ _ (bytes_taken c.table_text.new.reader, segment_refused by_dump _ _ (now (bytes_taken c.table_text.new.reader)) reader c.in_ok-query.query fault told
     parsed (c.in_err-found.ensures.refused _ c.in_ok-reader.ensures.began)) (wrote_nothing (Unit {0}) _ _ _))
 
 pub returns-clause-answer : goal.returns-clause-answer
@@ -42,7 +42,7 @@ returns-clause-answer g c =
     let parsed = rw c.schema.ensures at c.in_ok-query.ensures.every in
     let over = c.in_ok-found.ensures.text _ c.in_ok-reader.ensures.began in
     let goes = rw c.deref.ensures.value at c.write_whole.ensures in
-    ends by_dump _ now _ _ (text_exit by_dump _ now (bytes_taken c.table_text.new.reader) (schema_in c.in_ok-reader.reader) c.in_ok-query.query _ found.text.items found.scanned
+    ends by_dump _ now _ _ (bytes_taken c.table_text.new.reader, text_gave by_dump _ (now (bytes_taken c.table_text.new.reader)) (schema_in c.in_ok-reader.reader) c.in_ok-query.query _ found.text.items found.scanned
     parsed over) (wrote_either (Unit {0}) _ _ _ _ _ _ goes)
 
 pub returns-in_err-reader-clause-accepted : goal.returns-in_err-reader-clause-accepted
