@@ -1,8 +1,10 @@
 -- The positions of bits that are 1, and the records at them.
-use Rattle.std.proofs.Common.{◌≡◌, ◌∙◌, ℕ, zero, suc, ◌+◌, ◌-◌, ◌*◌, ◌<◌, ◌≤◌, Bool, true, false, List, [], ◌∷◌, ◌++◌, refl, sym, ap, map, take, drop, length, get_or, take-take, arith, append_assoc, subst}
+use Rattle.std.proofs.Common.{◌≡◌, ◌∙◌, ℕ, zero, suc, ◌+◌, ◌-◌, ◌*◌, ◌≤◌, Bool, true, false, List, [], ◌∷◌, ◌++◌, refl, sym, ap, map, take, drop, length, get_or, take-take, arith, append_assoc, subst}
 use Rattle.std.proofs.lemmas.List.{get_or-take, take_all, map-append}
 use Rattle.std.proofs.lemmas.Grind.{flat_map-append}
+use Rattle.std.proofs.lemmas.Nat.{mul-le}
 use Rattle.bw_lanes.specs.Lanes.{lanes_of_words}
+use Rattle.bw_lanes.specs.Last.{AreClear, IsLast}
 use Rattle.bw_lanes.proofs.WordLemmas.{length-lanes_of_words}
 use Rattle.bw_model.specs.Selection.{positions_from, positions_of}
 use Rattle.bw_answer.specs.Answer.{csv_text, record_text}
@@ -30,26 +32,30 @@ passed n zero (true ∷ bits) e = absurd (cc e)
 passed n zero (false ∷ bits) e = refl
 passed n (suc k) (bit ∷ bits) e = passed n k bits e
 
--- the records from a position on, of which the first is picked, or is not
-pub record_first : (fields : ℕ → List (List ℕ)) (number past : ℕ) (bits : List Bool) (text later : List ℕ) → 0 < number → number ≤ past → get_or bits (number - 1) false ≡ true
-    → later ≡ csv_text (map fields (positions_between number past bits)) → text ≡ record_text (fields (number - 1)) ++ later
-    → text ≡ csv_text (map fields (positions_between (number - 1) past bits))
-unfolding csv_text
-record_first fields number past bits text later some within one written put =
-    let here = number - 1 in
-    let next : suc here ≡ number = omega arith in
-    let bit : get_or (take past bits) here false ≡ true = get_or-take past bits here false (omega arith) ∙ one in
-    let more : positions_between here past bits ≡ here ∷ positions_between number past bits = found here here (take past bits) bit ∙ ap (λ n. here ∷ positions_between n past bits) next in
-    put ∙ ap (λ (l : List ℕ). record_text (fields here) ++ l) written ∙ sym (ap (λ (l : List ℕ). csv_text (map fields l)) more)
+-- lanes that are 0 are passed
+clear_by : (k here past : ℕ) (bits : List Bool) → here + k ≤ past → AreClear bits here (here + k) → positions_between here past bits ≡ positions_between (here + k) past bits
+clear_by zero here past bits within clear = let same : here ≡ here + 0 = omega arith in ap (λ n. positions_between n past bits) same
+clear_by (suc k) here past bits within clear =
+    let bit : get_or (take past bits) here false ≡ false = get_or-take past bits here false (omega (arith, within)) ∙ clear here (omega arith) (omega arith) in
+    let next : suc here + k ≡ here + suc k = omega arith in
+    passed here here (take past bits) bit ∙ clear_by k (suc here) past bits (omega (arith, within)) (λ lane from to. clear lane (omega (arith, from)) (omega (arith, to)))
+    ∙ ap (λ n. positions_between n past bits) next
 
-pub record_passed : (fields : ℕ → List (List ℕ)) (number past : ℕ) (bits : List Bool) (text : List ℕ) → 0 < number → number ≤ past → get_or bits (number - 1) false ≡ false
-    → text ≡ csv_text (map fields (positions_between number past bits)) → text ≡ csv_text (map fields (positions_between (number - 1) past bits))
-record_passed fields number past bits text some within none written =
-    let here = number - 1 in
-    let next : suc here ≡ number = omega arith in
-    let bit : get_or (take past bits) here false ≡ false = get_or-take past bits here false (omega arith) ∙ none in
-    let same : positions_between here past bits ≡ positions_between number past bits = passed here here (take past bits) bit ∙ ap (λ n. positions_between n past bits) next in
-    written ∙ sym (ap (λ (l : List ℕ). csv_text (map fields l)) same)
+pub positions_passed : (here number past : ℕ) (bits : List Bool) → here ≤ number → number ≤ past → AreClear bits here number → positions_between here past bits ≡ positions_between number past bits
+positions_passed here number past bits from to clear =
+    let all : here + (number - here) ≡ number = omega (arith, from) in
+    clear_by (number - here) here past bits (omega (arith, from, to)) (subst (AreClear bits here) (sym all) clear) ∙ ap (λ n. positions_between n past bits) all
+
+-- the record of the last lane that is picked of some, in front of those of the lanes after these
+pub record_last : (fields : ℕ → List (List ℕ)) (first number past last : ℕ) (bits : List Bool) (text later : List ℕ) → number ≤ past → IsLast bits first number last
+    → later ≡ csv_text (map fields (positions_between number past bits)) → text ≡ record_text (fields last) ++ later
+    → text ≡ csv_text (map fields (positions_between last past bits))
+unfolding csv_text
+record_last fields first number past last bits text later within is written put =
+    let bit : get_or (take past bits) last false ≡ true = get_or-take past bits last false (omega (arith, is.to, within)) ∙ is.set in
+    let more : positions_between last past bits ≡ last ∷ positions_between number past bits =
+    found last last (take past bits) bit ∙ ap (λ (l : List ℕ). last ∷ l) (positions_passed (suc last) number past bits is.to within is.clear) in
+    put ∙ ap (λ (l : List ℕ). record_text (fields last) ++ l) written ∙ sym (ap (λ (l : List ℕ). csv_text (map fields l)) more)
 
 -- positions up to one, and from there on
 split : (n k : ℕ) (bits : List Bool) → positions_from n bits ≡ positions_from n (take k bits) ++ positions_from (n + k) (drop k bits)
@@ -74,9 +80,9 @@ records_more fields first past bits before text put now within so_far written ad
 pub all_positions : (words : List ℕ) (past : ℕ) → length words ≡ 8 → 512 ≤ past → positions_between 0 past (lanes_of_words words) ≡ positions_of (lanes_of_words words)
 all_positions words past long all = ap (positions_from 0) (take_all past (lanes_of_words words) (omega (arith, length-lanes_of_words words, long)))
 
--- room for so many records, and for one less
-pub room_less : (record_ k records start : ℕ) → records ≡ k + 1 → record_ * records ≤ start → record_ * k ≤ start
-room_less record_ k records start one room = let long : record_ * (k + 1) ≤ start = subst (λ n. record_ * n ≤ start) one room in omega (arith, long)
-
-pub room_more : (record_ k records start now : ℕ) → records ≡ k + 1 → record_ * records ≤ start → start ≤ now + record_ → record_ * k ≤ now
-room_more record_ k records start now one room put = let long : record_ * (k + 1) ≤ start = subst (λ n. record_ * n ≤ start) one room in omega (arith, long, put)
+-- room for fewer records, once one is written
+pub room_left : (record_ k records start now : ℕ) → k + 1 ≤ records → record_ * records ≤ start → start ≤ now + record_ → record_ * k ≤ now
+room_left record_ k records start now fewer room put =
+    let long : record_ * (k + 1) ≤ record_ * records = mul-le record_ (k + 1) record_ records (omega arith) fewer in
+    let apart : record_ * (k + 1) ≡ record_ * k + record_ = omega arith in
+    omega (arith, long, apart, room, put)

@@ -8,7 +8,7 @@ ghost use Rattle.bw_answer.specs.Fetched.{fields_in_lane, positions_between};
 
 use crate::lanes::ColumnValues;
 use crate::record::put_record;
-use bw_lanes::{Plane, lane};
+use bw_lanes::{Plane, last_between};
 use bw_model::Fault;
 
 /// Adds the records of the rows that a plane picks to a text. They are written into a draft first, so many rows at once,
@@ -59,11 +59,9 @@ fn put_records(
 {
     let mut start = draft.len();
     let mut number = past;
-    while number > first {
-        number -= 1;
-        if lane(plane, number) {
-            start = put_record(draft, start, lanes, columns, number);
-        }
+    while let Some(last) = last_between(plane, first, number) {
+        start = put_record(draft, start, lanes, columns, last);
+        number = last;
     }
     start
 }

@@ -2,6 +2,7 @@ pub mod BitLemmas
 pub mod ByteLemmas
 pub mod ChoiceLemmas
 pub mod CountLemmas
+pub mod LastLemmas
 pub mod MaskLemmas
 pub mod PartLemmas
 pub mod PickedLemmas

@@ -1,3 +1,4 @@
 pub mod Lanes
+pub mod Last
 pub mod Picked
 pub mod Shifted
