@@ -1,7 +1,6 @@
 //! What is timed: a segment with a program that its schema has all the columns and bits of.
-ghost use Rattle.std.specs.Prelude.{◌≤◌, IsTrue};
-ghost use Rattle.bw_model.specs.Code.{slices_at};
-ghost use Rattle.bw_model.specs.Variable.{variables_of};
+ghost use Rattle.std.specs.Prelude.{◌≡◌, IsTrue};
+ghost use Rattle.bw_model.specs.Code.{width_at};
 ghost use Rattle.bw_program.specs.Program.{fits};
 
 use crate::failure::Failure;
@@ -20,8 +19,7 @@ pub(crate) struct Case {
     pub(crate) segment: PlaneSegment,
     pub(crate) program: Program,
     pub(crate) ghost fits: { IsTrue (fits segment.shape.value.schema.columns.items program) },
-    pub(crate) ghost planes: { 8 ≤ variables_of segment.shape.value.schema.columns.items },
-    pub(crate) ghost bytes: { 1 ≤ slices_at segment.shape.value.schema.columns.items 0 },
+    pub(crate) ghost planes: { width_at segment.shape.value.schema.columns.items 0 ≡ 8 },
 }
 
 impl Case {
@@ -32,7 +30,7 @@ impl Case {
         rows: &[Row],
     ) -> Result<Case, Failure> {
         let program = Program::parse(alloc, schema, text)?;
-        if !is_group(schema, rows) || schema.var_count() < PLANES || schema.slices(0) < 1 {
+        if !is_group(schema, rows) || schema.width(0) != PLANES {
             return Err(Failure::Rows);
         }
         let segment = PlaneSegment::build(alloc, schema, rows)?;

@@ -2,13 +2,13 @@
 //! its own.
 ghost use Rattle.std.specs.Prelude.{◌<◌};
 
-use crate::case::Case;
+use crate::case::{Case, PLANES};
 use bw_lanes::{Plane, and, is_zero, not, or};
 use bw_segment::Segment;
 
 /// The kernels that the straight loops call.
 pub(crate) trait Kernels {
-    /// A plane of the segment, one of the first eight.
+    /// A plane of the first column, one of its first eight.
     fn plane(case: &Case, place: u32) -> Plane
         requires { place < 8 };
 
@@ -29,7 +29,7 @@ pub(crate) struct Fused;
 
 impl Kernels for Fused {
     fn plane(case: &Case, place: u32) -> Plane {
-        case.segment.plane(place)
+        case.segment.bit(0, PLANES - 1 - place)
     }
 
     fn byte_lt(case: &Case, k: u8) -> Plane {
@@ -59,7 +59,7 @@ pub(crate) struct Called;
 impl Kernels for Called {
     #[inline(never)]
     fn plane(case: &Case, place: u32) -> Plane {
-        case.segment.plane(place)
+        case.segment.bit(0, PLANES - 1 - place)
     }
 
     #[inline(never)]

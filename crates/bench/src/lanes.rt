@@ -8,9 +8,9 @@ use crate::drawn::{drawn, or_null};
 use crate::failure::Failure;
 use bw_lanes::{Plane, bytes_bit, bytes_eq, bytes_lt};
 use bw_model::{Row, Schema};
-use bw_planes::PlaneSegment;
+use bw_planes::{PlaneSegment, Planes};
 use bw_segment::{Segment, Shape, is_group};
-use bw_slices::SliceSegment;
+use bw_slices::{SliceSegment, Slices};
 use std::alloc::Global;
 use std::rc::Rc;
 use std::rt::Clock;
@@ -102,15 +102,16 @@ fn time_segments<R: Print + Eprint + Clock>(
 ) -> Result<(), Failure> {
     let schema = Schema::parse(alloc, SCHEMA)?;
     let rows = rows_of(alloc)?;
-    let shape = Rc::new(alloc, Shape::new(alloc, &schema)?)?;
-    if !is_group(&shape.schema, &rows) {
+    let planes = Rc::new(alloc, Shape::of::<Planes>(alloc, &schema)?)?;
+    let slices = Rc::new(alloc, Shape::of::<Slices>(alloc, &schema)?)?;
+    if !is_group(&planes.schema, &rows) || !is_group(&slices.schema, &rows) {
         return Err(Failure::Rows);
     }
     let start = Instant::now(rt)?;
     let mut seen = 0;
     let builds = calls / 64;
     for call in 0..builds {
-        if let Ok(segment) = PlaneSegment::build_shared(alloc, &shape, &rows) {
+        if let Ok(segment) = PlaneSegment::build_shared(alloc, &planes, &rows) {
             seen ^= byte_of(&segment.bytes, call);
         }
     }
@@ -118,7 +119,7 @@ fn time_segments<R: Print + Eprint + Clock>(
     seen = 0;
     let start = Instant::now(rt)?;
     for call in 0..builds {
-        if let Ok(segment) = SliceSegment::build_shared(alloc, &shape, &rows) {
+        if let Ok(segment) = SliceSegment::build_shared(alloc, &slices, &rows) {
             seen ^= byte_of(&segment.bytes, call);
         }
     }

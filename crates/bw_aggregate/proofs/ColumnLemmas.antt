@@ -20,54 +20,13 @@ use Rattle.bw_model.specs.Truth.{is_null}
 use Rattle.bw_model.specs.Variable.{is_nullable, first_variable, null_variable}
 use Rattle.bw_model.proofs.BitsLemmas.{both}
 use Rattle.bw_model.proofs.StoredLemmas.{stored_below}
-use Rattle.bw_segment.specs.Layout.{null_bits, value_held}
+use Rattle.bw_segment.specs.Packing.{null_bits, value_held}
 use Rattle.bw_segment.specs.Meaning.{Meaning, IsGroup, variable_lanes, stored_codes, code_lanes}
 use Rattle.bw_segment.proofs.LaneLemmas.{nulls_in_lanes, bits_of_nulls}
 use Rattle.bw_segment.proofs.ValueLemmas.{null_admitted, held_admitted}
 use Rattle.bw_segment.specs.Picked.{codes_in}
 use Rattle.bw_segment.proofs.PickedCodes.{codes_counted}
 use Rattle.bw_aggregate.specs.Picked.{IsWithin, present_lanes, values_in, picked_rows}
-
--- whether a column that is read takes null
-pub nullable_read : (columns : List Column) (col : ℕ) (column : Column) → col < length columns → column ≡ get_or columns col column → column.nullable ≡ is_nullable columns col
-nullable_read [] col column lt is = absurd (omega arith)
-nullable_read (c ∷ columns) zero column lt is = ap (λ k. k.nullable) is
-nullable_read (c ∷ columns) (suc col) column lt is = nullable_read columns col column (omega arith) is
-
--- the plane of a column's nulls
-pub null_plane : (meaning : Meaning) (col : ℕ) (rows other plane : List Bool) → IsGroup meaning → col < length meaning.columns → is_nullable meaning.columns col ≡ true
-    → plane ≡ variable_lanes meaning (first_variable meaning.columns col) → other ≡ map not plane → zip2 (λ a b. a && b) rows other ≡ present_lanes meaning col rows
-unfolding present_lanes
-null_plane meaning col rows other plane group lt nullable plane_is is =
-    let first = first_variable meaning.columns col in
-    let there : null_variable meaning.columns col ≡ Some first = ap (λ b. cond b (Some first) None) nullable in
-    let nulls : plane ≡ null_bits meaning.rows col = plane_is ∙ sym (nulls_in_lanes meaning col first group lt there) ∙ bits_of_nulls meaning.rows col in
-    ap (zip2 (λ a b. a && b) rows) (is ∙ ap (map not) nulls)
-
-and_true : (b : Bool) → (b && true) ≡ b
-and_true true = refl
-and_true false = refl
-
-all_present_padding : (n : ℕ) (lanes : List Bool) → length lanes ≤ n → zip2 (λ a b. a && b) lanes (map not (replicate n false)) ≡ lanes
-all_present_padding n [] le = refl
-all_present_padding zero (lane ∷ lanes) le = absurd (omega arith)
-all_present_padding (suc n) (lane ∷ lanes) le = ap₂ ◌∷◌ (and_true lane) (all_present_padding n lanes (omega arith))
-
-all_present_rows : (columns : List Column) (col n : ℕ) (rows : List (List Value)) (lanes : List Bool) → list_all (admits_values columns) rows ≡ true → col < length columns → is_nullable columns col ≡ false
-    → length lanes ≤ length rows + n → zip2 (λ a b. a && b) lanes (map not (map (λ row. is_null (value_in row col)) rows ++ replicate n false)) ≡ lanes
-all_present_rows columns col n [] lanes all lt never le = all_present_padding n lanes (omega arith)
-all_present_rows columns col n (row ∷ rows) [] all lt never le = refl
-all_present_rows columns col n (row ∷ rows) (lane ∷ lanes) all lt never le =
-    let each = both (admits_values columns row) (list_all (admits_values columns) rows) all in
-    ap₂ ◌∷◌ (ap (λ b. lane && not b) (null_admitted columns row col each.0 lt never) ∙ and_true lane) (all_present_rows columns col n rows lanes each.1 lt never (omega arith))
-
--- a column without nulls is there in every row
-pub all_present : (meaning : Meaning) (col : ℕ) (lanes : List Bool) → IsGroup meaning → col < length meaning.columns → is_nullable meaning.columns col ≡ false → length lanes ≡ 512
-    → lanes ≡ present_lanes meaning col lanes
-unfolding present_lanes null_bits group_size
-all_present meaning col lanes group lt never long =
-    let few = group.few in
-    sym (all_present_rows meaning.columns col (512 - length meaning.rows) meaning.rows lanes group.admitted lt never (omega arith))
 
 -- nothing is picked past the rows
 none_past : (lanes nulls : List Bool) (codes : List ℕ) → IsWithin 0 lanes → picked (zip2 (λ a b. a && b) lanes nulls) codes ≡ []

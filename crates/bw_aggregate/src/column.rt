@@ -8,7 +8,7 @@ ghost use Rattle.bw_aggregate.specs.Picked.{present_lanes, values_in};
 ghost use Rattle.bw_rowwise.specs.Accumulator.{IsTotalOfRows};
 
 use bw_lanes::{Plane, and, count, not};
-use bw_segment::{Segment, lanes_hold_codes};
+use bw_segment::Segment;
 
 /// Of some rows those in which a column isn't null.
 pub(crate) fn present<S: Segment>(segment: &S, col: usize, rows: &Plane) -> Plane
@@ -16,15 +16,7 @@ pub(crate) fn present<S: Segment>(segment: &S, col: usize, rows: &Plane) -> Plan
     ensures { lanes_of_words result
         ≡ present_lanes (S.meaning segment.now) col (lanes_of_words rows.now) }
 {
-    lanes_hold_codes();
-    if segment.schema().columns[col].nullable {
-        and(
-            rows,
-            &not(&segment.plane(segment.shape().first_variable(col))),
-        )
-    } else {
-        *rows
-    }
+    and(rows, &not(&segment.nulls(col)))
 }
 
 /// The least value that a column takes, which has the code 0.

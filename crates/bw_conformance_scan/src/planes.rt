@@ -1,7 +1,7 @@
 //! The planes of a worked table, and what is read of them.
 use crate::segments::{SCHEMA, TABLE, compared, ones, rows_of};
 use bw_model::{Fault, Schema};
-use bw_planes::PlaneSegment;
+use bw_planes::{PlaneSegment, Planes};
 use bw_segment::{Segment, Shape, columns_of, is_group, values_in_lanes};
 use std::alloc::Global;
 use std::test::Fail;
@@ -130,7 +130,7 @@ fn segments_are_appended(rt: HostRuntime) -> Result<(), Fail> {
     let schema = Schema::parse(rt.alloc(), SCHEMA)?;
     let rows = rows_of(rt.alloc(), &TABLE)?;
     assert!(rt; is_group(&schema, &rows));
-    let shape = Shape::new(rt.alloc(), &schema)?;
+    let shape = Shape::of::<Planes>(rt.alloc(), &schema)?;
     assert!(rt; is_group(&shape.schema, &rows));
     let segment = PlaneSegment::build(rt.alloc(), &schema, &rows)?;
     let mut bytes = vec![in rt.alloc(); 7]?;

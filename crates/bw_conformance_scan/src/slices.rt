@@ -2,7 +2,7 @@
 use crate::segments::{SCHEMA, TABLE, compared, ones, rows_of};
 use bw_model::{Fault, Schema};
 use bw_segment::{Segment, Shape, columns_of, is_group, values_in_lanes};
-use bw_slices::SliceSegment;
+use bw_slices::{SliceSegment, Slices};
 use std::alloc::Global;
 use std::test::Fail;
 
@@ -135,7 +135,7 @@ fn segments_are_appended(rt: HostRuntime) -> Result<(), Fail> {
     let schema = Schema::parse(rt.alloc(), SCHEMA)?;
     let rows = rows_of(rt.alloc(), &TABLE)?;
     assert!(rt; is_group(&schema, &rows));
-    let shape = Shape::new(rt.alloc(), &schema)?;
+    let shape = Shape::of::<Slices>(rt.alloc(), &schema)?;
     assert!(rt; is_group(&shape.schema, &rows));
     let segment = SliceSegment::build(rt.alloc(), &schema, &rows)?;
     let mut bytes = vec![in rt.alloc(); 7]?;

@@ -18,7 +18,7 @@ use Rattle.bw_file.specs.Blocks.{form_of, block_size, block_fault, AreSound, IsS
 use Rattle.bw_file.specs.Reading.{Tail, give, field}
 use Rattle.bw_file.specs.TableReading.{sound_at, one_block, blocks, segment, group_sizes, has_bytes, end, body}
 use Rattle.bw_file.proofs.ReaderLemmas.{group_sizes-some, group_sizes-none}
-use Rattle.bw_file.proofs.SegmentLemmas.{is_layout}
+use Rattle.bw_file.proofs.SegmentLemmas.{is_packing}
 use Rattle.bw_file.proofs.SpellingLemmas.{IsBytes, Takes, TakesBoth, bind_ok, not_refused, field_takes, takes_then, both_of}
 
 abbrev done : {A : Type 0} → A → Result A Fault
@@ -107,7 +107,7 @@ segment_takes layout schema size t x fits some few e =
     let b = blocks_take layout schema size (length schema) 0 [] t a.0 fits (λ i. lit< tt) (nothing_sound layout schema size) a.1 in
     let zero_plus : 0 + length schema ≡ length schema = omega arith in
     let sound : IsSound layout schema size a.0.0 = subst (λ (k : ℕ). AreSound layout schema size k a.0.0) zero_plus b.sound in
-    let law = is_layout layout in
+    let law = is_packing layout in
     let again : segment_text layout schema (rows_spelled layout schema size a.0.0) ≡ a.0.0 = text_again (form_of layout) law schema size a.0.0 few sound (all_bytes a.0.0 b.fits) in
     let group = spelled_group (form_of layout) law schema size a.0.0 few sound [] some in
     let made : List (List Value) × Tail = (rows_spelled layout schema size a.0.0, a.0.1) in

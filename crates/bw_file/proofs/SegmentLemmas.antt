@@ -6,18 +6,18 @@ use Rattle.bw_model.specs.declared.column.Column.{Column}
 use Rattle.bw_model.specs.declared.schema.Schema.{Schema}
 use Rattle.bw_model.specs.Code.{span_of, width_of, width_at}
 use Rattle.bw_model.specs.Variable.{is_nullable}
-use Rattle.bw_segment.specs.Layout as kept
-use Rattle.bw_segment.specs.Layout.{IsLayout}
-use Rattle.bw_planes.proofs.LayoutLemmas.{planes_are_a_layout}
-use Rattle.bw_slices.proofs.LayoutLemmas.{slices_are_a_layout}
+use Rattle.bw_segment.specs.Packing as kept
+use Rattle.bw_segment.specs.Packing.{IsPacking}
+use Rattle.bw_planes.specs.Kept.{planes_keep_codes}
+use Rattle.bw_slices.specs.Kept.{slices_keep_codes}
 use Rattle.bw_file.specs.Blocks.{form_of, block_size, bytes_before, segment_size}
 use Rattle.bw_file.specs.declared.layout.Layout.{Layout}
 use Rattle.bw_file.specs.declared.layout.Layout.TheVariants.{Planes, Slices}
 
-pub is_layout : (layout : Layout) → IsLayout (form_of layout)
+pub is_packing : (layout : Layout) → IsPacking (form_of layout)
 unfolding form_of
-is_layout Planes = planes_are_a_layout
-is_layout Slices = slices_are_a_layout
+is_packing Planes = planes_keep_codes
+is_packing Slices = slices_keep_codes
 
 -- a code has at most 63 binary digits
 distance_small : (lo hi : ℤ) → lo ≤ℤ hi → (hi -ℤ lo) <ℤ pos (2 ^ 63) → unsigned_abs (hi -ℤ lo) < 2 ^ 63
@@ -34,7 +34,7 @@ width_at_small (first ∷ columns) zero = width_small first
 width_at_small (first ∷ columns) (suc column) = width_at_small columns column
 
 -- so its block has at most 4160 bytes
-codes_small : (layout : Layout) (width : ℕ) → width ≤ 63 → kept.Layout.size (form_of layout) width ≤ 4096
+codes_small : (layout : Layout) (width : ℕ) → width ≤ 63 → kept.Packing.size (form_of layout) width ≤ 4096
 unfolding form_of
 codes_small Planes width le = omega (arith, le)
 codes_small Slices width le = omega (arith, le)

@@ -11,7 +11,7 @@ use Rattle.bw_model.specs.Groups.{group_size, groups_of, together}
 use Rattle.bw_model.specs.Row.{Value}
 use Rattle.bw_model.proofs.BitsLemmas.{both}
 use Rattle.bw_model.proofs.GroupLemmas.{groups_of-nothing, groups_of-first, groups_of-sizes, groups_of-table}
-use Rattle.bw_segment.specs.Layout.{block_text, segment_text, rows_spelled}
+use Rattle.bw_segment.specs.Packing.{block_text, segment_text, rows_spelled}
 use Rattle.bw_segment.specs.Meaning.{Meaning, IsGroup}
 use Rattle.bw_segment.proofs.TextLemmas.{length-block, block_is_fine, rows_of_text}
 use Rattle.bw_file.specs.declared.layout.Layout.{Layout}
@@ -19,7 +19,7 @@ use Rattle.bw_file.specs.Blocks.{form_of, block_size, block_fault}
 use Rattle.bw_file.specs.Reading.{Tail, tail, passed}
 use Rattle.bw_file.specs.TableReading.{sound_at, one_block, blocks, segment, group_sizes, end, body}
 use Rattle.bw_file.proofs.ReaderLemmas.{group_sizes-some, group_sizes-none}
-use Rattle.bw_file.proofs.SegmentLemmas.{is_layout}
+use Rattle.bw_file.proofs.SegmentLemmas.{is_packing}
 use Rattle.bw_file.proofs.SpelledHeader.{ReadsText, text_then, text_gives, field_reads}
 
 abbrev group_under : List Column → List (List Value) → Meaning
@@ -33,7 +33,7 @@ module _ (layout : Layout) (columns : List Column) (rows : List (List Value)) (g
   block_reads : (number : ℕ) → number < length columns → ReadsText (one_block layout columns (length rows) number) (block number) (block number)
   unfolding one_block
   block_reads number there at rest =
-      let law = is_layout layout in
+      let law = is_packing layout in
       let meaning = group_under columns rows in
       let long = length-block (form_of layout) law meaning group number in
       let fine : block_fault layout columns number (length rows) (block number) ≡ None = block_is_fine (form_of layout) law meaning group number there in
@@ -61,7 +61,7 @@ module _ (layout : Layout) (columns : List Column) (rows : List (List Value)) (g
   unfolding segment segment_text
   segment_reads =
       let text = flat_map block (range_with_len 0 (length columns)) in
-      subst (ReadsText (segment layout columns (length rows)) text) (rows_of_text (form_of layout) (is_layout layout) (group_under columns rows) group)
+      subst (ReadsText (segment layout columns (length rows)) text) (rows_of_text (form_of layout) (is_packing layout) (group_under columns rows) group)
       (text_gives (blocks layout columns (length rows) 0 (length columns) []) (λ bytes. rows_spelled (form_of layout) columns (length rows) bytes) text text
       (blocks_read (length columns) 0 [] (omega arith)))
 

@@ -52,6 +52,9 @@ row_admitted columns (r ∷ rows) zero row all lt is =
 row_admitted columns (r ∷ rows) (suc i) row all lt is =
     row_admitted columns rows i row (both (admits_values columns (values_of r)) (list_all (admits_values columns) (map values_of rows)) all).1 (omega (arith, lt)) is
 
+text_alike : (a b : Layout) (x y : Schema) (rows : List (List Value)) → a ≡ b → x.name ≡ y.name → x.columns.items ≡ y.columns.items → file_text a x rows ≡ file_text b y rows
+text_alike a b x y rows layout name columns = rw (layout, name, columns) refl
+
 -- the text of what an encoder was given, where it was given all rows
 pub text_of_all : (encoder : Encoder) (layout : Layout) (schema : Schema) (rows : List Row) (count : ℕ) (bytes : List ℕ) → length rows ≤ count
     → encoder_layout encoder ≡ layout → (encoder_schema encoder).name ≡ schema.name → (encoder_schema encoder).columns.items ≡ schema.columns.items
@@ -59,8 +62,8 @@ pub text_of_all : (encoder : Encoder) (layout : Layout) (schema : Schema) (rows 
     → Holds encoder (map values_of (take count rows)) → bytes ≡ file_text layout schema (map values_of rows)
 text_of_all encoder layout schema rows count bytes all same_layout same_name same_columns text holds =
     let whole : take count rows ≡ rows = take_all count rows all in
-    let given = text (map values_of (take count rows)) holds in
-    given ∙ rw (whole, same_layout, same_name, same_columns) refl
+    text (map values_of (take count rows)) holds ∙ text_alike (encoder_layout encoder) layout (encoder_schema encoder) schema (map values_of (take count rows)) same_layout same_name same_columns
+    ∙ ap (λ given. file_text layout schema (map values_of given)) whole
 
 -- a source that never fails answers no failed read, so what is refused is the first fault of its bytes
 no_read_failed : (failed : Bool) → 0 ≡ 0 + (if failed then 1 else 0) → failed ≡ false

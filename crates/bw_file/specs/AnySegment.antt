@@ -1,7 +1,8 @@
 -- What a segment in either layout means, and its layout.
-use Rattle.bw_planes.specs.Planes.{planes_meaning}
-use Rattle.bw_slices.specs.Slices.{slices_meaning}
+use Rattle.bw_planes.specs.Planes.{plane_packing}
+use Rattle.bw_slices.specs.Slices.{slice_packing}
 use Rattle.bw_segment.specs.Meaning.{Meaning, IsGroup}
+use Rattle.bw_segment.specs.Packing.{meaning_spelled}
 use Rattle.bw_file.specs.declared.segments.AnySegment.{AnySegment}
 use Rattle.bw_file.specs.declared.segments.AnySegment.TheVariants.{Planes, Slices}
 use Rattle.bw_file.specs.declared.layout.Layout.{Layout}
@@ -9,15 +10,15 @@ use Rattle.bw_file.specs.declared.layout.Layout.TheVariants as layouts
 
 unfoldable pub any_meaning : AnySegment → Meaning
 any_meaning (Planes segment) =
-    planes_meaning segment.shape.value.schema segment.rows segment.bytes.items
+    meaning_spelled plane_packing segment.shape.value.schema segment.rows segment.bytes.items
 any_meaning (Slices segment) =
-    slices_meaning segment.shape.value.schema segment.rows segment.bytes.items
+    meaning_spelled slice_packing segment.shape.value.schema segment.rows segment.bytes.items
 
 -- which is one group's rows
 pub any_is_group : (segment : AnySegment) → IsGroup (any_meaning segment)
 unfolding any_meaning
-any_is_group (Planes segment) = segment.group
-any_is_group (Slices segment) = segment.group
+any_is_group (Planes segment) = segment.packed.group
+any_is_group (Slices segment) = segment.packed.group
 
 -- the layout that the segment is kept in
 abbrev pub any_layout : AnySegment → Layout

@@ -2,17 +2,19 @@
 use Rattle.std.specs.Prelude.{ℕ, List, Option}
 use Rattle.bw_model.specs.declared.column.Column.{Column}
 use Rattle.bw_model.specs.Row.{Value}
-use Rattle.bw_planes.specs.Planes.{plane_layout}
-use Rattle.bw_slices.specs.Slices.{slice_layout}
+use Rattle.bw_planes.specs.Planes.{plane_packing}
+use Rattle.bw_slices.specs.Slices.{slice_packing}
 use Rattle.bw_segment.specs.BlockFault as faults
-use Rattle.bw_segment.specs.Layout as kept
+use Rattle.bw_segment.specs.Packed as packed
+use Rattle.bw_segment.specs.Packing as kept
+use Rattle.bw_segment.specs.declared.shape.Shape.{Shape}
 use Rattle.bw_file.specs.declared.layout.Layout.{Layout}
 use Rattle.bw_file.specs.declared.layout.Layout.TheVariants.{Planes, Slices}
 
 -- how a layout keeps the codes of 512 lanes
-unfoldable pub form_of : Layout → kept.Layout
-form_of Planes = plane_layout
-form_of Slices = slice_layout
+unfoldable pub form_of : Layout → kept.Packing
+form_of Planes = plane_packing
+form_of Slices = slice_packing
 
 -- how many bytes the block of a column has
 abbrev pub block_size : Layout → List Column → ℕ → ℕ
@@ -23,6 +25,10 @@ bytes_before layout columns column = kept.bytes_before (form_of layout) columns 
 
 abbrev pub segment_size : Layout → List Column → ℕ
 segment_size layout columns = kept.segment_size (form_of layout) columns
+
+-- a shape has the blocks where they begin in a segment of a layout
+abbrev pub IsPlaced : Layout → Shape → Type 0
+IsPlaced layout shape = packed.IsPlaced (form_of layout) shape
 
 -- the first fault of a block of that size, in a segment of so many rows
 abbrev pub block_fault : Layout → List Column → ℕ → ℕ → List ℕ → Option ℕ

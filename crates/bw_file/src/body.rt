@@ -4,7 +4,7 @@ ghost use Rattle.std.specs.Prelude.{◌≡◌, ◌+◌, ◌-◌, ◌^◌, ◌<�
 ghost use Rattle.std.specs.Io.KnownBytes.{IsAtEnd};
 ghost use Rattle.bw_model.specs.Groups.{group_size};
 ghost use Rattle.bw_file.specs.AnySegment.{any_layout, any_meaning};
-ghost use Rattle.bw_file.specs.Blocks.{block_size, block_fault, bytes_before, segment_size, IsSound};
+ghost use Rattle.bw_file.specs.Blocks.{block_size, block_fault, bytes_before, segment_size, IsPlaced, IsSound};
 ghost use Rattle.bw_file.specs.Reading.{Reads, HasByteMore, Took, state};
 ghost use Rattle.bw_file.specs.TableReading.{plane_has_padding, has_padding, padding_from, fault_place, one_block, blocks, segment};
 
@@ -29,6 +29,7 @@ pub(crate) fn read_segment<S: Source>(
 ) -> Result<AnySegment, Fault>
     requires countable { S.failures source.old < 2 ^ 64 - 1 }
     requires room { offset.old < 2 ^ 62 }
+    requires placed { IsPlaced layout shape.now.value }
     requires some { 1 ≤ rows }
     requires few { rows ≤ group_size }
     ensures reads { Reads (λ found. (any_meaning found).rows)

@@ -6,12 +6,12 @@ ghost use Rattle.bw_model.specs.Column.{admits_values};
 ghost use Rattle.bw_model.specs.Fault.{no_memory};
 ghost use Rattle.bw_model.specs.Limits.{most_rows};
 ghost use Rattle.bw_model.specs.Row.{Value, values_of};
-ghost use Rattle.bw_file.specs.Blocks.{segment_text};
+ghost use Rattle.bw_file.specs.Blocks.{segment_text, IsPlaced};
 ghost use Rattle.bw_file.specs.FileText.{are_bounds, AreRows, file_text, front_text, header_text, name_text, column_text, bound_text, layout_byte, flag_byte, version_for};
 
 use crate::fields::{MAGIC, are_bounds};
 use crate::layout::Layout;
-use crate::segments::append;
+use crate::segments::{append, shape_of};
 use bw_model::{Column, Fault, Name, Row, RowTaker, Schema};
 use bw_segment::{ColumnCodes, Shape, clear_rows, keep_row, no_rows};
 use byteorder::{ByteOrder, LittleEndian};
@@ -35,6 +35,7 @@ pub struct Encoder {
     kept: Vec<ColumnCodes>,
     filled: usize,
     rows: u32,
+    ghost placed: { IsPlaced layout shape },
     ghost headed: { 16 ≤ length bytes.items },
     ghost all: { length kept.items ≡ length shape.schema.columns.items },
     ghost few: { filled ≤ 512 },
@@ -55,7 +56,7 @@ impl Encoder {
         ensures holds { IfOk result (λ encoder. Holds encoder []) }
         ensures only_memory { IsOkUnless result no_memory }
     {
-        let shape = Shape::new(alloc, schema)?;
+        let shape = shape_of(alloc, layout, schema)?;
         let mut bytes = Vec::new(alloc);
         push_header(&mut bytes, layout, &shape.schema)?;
         let kept = no_rows(alloc, shape.schema.columns.len())?;

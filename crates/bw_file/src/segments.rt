@@ -1,17 +1,17 @@
 //! Segments in either layout, behind the same calls.
-ghost use Rattle.std.specs.Prelude.{◌≡◌, ◌++◌, ◌<◌, ◌≤◌, List, length, take, OnOk, OnErr, IsOkUnless};
+ghost use Rattle.std.specs.Prelude.{◌≡◌, ◌++◌, ◌<◌, ◌≤◌, List, length, take, IfOk, OnOk, OnErr, IsOkUnless};
 ghost use Rattle.bw_model.specs.Fault.{no_memory};
 ghost use Rattle.bw_model.specs.Groups.{group_size};
 ghost use Rattle.bw_model.specs.Row.{Value};
 ghost use Rattle.bw_segment.specs.Columns.{KeepRows};
-ghost use Rattle.bw_file.specs.Blocks.{form_of, block_size, block_fault, segment_size, segment_text, IsSound, rows_spelled};
+ghost use Rattle.bw_file.specs.Blocks.{form_of, block_size, block_fault, segment_size, segment_text, IsPlaced, IsSound, rows_spelled};
 
 use crate::layout::Layout;
 use bw_lanes::Plane;
 use bw_model::{Fault, Schema, Value};
-use bw_planes::PlaneSegment;
+use bw_planes::{PlaneSegment, Planes};
 use bw_segment::{ColumnCodes, Segment, Shape};
-use bw_slices::SliceSegment;
+use bw_slices::{SliceSegment, Slices};
 use std::alloc::Global;
 use std::rc::Rc;
 
@@ -36,14 +36,6 @@ impl Segment for AnySegment {
     }
 
     #[tactic(auto, unfolding(crate::specs::AnySegment::any_meaning))]
-    fn shape(&self) -> &Shape {
-        match self {
-            AnySegment::Planes(segment) => segment.shape(),
-            AnySegment::Slices(segment) => segment.shape(),
-        }
-    }
-
-    #[tactic(auto, unfolding(crate::specs::AnySegment::any_meaning))]
     fn rows_in(&self) -> u32 {
         match self {
             AnySegment::Planes(segment) => segment.rows_in(),
@@ -51,11 +43,21 @@ impl Segment for AnySegment {
         }
     }
 
+    #[inline(always)]
     #[tactic(auto, unfolding(crate::specs::AnySegment::any_meaning))]
-    fn plane(&self, var: u32) -> Plane {
+    fn bit(&self, col: usize, bit: u32) -> Plane {
         match self {
-            AnySegment::Planes(segment) => segment.plane(var),
-            AnySegment::Slices(segment) => segment.plane(var),
+            AnySegment::Planes(segment) => segment.bit(col, bit),
+            AnySegment::Slices(segment) => segment.bit(col, bit),
+        }
+    }
+
+    #[inline(always)]
+    #[tactic(auto, unfolding(crate::specs::AnySegment::any_meaning))]
+    fn nulls(&self, col: usize) -> Plane {
+        match self {
+            AnySegment::Planes(segment) => segment.nulls(col),
+            AnySegment::Slices(segment) => segment.nulls(col),
         }
     }
 
@@ -111,7 +113,6 @@ impl Segment for AnySegment {
 }
 
 impl AnySegment {
-    ghost use Rattle.std.specs.Prelude.{IfOk};
     ghost use Rattle.bw_file.specs.AnySegment.{any_layout, any_meaning};
 
     /// The memory of the segment's bytes, for another one.
@@ -125,6 +126,7 @@ impl AnySegment {
     /// The segment of bytes that have no fault, in a layout.
     #[tactic(auto, unfolding(crate::specs::AnySegment::any_meaning, crate::specs::Blocks::form_of))]
     pub(crate) fn of_blocks(layout: Layout, shape: Rc<Shape>, rows: u32, bytes: Vec<u8>) -> Self
+        requires placed { IsPlaced layout shape.value }
         requires some { 1 ≤ rows }
         requires few { rows ≤ group_size }
         requires sound { IsSound layout shape.value.schema.columns.items rows bytes.items }
@@ -141,6 +143,21 @@ impl AnySegment {
     }
 }
 
+/// The shape of a table whose schema is an equal one, in a layout.
+#[tactic(auto, unfolding(crate::specs::Blocks::form_of))]
+pub(crate) fn shape_of(alloc: Global, layout: Layout, schema: &Schema) -> Result<Shape, Fault>
+    ensures name { IfOk result (λ shape. shape.schema.name ≡ schema.now.name) }
+    ensures columns { IfOk result (λ shape.
+        shape.schema.columns.items ≡ schema.now.columns.items) }
+    ensures placed { IfOk result (IsPlaced layout) }
+    ensures only_memory { IsOkUnless result no_memory }
+{
+    match layout {
+        Layout::Planes => Shape::of::<Planes>(alloc, schema),
+        Layout::Slices => Shape::of::<Slices>(alloc, schema),
+    }
+}
+
 /// Adds the bytes of a segment of the rows that are kept in columns.
 #[tactic(auto, unfolding(crate::specs::Blocks::form_of))]
 pub(crate) fn append(
@@ -150,7 +167,8 @@ pub(crate) fn append(
     shape: &Shape,
     kept: &[ColumnCodes],
 ) -> Result<(), Fault>
-    requires { length kept.now ≡ length shape.now.schema.columns.items }
+    requires placed { IsPlaced layout shape.now }
+    requires kept { length kept.now ≡ length shape.now.schema.columns.items }
     ensures added { OnOk result ((rows : List (List Value))
         → KeepRows shape.now.schema.columns.items rows kept.now
         → bytes.new.items ≡ bytes.old.items
@@ -181,6 +199,7 @@ pub(crate) fn block_size(layout: Layout, shape: &Shape, col: usize) -> usize
 /// How many bytes a segment takes.
 #[tactic(auto, unfolding(crate::specs::Blocks::form_of))]
 pub(crate) fn segment_size(layout: Layout, shape: &Shape) -> usize
+    requires { IsPlaced layout shape.now }
     ensures size { result ≡ segment_size layout shape.now.schema.columns.items }
     ensures small { result ≤ 266240 }
 {

@@ -1,13 +1,14 @@
 //! A table file read one segment at a time.
 ghost use Rattle.std.specs.Prelude.{◌≡◌, ◌+◌, ◌-◌, ◌*◌, ◌^◌, ◌<◌, ◌≤◌, ℕ, [], None, IfOk, IfErr};
 ghost use Rattle.bw_model.specs.Limits.{most_rows};
+ghost use Rattle.bw_file.specs.Blocks.{IsPlaced};
 ghost use Rattle.bw_file.specs.declared.phase.Phase.TheVariants.{Reading};
 
 use crate::body::{read_end, read_segment};
 use crate::header::{Header, read_header};
 use crate::layout::Layout;
 use crate::phase::Phase;
-use crate::segments::{AnySegment, segment_size};
+use crate::segments::{AnySegment, segment_size, shape_of};
 use bw_device::Source;
 use bw_model::{Fault, Schema};
 use bw_segment::{Segment, Shape};
@@ -27,6 +28,7 @@ pub struct TableReader {
     given: u32,
     offset: u64,
     phase: Phase,
+    ghost placed: { IsPlaced layout shape.value },
     ghost within: { given ≤ rows },
     ghost few: { rows ≤ most_rows },
     ghost room: { phase ≡ Reading → offset + 2 ^ 19 * (rows - given) < 2 ^ 50 },
@@ -67,7 +69,7 @@ impl TableReader {
             rows,
             schema,
         } = read_header(alloc, source, &mut offset)?;
-        let shape = Rc::new(alloc, Shape::new(alloc, &schema)?)?;
+        let shape = Rc::new(alloc, shape_of(alloc, layout, &schema)?)?;
         Ok(TableReader {
             alloc,
             shape,

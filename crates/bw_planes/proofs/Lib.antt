@@ -1,6 +1,4 @@
-pub mod BlockLemmas
+pub mod ChoiceLemmas
+pub mod CodeLemmas
 pub mod CompareLemmas
-pub mod JudgeLemmas
-pub mod LayoutLemmas
-pub mod SegmentLemmas
 pub mod SumLemmas

@@ -1,2 +1,2 @@
-pub mod PlaneSegment
+pub mod Kept
 pub mod Planes

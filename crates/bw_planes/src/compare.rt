@@ -1,54 +1,45 @@
-//! Comparisons of the numbers that planes spell with a constant. Which numbers are below it is told from the lowest plane up,
-//! by one operation a plane; which are equal, after BitWeaving, from the top plane down: once none is, the planes that remain
-//! change nothing.
-ghost use Rattle.std.specs.Prelude.{◌≡◌, ◌==◌, ◌&&◌, ◌||◌, if◌then◌else◌, ◌+◌, ◌*◌, ◌^◌, ◌<◌, ◌≤◌, List, length, map, nat_lt, not};
+//! Comparisons of some bits of the codes with a constant. Which codes are below it is told from the lowest bit up, by one
+//! operation a plane; which are equal, after BitWeaving, from the top bit down: once none is, the planes that remain change
+//! nothing.
+ghost use Rattle.std.specs.Prelude.{◌≡◌, ◌==◌, ◌&&◌, ◌||◌, if◌then◌else◌, ◌+◌, ◌*◌, ◌/◌, ◌%◌, ◌^◌, ◌≤◌, length, map, nat_lt, not};
 ghost use lib.Lanes.{zip2};
 ghost use Rattle.bw_lanes.specs.Lanes.{lanes_of_words};
-ghost use Rattle.bw_model.specs.Variable.{Assignment, spelled};
-ghost use Rattle.bw_planes.specs.Planes.{ArePlanesOf};
+ghost use Rattle.bw_planes.specs.Planes.{planes_codes};
 
-use bw_lanes::{Plane, and, is_zero, load, not, or};
+use crate::planes::Planes;
+use bw_lanes::{Plane, and, is_zero, not, or};
+use bw_segment::Layout;
 
 /// The plane of ones.
 const ONES: Plane = [u64::MAX; 8];
 
-/// The lanes whose number, which so many planes spell from the top plane on, is below c.
-pub(crate) fn lt(bytes: &[u8], first: usize, count: u32, c: u64) -> Plane
-    requires planes { 64 * (first + count) ≤ length bytes.now }
-    requires count { count ≤ 63 }
-    ensures { (lanes : List Assignment) → length lanes ≡ 512
-        → ArePlanesOf bytes.now first count lanes
-        → lanes_of_words result ≡ map (λ bits. nat_lt (spelled bits first count) c) lanes }
-{
-    not(&at_least(bytes, first, count, c))
-}
-
-/// The lanes whose number, which so many planes spell from the top plane on, isn't below c.
-pub(crate) fn at_least(bytes: &[u8], first: usize, count: u32, c: u64) -> Plane
-    requires planes { 64 * (first + count) ≤ length bytes.now }
-    requires count { count ≤ 63 }
-    ensures { (lanes : List Assignment) → length lanes ≡ 512
-        → ArePlanesOf bytes.now first count lanes
-        → lanes_of_words result ≡ map (λ bits. not (nat_lt (spelled bits first count) c)) lanes }
+/// The lanes in which the number that so many bits of the code are, from `low` upwards, isn't below c.
+pub(crate) fn at_least(width: u32, bytes: &[u8], low: u32, count: u32, c: u64) -> Plane
+    requires width { (1 ≤ width) × (width ≤ 63) }
+    requires size { length bytes.now ≡ 64 * width }
+    requires bits { low + count ≤ width }
+    ensures { lanes_of_words result
+        ≡ map (λ code. not (nat_lt (code / 2 ^ low % 2 ^ count) c)) (planes_codes width bytes.now) }
 {
     if c >> count != 0 {
         return [0; 8];
     }
     let mut at_least = ONES;
-    for low in 0..count {
-        let plane = load(&bytes[64 * (first + (count - 1 - low) as usize)..]);
-        at_least = risen(&at_least, &plane, c >> low & 1 == 1);
+    for place in 0..count {
+        let plane = Planes::bit(width, bytes, low + place);
+        at_least = risen(&at_least, &plane, c >> place & 1 == 1);
     }
     at_least
 }
 
-/// The lanes whose number, which so many planes spell from the top plane on, is c.
-pub(crate) fn eq(bytes: &[u8], first: usize, count: u32, c: u8) -> Plane
-    requires planes { 64 * (first + count) ≤ length bytes.now }
+/// The lanes in which that number is c.
+pub(crate) fn eq(width: u32, bytes: &[u8], low: u32, count: u32, c: u8) -> Plane
+    requires width { (1 ≤ width) × (width ≤ 63) }
+    requires size { length bytes.now ≡ 64 * width }
+    requires bits { low + count ≤ width }
     requires byte { count ≤ 8 }
-    ensures { (lanes : List Assignment) → length lanes ≡ 512
-        → ArePlanesOf bytes.now first count lanes
-        → lanes_of_words result ≡ map (λ bits. spelled bits first count == c) lanes }
+    ensures { lanes_of_words result
+        ≡ map (λ code. code / 2 ^ low % 2 ^ count == c) (planes_codes width bytes.now) }
 {
     if c as u32 >> count != 0 {
         return [0; 8];
@@ -58,9 +49,9 @@ pub(crate) fn eq(bytes: &[u8], first: usize, count: u32, c: u8) -> Plane
         if is_zero(&equal) {
             return equal;
         }
-        let plane = load(&bytes[64 * (first + place as usize)..]);
-        let one = c >> (count - 1 - place) & 1 == 1;
-        equal = narrowed(&equal, &plane, one);
+        let bit = count - 1 - place;
+        let plane = Planes::bit(width, bytes, low + bit);
+        equal = narrowed(&equal, &plane, c >> bit & 1 == 1);
     }
     equal
 }

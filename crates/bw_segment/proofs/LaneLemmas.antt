@@ -21,7 +21,7 @@ use Rattle.bw_model.specs.Variable.{Assignment, first_variable, null_variable, b
 use Rattle.bw_model.proofs.BitsLemmas.{both}
 use Rattle.bw_model.proofs.PlaceLemmas.{code_bit_at, null_bit_at_variable}
 use Rattle.bw_model.proofs.StoredLemmas.{byte_of_bits, spelled_zero}
-use Rattle.bw_segment.specs.Layout.{null_bits}
+use Rattle.bw_segment.specs.Packing.{null_bits}
 use Rattle.bw_segment.specs.Meaning.{Meaning, IsGroup, variable_lanes, byte_lanes, stored_codes, code_lanes, stored_nulls, null_lanes}
 
 map-append : {A B : Type 0} (f : A → B) (xs ys : List A) → map f (xs ++ ys) ≡ map f xs ++ map f ys

@@ -7,17 +7,16 @@ use lib.Lanes.{zip2}
 use Rattle.bw_lanes.specs.Picked.{as_byte}
 use Rattle.bw_model.specs.declared.column.Column.{Column}
 use Rattle.bw_model.specs.Row.{Value, value_in}
-use Rattle.bw_model.specs.Code.{span_of, span_at, value_of_code, value_at}
+use Rattle.bw_model.specs.Code.{span_of, span_at, value_of_code, value_at, has_bit}
 use Rattle.bw_model.specs.Column.{admits_values}
 use Rattle.bw_model.specs.Groups.{group_size}
 use Rattle.bw_model.specs.Stored.{stored_at}
 use Rattle.bw_model.specs.Truth.{is_null}
-use Rattle.bw_model.specs.Variable.{first_variable, null_variable, is_nullable}
 use Rattle.bw_model.proofs.BitsLemmas.{both}
-use Rattle.bw_segment.specs.Layout.{null_bits, value_held}
-use Rattle.bw_segment.specs.Meaning.{Meaning, IsGroup, variable_lanes, stored_codes, code_lanes}
-use Rattle.bw_segment.proofs.LaneLemmas.{nulls_in_lanes, bits_of_nulls}
-use Rattle.bw_segment.proofs.ValueLemmas.{null_admitted, held_admitted, stored_within}
+use Rattle.bw_segment.specs.Packing.{null_bits, value_held}
+use Rattle.bw_segment.specs.Meaning.{Meaning, IsGroup, stored_codes, code_lanes, null_lanes}
+use Rattle.bw_segment.proofs.LaneLemmas.{bits_of_nulls}
+use Rattle.bw_segment.proofs.ValueLemmas.{held_admitted, stored_within}
 
 -- the lanes past the last row, and those in which there is no value
 abbrev pub past_lanes : ℕ → List Bool
@@ -32,22 +31,11 @@ nulls_or_past null zero [] = refl
 nulls_or_past null (suc m) [] = ap (λ l. true ∷ l) (nulls_or_past null m [])
 nulls_or_past null m (row ∷ rows) = ap (λ l. null row ∷ l) (nulls_or_past null m rows)
 
-pub empty_where_nullable : (meaning : Meaning) (col : ℕ) (past plane : List Bool) → IsGroup meaning → col < length meaning.columns → is_nullable meaning.columns col ≡ true
-    → past ≡ past_lanes (length meaning.rows) → plane ≡ variable_lanes meaning (first_variable meaning.columns col) → zip2 (λ x y. x || y) past plane ≡ empty_lanes meaning.rows col
+pub empty_is : (meaning : Meaning) (col : ℕ) (past plane : List Bool) → past ≡ past_lanes (length meaning.rows) → plane ≡ map (λ null. has_bit null 0) (null_lanes meaning col)
+    → zip2 (λ x y. x || y) past plane ≡ empty_lanes meaning.rows col
 unfolding null_bits group_size
-empty_where_nullable meaning col past plane group lt nullable is plane_is =
-    let first = first_variable meaning.columns col in
-    let there : null_variable meaning.columns col ≡ Some first = ap (λ b. cond b (Some first) None) nullable in
-    let nulls : plane ≡ null_bits meaning.rows col = plane_is ∙ sym (nulls_in_lanes meaning col first group lt there) ∙ bits_of_nulls meaning.rows col in
-    ap₂ (zip2 (λ x y. x || y)) is nulls ∙ nulls_or_past (λ row. is_null (value_in row col)) (512 - length meaning.rows) meaning.rows
-
-pub empty_where_not : (columns : List Column) (col m : ℕ) (rows : List (List Value)) → list_all (admits_values columns) rows ≡ true → col < length columns → is_nullable columns col ≡ false
-    → map not (replicate (length rows) true ++ replicate m false) ≡ map (λ row. is_null (value_in row col)) rows ++ replicate m true
-empty_where_not columns col zero [] all lt never = refl
-empty_where_not columns col (suc m) [] all lt never = ap (λ l. true ∷ l) (empty_where_not columns col m [] all lt never)
-empty_where_not columns col m (row ∷ rows) all lt never =
-    let each = both (admits_values columns row) (list_all (admits_values columns) rows) all in
-    ap₂ ◌∷◌ (sym (null_admitted columns row col each.0 lt never)) (empty_where_not columns col m rows each.1 lt never)
+empty_is meaning col past plane is plane_is =
+    ap₂ (zip2 (λ x y. x || y)) is (plane_is ∙ bits_of_nulls meaning.rows col) ∙ nulls_or_past (λ row. is_null (value_in row col)) (512 - length meaning.rows) meaning.rows
 
 -- each code is one of the column's
 pub codes_within : (meaning : Meaning) (col : ℕ) (column : Column) → col < length meaning.columns → column ≡ get_or meaning.columns col column → All (λ code. code ≤ span_of column) (code_lanes meaning col)

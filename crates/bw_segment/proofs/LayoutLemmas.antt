@@ -5,7 +5,7 @@ use Rattle.std.proofs.Math.Seq.{drop-append_seam, take-append_seam, drop-append-
 use Rattle.std.proofs.lemmas.Bool.{cases_lt}
 use Rattle.std.proofs.lemmas.List.{take_all, take-append-drop, drop-take, take-take, drop-append-le, take-append-le, drop_all, length-drop}
 use Rattle.bw_model.specs.declared.column.Column.{Column}
-use Rattle.bw_segment.specs.Layout.{Layout, block_size, bytes_before, segment_size, block_at}
+use Rattle.bw_segment.specs.Packing.{Packing, block_size, bytes_before, segment_size, block_at}
 use Rattle.bw_segment.specs.BlockFault.{block_fault, AreSound}
 
 -- a piece of bytes after which others are put, and the last piece
@@ -32,9 +32,9 @@ block_more blocks bytes count col lt =
     let next : suc (count - (col + 1)) ≡ count - col = omega arith in
     append_assoc bytes (blocks col) (flat_map blocks (range_with_len (col + 1) (count - (col + 1)))) ∙ ap (λ n. bytes ++ flat_map blocks (range_with_len col n)) next
 
-module _ (layout : Layout) (columns : List Column) where
+module _ (packing : Packing) (columns : List Column) where
   abbrev before : ℕ → ℕ
-  before = bytes_before layout columns
+  before = bytes_before packing columns
 
   pub before_more : (a k : ℕ) → before a ≤ before (a + k)
   before_more a zero = ap_le (add-zero a)
@@ -49,27 +49,27 @@ module _ (layout : Layout) (columns : List Column) where
   before_in_order a b le = let there : a + (b - a) ≡ b = omega arith in subst (λ k. before a ≤ before k) there (before_more a (b - a))
 
   -- blocks that are cut out one after the other are all bytes
-  cuts_joined : (bytes : List ℕ) (a k : ℕ) → flat_map (λ column. block_at layout columns column bytes) (range_with_len a k) ++ drop (before (a + k)) bytes ≡ drop (before a) bytes
+  cuts_joined : (bytes : List ℕ) (a k : ℕ) → flat_map (λ column. block_at packing columns column bytes) (range_with_len a k) ++ drop (before (a + k)) bytes ≡ drop (before a) bytes
   cuts_joined bytes a zero = ap (λ k. drop (before k) bytes) (add-zero a)
   cuts_joined bytes a (suc k) =
       let rest = drop (before a) bytes in
-      let size = block_size layout columns a in
+      let size = block_size packing columns a in
       let next : a + suc k ≡ a + 1 + k = omega arith in
       let following : drop (before (a + 1)) bytes ≡ drop size rest = ap (λ k. drop (before k) bytes) (add-one a) ∙ sym (drop-drop size (before a) bytes) in
-      append_assoc (take size rest) (flat_map (λ column. block_at layout columns column bytes) (range_with_len (a + 1) k)) (drop (before (a + suc k)) bytes)
-      ∙ ap (λ l. take size rest ++ l) (ap (λ n. flat_map (λ column. block_at layout columns column bytes) (range_with_len (a + 1) k) ++ drop (before n) bytes) next ∙ cuts_joined bytes (a + 1) k ∙ following)
+      append_assoc (take size rest) (flat_map (λ column. block_at packing columns column bytes) (range_with_len (a + 1) k)) (drop (before (a + suc k)) bytes)
+      ∙ ap (λ l. take size rest ++ l) (ap (λ n. flat_map (λ column. block_at packing columns column bytes) (range_with_len (a + 1) k) ++ drop (before n) bytes) next ∙ cuts_joined bytes (a + 1) k ∙ following)
       ∙ take-append-drop size rest
 
-  pub cuts_are_all : (bytes : List ℕ) → length bytes ≡ segment_size layout columns → flat_map (λ column. block_at layout columns column bytes) (range_with_len 0 (length columns)) ≡ bytes
+  pub cuts_are_all : (bytes : List ℕ) → length bytes ≡ segment_size packing columns → flat_map (λ column. block_at packing columns column bytes) (range_with_len 0 (length columns)) ≡ bytes
   cuts_are_all bytes long =
-      let cuts = flat_map (λ column. block_at layout columns column bytes) (range_with_len 0 (length columns)) in
+      let cuts = flat_map (λ column. block_at packing columns column bytes) (range_with_len 0 (length columns)) in
       sym (append-nil cuts) ∙ ap (λ l. cuts ++ l) (sym (drop_all (before (length columns)) bytes (omega (arith, long)))) ∙ ap (λ n. cuts ++ drop (before n) bytes) (sym all) ∙ cuts_joined bytes 0 (length columns)
     where
       all : 0 + length columns ≡ length columns
       all = omega arith
 
   -- blocks that are put together, each as long as its column's
-  module _ (blocks : ℕ → List ℕ) (long : (column : ℕ) → column < length columns → length (blocks column) ≡ block_size layout columns column) where
+  module _ (blocks : ℕ → List ℕ) (long : (column : ℕ) → column < length columns → length (blocks column) ≡ block_size packing columns column) where
     length-joined : (a k : ℕ) → a + k ≤ length columns → before a + length (flat_map blocks (range_with_len a k)) ≡ before (a + k)
     length-joined a zero le = ap (λ n. n + 0) refl ∙ omega arith ∙ ap before (sym (add-zero a))
     length-joined a (suc k) le =
@@ -78,13 +78,13 @@ module _ (layout : Layout) (columns : List Column) where
         let here = ap before (add-one a) in
         omega (arith, length-append (blocks a) (flat_map blocks (range_with_len (a + 1) k)), long a (omega arith), more, here, ap before next)
 
-    pub length-blocks : length (flat_map blocks (range_with_len 0 (length columns))) ≡ segment_size layout columns
+    pub length-blocks : length (flat_map blocks (range_with_len 0 (length columns))) ≡ segment_size packing columns
     length-blocks =
         let all : 0 + length columns ≡ length columns = omega arith in
         omega (arith, length-joined 0 (length columns) (omega arith), ap before all)
 
     cut_joined : (column a k : ℕ) → a ≤ column → column < a + k → a + k ≤ length columns
-        → take (block_size layout columns column) (drop (before column - before a) (flat_map blocks (range_with_len a k))) ≡ blocks column
+        → take (block_size packing columns column) (drop (before column - before a) (flat_map blocks (range_with_len a k))) ≡ blocks column
     cut_joined column a zero from to le = absurd (omega arith)
     cut_joined column a (suc k) from to le = elim (cases_lt a column) [
       | inl later ↦
@@ -92,35 +92,35 @@ module _ (layout : Layout) (columns : List Column) where
           let next = ap before (add-one a) in
           let order = before_in_order (suc a) column (omega arith) in
           let far : before column - before a ≡ length (blocks a) + (before column - before (a + 1)) = omega (arith, long a (omega arith), next, order) in
-          ap (λ n. take (block_size layout columns column) (drop n (blocks a ++ rest))) far
-          ∙ ap (take (block_size layout columns column)) (drop-append-add (blocks a) rest (before column - before (a + 1)))
+          ap (λ n. take (block_size packing columns column) (drop n (blocks a ++ rest))) far
+          ∙ ap (take (block_size packing columns column)) (drop-append-add (blocks a) rest (before column - before (a + 1)))
           ∙ cut_joined column (a + 1) k (omega arith) (omega arith) (omega arith)
       | inr not_later ↦
           let here : column ≡ a = omega arith in
           let rest = flat_map blocks (range_with_len (a + 1) k) in
           let none : before a - before a ≡ 0 = omega arith in
-          ap (λ c. take (block_size layout columns c) (drop (before c - before a) (blocks a ++ rest))) here
-          ∙ ap (λ n. take (block_size layout columns a) (drop n (blocks a ++ rest))) none
+          ap (λ c. take (block_size packing columns c) (drop (before c - before a) (blocks a ++ rest))) here
+          ∙ ap (λ n. take (block_size packing columns a) (drop n (blocks a ++ rest))) none
           ∙ ap (λ n. take n (blocks a ++ rest)) (sym (long a (omega arith))) ∙ take-append_seam (blocks a) rest ∙ ap blocks (sym here)
     ]
 
-    pub block_of_joined : (column : ℕ) → column < length columns → block_at layout columns column (flat_map blocks (range_with_len 0 (length columns))) ≡ blocks column
+    pub block_of_joined : (column : ℕ) → column < length columns → block_at packing columns column (flat_map blocks (range_with_len 0 (length columns))) ≡ blocks column
     block_of_joined column lt =
         let none : before column - before 0 ≡ before column = omega arith in
-        ap (λ n. take (block_size layout columns column) (drop n (flat_map blocks (range_with_len 0 (length columns))))) (sym none) ∙ cut_joined column 0 (length columns) (omega arith) (omega arith) (omega arith)
+        ap (λ n. take (block_size packing columns column) (drop n (flat_map blocks (range_with_len 0 (length columns))))) (sym none) ∙ cut_joined column 0 (length columns) (omega arith) (omega arith) (omega arith)
 
   -- a block more
-  pub block_added : (count blocks : ℕ) (bytes block : List ℕ) → AreSound layout columns count blocks bytes → length block ≡ block_size layout columns blocks → block_fault layout columns blocks count block ≡ None
-      → AreSound layout columns count (suc blocks) (bytes ++ block)
+  pub block_added : (count blocks : ℕ) (bytes block : List ℕ) → AreSound packing columns count blocks bytes → length block ≡ block_size packing columns blocks → block_fault packing columns blocks count block ≡ None
+      → AreSound packing columns count (suc blocks) (bytes ++ block)
   block_added count blocks bytes block so_far long fine = record {
     size = omega (arith, length-append bytes block, so_far.size, long);
     without = λ column lt. elim (cases_lt column blocks) [
       | inl earlier ↦
-          let within : before column + block_size layout columns column ≤ length bytes = omega (arith, so_far.size, before_in_order (suc column) blocks (omega arith)) in
-          ap (block_fault layout columns column count) (piece_kept (block_size layout columns column) (before column) bytes block within) ∙ so_far.without column earlier
+          let within : before column + block_size packing columns column ≤ length bytes = omega (arith, so_far.size, before_in_order (suc column) blocks (omega arith)) in
+          ap (block_fault packing columns column count) (piece_kept (block_size packing columns column) (before column) bytes block within) ∙ so_far.without column earlier
       | inr not_earlier ↦
           let last : column ≡ blocks = omega arith in
-          ap (λ c. block_fault layout columns c count (block_at layout columns c (bytes ++ block))) last
-          ∙ ap (block_fault layout columns blocks count) (piece_last (block_size layout columns blocks) (before blocks) bytes block so_far.size long) ∙ fine
+          ap (λ c. block_fault packing columns c count (block_at packing columns c (bytes ++ block))) last
+          ∙ ap (block_fault packing columns blocks count) (piece_last (block_size packing columns blocks) (before blocks) bytes block so_far.size long) ∙ fine
     ];
   }

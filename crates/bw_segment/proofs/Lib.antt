@@ -5,6 +5,7 @@ pub mod FaultLemmas
 pub mod LaneLemmas
 pub mod LaneValues
 pub mod LayoutLemmas
+pub mod PackedLemmas
 pub mod PickedCodes
 pub mod PickedLemmas
 pub mod ShapeLemmas

@@ -1,13 +1,15 @@
 -- Where the variables of each column begin.
-use Rattle.std.proofs.Common.{◌≡◌, ◌∙◌, sym, ap, ℕ, zero, suc, ◌+◌, ◌<◌, ◌≤◌, cond, false, List, [], ◌∷◌, map, length, get_or, take, arith, ◌*◌, ◌/◌, take_all}
+use Rattle.std.proofs.Common.{◌≡◌, ◌∙◌, refl, sym, ap, ap₂, ℕ, zero, suc, ◌+◌, ◌*◌, ◌^◌, ◌<◌, ◌≤◌, Bool, true, false, cond, List, [], ◌∷◌, map, length, get_or, take, add-one, arith}
+use mir.Val.{bool_byte}
 use Rattle.std.specs.List.{range_with_len}
 use Rattle.std.proofs.lemmas.List.{get_or-map}
 use Rattle.std.proofs.lemmas.List.FromFn.{length-map-range_with_len, get_or-map-range_with_len}
 use Rattle.std.proofs.lemmas.List.Sums.{sum_by_more, sum_by-cons}
 use Rattle.bw_model.specs.declared.column.Column.{Column}
-use Rattle.bw_model.specs.Code.{width_of, width_at, slices_at}
-use Rattle.bw_segment.specs.Blocks.{block_size, block_start}
-use Rattle.bw_model.specs.Variable.{null_count, variable_count, variables_of, first_variable, is_nullable}
+use Rattle.bw_model.specs.Code.{span_of, span_at, width_of, width_at}
+use Rattle.bw_model.specs.Variable.{null_count, variable_count, first_variable, is_nullable}
+use Rattle.bw_model.proofs.DigitLemmas.{below_width}
+use Rattle.bw_segment.specs.Packing.{Packing, bytes_before}
 
 -- what is read of a column
 pub nullable_read : (columns : List Column) (col : ℕ) (column : Column) → col < length columns → column ≡ get_or columns col column → is_nullable columns col ≡ column.nullable
@@ -20,23 +22,31 @@ first_variable_more columns col column lt is =
     let width : width_at columns col ≡ width_of column = get_or-map width_of columns col column 0 lt ∙ ap width_of (sym is) in
     sum_by_more variable_count columns col column lt ∙ ap (λ c. first_variable columns col + variable_count c) (sym is) ∙ ap (λ w. first_variable columns col + (null_count column + w)) (sym width)
 
--- a column's block stands before the next column's
-pub block_start_more : (columns : List Column) (col : ℕ) (column : Column) → col < length columns → column ≡ get_or columns col column
-    → block_start columns (col + 1) ≡ block_start columns col + (64 * null_count column + 512 * slices_at columns col)
-block_start_more columns col column lt is =
-    let width : width_at columns col ≡ width_of column = get_or-map width_of columns col column 0 lt ∙ ap width_of (sym is) in
-    sum_by_more block_size columns col column lt ∙ ap (λ c. block_start columns col + block_size c) (sym is)
-    ∙ ap (λ w. block_start columns col + (64 * null_count column + 512 * ((w + 7) / 8))) (sym width)
-
 pub starts_count : (start : ℕ → ℕ) (columns : List Column) (starts : List ℕ) → starts ≡ map start (range_with_len 0 (length columns + 1)) → length starts ≡ length columns + 1
 starts_count start columns starts found = ap length found ∙ length-map-range_with_len start 0 (length columns + 1)
 
 pub start_at : (start : ℕ → ℕ) (columns : List Column) (starts : List ℕ) (col d : ℕ) → starts ≡ map start (range_with_len 0 (length columns + 1)) → col ≤ length columns → get_or starts col d ≡ start col
 start_at start columns starts col d found le = ap (λ l. get_or l col d) found ∙ get_or-map-range_with_len start 0 (length columns + 1) col col d (omega arith) (omega arith)
 
--- after the last column all variables are counted
-pub next_of_last : (columns : List Column) (col : ℕ) → length columns ≤ col → first_variable columns col ≡ variables_of columns
-next_of_last columns col le = ap variables_of (take_all col columns le)
+-- the next column's block begins after the null plane, if there is one, and the codes
+pub before_next : (packing : Packing) (columns : List Column) (col width size : ℕ) (nullable : Bool) → is_nullable columns col ≡ nullable → width ≡ width_at columns col → size ≡ packing.size width
+    → bytes_before packing columns (col + 1) ≡ bytes_before packing columns col + (64 * bool_byte nullable + size)
+before_next packing columns col width size nullable null wide long =
+    ap (bytes_before packing columns) (add-one col) ∙ ap₂ (λ n s. bytes_before packing columns col + (n + s)) (ap (λ b. cond b 64 0) null ∙ plane nullable) (sym (long ∙ ap packing.size wide))
+  where
+    plane : (b : Bool) → ◌≡◌ {A = ℕ} (cond b 64 0) (64 * bool_byte b)
+    plane true = refl
+    plane false = refl
+
+pub one_at_most : (b : Bool) → bool_byte b ≤ 1
+one_at_most true = omega arith
+one_at_most false = omega arith
+
+-- a code has as many digits as the greatest one
+pub span_fits : (columns : List Column) (col : ℕ) → col < length columns → span_at columns col < 2 ^ width_at columns col
+span_fits [] col lt = absurd (omega arith)
+span_fits (c ∷ columns) zero lt = below_width c (span_of c) (omega arith)
+span_fits (c ∷ columns) (suc col) lt = span_fits columns col (omega arith)
 
 -- the same, by the numbers of the columns
 pub variable_next : (columns : List Column) (col : ℕ) → col < length columns → first_variable columns (suc col) ≡ first_variable columns col + (cond (is_nullable columns col) 1 0 + width_at columns col)

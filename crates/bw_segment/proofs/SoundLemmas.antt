@@ -16,7 +16,7 @@ use Rattle.bw_model.specs.Groups.{group_size}
 use Rattle.bw_model.specs.Stored.{stored_at}
 use Rattle.bw_model.specs.Truth.{is_null}
 use Rattle.bw_model.specs.Variable.{is_nullable}
-use Rattle.bw_segment.specs.Layout.{Layout, IsLayout, null_bits, null_size, block_size, bytes_before, block_text, segment_text, block_at, block_nulls, block_codes, value_held, value_in_block, rows_spelled}
+use Rattle.bw_segment.specs.Packing.{Packing, IsPacking, null_bits, null_size, block_size, bytes_before, block_text, segment_text, block_at, block_nulls, block_codes, value_held, value_in_block, rows_spelled}
 use Rattle.bw_segment.specs.BlockFault.{padding_fault, block_fault, IsSound}
 use Rattle.bw_segment.specs.Meaning.{IsGroup, stored_codes}
 use Rattle.bw_segment.proofs.FaultLemmas.{padding_none, row_none, lanes_none_at, of_rows}
@@ -38,37 +38,37 @@ pub each_below : (bytes : List ℕ) → All (λ byte. byte < 2 ^ 8) bytes → Ea
 each_below [] all = tt
 each_below (byte ∷ bytes) all = (all 0 byte (omega arith), each_below bytes (λ k d lt. all (suc k) d (omega arith)))
 
-pub length-rows_spelled : (layout : Layout) (columns : List Column) (count : ℕ) (bytes : List ℕ) → length (rows_spelled layout columns count bytes) ≡ count
+pub length-rows_spelled : (packing : Packing) (columns : List Column) (count : ℕ) (bytes : List ℕ) → length (rows_spelled packing columns count bytes) ≡ count
 unfolding rows_spelled
-length-rows_spelled layout columns count bytes =
-    length-map-range_with_len (λ row. map (λ column. value_in_block layout columns column (block_at layout columns column bytes) row) (range_with_len 0 (length columns))) 0 count
+length-rows_spelled packing columns count bytes =
+    length-map-range_with_len (λ row. map (λ column. value_in_block packing columns column (block_at packing columns column bytes) row) (range_with_len 0 (length columns))) 0 count
 
-module _ (layout : Layout) (law : IsLayout layout) (columns : List Column) (count : ℕ) (bytes : List ℕ) (few : count ≤ group_size) (sound : IsSound layout columns count bytes) where
+module _ (packing : Packing) (law : IsPacking packing) (columns : List Column) (count : ℕ) (bytes : List ℕ) (few : count ≤ group_size) (sound : IsSound packing columns count bytes) where
   abbrev pub block : ℕ → List ℕ
-  block col = block_at layout columns col bytes
+  block col = block_at packing columns col bytes
 
   abbrev pub null : ℕ → ℕ → Bool
   null col row = get_or (block_nulls columns col (block col)) row false
 
   abbrev pub code : ℕ → ℕ → ℕ
-  code col row = get_or (block_codes layout columns col (block col)) row 0
+  code col row = get_or (block_codes packing columns col (block col)) row 0
 
   abbrev pub values : ℕ → List Value
-  values row = map (λ column. value_in_block layout columns column (block column) row) (range_with_len 0 (length columns))
+  values row = map (λ column. value_in_block packing columns column (block column) row) (range_with_len 0 (length columns))
 
   at_most_512 : count ≤ 512
   unfolding group_size
   at_most_512 = few
 
-  length-cut : (col : ℕ) → col < length columns → length (block col) ≡ block_size layout columns col
+  pub length-cut : (col : ℕ) → col < length columns → length (block col) ≡ block_size packing columns col
   length-cut col there =
-      let room = before_in_order layout columns (suc col) (length columns) (omega arith) in
-      omega (arith, length-take (block_size layout columns col) (drop (bytes_before layout columns col) bytes), length-drop (bytes_before layout columns col) bytes, sound.size, room)
+      let room = before_in_order packing columns (suc col) (length columns) (omega arith) in
+      omega (arith, length-take (block_size packing columns col) (drop (bytes_before packing columns col) bytes), length-drop (bytes_before packing columns col) bytes, sound.size, room)
 
   lanes : (col : ℕ) → col < length columns
-      → ((row : ℕ) → count ≤ row → row < 512 → padding_fault (null col row) (code col row) ≡ None) × ((row : ℕ) → row < count → of_rows (span_at columns col) count (block_nulls columns col (block col)) (block_codes layout columns col (block col)) row ≡ None)
+      → ((row : ℕ) → count ≤ row → row < 512 → padding_fault (null col row) (code col row) ≡ None) × ((row : ℕ) → row < count → of_rows (span_at columns col) count (block_nulls columns col (block col)) (block_codes packing columns col (block col)) row ≡ None)
   unfolding block_fault
-  lanes col there = lanes_none_at (span_at columns col) count (block_nulls columns col (block col)) (block_codes layout columns col (block col)) (sound.without col there)
+  lanes col there = lanes_none_at (span_at columns col) count (block_nulls columns col (block col)) (block_codes packing columns col (block col)) (sound.without col there)
 
   pub row_is_fine : (col row : ℕ) → col < length columns → row < count → (null col row ≡ true → code col row ≡ 0) × (code col row ≤ span_at columns col)
   row_is_fine col row there lt = row_none (span_at columns col) (null col row) (code col row) ((lanes col there).1 row lt)
@@ -84,17 +84,17 @@ module _ (layout : Layout) (law : IsLayout layout) (columns : List Column) (coun
           cc
 
   value_in_row : (col row : ℕ) → col < length columns → value_in (values row) col ≡ value_held columns col (null col row) (code col row)
-  value_in_row col row there = get_or-map-range_with_len (λ column. value_in_block layout columns column (block column) row) 0 (length columns) col col None there (omega arith)
+  value_in_row col row there = get_or-map-range_with_len (λ column. value_in_block packing columns column (block column) row) 0 (length columns) col col None there (omega arith)
 
   row_is_admitted : (row : ℕ) → row < count → admits_values columns (values row) ≡ true
   row_is_admitted row lt =
-      admitted_by_column columns (values row) (length-map-range_with_len (λ column. value_in_block layout columns column (block column) row) 0 (length columns))
+      admitted_by_column columns (values row) (length-map-range_with_len (λ column. value_in_block packing columns column (block column) row) 0 (length columns))
       (λ col there. ap (admits_at columns col) (value_in_row col row there) ∙ held_is_admitted columns col (null col row) (code col row) there (null_is_nullable col row) (row_is_fine col row there lt).1)
 
-  pub spelled_group : (name : List ℕ) → 1 ≤ count → IsGroup (record { name = name; columns = columns; rows = rows_spelled layout columns count bytes })
+  pub spelled_group : (name : List ℕ) → 1 ≤ count → IsGroup (record { name = name; columns = columns; rows = rows_spelled packing columns count bytes })
   unfolding rows_spelled
   spelled_group name some =
-      let long = length-rows_spelled layout columns count bytes in
+      let long = length-rows_spelled packing columns count bytes in
       record {
         some = omega (arith, some, long);
         few = omega (arith, few, long);
@@ -111,34 +111,34 @@ module _ (layout : Layout) (law : IsLayout layout) (columns : List Column) (coun
           omega (arith, length-lanes_of_bytes (take 64 (block col)), length-take 64 (block col), length-cut col there, one)
       go false never = length-replicate 512 false
 
-  pub nulls_again : (col : ℕ) → col < length columns → null_bits (rows_spelled layout columns count bytes) col ≡ block_nulls columns col (block col)
+  pub nulls_again : (col : ℕ) → col < length columns → null_bits (rows_spelled packing columns count bytes) col ≡ block_nulls columns col (block col)
   unfolding null_bits rows_spelled group_size
   nulls_again col there =
       padded_is values (λ row. is_null (value_in row col)) (block_nulls columns col (block col)) count false (length-nulls col there) at_most_512
       (λ row lt. sym (ap is_null (value_in_row col row there) ∙ is_null_held columns col (null col row) (code col row)))
       (λ row from to. (padding_none (null col row) (code col row) ((lanes col there).0 row from to)).0)
 
-  length-codes : (col : ℕ) → col < length columns → length (drop (null_size columns col) (block col)) ≡ layout.size (width_at columns col)
+  length-codes : (col : ℕ) → col < length columns → length (drop (null_size columns col) (block col)) ≡ packing.size (width_at columns col)
   length-codes col there = omega (arith, length-drop (null_size columns col) (block col), length-cut col there)
 
-  pub codes_again : (col : ℕ) → col < length columns → stored_codes columns (rows_spelled layout columns count bytes) col ≡ block_codes layout columns col (block col)
+  pub codes_again : (col : ℕ) → col < length columns → stored_codes columns (rows_spelled packing columns count bytes) col ≡ block_codes packing columns col (block col)
   unfolding stored_codes rows_spelled group_size block_codes
   codes_again col there =
-      padded_is values (λ row. stored_at columns col (value_in row col)) (block_codes layout columns col (block col)) count 0 (law.codes_length (width_at columns col) (drop (null_size columns col) (block col)) (length-codes col there)) at_most_512
+      padded_is values (λ row. stored_at columns col (value_in row col)) (block_codes packing columns col (block col)) count 0 (law.codes_length (width_at columns col) (drop (null_size columns col) (block col)) (length-codes col there)) at_most_512
       (λ row lt.
       let fine = row_is_fine col row there lt in
       sym (ap (stored_at columns col) (value_in_row col row there) ∙ stored_held columns col (null col row) (code col row) there fine.0 fine.1))
       (λ row from to. (padding_none (null col row) (code col row) ((lanes col there).0 row from to)).1)
 
   module _ (small : All (λ byte. byte < 2 ^ 8) bytes) where
-    block_again : (col : ℕ) → col < length columns → block_text layout columns col (rows_spelled layout columns count bytes) ≡ block col
+    block_again : (col : ℕ) → col < length columns → block_text packing columns col (rows_spelled packing columns count bytes) ≡ block col
     unfolding block_text block_nulls block_codes
     block_again col there =
-        ap₂ (λ nulls codes. cond (is_nullable columns col) (bytes_of_lanes nulls) [] ++ layout.text (width_at columns col) codes) (nulls_again col there) (codes_again col there)
+        ap₂ (λ nulls codes. cond (is_nullable columns col) (bytes_of_lanes nulls) [] ++ packing.text (width_at columns col) codes) (nulls_again col there) (codes_again col there)
         ∙ ap₂ ◌++◌ front back ∙ take-append-drop (null_size columns col) (block col)
       where
         below : All (λ byte. byte < 2 ^ 8) (block col)
-        below = All-take (λ byte. byte < 2 ^ 8) (block_size layout columns col) (drop (bytes_before layout columns col) bytes) (All-drop (λ byte. byte < 2 ^ 8) (bytes_before layout columns col) bytes small)
+        below = All-take (λ byte. byte < 2 ^ 8) (block_size packing columns col) (drop (bytes_before packing columns col) bytes) (All-drop (λ byte. byte < 2 ^ 8) (bytes_before packing columns col) bytes small)
 
         front : cond (is_nullable columns col) (bytes_of_lanes (block_nulls columns col (block col))) [] ≡ take (null_size columns col) (block col)
         front = go (is_nullable columns col) refl
@@ -149,11 +149,11 @@ module _ (layout : Layout) (law : IsLayout layout) (columns : List Column) (coun
                 bytes_of_lanes_of_bytes (take 64 (block col)) (omega (arith, length-take 64 (block col), length-cut col there, one)) (each_below (take 64 (block col)) (All-take (λ byte. byte < 2 ^ 8) 64 (block col) below))
             go false never = refl
 
-        back : layout.text (width_at columns col) (block_codes layout columns col (block col)) ≡ drop (null_size columns col) (block col)
+        back : packing.text (width_at columns col) (block_codes packing columns col (block col)) ≡ drop (null_size columns col) (block col)
         back = law.codes_spelled (width_at columns col) (drop (null_size columns col) (block col)) (length-codes col there) (All-drop (λ byte. byte < 2 ^ 8) (null_size columns col) (block col) below)
 
-    pub text_again : segment_text layout columns (rows_spelled layout columns count bytes) ≡ bytes
+    pub text_again : segment_text packing columns (rows_spelled packing columns count bytes) ≡ bytes
     unfolding segment_text
     text_again =
-        same_in_range (λ col. block_text layout columns col (rows_spelled layout columns count bytes)) block 0 (length columns) (λ col from to. block_again col (omega (arith, to)))
-        ∙ cuts_are_all layout columns bytes sound.size
+        same_in_range (λ col. block_text packing columns col (rows_spelled packing columns count bytes)) block 0 (length columns) (λ col from to. block_again col (omega (arith, to)))
+        ∙ cuts_are_all packing columns bytes sound.size

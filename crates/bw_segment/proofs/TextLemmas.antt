@@ -20,7 +20,7 @@ use Rattle.bw_model.specs.Variable.{is_nullable}
 use Rattle.bw_model.proofs.StoredLemmas.{stored_below}
 use Rattle.bw_model.proofs.BitsLemmas.{both}
 use Rattle.std.proofs.lemmas.Nat.{pow_pos}
-use Rattle.bw_segment.specs.Layout.{Layout, IsLayout, null_bits, null_size, block_size, segment_size, block_text, segment_text, block_at, block_nulls, block_codes, value_held, value_in_block, rows_spelled}
+use Rattle.bw_segment.specs.Packing.{Packing, IsPacking, null_bits, null_size, block_size, segment_size, block_text, segment_text, block_at, block_nulls, block_codes, value_held, value_in_block, rows_spelled}
 use Rattle.bw_segment.specs.BlockFault.{padding_fault, row_fault, lanes_fault, block_fault, IsSound}
 use Rattle.bw_segment.specs.Meaning.{Meaning, IsGroup, stored_codes}
 use Rattle.bw_segment.proofs.FaultLemmas.{first_none, row_clear, lanes_none, of_rows}
@@ -77,7 +77,7 @@ get_or-default (x ∷ xs) zero d e lt = refl
 get_or-default (x ∷ xs) (suc at) d e lt = get_or-default xs at d e (omega arith)
 
 -- the text of a group
-module _ (layout : Layout) (law : IsLayout layout) (meaning : Meaning) (group : IsGroup meaning) where
+module _ (packing : Packing) (law : IsPacking packing) (meaning : Meaning) (group : IsGroup meaning) where
   abbrev pub columns : List Column
   columns = meaning.columns
 
@@ -88,7 +88,7 @@ module _ (layout : Layout) (law : IsLayout layout) (meaning : Meaning) (group : 
   unfolding group_size
   few_rows = group.few
 
-  row_admitted : (row : ℕ) → row < length rows → admits_values columns (get_or rows row []) ≡ true
+  pub row_admitted : (row : ℕ) → row < length rows → admits_values columns (get_or rows row []) ≡ true
   row_admitted row lt = all_at (admits_values columns) rows row [] group.admitted lt
 
   length-null_bits : (col : ℕ) → length (null_bits rows col) ≡ 512
@@ -99,7 +99,7 @@ module _ (layout : Layout) (law : IsLayout layout) (meaning : Meaning) (group : 
   unfolding stored_codes group_size
   length-stored_codes col = length_padded (λ row. stored_at columns col (value_in row col)) rows 0 few_rows
 
-  null_of_row : (col row : ℕ) → row < length rows → get_or (null_bits rows col) row false ≡ is_null (value_in (get_or rows row []) col)
+  pub null_of_row : (col row : ℕ) → row < length rows → get_or (null_bits rows col) row false ≡ is_null (value_in (get_or rows row []) col)
   unfolding null_bits
   null_of_row col row lt = lane_of_row (λ row. is_null (value_in row col)) rows (replicate (group_size - length rows) false) row false lt
 
@@ -107,7 +107,7 @@ module _ (layout : Layout) (law : IsLayout layout) (meaning : Meaning) (group : 
   unfolding null_bits
   null_of_padding col row le = lane_of_padding (λ row. is_null (value_in row col)) rows (group_size - length rows) row false le
 
-  code_of_row : (col row : ℕ) → row < length rows → get_or (stored_codes columns rows col) row 0 ≡ stored_at columns col (value_in (get_or rows row []) col)
+  pub code_of_row : (col row : ℕ) → row < length rows → get_or (stored_codes columns rows col) row 0 ≡ stored_at columns col (value_in (get_or rows row []) col)
   unfolding stored_codes
   code_of_row col row lt = lane_of_row (λ row. stored_at columns col (value_in row col)) rows (replicate (group_size - length rows) 0) row 0 lt
 
@@ -115,7 +115,7 @@ module _ (layout : Layout) (law : IsLayout layout) (meaning : Meaning) (group : 
   unfolding stored_codes
   code_of_padding col row le = lane_of_padding (λ row. stored_at columns col (value_in row col)) rows (group_size - length rows) row 0 le
 
-  small_codes : (col : ℕ) → col < length columns → All (λ code. code < 2 ^ width_at columns col) (stored_codes columns rows col)
+  pub small_codes : (col : ℕ) → col < length columns → All (λ code. code < 2 ^ width_at columns col) (stored_codes columns rows col)
   small_codes col there = λ row d lt.
       let here = get_or-default (stored_codes columns rows col) row d 0 lt in
       elim (cases_lt row (length rows)) [
@@ -127,7 +127,7 @@ module _ (layout : Layout) (law : IsLayout layout) (meaning : Meaning) (group : 
 
   -- the block of a column
   abbrev pub block : ℕ → List ℕ
-  block col = block_text layout columns col rows
+  block col = block_text packing columns col rows
 
   abbrev pub null_text : ℕ → List ℕ
   null_text col = cond (is_nullable columns col) (bytes_of_lanes (null_bits rows col)) []
@@ -139,36 +139,36 @@ module _ (layout : Layout) (law : IsLayout layout) (meaning : Meaning) (group : 
       go true = length-bytes_of_lanes (null_bits rows col)
       go false = refl
 
-  pub length-block : (col : ℕ) → length (block col) ≡ block_size layout columns col
+  pub length-block : (col : ℕ) → length (block col) ≡ block_size packing columns col
   unfolding block_text
   length-block col =
       let codes = law.text_length (width_at columns col) (stored_codes columns rows col) (length-stored_codes col) in
-      omega (arith, length-append (null_text col) (layout.text (width_at columns col) (stored_codes columns rows col)), length-null_text col, codes)
+      omega (arith, length-append (null_text col) (packing.text (width_at columns col) (stored_codes columns rows col)), length-null_text col, codes)
 
   nulls_of_block : (col : ℕ) → col < length columns → block_nulls columns col (block col) ≡ null_bits rows col
   unfolding block_text block_nulls group_size null_bits
   nulls_of_block col there = go (is_nullable columns col) refl
     where
       go : (b : Bool) → is_nullable columns col ≡ b
-          → cond b (lanes_of_bytes (take 64 (cond b (bytes_of_lanes (null_bits rows col)) [] ++ layout.text (width_at columns col) (stored_codes columns rows col)))) (replicate 512 false) ≡ null_bits rows col
+          → cond b (lanes_of_bytes (take 64 (cond b (bytes_of_lanes (null_bits rows col)) [] ++ packing.text (width_at columns col) (stored_codes columns rows col)))) (replicate 512 false) ≡ null_bits rows col
       go true nullable =
           let nulls = bytes_of_lanes (null_bits rows col) in
-          let codes = layout.text (width_at columns col) (stored_codes columns rows col) in
+          let codes = packing.text (width_at columns col) (stored_codes columns rows col) in
           ap (λ n. lanes_of_bytes (take n (nulls ++ codes))) (sym (length-bytes_of_lanes (null_bits rows col))) ∙ ap lanes_of_bytes (take-append_seam nulls codes)
           ∙ lanes_of_bytes_of_lanes (null_bits rows col) (length-null_bits col)
       go false never =
           let all : length rows + (512 - length rows) ≡ 512 = omega (arith, few_rows) in
           sym (ap (λ l. l ++ replicate (512 - length rows) false) (no_nulls columns rows col group.admitted there never) ∙ replicate-append-replicate (length rows) (512 - length rows) false ∙ ap (λ n. replicate n false) all)
 
-  codes_of_block : (col : ℕ) → col < length columns → block_codes layout columns col (block col) ≡ stored_codes columns rows col
+  codes_of_block : (col : ℕ) → col < length columns → block_codes packing columns col (block col) ≡ stored_codes columns rows col
   unfolding block_text block_codes
   codes_of_block col there =
       let width = width_at columns col in
-      let codes = layout.text width (stored_codes columns rows col) in
-      ap (λ n. layout.codes width (drop n (null_text col ++ codes))) (sym (length-null_text col)) ∙ ap (layout.codes width) (drop-append_seam (null_text col) codes)
+      let codes = packing.text width (stored_codes columns rows col) in
+      ap (λ n. packing.codes width (drop n (null_text col ++ codes))) (sym (length-null_text col)) ∙ ap (packing.codes width) (drop-append_seam (null_text col) codes)
       ∙ law.text_spells width (stored_codes columns rows col) (length-stored_codes col) (small_codes col there)
 
-  pub block_is_fine : (col : ℕ) → col < length columns → block_fault layout columns col (length rows) (block col) ≡ None
+  pub block_is_fine : (col : ℕ) → col < length columns → block_fault packing columns col (length rows) (block col) ≡ None
   unfolding block_fault
   block_is_fine col there =
       let span = span_at columns col in
@@ -181,35 +181,35 @@ module _ (layout : Layout) (law : IsLayout layout) (meaning : Meaning) (group : 
       ap₂ (row_fault span) (null_of_row col row lt) (code_of_row col row lt)
       ∙ row_clear span (is_null value) (stored_at columns col value) (λ null. stored_null columns col value null) (stored_within columns col value there))
 
-  pub block_of_text : (col : ℕ) → col < length columns → block_at layout columns col (segment_text layout columns rows) ≡ block col
+  pub block_of_text : (col : ℕ) → col < length columns → block_at packing columns col (segment_text packing columns rows) ≡ block col
   unfolding segment_text
-  block_of_text col there = block_of_joined layout columns block (λ col lt. length-block col) col there
+  block_of_text col there = block_of_joined packing columns block (λ col lt. length-block col) col there
 
-  pub length-text : length (segment_text layout columns rows) ≡ segment_size layout columns
+  pub length-text : length (segment_text packing columns rows) ≡ segment_size packing columns
   unfolding segment_text
-  length-text = length-blocks layout columns block (λ col lt. length-block col)
+  length-text = length-blocks packing columns block (λ col lt. length-block col)
 
-  pub text_is_sound : IsSound layout columns (length rows) (segment_text layout columns rows)
+  pub text_is_sound : IsSound packing columns (length rows) (segment_text packing columns rows)
   text_is_sound = record {
     size = length-text;
-    without = λ col there. ap (block_fault layout columns col (length rows)) (block_of_text col there) ∙ block_is_fine col there;
+    without = λ col there. ap (block_fault packing columns col (length rows)) (block_of_text col there) ∙ block_is_fine col there;
   }
 
   -- the value of a row in a block
   value_back : (row col : ℕ) → row < length rows → col < length columns
-      → value_in_block layout columns col (block_at layout columns col (segment_text layout columns rows)) row ≡ value_in (get_or rows row []) col
+      → value_in_block packing columns col (block_at packing columns col (segment_text packing columns rows)) row ≡ value_in (get_or rows row []) col
   value_back row col lt there =
       let value = value_in (get_or rows row []) col in
-      ap (λ b. value_in_block layout columns col b row) (block_of_text col there)
+      ap (λ b. value_in_block packing columns col b row) (block_of_text col there)
       ∙ ap₂ (value_held columns col) (ap (λ l. get_or l row false) (nulls_of_block col there) ∙ null_of_row col row lt) (ap (λ l. get_or l row 0) (codes_of_block col there) ∙ code_of_row col row lt)
       ∙ held_admitted columns (get_or rows row []) col (row_admitted row lt) there
 
-  pub rows_of_text : rows_spelled layout columns (length rows) (segment_text layout columns rows) ≡ rows
+  pub rows_of_text : rows_spelled packing columns (length rows) (segment_text packing columns rows) ≡ rows
   unfolding rows_spelled
   rows_of_text =
-      let text = segment_text layout columns rows in
-      sym (fill_by_all (λ row. map (λ column. value_in_block layout columns column (block_at layout columns column text) row) (range_with_len 0 (length columns))) rows (length rows) [] refl
+      let text = segment_text packing columns rows in
+      sym (fill_by_all (λ row. map (λ column. value_in_block packing columns column (block_at packing columns column text) row) (range_with_len 0 (length columns))) rows (length rows) [] refl
       (λ row lt.
       let values = get_or rows row [] in
-      fill_by_all (λ column. value_in_block layout columns column (block_at layout columns column text) row) values (length columns) None (length_admitted columns values (row_admitted row lt))
+      fill_by_all (λ column. value_in_block packing columns column (block_at packing columns column text) row) values (length columns) None (length_admitted columns values (row_admitted row lt))
       (λ col there. sym (value_back row col lt there))))

@@ -8,7 +8,7 @@ use Rattle.bw_model.specs.Stored.{stored_at}
 use Rattle.bw_model.specs.Truth.{is_null}
 use Rattle.bw_model.specs.Variable.{is_nullable}
 use Rattle.bw_model.proofs.BitsLemmas.{both, given, code_in_span, value_of_distance, code_of-value_of_code}
-use Rattle.bw_segment.specs.Layout.{value_held}
+use Rattle.bw_segment.specs.Packing.{value_held}
 
 -- a null is admitted by a nullable column alone
 pub null_admitted : (columns : List Column) (values : List Value) (col : ℕ) → admits_values columns values ≡ true → col < length columns → is_nullable columns col ≡ false → is_null (value_in values col) ≡ false

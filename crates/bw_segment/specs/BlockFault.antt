@@ -4,7 +4,7 @@ use Rattle.std.specs.Prelude.{◌≡◌, ℕ, zero, suc, ◌+◌, ◌-◌, ◌<�
 use Rattle.bw_model.specs.declared.column.Column.{Column}
 use Rattle.bw_model.specs.Code.{span_at}
 use Rattle.bw_model.specs.Groups.{group_size}
-use Rattle.bw_segment.specs.Layout.{Layout, bytes_before, block_at, block_nulls, block_codes}
+use Rattle.bw_segment.specs.Packing.{Packing, bytes_before, block_at, block_nulls, block_codes}
 
 -- one fault, or else another
 abbrev pub or_else : Option ℕ → Option ℕ → Option ℕ
@@ -32,10 +32,10 @@ lanes_fault span count nulls codes =
     (first_fault (λ row. row_fault span (slice_index_or nulls row false) (slice_index codes row)) count)
 
 -- the first fault of a column's block
-unfoldable pub block_fault : Layout → List Column → ℕ → ℕ → List ℕ → Option ℕ
-block_fault layout columns column count block =
+unfoldable pub block_fault : Packing → List Column → ℕ → ℕ → List ℕ → Option ℕ
+block_fault packing columns column count block =
     lanes_fault (span_at columns column) count (block_nulls columns column block)
-    (block_codes layout columns column block)
+    (block_codes packing columns column block)
 
 -- In the lanes that are padding or null the bits tell whether the code isn't 0.
 pub record TellsCodes (count : ℕ) (nulls : List Bool) (codes : List ℕ) (used : List Bool) : Type 0 where
@@ -45,11 +45,11 @@ pub record TellsCodes (count : ℕ) (nulls : List Bool) (codes : List ℕ) (used
       ≡ not (slice_index codes row == 0)
 
 -- The bytes are the first so many blocks of a segment of `count` rows: as long, and each without fault.
-pub record AreSound (layout : Layout) (columns : List Column) (count blocks : ℕ) (bytes : List ℕ) : Type 0 where
-  pub size : length bytes ≡ bytes_before layout columns blocks
-  pub without : (column : ℕ) → column < blocks → block_fault layout columns column count
-      (block_at layout columns column bytes) ≡ None
+pub record AreSound (packing : Packing) (columns : List Column) (count blocks : ℕ) (bytes : List ℕ) : Type 0 where
+  pub size : length bytes ≡ bytes_before packing columns blocks
+  pub without : (column : ℕ) → column < blocks → block_fault packing columns column count
+      (block_at packing columns column bytes) ≡ None
 
 -- The bytes are those of a segment of so many rows: each block is without fault.
-abbrev pub IsSound : Layout → List Column → ℕ → List ℕ → Type 0
-IsSound layout columns count bytes = AreSound layout columns count (length columns) bytes
+abbrev pub IsSound : Packing → List Column → ℕ → List ℕ → Type 0
+IsSound packing columns count bytes = AreSound packing columns count (length columns) bytes

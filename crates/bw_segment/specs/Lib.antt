@@ -1,6 +1,6 @@
 pub mod BlockFault
-pub mod Blocks
 pub mod Columns
-pub mod Layout
+pub mod Packing
 pub mod Meaning
 pub mod Picked
+pub mod Packed

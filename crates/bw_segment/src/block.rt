@@ -4,7 +4,7 @@ ghost use Rattle.bw_lanes.specs.Lanes.{lanes_of_words};
 ghost use Rattle.bw_model.specs.Code.{span_at};
 ghost use Rattle.bw_model.specs.Groups.{group_size};
 ghost use Rattle.bw_segment.specs.BlockFault.{lanes_fault, TellsCodes};
-ghost use Rattle.bw_segment.specs.Layout.{null_size, block_nulls};
+ghost use Rattle.bw_segment.specs.Packing.{null_size, block_nulls};
 
 use crate::shape::Shape;
 use bw_lanes::{Plane, and, bytes_bit, is_zero, lane, load, mask, not, or, to_bytes};
@@ -16,14 +16,13 @@ impl Shape {
     ghost use Rattle.bw_model.specs.Fault.{no_memory};
     ghost use Rattle.bw_model.specs.Row.{Value};
     ghost use Rattle.bw_model.specs.Variable.{is_nullable};
-    ghost use Rattle.bw_segment.specs.Layout.{null_bits};
+    ghost use Rattle.bw_segment.specs.Packing.{null_bits};
     ghost use Rattle.bw_segment.specs.Meaning.{stored_nulls};
 
     /// The greatest code of a column.
     pub fn span(&self, col: usize) -> u64
         requires { col < length self.now.schema.columns.items }
-        ensures span { result ≡ span_at self.now.schema.columns.items col }
-        ensures bound { result < 2 ^ 63 }
+        ensures { result ≡ span_at self.now.schema.columns.items col }
     {
         let column = &self.schema.columns[col];
         column.hi.abs_diff(column.lo)

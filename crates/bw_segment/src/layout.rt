@@ -1,51 +1,106 @@
-//! Laws of segments as bytes, for the readers and writers of such bytes, in whichever layout.
-ghost use Rattle.std.specs.Prelude.{◌≡◌, ◌<◌, ◌≤◌, ◌^◌, ◌++◌, ℕ, List, None, suc, length, All};
-ghost use Rattle.bw_model.specs.declared.column.Column.{Column};
-ghost use Rattle.bw_model.specs.Groups.{group_size};
-ghost use Rattle.bw_segment.specs.BlockFault.{block_fault, AreSound, IsSound};
-ghost use Rattle.bw_segment.specs.Layout.{Layout, IsLayout, block_size, bytes_before, segment_size, block_at, block_text, segment_text, rows_spelled};
-ghost use Rattle.bw_segment.specs.Meaning.{Meaning, IsGroup};
+//! How a layout keeps the codes of one column of a segment.
+ghost use Rattle.std.specs.Prelude.{◌*◌, All, ◌≡◌, ◌==◌, ◌^◌, ◌<◌, ◌≤◌, ◌++◌, ℕ, length, map, max, min, nat_lt, not, slice_index, sum, IfSome, IsOkUnless, OnOk};
+ghost use Rattle.std.specs.List.{reduce};
+ghost use Rattle.bw_lanes.specs.Lanes.{lanes_of_words};
+ghost use Rattle.bw_model.specs.Code.{has_bit};
+ghost use Rattle.bw_model.specs.Fault.{no_memory};
+ghost use Rattle.bw_model.specs.Selection.{picked};
+ghost use Rattle.bw_model.specs.Stored.{byte_of};
+ghost use Rattle.bw_segment.specs.Packing.{Packing, IsPacking};
 
-/// A law: bytes whose blocks are without fault are the text of the rows that they spell, which are a group.
-pub fn sound_bytes_spell_a_group()
-    ensures count { (layout : Layout) (columns : List Column) (count : ℕ) (bytes : List ℕ)
-        → length (rows_spelled layout columns count bytes) ≡ count }
-    ensures group { (layout : Layout) (name : List ℕ) (columns : List Column) (count : ℕ)
-        (bytes : List ℕ) → IsLayout layout → 1 ≤ count → count ≤ group_size
-        → IsSound layout columns count bytes
-        → IsGroup (record {
-          name = name;
-          columns = columns;
-          rows = rows_spelled layout columns count bytes;
-        }) }
-    ensures text { (layout : Layout) (columns : List Column) (count : ℕ) (bytes : List ℕ)
-        → IsLayout layout → 1 ≤ count → count ≤ group_size
-        → IsSound layout columns count bytes → All (λ byte. byte < 2 ^ 8) bytes
-        → segment_text layout columns (rows_spelled layout columns count bytes) ≡ bytes }
-{}
+use bw_lanes::Plane;
+use bw_model::Fault;
 
-/// A law: the text of a group is without fault, consists of the blocks of its columns, and spells its rows.
-pub fn text_of_a_group_is_sound()
-    ensures sound { (layout : Layout) (meaning : Meaning) → IsLayout layout → IsGroup meaning
-        → IsSound layout meaning.columns (length meaning.rows)
-        (segment_text layout meaning.columns meaning.rows) }
-    ensures size { (layout : Layout) (meaning : Meaning) → IsLayout layout → IsGroup meaning
-        → length (segment_text layout meaning.columns meaning.rows)
-        ≡ segment_size layout meaning.columns }
-    ensures block { (layout : Layout) (meaning : Meaning) (col : ℕ) → IsLayout layout
-        → IsGroup meaning → col < length meaning.columns
-        → block_at layout meaning.columns col (segment_text layout meaning.columns meaning.rows)
-        ≡ block_text layout meaning.columns col meaning.rows }
-    ensures rows { (layout : Layout) (meaning : Meaning) → IsLayout layout → IsGroup meaning
-        → rows_spelled layout meaning.columns (length meaning.rows)
-        (segment_text layout meaning.columns meaning.rows) ≡ meaning.rows }
-{}
+/// How the codes of 512 lanes are kept as bytes. Each method but `size` and `push_codes` is given the bytes of such codes, of
+/// so many binary digits each, 1 to 63, and answers from the codes that these spell alone. Lane i is row i's.
+pub trait Layout {
+    ghost packing: { Packing };
 
-/// A law: a block without fault after blocks without fault.
-pub fn blocks_are_added()
-    ensures { (layout : Layout) (columns : List Column) (count blocks : ℕ) (bytes block : List ℕ)
-        → AreSound layout columns count blocks bytes
-        → length block ≡ block_size layout columns blocks
-        → block_fault layout columns blocks count block ≡ None
-        → AreSound layout columns count (suc blocks) (bytes ++ block) }
-{}
+    /// How many bytes the codes take.
+    fn size(width: u32) -> usize
+        requires { (1 ≤ width) × (width ≤ 63) }
+        ensures size { result ≡ packing.size width }
+        ensures bound { result ≤ 4096 };
+
+    /// Adds the bytes of codes. Where memory is refused a part may have been added.
+    fn push_codes(bytes: &mut Vec<u8>, width: u32, codes: &[u64; 512]) -> Result<(), Fault>
+        requires { (1 ≤ width) × (width ≤ 63) }
+        ensures added { OnOk result (bytes.new.items
+            ≡ bytes.old.items ++ packing.text width codes.now) }
+        ensures only_memory { IsOkUnless result no_memory };
+
+    /// The lanes whose code isn't 0.
+    fn used(width: u32, bytes: &[u8]) -> Plane
+        requires width { (1 ≤ width) × (width ≤ 63) }
+        requires size { length bytes.now ≡ packing.size width }
+        ensures { lanes_of_words result
+            ≡ map (λ code. not (code == 0)) (packing.codes width bytes.now) };
+
+    /// The lanes whose code is above a number of so many digits.
+    fn above(width: u32, bytes: &[u8], most: u64) -> Plane
+        requires width { (1 ≤ width) × (width ≤ 63) }
+        requires size { length bytes.now ≡ packing.size width }
+        requires most { most < 2 ^ width }
+        ensures { lanes_of_words result ≡ map (nat_lt most) (packing.codes width bytes.now) };
+
+    /// The lanes in which a bit of the code is 1. Bit 0 is the least.
+    fn bit(width: u32, bytes: &[u8], bit: u32) -> Plane
+        requires width { (1 ≤ width) × (width ≤ 63) }
+        requires size { length bytes.now ≡ packing.size width }
+        requires bit { bit < width }
+        ensures { lanes_of_words result
+            ≡ map (λ code. has_bit code bit) (packing.codes width bytes.now) };
+
+    /// The lanes in which a byte of the code is below c. Byte 0 is the least.
+    fn byte_lt(width: u32, bytes: &[u8], slice: usize, c: u8) -> Plane
+        requires width { (1 ≤ width) × (width ≤ 63) }
+        requires size { length bytes.now ≡ packing.size width }
+        requires slice { 8 * slice < width }
+        ensures { lanes_of_words result
+            ≡ map (λ code. nat_lt (byte_of slice code) c) (packing.codes width bytes.now) };
+
+    /// The lanes in which such a byte is c.
+    fn byte_eq(width: u32, bytes: &[u8], slice: usize, c: u8) -> Plane
+        requires width { (1 ≤ width) × (width ≤ 63) }
+        requires size { length bytes.now ≡ packing.size width }
+        requires slice { 8 * slice < width }
+        ensures { lanes_of_words result
+            ≡ map (λ code. byte_of slice code == c) (packing.codes width bytes.now) };
+
+    /// The sum of the codes in some lanes.
+    fn sum(width: u32, bytes: &[u8], lanes: &Plane) -> u128
+        requires width { (1 ≤ width) × (width ≤ 63) }
+        requires size { length bytes.now ≡ packing.size width }
+        requires small { All (λ code. code < 2 ^ width) (packing.codes width bytes.now) }
+        ensures sum { result
+            ≡ sum (picked (lanes_of_words lanes.now) (packing.codes width bytes.now)) }
+        ensures bound { result ≤ 2 ^ 72 };
+
+    /// The least of the codes in some lanes; none where there are no lanes.
+    fn least(width: u32, bytes: &[u8], lanes: &Plane) -> Option<u64>
+        requires width { (1 ≤ width) × (width ≤ 63) }
+        requires size { length bytes.now ≡ packing.size width }
+        requires small { All (λ code. code < 2 ^ width) (packing.codes width bytes.now) }
+        ensures least { result
+            ≡ reduce min (picked (lanes_of_words lanes.now) (packing.codes width bytes.now)) }
+        ensures bound { IfSome result (λ code. code < 2 ^ 63) };
+
+    /// The greatest of these codes.
+    fn greatest(width: u32, bytes: &[u8], lanes: &Plane) -> Option<u64>
+        requires width { (1 ≤ width) × (width ≤ 63) }
+        requires size { length bytes.now ≡ packing.size width }
+        requires small { All (λ code. code < 2 ^ width) (packing.codes width bytes.now) }
+        ensures greatest { result
+            ≡ reduce max (picked (lanes_of_words lanes.now) (packing.codes width bytes.now)) }
+        ensures bound { IfSome result (λ code. code < 2 ^ 63) };
+
+    /// The code in a lane.
+    fn code(width: u32, bytes: &[u8], lane: usize) -> u64
+        requires width { (1 ≤ width) × (width ≤ 63) }
+        requires size { length bytes.now ≡ packing.size width }
+        requires lane { lane < 512 }
+        ensures { result ≡ slice_index (packing.codes width bytes.now) lane };
+
+    /// A law: what is kept is read again.
+    ghost keeps: { IsPacking packing };
+}

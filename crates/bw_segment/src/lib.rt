@@ -5,12 +5,14 @@
 //! `plane(v)` is row i's bit of the variable v, and 0 past the last row. [`codes_in_lanes`] and [`values_in_lanes`] give a
 //! column in all 512 lanes at once, out of its planes.
 //!
-//! Segments as bytes, and the first fault of such bytes, are said once for both layouts in `specs/Layout.antt` and
-//! `specs/BlockFault.antt`. What variables, codes and lanes are stands in the `specs/` of `bw_model`; the layouts are those of
-//! BitWeaving's vertical one (Li and Patel) and of ByteSlice (Feng, Lo, Kao and Xu). Read `segment.rt` first.
+//! A [`PackedSegment`] is kept as the bytes of its blocks, in a [`Layout`], which says how the codes of one column are kept:
+//! bit planes, after BitWeaving's vertical layout (Li and Patel), in `bw_planes`, and byte slices, after ByteSlice (Feng, Lo,
+//! Kao and Xu), in `bw_slices`. Segments as bytes, and the first fault of such bytes, are said once for any layout in
+//! `specs/Packing.antt` and `specs/BlockFault.antt`. What variables, codes and lanes are stands in the `specs/` of `bw_model`.
+//! Read `segment.rt` first, and then `layout.rt` and `packed.rt`.
 //!
 //! [`is_group`] is for those who build segments of rows in memory: whether rows are 1 to 512 that a schema admits, which
-//! `build` of either layout demands:
+//! `build` in either layout demands:
 //!
 //! ```
 //! if is_group(&schema, &rows) {
@@ -20,11 +22,15 @@
 #![tactic(auto)]
 
 mod block;
+mod build;
 mod codes;
 mod columns;
 mod group;
+mod judge;
 mod lanes;
 mod layout;
+mod packed;
+mod packing;
 mod segment;
 mod shape;
 mod values;
@@ -34,7 +40,9 @@ pub use codes::{bytes_of, slices_of};
 pub use columns::{ColumnCodes, clear_rows, columns_of, keep_row, no_rows};
 pub use group::is_group;
 pub use lanes::lanes_hold_codes;
-pub use layout::{blocks_are_added, sound_bytes_spell_a_group, text_of_a_group_is_sound};
+pub use layout::Layout;
+pub use packed::PackedSegment;
+pub use packing::{blocks_are_added, sound_bytes_spell_a_group, text_of_a_group_is_sound};
 pub use segment::Segment;
 pub use shape::Shape;
 pub use values::{codes_in_lanes, values_in_lanes};

@@ -1,15 +1,14 @@
 //! What every segment answers, in whichever layout.
-ghost use Rattle.std.specs.Prelude.{◌≡◌, ◌^◌, ◌<◌, ◌≤◌, ◌==◌, length, map, max, min, nat_lt, slice_index_or, sum, [], IfSome};
+ghost use Rattle.std.specs.Prelude.{◌≡◌, ◌^◌, ◌<◌, ◌≤◌, ◌==◌, length, map, max, min, nat_lt, slice_index_or, sum, [], IfSome, Some};
 ghost use Rattle.std.specs.List.{reduce};
 ghost use Rattle.bw_lanes.specs.Lanes.{lanes_of_words};
-ghost use Rattle.bw_model.specs.Code.{slices_at};
+ghost use Rattle.bw_model.specs.Code.{has_bit, slices_at, width_at};
 ghost use Rattle.bw_model.specs.Groups.{group_size};
 ghost use Rattle.bw_model.specs.Row.{value_in};
-ghost use Rattle.bw_model.specs.Variable.{variables_of};
-ghost use Rattle.bw_segment.specs.Meaning.{Meaning, IsGroup, variable_lanes, byte_lanes};
-ghost use Rattle.bw_segment.specs.Picked.{codes_in};
+ghost use Rattle.bw_model.specs.Variable.{bit_variable, null_variable, variables_of};
+ghost use Rattle.bw_segment.specs.Meaning.{Meaning, IsGroup, variable_lanes, byte_lanes, null_lanes};
+ghost use Rattle.bw_segment.specs.Picked.{bit_lanes, codes_in};
 
-use crate::shape::Shape;
 use bw_lanes::Plane;
 use bw_model::{Schema, Value};
 
@@ -22,20 +21,23 @@ pub trait Segment {
         ensures name { result.now.name ≡ (meaning self.now).name }
         ensures columns { result.now.columns.items ≡ (meaning self.now).columns };
 
-    /// The same name and columns, with where the columns' variables stand.
-    fn shape(&self) -> &Shape
-        ensures name { result.now.schema.name ≡ (meaning self.now).name }
-        ensures columns { result.now.schema.columns.items ≡ (meaning self.now).columns };
-
     /// How many rows the segment has, 1 to 512.
     fn rows_in(&self) -> u32
         ensures count { result ≡ length (meaning self.now).rows }
         ensures bounds { (1 ≤ result) × (result ≤ group_size) };
 
-    /// The bit of a variable in each row, 0 past the last one.
-    fn plane(&self, var: u32) -> Plane
-        requires { var < variables_of (meaning self.now).columns }
-        ensures { lanes_of_words result ≡ variable_lanes (meaning self.now) var };
+    /// The rows in which a bit of a column's code is 1. Bit 0 is the least. The rows past the last one count as code 0, as
+    /// null does.
+    fn bit(&self, col: usize, bit: u32) -> Plane
+        requires column { col < length (meaning self.now).columns }
+        requires bit { bit < width_at (meaning self.now).columns col }
+        ensures { lanes_of_words result ≡ bit_lanes (meaning self.now) col bit };
+
+    /// The rows in which a column is null, none where it isn't nullable.
+    fn nulls(&self, col: usize) -> Plane
+        requires { col < length (meaning self.now).columns }
+        ensures { lanes_of_words result
+            ≡ map (λ null. has_bit null 0) (null_lanes (meaning self.now) col) };
 
     /// The rows in which a byte of a column's code, padded to whole bytes by zero bits at its top, is below c.
     /// Byte 0 is the least. The rows past the last one count as code 0, as null does.
@@ -81,4 +83,38 @@ pub trait Segment {
 
     /// A law: the rows are those of one group, which the columns admit.
     ghost is_group: { (segment : Self) → IsGroup (meaning segment) };
+
+    /// The bit of a variable in each row, 0 past the last one.
+    final fn plane(&self, var: u32) -> Plane
+        requires { var < variables_of (meaning self.now).columns }
+        ensures { lanes_of_words result ≡ variable_lanes (meaning self.now) var }
+    {
+        let (col, bit) = place_of(self.schema(), var);
+        if bit < self.schema().width(col) {
+            self.bit(col, bit)
+        } else {
+            self.nulls(col)
+        }
+    }
+}
+
+/// The column of a variable, and how many of the column's variables come after it: those of its bits below, or all of
+/// its bits where it is the null variable.
+fn place_of(schema: &Schema, var: u32) -> (usize, u32)
+    requires { var < variables_of schema.now.columns.items }
+    ensures column { result.0 < length schema.now.columns.items }
+    ensures bit { result.1 < width_at schema.now.columns.items result.0
+        → var ≡ bit_variable schema.now.columns.items result.0 result.1 }
+    ensures null { width_at schema.now.columns.items result.0 ≤ result.1
+        → null_variable schema.now.columns.items result.0 ≡ Some var }
+{
+    let mut rest = var;
+    for col in 0..schema.columns.len() {
+        let count = u32::from(schema.columns[col].nullable) + schema.width(col);
+        if rest < count {
+            return (col, count - 1 - rest);
+        }
+        rest -= count;
+    }
+    unreachable!()
 }

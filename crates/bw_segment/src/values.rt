@@ -2,11 +2,10 @@
 ghost use Rattle.std.specs.Prelude.{◌≡◌, ◌==◌, ◌<◌, ◌≤◌, ◌+◌, ◌-◌, ◌*◌, ◌%◌, ◌^◌, ℕ, true, [], ◌++◌, Some, None, All, length, map, replicate, slice_index, slice_index_or, if◌then◌else◌};
 ghost use lib.Lanes.{zip2};
 ghost use Rattle.bw_lanes.specs.Lanes.{lanes_of_words};
-ghost use Rattle.bw_model.specs.Code.{span_of, value_of_code, width_at};
+ghost use Rattle.bw_model.specs.Code.{span_of, value_of_code};
 ghost use Rattle.bw_model.specs.Row.{value_in};
 ghost use Rattle.bw_model.specs.Truth.{is_null};
 ghost use Rattle.bw_segment.specs.Meaning.{code_lanes};
-ghost use Rattle.bw_segment.specs.Picked.{bit_lanes};
 
 use crate::segment::Segment;
 use bw_lanes::{Plane, bytes_of_plane, mask, not, or, push_bit};
@@ -24,7 +23,7 @@ pub fn codes_in_lanes<S: Segment>(segment: &S, col: usize, codes: &mut [u64; 512
     let mut bit = segment.schema().width(col);
     while bit > 0 {
         bit -= 1;
-        push_bit(&mut bytes, &bit_plane(segment, col, bit));
+        push_bit(&mut bytes, &segment.bit(col, bit));
         if bit % 8 == 0 {
             push_byte(codes, &bytes);
         }
@@ -41,15 +40,6 @@ pub fn values_in_lanes<S: Segment>(segment: &S, col: usize, values: &mut [Value;
     codes_in_lanes(segment, col, &mut codes);
     let nulls = bytes_of_plane(&no_values(segment, col));
     put_values(&segment.schema().columns[col], &codes, &nulls, values);
-}
-
-/// The lanes in which a bit of a column's code is 1. Bit 0 is the least.
-fn bit_plane<S: Segment>(segment: &S, col: usize, bit: u32) -> Plane
-    requires column { col < length (S.meaning segment.now).columns }
-    requires bit { bit < width_at (S.meaning segment.now).columns col }
-    ensures { lanes_of_words result ≡ bit_lanes (S.meaning segment.now) col bit }
-{
-    segment.plane(segment.shape().bit_variable(col, bit))
 }
 
 /// Shifts one more byte into the code of each lane.
@@ -77,11 +67,7 @@ fn no_values<S: Segment>(segment: &S, col: usize) -> Plane
         ++ replicate (512 - length (S.meaning segment.now).rows) true }
 {
     let past = not(&mask(segment.rows_in()));
-    if segment.schema().columns[col].nullable {
-        or(&past, &segment.plane(segment.shape().first_variable(col)))
-    } else {
-        past
-    }
+    or(&past, &segment.nulls(col))
 }
 
 /// Puts the value of each lane's code in the lane where its byte in `nulls` is 0, and null in the others.

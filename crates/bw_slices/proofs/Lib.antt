@@ -1,7 +1,4 @@
-pub mod BlockLemmas
-pub mod ByteLemmas
+pub mod AboveLemmas
+pub mod ChosenLemmas
 pub mod CodeLemmas
-pub mod JudgeLemmas
-pub mod LayoutLemmas
-pub mod MeaningLemmas
-pub mod SliceLemmas
+pub mod SumLemmas

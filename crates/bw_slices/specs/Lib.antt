@@ -1,2 +1,2 @@
-pub mod SliceSegment
+pub mod Kept
 pub mod Slices

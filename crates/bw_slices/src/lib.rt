@@ -1,11 +1,12 @@
 //! Segments kept as byte slices, after ByteSlice (Feng, Lo, Kao and Xu): for each column its null plane, if it is
 //! nullable, and then the bytes of its codes by significance, from the most significant down, one a row.
 //!
-//! The contract that the crates above use: [`SliceSegment::build`] gives a segment that means the rows given,
-//! and [`SliceSegment::of_blocks`] one of bytes whose blocks [`SliceSegment::judge`] finds without fault; either
+//! The contract that the crates above use: [`Slices`] is a [`bw_segment::Layout`], whose bytes spell the codes that
+//! `slices_codes` says, and each of its kernels answers from these alone. [`SliceSegment::build`] gives a segment that means the
+//! rows given, and [`SliceSegment::of_blocks`] one of bytes whose blocks [`SliceSegment::judge`] finds without fault; either
 //! answers as [`bw_segment::Segment`] says.
 //!
-//! Read `specs/Slices.antt` first, and then `segment.rt` and `build.rt`.
+//! Read `specs/Slices.antt` first, and then `layout.rt`.
 //!
 //! `bw` itself makes segments of a file's blocks. [`SliceSegment::build`] is the library's public face, for 1 to 512 rows that
 //! are in memory:
@@ -16,12 +17,13 @@
 //! ```
 #![tactic(auto)]
 
-mod build;
-mod codes;
-mod judge;
+mod above;
+mod chosen;
 mod layout;
 mod read;
-mod segment;
 
-pub use layout::slices_keep_codes;
-pub use segment::SliceSegment;
+use bw_segment::PackedSegment;
+pub use layout::Slices;
+
+/// A segment kept as byte slices.
+pub type SliceSegment = PackedSegment<Slices>;

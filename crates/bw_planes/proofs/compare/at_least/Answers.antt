@@ -1,33 +1,34 @@
--- One more plane, above those so far.
-use Rattle.std.proofs.Common.{◌≡◌, ◌∙◌, refl, ap, ◌+◌, ◌-◌, ◌/◌, ◌%◌, ◌^◌, ◌<◌, ◌==◌, not, ltb, arith, bit_and}
+use Rattle.std.proofs.Common.{◌≡◌, ◌∙◌, sym, ap, ◌/◌, ◌%◌, ◌^◌, true, false, not, ltb, map, arith}
 use Rattle.std.proofs.lemmas.Bool.{lt-ltb}
 use Rattle.bw_lanes.specs.Lanes.{lanes_of_words}
-use Rattle.bw_model.specs.Variable.{spelled}
-use Rattle.bw_planes.proofs.CompareLemmas.{zeros_everywhere, ones_everywhere, above_all, plane_loaded, at_least_next, at_least_all}
+use Rattle.bw_lanes.proofs.WordLemmas.{zeros_are_zero, ones_are_one}
+use Rattle.bw_planes.specs.Planes.{planes_codes}
+use Rattle.bw_planes.proofs.CodeLemmas.{codes_long}
+use Rattle.bw_planes.proofs.CompareLemmas.{everywhere, above_all, none_below, at_least_next, whole_constant}
 use Rattle.bw_planes.proofs.compare.at_least.Goals as goal
 
 pub returns-then-c-count-ne0 : goal.returns-then-c-count-ne0
-returns-then-c-count-ne0 c = λ lanes all planes.
-    zeros_everywhere lanes (λ bits. not (ltb (spelled bits c.args.first c.args.count) c.args.c)) all
-    (λ bits. ap not (lt-ltb _ _ (above_all bits c.args.first c.args.count c.args.c c.if-c-count-ne0.true)))
+returns-then-c-count-ne0 c =
+    let width = c.args.width in
+    let bytes = c.args.bytes.now in
+    everywhere (planes_codes width bytes) (λ code. not (ltb (code / 2 ^ c.args.low % 2 ^ c.args.count) c.args.c)) false _ (codes_long width bytes) zeros_are_zero
+    (λ code. sym (ap not (lt-ltb _ _ (above_all (code / 2 ^ c.args.low) c.args.count c.args.c c.if-c-count-ne0.true))))
 
-pub loop-low-init : goal.loop-low-init
-loop-low-init c = λ lanes all planes.
-    let none : c.args.c % 2 ^ 0 ≡ 0 = omega arith in
-    ones_everywhere lanes (λ bits. not (ltb 0 (c.args.c % 2 ^ 0))) all (λ bits. ap (λ t. not (ltb 0 t)) none)
+pub loop-place-init : goal.loop-place-init
+loop-place-init c =
+    let width = c.args.width in
+    let bytes = c.args.bytes.now in
+    everywhere (planes_codes width bytes) (λ code. not (ltb (code / 2 ^ c.args.low % 2 ^ 0) (c.args.c % 2 ^ 0))) true _ (codes_long width bytes) ones_are_one
+    (λ code. none_below (code / 2 ^ c.args.low) c.args.c)
 
-pub loop-low-preserved : goal.loop-low-preserved
-loop-low-preserved c = λ lanes all planes.
-    let low = c.loop-low.low in
-    let within : low < c.args.count = omega arith in
-    let place : c.args.count - 1 - low < c.args.count = omega arith in
-    let one = bit_and (c.args.c / 2 ^ low) 1 == 1 in
-    let same : one ≡ one = refl in
+pub loop-place-preserved : goal.loop-place-preserved
+loop-place-preserved c =
     c.risen-at_least.ensures
-    ∙ at_least_next lanes c.args.first c.args.count low c.args.c one (lanes_of_words c.loop-low.at_least) (lanes_of_words c.load-plane.result) within same
-    (c.loop-low.invariant lanes all planes)
-    (plane_loaded c.args.bytes.now c.args.first c.args.count (c.args.count - 1 - low) lanes (lanes_of_words c.load-plane.result) planes place c.requires.planes c.load-plane.ensures)
+    ∙ at_least_next (planes_codes c.args.width c.args.bytes.now) c.args.low c.loop-place.place c.args.c (lanes_of_words c.loop-place.at_least) (lanes_of_words c.bit-plane.result) c.loop-place.invariant c.bit-plane.ensures
 
 pub returns : goal.returns
-returns c = λ lanes all planes.
-    at_least_all lanes c.args.first c.args.count c.loop-low.low c.args.c (lanes_of_words c.loop-low.at_least) (omega arith) c.if-c-count-ne0.false (c.loop-low.invariant lanes all planes)
+returns c =
+    let codes = planes_codes c.args.width c.args.bytes.now in
+    let end : c.loop-place.place ≡ c.args.count = omega arith in
+    c.loop-place.invariant ∙ ap (λ k. map (λ code. not (ltb (code / 2 ^ c.args.low % 2 ^ k) (c.args.c % 2 ^ k))) codes) end
+    ∙ ap (λ n. map (λ code. not (ltb (code / 2 ^ c.args.low % 2 ^ c.args.count) n)) codes) (whole_constant c.args.c c.args.count c.if-c-count-ne0.false)

@@ -1,12 +1,9 @@
-use Rattle.std.proofs.Common.{◌≡◌, ◌-◌, ◌/◌, ◌^◌, ◌==◌, List, map, length}
+use Rattle.std.proofs.Common.{◌≡◌, ◌-◌, ◌/◌, ◌%◌, ◌^◌, eqb, map}
 use Rattle.bw_lanes.specs.Lanes.{lanes_of_words}
-use Rattle.bw_model.specs.Variable.{Assignment, spelled}
-use Rattle.bw_planes.specs.Planes.{ArePlanesOf}
+use Rattle.bw_planes.specs.Planes.{planes_codes}
 use Rattle.bw_planes.proofs.compare.eq.Given as goal
 
--- how the numbers that the planes so far spell stand to the constant's bits so far
+-- how the highest bits, so many, stand to those of the constant
 abbrev pub invariant-loop-place : goal.invariant-loop-place
-invariant-loop-place l = record {
-  equal : (lanes : List Assignment) → length lanes ≡ 512 → ArePlanesOf l.bytes l.first l.count lanes →
-      lanes_of_words l.equal ≡ map (λ bits. spelled bits l.first l.place == l.c / 2 ^ (l.count - l.place)) lanes;
-}
+invariant-loop-place l =
+    lanes_of_words l.equal ≡ map (λ code. eqb (code / 2 ^ l.low % 2 ^ l.count / 2 ^ (l.count - l.place)) (l.c / 2 ^ (l.count - l.place))) (planes_codes l.width l.bytes)

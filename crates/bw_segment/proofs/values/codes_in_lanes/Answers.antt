@@ -31,7 +31,7 @@ loop-bit-preserved-then-bit-eq0 g c =
     let bits = rw c.schema.ensures.columns at c.width-bit.ensures.width in
     let so_far = c.loop-bit.invariant in
     let bit = c.loop-bit.bit - 1 in
-    let bytes = c.push_bit.ensures ∙ bit_more c.loop-bit.bit bit all c.loop-bit.bytes (lanes_of_words c.bit_plane.result) (omega arith) so_far.bytes c.bit_plane.ensures in
+    let bytes = c.push_bit.ensures ∙ bit_more c.loop-bit.bit bit all c.loop-bit.bytes (lanes_of_words c.bit.result) (omega arith) so_far.bytes c.bit.ensures in
     let whole : bit ≡ 8 * ((bit + 7) / 8) = omega arith in
     record {
       within = omega (arith, so_far.within);
@@ -49,7 +49,7 @@ loop-bit-preserved g c =
     let same : 8 * ((c.loop-bit.bit + 7) / 8) ≡ 8 * ((bit + 7) / 8) = omega arith in
     record {
       within = omega (arith, so_far.within);
-      bytes = c.push_bit.ensures ∙ bit_more c.loop-bit.bit bit all c.loop-bit.bytes (lanes_of_words c.bit_plane.result) (omega arith) so_far.bytes c.bit_plane.ensures;
+      bytes = c.push_bit.ensures ∙ bit_more c.loop-bit.bit bit all c.loop-bit.bytes (lanes_of_words c.bit.result) (omega arith) so_far.bytes c.bit.ensures;
       codes = so_far.codes ∙ ap (λ k. codes_from k all) same;
     }
 

@@ -1,7 +1,7 @@
 use Rattle.std.proofs.Common.{◌∙◌, sym, ap, cond, false, take, replicate}
 use Rattle.bw_lanes.specs.Lanes.{lanes_of_words, lanes_of_bytes, bits_from_least}
 use Rattle.bw_model.specs.Groups.{group_size}
-use Rattle.bw_segment.specs.Layout.{block_nulls}
+use Rattle.bw_segment.specs.Packing.{block_nulls}
 use Rattle.bw_segment.proofs.ShapeLemmas.{nullable_read}
 use Rattle.bw_segment.proofs.shape.Shape.nulls_in.Goals as goal
 

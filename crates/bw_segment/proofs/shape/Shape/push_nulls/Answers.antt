@@ -1,7 +1,7 @@
 use Rattle.std.proofs.Common.{◌∙◌, sym, ap, ◌++◌, cond, [], map, ◌==◌, append-nil}
 use Rattle.std.specs.Int.{bit_at}
 use Rattle.bw_lanes.specs.Lanes.{bytes_of_lanes}
-use Rattle.bw_segment.specs.Layout.{null_bits}
+use Rattle.bw_segment.specs.Packing.{null_bits}
 use Rattle.bw_segment.proofs.LaneLemmas.{bits_of_nulls}
 use Rattle.bw_segment.proofs.ShapeLemmas.{nullable_read}
 use Rattle.bw_segment.proofs.shape.Shape.push_nulls.Goals as goal

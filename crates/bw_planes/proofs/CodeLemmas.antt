@@ -1,0 +1,76 @@
+-- The codes that planes spell: 512, each of so many binary digits.
+use Rattle.std.proofs.Common.{◌≡◌, ◌∙◌, sym, ap, subst, ℕ, suc, ◌+◌, ◌-◌, ◌*◌, ◌/◌, ◌%◌, ◌^◌, ◌<◌, ◌≤◌, false, cond, ◌==◌, List, [], ◌∷◌, map, length, take, drop, get_or, bit_and, add-one, arith}
+use Rattle.std.specs.Int.{bit_at}
+use Rattle.std.specs.List.{range_with_len, AllByRecursion}
+use Rattle.std.proofs.Math.Pow.{pow_mono}
+use Rattle.std.proofs.lemmas.List.{get_or-take, get_or-drop, get_or-map, length-take, length-drop}
+use Rattle.std.proofs.lemmas.List.FromFn.{get_or-map-range_with_len}
+use Rattle.std.proofs.lemmas.Nat.{shr-shr, shr_le}
+use Rattle.std.proofs.lemmas.Nat.Bits.{bit_at-lt, shr_and_one}
+use Rattle.std.proofs.lemmas.Simd.{map-map}
+use Rattle.bw_lanes.proofs.BitLemmas.{lane_of_bytes}
+use Rattle.bw_model.specs.Code.{has_bit}
+use Rattle.bw_model.specs.Groups.{group_size}
+use Rattle.bw_model.specs.Variable.{spelled}
+use Rattle.bw_model.proofs.BitsLemmas.{bit_worth}
+use Rattle.bw_planes.specs.Planes.{plane_lanes, row_bits, planes_codes}
+use Rattle.bw_planes.specs.Kept.{spelled_below, length-planes_codes, plane_of_codes}
+
+-- a number from a bit on
+pub high_more : (n bit : ℕ) → n / 2 ^ bit ≡ 2 * (n / 2 ^ suc bit) + cond (has_bit n bit) 1 0
+high_more n bit =
+    let half : n / 2 ^ bit / 2 ≡ n / 2 ^ suc bit = shr-shr n bit 1 ∙ ap (λ k. n / 2 ^ k) (add-one bit) in
+    omega (arith, half, bit_worth (bit_at n bit) 1 (bit_at-lt n bit))
+
+pub codes_long : (width : ℕ) (bytes : List ℕ) → length (planes_codes width bytes) ≡ 512
+unfolding group_size
+codes_long = length-planes_codes
+
+-- what is the same of all numbers of so many digits is the same of codes, each of which is one
+pub codes_agree : {A : Type 0} (f g : ℕ → A) (width : ℕ) (bytes : List ℕ) → ((code : ℕ) → code < 2 ^ width → f code ≡ g code) → map f (planes_codes width bytes) ≡ map g (planes_codes width bytes)
+unfolding planes_codes
+codes_agree f g width bytes same =
+    let rows = range_with_len 0 group_size in
+    let code = λ (row : ℕ). spelled (row_bits bytes row) 0 width in
+    map-map f code rows ∙ (λ i. map (λ row. same (code row) (spelled_below (row_bits bytes row) 0 width) i) rows) ∙ sym (map-map g code rows)
+
+pub codes_small : (width : ℕ) (bytes : List ℕ) → AllByRecursion (λ code. code < 2 ^ width) (planes_codes width bytes)
+unfolding planes_codes
+codes_small width bytes = each (range_with_len 0 group_size)
+  where
+    each : (rows : List ℕ) → AllByRecursion (λ code. code < 2 ^ width) (map (λ row. spelled (row_bits bytes row) 0 width) rows)
+    each [] = tt
+    each (row ∷ rows) = (spelled_below (row_bits bytes row) 0 width, each rows)
+
+-- the code in a lane
+pub code_below : (width lane : ℕ) (bytes : List ℕ) → lane < 512 → get_or (planes_codes width bytes) lane 0 < 2 ^ width
+unfolding planes_codes group_size
+code_below width lane bytes lt =
+    subst (λ n. n < 2 ^ width) (sym (get_or-map-range_with_len (λ row. spelled (row_bits bytes row) 0 width) 0 512 lane lane 0 lt (omega arith))) (spelled_below (row_bits bytes lane) 0 width)
+
+-- a bit of it, as it is read
+pub bit_in_lane : (width place lane : ℕ) (bytes : List ℕ) → length bytes ≡ 64 * width → place < width → lane < 512
+    → bit_and (get_or bytes (64 * place + lane / 8) 0 / 2 ^ (lane % 8)) 1 ≡ cond (has_bit (get_or (planes_codes width bytes) lane 0) (width - suc place)) 1 0
+bit_in_lane width place lane bytes long there lt =
+    let bit = width - suc place in
+    let plane : place ≡ width - suc bit = omega arith in
+    let behind = drop (64 * place) bytes in
+    let byte = get_or bytes (64 * place + lane / 8) 0 in
+    let size : length (take 64 behind) ≡ 64 = omega (arith, length-take 64 behind, length-drop (64 * place) bytes, long) in
+    let byte_is : get_or (take 64 behind) (lane / 8) 0 ≡ byte = get_or-take 64 behind (lane / 8) 0 (omega arith) ∙ get_or-drop (64 * place) bytes (lane / 8) 0 in
+    let shown = ap (λ b. bit_at b (lane % 8) == 1) (sym byte_is) ∙ sym (lane_of_bytes (take 64 behind) lane (omega (arith, size))) ∙ ap (λ k. get_or (plane_lanes bytes k) lane false) plane
+    ∙ ap (λ l. get_or l lane false) (plane_of_codes width bit bytes long (omega arith)) ∙ get_or-map (λ code. has_bit code bit) (planes_codes width bytes) lane 0 false (omega (arith, codes_long width bytes)) in
+    omega (arith, shr_and_one byte (lane % 8), bit_worth (bit_at byte (lane % 8)) 1 (bit_at-lt byte (lane % 8)), ap {B = ℕ} (λ b. cond b 1 0) shown)
+
+-- one more bit of a code, whose highest so many are known
+pub code_next : (code width place : ℕ) → place < width → 2 * (code / 2 ^ (width - place)) + cond (has_bit code (width - suc place)) 1 0 ≡ code / 2 ^ (width - (place + 1))
+code_next code width place lt =
+    let bit = width - suc place in
+    let above : width - place ≡ suc bit = omega arith in
+    let next : bit ≡ width - (place + 1) = omega arith in
+    ap (λ k. 2 * (code / 2 ^ k) + cond (has_bit code bit) 1 0) above ∙ sym (high_more code bit) ∙ ap (λ k. code / 2 ^ k) next
+
+pub code_fits : (code width place : ℕ) → code < 2 ^ width → width ≤ 63 → place < width → 2 * (code / 2 ^ (width - place)) + cond (has_bit code (width - suc place)) 1 0 < 2 ^ 63
+code_fits code width place small few lt =
+    let most = pow_mono {i = width} {j = 63} few in
+    omega (arith, code_next code width place lt, shr_le code (width - (place + 1)), small, most)

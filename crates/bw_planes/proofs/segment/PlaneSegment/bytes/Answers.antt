@@ -1,5 +1,0 @@
-use Rattle.std.proofs.Common.{◌∙◌}
-use Rattle.bw_planes.proofs.segment.PlaneSegment.bytes.Goals as goal
-
-pub returns : goal.returns
-returns c = c.deref.ensures.value ∙ c.args.self.now.text

@@ -1,0 +1,125 @@
+//! Codes kept as planes, and what they answer.
+ghost use Rattle.std.specs.Prelude.{◌≡◌, ◌*◌, ◌^◌, ◌<◌, ◌≤◌};
+ghost use Rattle.bw_planes.specs.Planes.{plane_packing};
+ghost use Rattle.bw_planes.specs.Kept.{planes_keep_codes};
+
+use crate::compare::{at_least, eq};
+use bw_lanes::{Plane, and, bytes_bit, count_and, is_zero, load, not, or, to_bytes};
+use bw_model::Fault;
+use bw_segment::{Layout, slices_of};
+
+/// Codes kept as planes, one for each bit, from the top bit down, 64 bytes a plane: bit i mod 8, the least first, of byte
+/// i / 8 is row i's.
+pub struct Planes;
+
+impl Layout for Planes {
+    ghost packing = { plane_packing };
+
+    fn size(width: u32) -> usize {
+        64 * width as usize
+    }
+
+    fn push_codes(bytes: &mut Vec<u8>, width: u32, codes: &[u64; 512]) -> Result<(), Fault> {
+        let slices = slices_of(codes, (width as usize + 7) / 8);
+        for place in 0..width {
+            let bit = width - 1 - place;
+            let plane = to_bytes(&bytes_bit(&slices[bit as usize / 8], bit % 8));
+            bytes.extend_from_slice(&plane)?;
+        }
+        Ok(())
+    }
+
+    fn used(width: u32, bytes: &[u8]) -> Plane {
+        let mut used = [0; 8];
+        for bit in 0..width {
+            used = or(&used, &Planes::bit(width, bytes, bit));
+        }
+        used
+    }
+
+    fn above(width: u32, bytes: &[u8], most: u64) -> Plane {
+        at_least(width, bytes, 0, width, most + 1)
+    }
+
+    #[inline(always)]
+    fn bit(width: u32, bytes: &[u8], bit: u32) -> Plane {
+        load(&bytes[64 * (width - 1 - bit) as usize..])
+    }
+
+    fn byte_lt(width: u32, bytes: &[u8], slice: usize, c: u8) -> Plane {
+        let low = 8 * slice as u32;
+        not(&at_least(width, bytes, low, (width - low).min(8), u64::from(c)))
+    }
+
+    fn byte_eq(width: u32, bytes: &[u8], slice: usize, c: u8) -> Plane {
+        let low = 8 * slice as u32;
+        eq(width, bytes, low, (width - low).min(8), c)
+    }
+
+    fn sum(width: u32, bytes: &[u8], lanes: &Plane) -> u128 {
+        let mut sum = 0;
+        for bit in 0..width {
+            let ones = count_and(lanes, &Planes::bit(width, bytes, bit));
+            sum += worth(ones, bit);
+        }
+        sum
+    }
+
+    // From the top bit down the lanes that remain are those in which the bit is 0, or all of them where it is 1 in each.
+    fn least(width: u32, bytes: &[u8], lanes: &Plane) -> Option<u64> {
+        if is_zero(lanes) {
+            return None;
+        }
+        let mut left = *lanes;
+        let mut code = 0;
+        for place in 0..width {
+            let zeros = and(&left, &not(&Planes::bit(width, bytes, width - 1 - place)));
+            code *= 2;
+            if is_zero(&zeros) {
+                code += 1;
+            } else {
+                left = zeros;
+            }
+        }
+        Some(code)
+    }
+
+    // From the top bit down the lanes that remain are those in which the bit is 1, or all of them where it is 0 in each.
+    fn greatest(width: u32, bytes: &[u8], lanes: &Plane) -> Option<u64> {
+        if is_zero(lanes) {
+            return None;
+        }
+        let mut left = *lanes;
+        let mut code = 0;
+        for place in 0..width {
+            let ones = and(&left, &Planes::bit(width, bytes, width - 1 - place));
+            code *= 2;
+            if !is_zero(&ones) {
+                left = ones;
+                code += 1;
+            }
+        }
+        Some(code)
+    }
+
+    fn code(width: u32, bytes: &[u8], lane: usize) -> u64 {
+        let mut code = 0;
+        for place in 0..width as usize {
+            let byte = bytes[64 * place + lane / 8];
+            code = 2 * code + u64::from(byte >> (lane % 8) & 1);
+        }
+        code
+    }
+
+    ghost keeps = { planes_keep_codes };
+}
+
+/// What a bit adds to the sum of codes in which it is 1, so many of them.
+#[tactic(auto, using(crate::proofs::SumLemmas::moved_fits))]
+fn worth(ones: u32, bit: u32) -> u128
+    requires ones { ones ≤ 512 }
+    requires bit { bit < 63 }
+    ensures { result ≡ ones * 2 ^ bit }
+{
+    u128::from(ones) << bit
+}

@@ -1,5 +1,0 @@
-use Rattle.bw_segment.proofs.LayoutLemmas.{block_added}
-use Rattle.bw_segment.proofs.layout.blocks_are_added.Goals as goal
-
-pub returns : goal.returns
-returns c = block_added

@@ -1,0 +1,26 @@
+use Rattle.std.proofs.Common.{◌≡◌, ◌∙◌, ap, ◌^◌, length, length-drop, arith}
+use Rattle.bw_model.specs.Groups.{group_size}
+use Rattle.bw_segment.specs.BlockFault.{lanes_fault, block_fault}
+use Rattle.bw_segment.specs.Packing.{block_codes, null_size}
+use Rattle.bw_segment.proofs.ShapeLemmas.{span_fits}
+use Rattle.bw_segment.proofs.packed.PackedSegment.judge.Goals as goal
+
+pub above-above-requires-clause-most : goal.above-above-requires-clause-most
+above-above-requires-clause-most g c = let columns = c.args.shape.now.schema.columns.items in omega (arith, c.span.ensures, ap (λ w. 2 ^ w) c.width-width.ensures.width, span_fits columns c.args.col c.requires.column)
+
+pub fault_of_lanes-requires : goal.fault_of_lanes-requires
+unfolding group_size
+fault_of_lanes-requires g c = c.requires.rows
+
+pub returns : goal.returns
+unfolding block_fault block_codes
+returns g c =
+    let packing = g.L.Layout.packing in
+    let width = c.width-width in
+    let bytes = c.codes_in-codes in
+    let codes = packing.codes width.result bytes.result.now in
+    let columns = c.args.shape.now.schema.columns.items in
+    let long : length bytes.result.now ≡ packing.size width.result =
+    omega (arith, ap length bytes.ensures, length-drop (null_size columns c.args.col) c.args.block.now, c.requires.size, ap packing.size width.ensures.width) in
+    c.fault_of_lanes.ensures c.span.result codes (g.met.L.Layout.keeps.codes_length width.result bytes.result.now long) c.used-used.ensures c.above-above.ensures
+    ∙ (λ i. lanes_fault (c.span.ensures i) c.args.rows (c.nulls_in-nulls.ensures i) (packing.codes (width.ensures.width i) (bytes.ensures i)))

@@ -1,0 +1,28 @@
+use Rattle.std.proofs.Common.{◌≡◌, ◌∙◌, sym, ap, ap₂, ◌+◌, ◌*◌, ◌++◌, ◌∷◌, [], ◌<◌, map, length, arith}
+use Rattle.std.specs.List.{range_with_len}
+use Rattle.std.proofs.lemmas.List.FromFn.{map-range_with_len_more}
+use Rattle.bw_segment.specs.Packing.{bytes_before}
+use Rattle.bw_segment.proofs.ShapeLemmas.{nullable_read, before_next, one_at_most}
+use Rattle.bw_segment.proofs.shape.Shape.of.Goals as goal
+
+pub loop-col-preserved : goal.loop-col-preserved
+loop-col-preserved g c =
+    let columns = c.in_ok-copied.copied.columns.items in
+    let col = c.loop-col.col in
+    let column = c.index.result.now in
+    let so_far = c.loop-col.invariant in
+    let there : col < length columns = omega arith in
+    let next = before_next g.L.Layout.packing columns col c.width.result c.size.result column.nullable (nullable_read columns col column there c.index.ensures) c.width.ensures.width c.size.ensures.size in
+    record {
+      starts = c.in_ok-push.ensures.items ∙ ap₂ (λ l x. l ++ x ∷ []) so_far.starts so_far.end ∙ sym (map-range_with_len_more (bytes_before g.L.Layout.packing columns) 0 col col (omega arith));
+      end = ap₂ (λ n null. n + (64 * null + c.size.result)) so_far.end c.from.ensures ∙ sym next;
+      small = omega (arith, so_far.small, c.from.ensures, one_at_most column.nullable, c.size.ensures.bound);
+    }
+
+pub returns-clause-placed : goal.returns-clause-placed
+returns-clause-placed g c =
+    let columns = c.in_ok-copied.copied.columns.items in
+    let so_far = c.loop-col.invariant in
+    let before = bytes_before g.L.Layout.packing columns in
+    let all : c.loop-col.col ≡ length columns = omega arith in
+    record { starts = c.in_ok-push-2.ensures.items ∙ ap₂ (λ l x. l ++ x ∷ []) so_far.starts so_far.end ∙ sym (map-range_with_len_more before 0 c.loop-col.col c.loop-col.col (omega arith)) ∙ ap (λ n. map before (range_with_len 0 (n + 1))) all }

@@ -1,0 +1,100 @@
+-- Segments as bytes: for each column one block, of its null plane, in 64 bytes, where it is nullable, and then its codes,
+-- in one of two layouts.
+use Rattle.std.specs.Prelude.{◌≡◌, ℕ, zero, suc, ◌+◌, ◌-◌, ◌<◌, ◌^◌, Bool, false, List, [], ◌++◌, length, map, take, drop, replicate, slice_index, slice_index_or, Some, None, if◌then◌else◌, All}
+use Rattle.std.specs.List.{flat_map, range_with_len}
+use Rattle.bw_lanes.specs.Lanes.{bytes_of_lanes, lanes_of_bytes}
+use Rattle.bw_model.specs.declared.column.Column.{Column}
+use Rattle.bw_model.specs.declared.schema.Schema.{Schema}
+use Rattle.bw_model.specs.Row.{Value, value_in}
+use Rattle.bw_model.specs.Code.{width_at, value_at}
+use Rattle.bw_model.specs.Groups.{group_size}
+use Rattle.bw_model.specs.Truth.{is_null}
+use Rattle.bw_model.specs.Variable.{is_nullable}
+use Rattle.bw_segment.specs.Meaning.{Meaning, stored_codes}
+
+-- How the codes of 512 lanes are kept, by how many binary digits they have: how many bytes they take, the bytes of such
+-- codes, and the codes that such bytes spell.
+pub record Packing : Type 0 where
+  pub size : ℕ → ℕ
+  pub text : ℕ → List ℕ → List ℕ
+  pub codes : ℕ → List ℕ → List ℕ
+
+-- The bytes of codes spell these, and codes that are spelled have these bytes.
+pub record IsPacking (packing : Packing) : Type 0 where
+  pub text_length : (width : ℕ) (codes : List ℕ) → length codes ≡ group_size → length (packing.text width codes)
+      ≡ packing.size width
+  pub codes_length : (width : ℕ) (bytes : List ℕ) → length bytes ≡ packing.size width → length (packing.codes width bytes)
+      ≡ group_size
+  pub text_spells : (width : ℕ) (codes : List ℕ) → length codes ≡ group_size → All (λ code. code < 2 ^ width) codes
+      → packing.codes width (packing.text width codes) ≡ codes
+  pub codes_spelled : (width : ℕ) (bytes : List ℕ) → length bytes ≡ packing.size width → All (λ byte. byte < 2 ^ 8) bytes
+      → packing.text width (packing.codes width bytes) ≡ bytes
+
+-- in each of the 512 lanes whether the row there is null in a column; past the last row none is
+unfoldable pub null_bits : List (List Value) → ℕ → List Bool
+null_bits rows column = map (λ row. is_null (value_in row column)) rows ++ replicate (group_size - length rows) false
+
+-- how many bytes a column's null plane takes
+abbrev pub null_size : List Column → ℕ → ℕ
+null_size columns column = if is_nullable columns column then 64 else 0
+
+-- how many bytes a column's block takes, and how many stand before it
+abbrev pub block_size : Packing → List Column → ℕ → ℕ
+block_size packing columns column = null_size columns column + packing.size (width_at columns column)
+
+abbrev pub bytes_before : Packing → List Column → ℕ → ℕ
+bytes_before packing columns zero = 0
+bytes_before packing columns (suc column) = bytes_before packing columns column + block_size packing columns column
+
+-- how many bytes a segment takes
+abbrev pub segment_size : Packing → List Column → ℕ
+segment_size packing columns = bytes_before packing columns (length columns)
+
+-- the block of a column of some rows, at most 512
+unfoldable pub block_text : Packing → List Column → ℕ → List (List Value) → List ℕ
+block_text packing columns column rows =
+    (if is_nullable columns column then bytes_of_lanes (null_bits rows column) else [])
+    ++ packing.text (width_at columns column) (stored_codes columns rows column)
+
+-- the bytes of some rows, at most 512: the blocks of the columns, in order
+unfoldable pub segment_text : Packing → List Column → List (List Value) → List ℕ
+segment_text packing columns rows = flat_map (λ column. block_text packing columns column rows)
+    (range_with_len 0 (length columns))
+
+-- the block of a column among the bytes of a segment
+abbrev pub block_at : Packing → List Column → ℕ → List ℕ → List ℕ
+block_at packing columns column bytes = take (block_size packing columns column)
+    (drop (bytes_before packing columns column) bytes)
+
+-- the null bits of the 512 lanes of a block, and their codes
+unfoldable pub block_nulls : List Column → ℕ → List ℕ → List Bool
+block_nulls columns column block = if is_nullable columns column then lanes_of_bytes
+    (take 64 block) else replicate group_size false
+
+unfoldable pub block_codes : Packing → List Column → ℕ → List ℕ → List ℕ
+block_codes packing columns column block = packing.codes (width_at columns column) (drop (null_size columns column) block)
+
+-- the value that a null bit and a code are
+abbrev pub value_held : List Column → ℕ → Bool → ℕ → Value
+value_held columns column null code = if null then None else Some (value_at columns column code)
+
+-- the value of a row in a block of a column
+abbrev pub value_in_block : Packing → List Column → ℕ → List ℕ → ℕ → Value
+value_in_block packing columns column block row =
+    value_held columns column (slice_index_or (block_nulls columns column block) row false)
+    (slice_index (block_codes packing columns column block) row)
+
+-- so many rows, each of the values that the blocks among these bytes have in it
+unfoldable pub rows_spelled : Packing → List Column → ℕ → List ℕ → List (List Value)
+rows_spelled packing columns count bytes =
+    map (λ row. map (λ column. value_in_block packing columns column (block_at packing columns column bytes) row)
+    (range_with_len 0 (length columns))) (range_with_len 0 count)
+
+-- what so many rows, spelled by bytes, mean
+abbrev pub meaning_spelled : Packing → Schema → ℕ → List ℕ → Meaning
+meaning_spelled packing schema count bytes =
+    record {
+      name = schema.name;
+      columns = schema.columns.items;
+      rows = rows_spelled packing schema.columns.items count bytes;
+    }
