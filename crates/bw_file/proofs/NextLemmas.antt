@@ -11,6 +11,7 @@ use Rattle.bw_file.specs.Reading.{tail, State, Took, GoesOn, NeedsMore, Fails, H
 use Rattle.bw_file.specs.TableReading.{segment, end, group_sizes}
 use Rattle.bw_file.specs.TableReader.{settled, SoFar, SameTable, GivesNext}
 use Rattle.bw_file.proofs.BodySpelling.{groups_found}
+use Rattle.bw_file.proofs.FaultLemmas.{refused_by, segment_own, byte_own}
 use Rattle.bw_file.proofs.ReaderLemmas.{so_far_more, segment_refused, at_end, end_seen, end_missed}
 
 -- where all rows were given, the groups so far are the groups of all rows
@@ -33,6 +34,7 @@ module _ {S : Type 0} (source next_source : S) (old now : State) (reader next : 
     ended = λ none. absurd cc;
     groups = λ none. absurd cc;
     refused = tt;
+    fault = tt;
     counted = counted ∙ ap (λ (n : ℕ). reader.given + n) (sym count);
     read = λ _. record { bytes = read.bytes; took = read.took; unfinished = tt; failures = omega (arith, read.failures) };
     settles = reading;
@@ -48,6 +50,7 @@ module _ {S : Type 0} (source next_source : S) (old now : State) (reader next : 
     ended = tt;
     groups = tt;
     refused = λ _ start groups so_far. segment_refused start old now reader groups size fault left sized so_far fails;
+    fault = refused_by (segment reader.layout reader.shape.value.schema.columns.items size) old now fault (segment_own reader.layout reader.shape.value.schema.columns.items size) fails;
     counted = omega (arith, kept);
     read = λ _. record { bytes = fails.bytes; took = fails.took; unfinished = λ failed. inr (subst (λ (n : ℕ). NeedsMore (segment reader.layout reader.shape.value.schema.columns.items n) old.offset fails.bytes) sized (fails.unfinished failed)); failures = fails.failures };
     settles = stopped;
@@ -63,6 +66,7 @@ module _ {S : Type 0} (source next_source : S) (old now : State) (reader next : 
     ended = λ _ _ start groups so_far. end_seen start old now reader groups all so_far took failures ended;
     groups = λ _ _ start groups so_far. all_groups start old reader groups all so_far;
     refused = tt;
+    fault = tt;
     counted = omega (arith, kept);
     read = λ _. record { bytes = []; took = took; unfinished = tt; failures = omega (arith, failures) };
     settles = stopped;
@@ -78,6 +82,7 @@ module _ {S : Type 0} (source next_source : S) (old now : State) (reader next : 
     ended = tt;
     groups = tt;
     refused = λ _ start groups so_far. end_missed start old now reader groups fault all so_far fails;
+    fault = byte_own old now fault fails;
     counted = omega (arith, kept);
     read = λ _. record { bytes = fails.bytes; took = fails.took; unfinished = λ failed. inl (fails.unfinished failed); failures = fails.failures };
     settles = stopped;

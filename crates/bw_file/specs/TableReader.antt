@@ -15,7 +15,7 @@ use Rattle.bw_file.specs.declared.phase.Phase.{Phase}
 use Rattle.bw_file.specs.declared.phase.Phase.TheVariants.{Reading, Ended, Failed}
 use Rattle.bw_file.specs.declared.table_reader.TableReader.{TableReader}
 use Rattle.bw_file.specs.Reading.{State, Took, GoesOn, NeedsMore, failed_reads, give}
-use Rattle.bw_file.specs.TableReading.{HeaderShape, header, body, segment, group_sizes, Found, found_as, IsReadAs}
+use Rattle.bw_file.specs.TableReading.{HeaderShape, header, body, segment, group_sizes, Found, found_as, IsReadAs, IsTableFault}
 
 abbrev pub schema_in : TableReader → Schema
 schema_in reader = reader.shape.value.schema
@@ -183,7 +183,7 @@ Repeats result (Err fault) = result ≡ Err fault
 -- What a call that is to give the next segment answered, and how it left the source and the reader
 -- that it found so: a segment's rows come after the groups so far, and None where they are the
 -- groups of all rows of the file, read whole; what was settled is repeated, and then nothing
--- changes.
+-- changes. A fault is one of a table file, a failed read or out of memory.
 pub record GivesNext {S : Type 0} (source next_source : S) (old now : State)
     (reader next : TableReader) (result : Result (Option AnySegment) Fault) : Type 0 where
   pub given : IfOk result
@@ -204,6 +204,7 @@ pub record GivesNext {S : Type 0} (source next_source : S) (old now : State)
   pub refused : IfErr result
       (λ fault. settled reader ≡ None → (start : State) (groups : List (List (List Value)))
       → SoFar start old reader groups → AnswersFault start old now fault)
+  pub fault : IfErr result IsTableFault
   pub counted : rows_given next ≡ rows_given reader + rows_answered result
   pub read : settled reader ≡ None → DidRead reader old now result
   pub settles : Settles result (settled next)

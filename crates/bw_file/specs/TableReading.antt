@@ -1,6 +1,6 @@
 -- What the bytes of a table file say, or the first fault in them: field by field, and then block by
 -- block.
-use Rattle.std.specs.Prelude.{◌≡◌, ℕ, ℤ, zero, suc, ◌+◌, ◌-◌, ◌*◌, ◌%◌, min, Bool, true, false, ◌&&◌, ◌||◌, not, List, [], ◌∷◌, ◌++◌, length, take, drop, slice_index, Option, Some, None, Result, Ok, Err, if◌then◌else◌, ◌==◌, nat_lt, nat_le}
+use Rattle.std.specs.Prelude.{◌≡◌, ℕ, ℤ, zero, suc, ◌+◌, ◌-◌, ◌*◌, ◌%◌, min, Bool, true, false, ◌&&◌, ◌||◌, not, List, [], ◌∷◌, ◌++◌, length, take, drop, slice_index, Option, Some, None, Result, Ok, Err, if◌then◌else◌, ◌==◌, nat_lt, nat_le, IsTrue}
 use Rattle.std.specs.Int.{w16, w32, w64, bit_at, from_le_bytes, cast_signed}
 use Rattle.std.specs.List.{list_any, range_with_len}
 use Rattle.std.specs.Str.{bytes_eq}
@@ -14,6 +14,7 @@ use Rattle.bw_model.specs.Name.{is_name}
 use Rattle.bw_model.specs.Row.{Value}
 use Rattle.bw_model.specs.SchemaText.{ColumnShape, SchemaShape, shape, shape_names, schema_shape}
 use Rattle.bw_model.specs.Text.{same_text}
+use Rattle.bw_device.specs.Source.{is_input_fault}
 use Rattle.bw_segment.specs.Packing.{null_size}
 use Rattle.bw_file.specs.declared.fields.Bounds.{Bounds}
 use Rattle.bw_file.specs.declared.layout.Layout.{Layout}
@@ -240,3 +241,10 @@ IsReadBehind (Err fault) read = read ≡ Err fault
 
 abbrev pub IsReadAs : List ℕ → Result Found Fault → Type 0
 IsReadAs bytes read = IsReadBehind (header (tail 0 bytes)) read
+
+-- what a call that reads a table file refuses by: 301 to 310, a failed read or out of memory
+abbrev pub is_table_fault : Fault → Bool
+is_table_fault fault = (nat_le 301 fault.code && nat_le fault.code 310) || is_input_fault fault
+
+abbrev pub IsTableFault : Fault → Type 0
+IsTableFault fault = IsTrue (is_table_fault fault)

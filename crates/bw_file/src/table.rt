@@ -6,7 +6,7 @@ ghost use Rattle.bw_model.specs.SchemaText.{schema_shape};
 ghost use Rattle.bw_file.specs.AnySegment.{any_meaning};
 ghost use Rattle.bw_file.specs.FileText.{AreRows, IsFileText, file_text};
 ghost use Rattle.bw_file.specs.Table.{found_of};
-ghost use Rattle.bw_file.specs.TableReading.{found_as, IsReadAs};
+ghost use Rattle.bw_file.specs.TableReading.{found_as, IsReadAs, IsTableFault};
 
 use crate::encoder::Encoder;
 use crate::laws::a_schema_has_names_and_bounds;
@@ -60,6 +60,7 @@ pub fn decode(alloc: Global, bytes: &[u8]) -> Result<Table, Fault>
     ensures read { IfOk result (λ table. IsReadAs bytes.now (Ok (found_of table))) }
     ensures fault { IfErr result
         (λ fault. is_memory fault ≡ false → IsReadAs bytes.now (Err fault)) }
+    ensures code { IfErr result IsTableFault }
 {
     let mut source = Memory { rest: bytes };
     let mut reader = TableReader::begin(alloc, &mut source)?;

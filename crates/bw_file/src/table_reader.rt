@@ -1,8 +1,10 @@
 //! A table file read one segment at a time.
 ghost use Rattle.std.specs.Prelude.{◌≡◌, ◌+◌, ◌-◌, ◌*◌, ◌^◌, ◌<◌, ◌≤◌, ℕ, [], None, IfOk, IfErr};
+ghost use Rattle.bw_model.specs.declared.fault.Fault.{Fault};
 ghost use Rattle.bw_model.specs.Limits.{most_rows};
 ghost use Rattle.bw_file.specs.Blocks.{IsPlaced};
-ghost use Rattle.bw_file.specs.declared.phase.Phase.TheVariants.{Reading};
+ghost use Rattle.bw_file.specs.TableReading.{IsTableFault};
+ghost use Rattle.bw_file.specs.declared.phase.Phase.TheVariants.{Reading, Failed};
 
 use crate::body::{read_end, read_segment};
 use crate::header::{Header, read_header};
@@ -31,6 +33,7 @@ pub struct TableReader {
     ghost placed: { IsPlaced layout shape.value },
     ghost within: { given ≤ rows },
     ghost few: { rows ≤ most_rows },
+    ghost own: { (fault : Fault) → phase ≡ Failed fault → IsTableFault fault },
     ghost room: { phase ≡ Reading → offset + 2 ^ 19 * (rows - given) < 2 ^ 50 },
 }
 
@@ -61,6 +64,7 @@ impl TableReader {
             (state (S.to_come source.old) 0 (S.failures source.old))
             (state (S.to_come source.old) 0 (S.failures source.old))
             (state (S.to_come source.new) offset (S.failures source.new)) fault) }
+        ensures fault { IfErr result IsTableFault }
     {
         let mut offset = 0;
         let Header {

@@ -1,5 +1,7 @@
 use Rattle.std.proofs.Common.{refl, arith}
 use Rattle.std.proofs.lemmas.Result.{err_from_is_err_and}
+use Rattle.bw_file.specs.TableReading.{header}
+use Rattle.bw_file.proofs.FaultLemmas.{refused_by, header_own}
 use Rattle.bw_file.proofs.ReaderLemmas.{header_refused}
 use Rattle.bw_file.proofs.table_reader.TableReader.begin.Goals as goal
 
@@ -12,6 +14,11 @@ pub returns-in_err-version-clause-head : goal.returns-in_err-version-clause-head
 returns-in_err-version-clause-head g c =
     let p = err_from_is_err_and c.from_residual.result c.from_residual.ensures.1 in
     rw (p.1, p.2) (c.read_header.new.offset, c.in_err-version.ensures.reads)
+
+pub returns-in_err-version-clause-fault : goal.returns-in_err-version-clause-fault
+returns-in_err-version-clause-fault g c =
+    let p = err_from_is_err_and c.from_residual.result c.from_residual.ensures.1 in
+    rw (p.1, p.2) (refused_by header _ _ _ header_own c.in_err-version.ensures.reads)
 
 pub invariant_of-result-clause-room : goal.invariant_of-result-clause-room
 invariant_of-result-clause-room g c = λ _. omega (arith, c.in_ok-version.ensures.counted, c.in_ok-version.ensures.few)
