@@ -22,7 +22,7 @@ use Rattle.bw_file.specs.TableReader.{header_told, layout_in, rows_told, schema_
 use Rattle.bw_file.specs.TableReading.{header}
 use Rattle.bw_file.proofs.FileSpelling.{head_is}
 use Rattle.bw_file.proofs.ReaderLemmas.{head_at}
-use Rattle.bw_file.proofs.SegmentLemmas.{is_layout}
+use Rattle.bw_file.proofs.SegmentLemmas.{is_packing}
 use Rattle.bw_file.proofs.SpellingLemmas.{IsBytes, head_text, header_takes}
 use Rattle.bw_schemas.specs.Info.{file_size, segment_count}
 
@@ -63,7 +63,7 @@ groups_sized layout columns [] sized admitted = omega arith
 groups_sized layout columns (group ∷ groups) sized admitted =
     let size = All-head HasSize group groups sized in
     let is : IsGroup (group_under columns group) = record { some = size.0; few = size.1; admitted = All-head (Admits columns) group groups admitted } in
-    let first : length (segment_text layout columns group) ≡ segment_size layout columns = length-text (form_of layout) (is_layout layout) (group_under columns group) is in
+    let first : length (segment_text layout columns group) ≡ segment_size layout columns = length-text (form_of layout) (is_packing layout) (group_under columns group) is in
     let rest = groups_sized layout columns groups (All-tail HasSize group groups sized) (All-tail (Admits columns) group groups admitted) in
     omega (arith, length-append (segment_text layout columns group) (flat_map (segment_text layout columns) groups), first, rest)
 

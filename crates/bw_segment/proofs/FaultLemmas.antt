@@ -3,7 +3,7 @@ use Rattle.std.proofs.Common.{◌≡◌, ◌∙◌, refl, sym, ap, ap₂, ℕ, z
 use Rattle.std.specs.List.{list_all}
 use Rattle.std.proofs.lemmas.Bool.{cases_lt, ltb-false, le-ltb, eqb-true, eq-eqb}
 use Rattle.std.proofs.lemmas.List.{get_or-map, length-map, length-replicate}
-use Rattle.std.proofs.lemmas.Simd.{get_or-zip2}
+use Rattle.std.proofs.lemmas.Simd.{get_or-zip2, length-zip2}
 use Rattle.std.proofs.Math.Bool.{and-true, and-false}
 use Rattle.bw_model.proofs.BitsLemmas.{both}
 use lib.Lanes.{zip2}
@@ -129,11 +129,6 @@ zero_everywhere [] row all = refl
 zero_everywhere (true ∷ lanes) row all = cc
 zero_everywhere (false ∷ lanes) zero all = refl
 zero_everywhere (false ∷ lanes) (suc row) all = zero_everywhere lanes row all
-
-length-zip2 : {A B C : Type 0} (f : A → B → C) (xs : List A) (ys : List B) → length xs ≡ length ys → length (zip2 f xs ys) ≡ length xs
-length-zip2 f [] ys same = refl
-length-zip2 f (x ∷ xs) [] same = absurd (omega (arith, same))
-length-zip2 f (x ∷ xs) (y ∷ ys) same = ap suc (length-zip2 f xs ys (omega (arith, same)))
 
 -- the lanes past the rows
 abbrev pub outside : ℕ → List Bool

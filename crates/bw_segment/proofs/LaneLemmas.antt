@@ -4,6 +4,7 @@ use Rattle.std.specs.List.{list_all}
 use Rattle.std.proofs.Math.Nat.{zero-div}
 use Rattle.std.specs.Int.{bit_at}
 use Rattle.std.proofs.Math.Nat.{div-div-eq-div-mul}
+use Rattle.std.proofs.lemmas.List.{map-append}
 use Rattle.std.proofs.lemmas.List.FromFn.{get_or-map-range_with_len}
 use Rattle.std.proofs.lemmas.Nat.{pow-add}
 use Rattle.std.proofs.lemmas.Simd.{map-map}
@@ -23,10 +24,6 @@ use Rattle.bw_model.proofs.PlaceLemmas.{code_bit_at, null_bit_at_variable}
 use Rattle.bw_model.proofs.StoredLemmas.{byte_of_bits, spelled_zero}
 use Rattle.bw_segment.specs.Packing.{null_bits}
 use Rattle.bw_segment.specs.Meaning.{Meaning, IsGroup, variable_lanes, byte_lanes, stored_codes, code_lanes, stored_nulls, null_lanes}
-
-map-append : {A B : Type 0} (f : A → B) (xs ys : List A) → map f (xs ++ ys) ≡ map f xs ++ map f ys
-map-append f [] ys = refl
-map-append f (x ∷ xs) ys = ap (λ l. f x ∷ l) (map-append f xs ys)
 
 map-replicate : {A B : Type 0} (f : A → B) (count : ℕ) (x : A) → map f (replicate count x) ≡ replicate count (f x)
 map-replicate f zero x = refl
@@ -119,9 +116,3 @@ bit_of_byte code bit =
 -- a bit of codes, in the bytes where it stands
 pub bits_of_bytes : (codes : List ℕ) (bit : ℕ) → map (λ byte. bit_at byte (bit % 8) == 1) (map (byte_of (bit / 8)) codes) ≡ map (λ code. has_bit code bit) codes
 bits_of_bytes codes bit = map-map (λ byte. bit_at byte (bit % 8) == 1) (byte_of (bit / 8)) codes ∙ (λ i. map (λ code. bit_of_byte code bit i) codes)
-
--- the plane of a bit of a column's codes
-pub code_plane : (meaning : Meaning) (col bit : ℕ) → IsGroup meaning → col < length meaning.columns → bit < width_at meaning.columns col
-    → map (λ byte. bit_at byte (bit % 8) == 1) (map (byte_of (bit / 8)) (code_lanes meaning col)) ≡ variable_lanes meaning (bit_variable meaning.columns col bit)
-code_plane meaning col bit group lt below =
-    bits_of_bytes (code_lanes meaning col) bit ∙ bits_in_lanes meaning col bit group lt below

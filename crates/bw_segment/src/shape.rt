@@ -8,8 +8,8 @@ use bw_model::{Fault, Schema};
 use std::alloc::Global;
 
 /// A schema and where the blocks of its columns begin in a segment of one layout, found once for all segments of a
-/// table, which share it by an `Rc`. It begins as one of a layout, by [`Shape::of`]; what is placed for another one isn't
-/// for its segments.
+/// table, which share it by an `Rc`. [`Shape::of`] makes it for a layout, and the calls of that layout's segments alone
+/// take it where they need the blocks' places.
 #[derive(Drop)]
 pub struct Shape {
     pub schema: Schema,
