@@ -5,7 +5,7 @@ ghost use Rattle.bw_model.specs.Fault.{no_memory};
 ghost use Rattle.bw_model.specs.Row.{value_in, values_of};
 ghost use Rattle.bw_answer.specs.Fetched.{HasPicked, HasRow, value_in_lane};
 
-use bw_lanes::{Plane, count, lane};
+use bw_lanes::{LANES, Plane, count, lane};
 use bw_model::{Fault, Row, Value};
 use bw_segment::{Segment, values_in_lanes};
 use std::alloc::Global;
@@ -16,14 +16,14 @@ const MANY: u32 = 128;
 /// The values of a column, that of row i in lane i where it was fetched.
 #[derive(Drop)]
 pub(crate) struct ColumnValues {
-    values: [Value; 512],
+    values: [Value; LANES],
 }
 
 impl ColumnValues {
     /// Null in each lane.
     pub(crate) fn empty() -> Self {
         ColumnValues {
-            values: [None; 512],
+            values: [None; LANES],
         }
     }
 

@@ -12,7 +12,7 @@ ghost use Rattle.bw_answer.specs.Columns.{columns_of, fields_of};
 use crate::lanes::{ColumnValues, fetch_picked, no_values, put_row};
 use crate::record::{FIELD, push_record};
 use crate::records::push_records;
-use bw_lanes::{Plane, is_zero};
+use bw_lanes::{LANES, Plane, is_zero};
 use bw_model::{Fault, Item, Row, code};
 use bw_segment::Segment;
 use std::alloc::Global;
@@ -118,7 +118,7 @@ fn columns_of(alloc: Global, items: &[Item]) -> Result<Vec<usize>, Fault>
 fn rows_at_once(columns: usize) -> usize
     ensures { (1 ≤ result) × (result ≤ 512) }
 {
-    (DRAFT / FIELD / columns.max(1)).max(1).min(512)
+    (DRAFT / FIELD / columns.max(1)).max(1).min(LANES)
 }
 
 /// Room for the records of so many columns in so many rows.

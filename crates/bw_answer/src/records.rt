@@ -8,7 +8,7 @@ ghost use Rattle.bw_answer.specs.Fetched.{fields_in_lane, positions_between};
 
 use crate::lanes::ColumnValues;
 use crate::record::put_record;
-use bw_lanes::{Plane, last_between};
+use bw_lanes::{LANES, Plane, last_between};
 use bw_model::Fault;
 
 /// Adds the records of the rows that a plane picks to a text. They are written into a draft first, so many rows at once,
@@ -30,8 +30,8 @@ pub(crate) fn push_records(
     ensures only_memory { IfErr result (λ fault. fault ≡ no_memory) }
 {
     let mut first = 0;
-    while first < 512 {
-        let past = (first + rows).min(512);
+    while first < LANES {
+        let past = (first + rows).min(LANES);
         let start = put_records(draft, lanes, columns, plane, first, past);
         text.extend_from_slice(&draft[start..])?;
         first = past;

@@ -1,6 +1,7 @@
 -- The first fault in the lines of a program's instructions and joins, by what stands before it: the lines of parts that
 -- obey. No walk over the lines is in `FirstFault`; `StandsOn` says of the walk that it looks no further.
 use Rattle.std.specs.Prelude.{◌≡◌, ◌<◌, ◌⊎◌, ℕ, suc, false, IsTrue, List, [], ◌∷◌, ◌++◌, length, map, Some, None, Ok, Err, slice_get, ⊤}
+use Rattle.bw_model.specs.declared.fault.code.TheConstants.{INSTRUCTION_LINE, JOIN}
 use Rattle.bw_model.specs.declared.fault.Fault.{Fault}
 use Rattle.bw_model.specs.Fault.{at_line}
 use Rattle.bw_diagram.specs.Facts.{Facts}
@@ -29,7 +30,7 @@ KeepsAreAll parts rest =
 -- Where the line of an instruction is wanted, the next one is another, or breaks its rule, whatever comes after it. Where
 -- there is none, that is so at END (607).
 abbrev pub WrongLine : Facts → ℕ → Known → Instr → List BodyLine → Fault → Type 0
-WrongLine facts end known instr [] fault = fault ≡ at_line 607 end
+WrongLine facts end known instr [] fault = fault ≡ at_line INSTRUCTION_LINE end
 WrongLine facts end known instr (line ∷ lines) fault = instruction_on facts known instr line line.entry ≡ Err fault
 
 -- After lines KEEP that hold, of registers that ascend from the least, comes one that doesn't, whatever comes after it (608).
@@ -41,14 +42,14 @@ pub record WrongKeep (facts : Facts) (through : Known) (edges : List Edge) (leas
   pub spelled : lines ≡ map keep_line keeps ++ keep_line wrong ∷ others
   pub kept : IsTrue (are_kept facts through edges least keeps)
   pub broken : are_kept facts through edges least (keeps ++ wrong ∷ []) ≡ false
-  pub stands : fault ≡ at_line 608 wrong.line
+  pub stands : fault ≡ at_line JOIN wrong.line
 
 -- Where the line JOIN of a place is wanted, the next one is another (608); where there is none, that is so at END. Or it is
 -- that line, and a line KEEP after it doesn't hold.
 abbrev pub WrongJoin : Facts → ℕ → ℕ → Known → List Edge → List BodyLine → Fault → Type 0
-WrongJoin facts end place through edges [] fault = fault ≡ at_line 608 end
+WrongJoin facts end place through edges [] fault = fault ≡ at_line JOIN end
 WrongJoin facts end place through edges (line ∷ lines) fault =
-    ((is_join place line.entry ≡ false) × (fault ≡ at_line 608 line.line))
+    ((is_join place line.entry ≡ false) × (fault ≡ at_line JOIN line.line))
     ⊎ (IsTrue (is_join place line.entry) × WrongKeep facts through edges 0 lines fault)
 
 -- The next line is the instruction's and obeys its rule, but skips come to the place after it, and the next lines aren't

@@ -1,5 +1,6 @@
 -- When a certificate shows that a scan program selects what a condition does, and which line is the first that breaks a rule.
 use Rattle.std.specs.Prelude.{◌≡◌, ℕ, List, [], ◌∷◌, length, false, Some, Result, Ok, Err, not, IsTrue, Bool, ◌&&◌, ◌||◌, nat_le}
+use Rattle.bw_model.specs.declared.fault.code.TheConstants.{CONDITION_LINE, REGISTER_UNKNOWN, END}
 use Rattle.bw_model.specs.declared.column.Column.{Column}
 use Rattle.bw_model.specs.declared.cond.Cond.{Cond}
 use Rattle.bw_model.specs.declared.fault.Fault.{Fault}
@@ -43,12 +44,12 @@ pub record Valid (columns : List Column) (cond : Cond) (program : ProgramShape)
 -- XOR with the condition's is 0 by the row (610)
 abbrev pub result_on : Facts → ℕ → Known → ℕ → ℕ → ℕ → Result Facts Fault
 result_on facts end known result first row =
-    found_on 609 end (node_of known result) >>= λ node.
-    refused_if (not (is_zero (cited facts Xor node first row))) (at_line 610 end) (Ok facts)
+    found_on REGISTER_UNKNOWN end (node_of known result) >>= λ node.
+    refused_if (not (is_zero (cited facts Xor node first row))) (at_line END end) (Ok facts)
 
 abbrev pub last_on : Facts → ℕ → List BodyLine → Known → ℕ → ℕ → ℕ → Result Facts Fault
 last_on facts end [] known result first row = result_on facts end known result first row
-last_on facts end (line ∷ lines) known result first row = Err (at_line 610 line.line)
+last_on facts end (line ∷ lines) known result first row = Err (at_line END line.line)
 
 abbrev pub end_on : Facts → ℕ → Taken → ℕ → ℕ → ℕ → Result Facts Fault
 end_on facts end taken result first row = last_on facts end taken.rest taken.known result first row
@@ -71,4 +72,4 @@ Checks (Err refused) expected = is_memory refused.1 ≡ false → expected ≡ E
 -- one of 601 to 604 or 606 to 610, or out of memory
 abbrev pub is_check_fault : Fault → Bool
 is_check_fault fault =
-    is_diagram_fault fault || (nat_le 606 fault.code && nat_le fault.code 610)
+    is_diagram_fault fault || (nat_le CONDITION_LINE fault.code && nat_le fault.code END)

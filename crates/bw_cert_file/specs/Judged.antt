@@ -1,5 +1,6 @@
 -- What a program file is judged as, under a schema's columns and for a condition.
 use Rattle.std.specs.Prelude.{◌≡◌, ◌≤◌, ◌<◌, ℕ, List, length, count_by, Err, Bool, ◌&&◌, ◌||◌, nat_le}
+use Rattle.bw_model.specs.declared.fault.code.TheConstants.{PROGRAM_FORM, PROGRAM_FILE_TOO_LONG, NODE, END}
 use Rattle.bw_model.specs.declared.column.Column.{Column}
 use Rattle.bw_model.specs.declared.cond.Cond.{Cond}
 use Rattle.bw_model.specs.declared.fault.Fault.{Fault}
@@ -46,7 +47,7 @@ told found = (found.certified.program, found.accepted)
 -- The fault of a file: that it is too long; else the first of its program text; else the first of its certificate text;
 -- else the first line of the certificate that breaks a rule.
 pub data IsFileFault (columns : List Column) (cond : Cond) (file : List ℕ) : Fault → Type 0 where
-  too_long : longest_program_file < length file → IsFileFault columns cond file (nowhere 508)
+  too_long : longest_program_file < length file → IsFileFault columns cond file (nowhere PROGRAM_FILE_TOO_LONG)
   program_refused : {text stated : List ℕ} {first : ℕ} {fault : Fault} → length file ≤ longest_program_file →
       IsCut file text stated first → program_of columns text ≡ Err fault → IsFileFault columns cond file fault
   certificate_refused : {text stated : List ℕ} {first : ℕ} {program : ProgramShape} {fault : Fault} →
@@ -61,5 +62,5 @@ pub data IsFileFault (columns : List Column) (cond : Cond) (file : List ℕ) : F
 -- one of 501 to 508 or 601 to 610, or out of memory
 abbrev pub is_file_fault : Fault → Bool
 is_file_fault fault =
-    (nat_le 501 fault.code && nat_le fault.code 508) || ((nat_le 601 fault.code && nat_le fault.code 610)
+    (nat_le PROGRAM_FORM fault.code && nat_le fault.code PROGRAM_FILE_TOO_LONG) || ((nat_le NODE fault.code && nat_le fault.code END)
     || is_memory fault)

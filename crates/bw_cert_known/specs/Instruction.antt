@@ -1,5 +1,6 @@
 -- The rules of the lines of instructions: what is known of the registers after an instruction, by its line.
 use Rattle.std.specs.Prelude.{ℕ, ◌*◌, ◌^◌, Bool, true, false, not, Option, Some, None, Result, Ok, if◌then◌else◌, nat_le}
+use Rattle.bw_model.specs.declared.fault.code.TheConstants.{INSTRUCTION_LINE, REGISTER_UNKNOWN}
 use Rattle.bw_model.specs.declared.fault.Fault.{Fault}
 use Rattle.bw_model.specs.Fault.{at_line, ◌>>=◌, refused_if}
 use Rattle.bw_model.specs.Stored.{bits_in_slice}
@@ -63,27 +64,27 @@ terminal false = 0
 -- A plane that there is has the node that the line names, if that is its variable. Else its line is wrong (607).
 abbrev pub plane_on : Facts → ℕ → Bool → ℕ → InstructionEntry → Result ℕ Fault
 plane_on facts line there variable given =
-    found_on 607 line (loaded_node given) >>= λ node.
-    refused_if (not there) (at_line 607 line) (found_on 607 line (variable_cited facts variable node))
+    found_on INSTRUCTION_LINE line (loaded_node given) >>= λ node.
+    refused_if (not there) (at_line INSTRUCTION_LINE line) (found_on INSTRUCTION_LINE line (variable_cited facts variable node))
 
 -- An operation on two nodes has the third node of the row that its line names, if that is their row.
 abbrev pub operation_on : Facts → ℕ → Connective → ℕ → ℕ → ℕ → Result ℕ Fault
-operation_on facts line op a b row = found_on 607 line (cited facts op a b row)
+operation_on facts line op a b row = found_on INSTRUCTION_LINE line (cited facts op a b row)
 
 -- the node of a register that is read, which has to be known (609)
 abbrev pub read_on : Known → ℕ → ℕ → Result ℕ Fault
-read_on known line register = found_on 609 line (node_of known register)
+read_on known line register = found_on REGISTER_UNKNOWN line (node_of known register)
 
 -- an operation on two registers
 abbrev pub joined_on : Facts → Known → ℕ → Connective → ℕ → ℕ → InstructionEntry → Result ℕ Fault
 joined_on facts known line op x y given =
-    found_on 607 line (operation_row given) >>= λ row.
+    found_on INSTRUCTION_LINE line (operation_row given) >>= λ row.
     read_on known line x >>= λ a. read_on known line y >>= λ b. operation_on facts line op a b row
 
 -- the opposite of a register, which is "1 and not" its node
 abbrev pub opposite_on : Facts → Known → ℕ → ℕ → InstructionEntry → Result ℕ Fault
 opposite_on facts known line x given =
-    found_on 607 line (operation_row given) >>= λ row.
+    found_on INSTRUCTION_LINE line (operation_row given) >>= λ row.
     read_on known line x >>= λ a. operation_on facts line connective.Diff 1 a row
 
 -- every byte of so many bits is below a number past them, and none equals it
@@ -102,8 +103,8 @@ byte_node facts kind column slice k (Some chain) =
 -- a byte comparison, of a slice that there is
 abbrev pub byte_on : Facts → ℕ → ChainKind → Bool → ℕ → ℕ → ℕ → InstructionEntry → Result ℕ Fault
 byte_on facts line kind there column slice k given =
-    found_on 607 line (byte_chain given) >>= λ chain. refused_if (not there) (at_line 607 line)
-    (found_on 607 line (byte_node facts kind column slice k chain))
+    found_on INSTRUCTION_LINE line (byte_chain given) >>= λ chain. refused_if (not there) (at_line INSTRUCTION_LINE line)
+    (found_on INSTRUCTION_LINE line (byte_node facts kind column slice k chain))
 
 -- a register gets a node, where there is one
 abbrev pub put : Known → ℕ → Result ℕ Fault → Result Known Fault
@@ -111,12 +112,12 @@ put known register given = given >>= λ node. Ok (with_node known register node)
 
 -- a register gets the node of a constant, where the line is a constant's
 abbrev pub fill : Known → ℕ → ℕ → Bool → InstructionEntry → Result Known Fault
-fill known line register bit given = refused_if (not (is_fill given)) (at_line 607 line)
+fill known line register bit given = refused_if (not (is_fill given)) (at_line INSTRUCTION_LINE line)
     (Ok (with_node known register (terminal bit)))
 
 -- a register that a skip looks at has to have a node, and the line to be a skip's
 abbrev pub look : Known → ℕ → ℕ → InstructionEntry → Result Known Fault
-look known line register given = refused_if (not (is_skip_line given)) (at_line 607 line) (read_on known line register
+look known line register given = refused_if (not (is_skip_line given)) (at_line INSTRUCTION_LINE line) (read_on known line register
     >>= λ node. Ok known)
 
 -- What is known after an instruction, by its line: the register that it writes has the node that the line shows. A

@@ -1,5 +1,6 @@
 -- What is known of a program's registers at a place: for each of the 64 the node that it is worth in every lane, or none.
 use Rattle.std.specs.Prelude.{ℕ, Bool, ◌&&◌, ◌||◌, List, replicate, Option, Some, None, nat_le, slice_index_or, slice_set}
+use Rattle.bw_model.specs.declared.fault.code.TheConstants.{INSTRUCTION_LINE, REGISTER_UNKNOWN}
 use Rattle.bw_model.specs.declared.fault.Fault.{Fault}
 use Rattle.bw_model.specs.Fault.{is_memory}
 use Rattle.bw_program.specs.Program.{register_count}
@@ -21,4 +22,4 @@ with_node known register node = slice_set known register (Some node)
 
 -- one of 607 to 609, or out of memory
 abbrev pub is_known_fault : Fault → Bool
-is_known_fault fault = (nat_le 607 fault.code && nat_le fault.code 609) || is_memory fault
+is_known_fault fault = (nat_le INSTRUCTION_LINE fault.code && nat_le fault.code REGISTER_UNKNOWN) || is_memory fault

@@ -1,5 +1,6 @@
 -- The lines of a program's instructions and joins, judged one after another: what is known at the end, or the first fault.
 use Rattle.std.specs.Prelude.{ℕ, suc, Bool, false, not, ◌==◌, List, [], ◌∷◌, map, Option, Some, None, Result, Ok, Err}
+use Rattle.bw_model.specs.declared.fault.code.TheConstants.{INSTRUCTION_LINE, JOIN}
 use Rattle.bw_model.specs.declared.fault.Fault.{Fault}
 use Rattle.bw_model.specs.Fault.{at_line, ◌>>=◌, refused_if}
 use Rattle.bw_diagram.specs.Facts.{Facts}
@@ -27,12 +28,12 @@ told (Err fault) = Err fault
 -- where the line of an instruction is wanted, any other is wrong (607); where the lines have run out, that is so at the end
 abbrev pub instruction_on : Facts → Known → Instr → BodyLine → Entry → Result Known Fault
 instruction_on facts known instr line (line_of.Instruction given) = behind facts known line.line instr given
-instruction_on facts known instr line (line_of.Condition given) = Err (at_line 607 line.line)
-instruction_on facts known instr line (line_of.Join place) = Err (at_line 607 line.line)
-instruction_on facts known instr line (line_of.Keep keep) = Err (at_line 607 line.line)
+instruction_on facts known instr line (line_of.Condition given) = Err (at_line INSTRUCTION_LINE line.line)
+instruction_on facts known instr line (line_of.Join place) = Err (at_line INSTRUCTION_LINE line.line)
+instruction_on facts known instr line (line_of.Keep keep) = Err (at_line INSTRUCTION_LINE line.line)
 
 abbrev pub instruction_taken : Facts → ℕ → Known → Instr → List BodyLine → Result Taken Fault
-instruction_taken facts end known instr [] = Err (at_line 607 end)
+instruction_taken facts end known instr [] = Err (at_line INSTRUCTION_LINE end)
 instruction_taken facts end known instr (line ∷ lines) =
     instruction_on facts known instr line line.entry >>= λ through. Ok (record { known = through; rest = lines })
 
@@ -44,8 +45,8 @@ is_join place (line_of.Condition given) = false
 is_join place (line_of.Keep keep) = false
 
 abbrev pub join_taken : ℕ → ℕ → List BodyLine → Result (List BodyLine) Fault
-join_taken end place [] = Err (at_line 608 end)
-join_taken end place (line ∷ lines) = refused_if (not (is_join place line.entry)) (at_line 608 line.line) (Ok lines)
+join_taken end place [] = Err (at_line JOIN end)
+join_taken end place (line ∷ lines) = refused_if (not (is_join place line.entry)) (at_line JOIN line.line) (Ok lines)
 
 abbrev pub keep_in : Entry → Option Keep
 keep_in (line_of.Keep keep) = Some keep
@@ -64,7 +65,7 @@ unfoldable pub keeps_taken : Facts → Known → List Edge → ℕ → Known →
 keeps_taken facts through edges least kept [] = Ok (record { known = kept; rest = [] })
 keeps_taken facts through edges least kept (line ∷ lines) =
     by_keep (keep_in line.entry) (Ok (record { known = kept; rest = line ∷ lines }))
-    (λ keep. refused_if (not (is_kept facts through edges least keep)) (at_line 608 line.line)
+    (λ keep. refused_if (not (is_kept facts through edges least keep)) (at_line JOIN line.line)
     (keeps_taken facts through edges (suc keep.register) (with_node kept keep.register keep.node) lines))
 
 -- where skips come to a place, its join; where none does, what falls through is known

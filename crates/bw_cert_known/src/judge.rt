@@ -1,5 +1,6 @@
 //! The lines of instructions, each judged by its rule.
 ghost use Rattle.std.specs.Prelude.{◌≡◌, ◌<◌, ◌≤◌, ◌&&◌, IsTrue, IfOk, IfErr, Ok, Err, length, nat_lt};
+ghost use Rattle.bw_model.specs.declared.fault.code.TheConstants.{INSTRUCTION_LINE};
 ghost use Rattle.bw_model.specs.Code.{width_at, slices_at};
 ghost use Rattle.bw_model.specs.Fault.{at_line};
 ghost use Rattle.bw_model.specs.Variable.{first_variable, bit_variable, is_nullable};
@@ -23,7 +24,7 @@ pub(crate) struct Judge<'a> {
 
 /// A line that isn't what its instruction wants.
 const fn unfit(line: u64) -> Fault
-    ensures { result ≡ at_line 607 line }
+    ensures { result ≡ at_line INSTRUCTION_LINE line }
 {
     Fault::at_line(code::INSTRUCTION_LINE, line)
 }

@@ -3,6 +3,7 @@
 use Rattle.std.specs.Prelude.{◌≡◌, ℕ, List, [], ◌∷◌, map, Option, Some, None, Result, Ok, Err}
 use Rattle.std.specs.Borrow.{Bor}
 use Rattle.std.specs.Option.{option_and_then}
+use Rattle.bw_model.specs.declared.fault.code.TheConstants.{CONDITION_LINE}
 use Rattle.bw_model.specs.declared.column.Column.{Column}
 use Rattle.bw_model.specs.declared.cond.Truth.{Truth}
 use Rattle.bw_model.specs.declared.cond.Truth.TheVariants as truth
@@ -61,7 +62,7 @@ next_number end (line ∷ rest) = line.line
 -- a pair that the next line makes, and the lines after it; 606 at that line, or at END, where it makes none
 abbrev pub taken : ℕ → Option Pair → List BodyLine → Reading
 taken end (Some pair) (line ∷ rest) = Ok (pair, rest)
-taken end _ lines = Err (at_line 606 (next_number end lines))
+taken end _ lines = Err (at_line CONDITION_LINE (next_number end lines))
 
 -- the same of a rule for what the line says
 unfoldable pub by_line : ℕ → (ConditionEntry → Option Pair) → List BodyLine → Reading

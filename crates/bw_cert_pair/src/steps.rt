@@ -1,6 +1,7 @@
 //! The steps of a condition, operands first: each takes the next line.
 ghost use Rattle.std.specs.Prelude.{◌≡◌, [], ◌∷◌, Some, IsTrue, IfErr, length, map};
 ghost use Rattle.std.specs.List.{list_all};
+ghost use Rattle.bw_model.specs.declared.fault.code.TheConstants.{CONDITION_LINE};
 ghost use Rattle.bw_model.specs.Cond.{names_within, is_within};
 ghost use Rattle.bw_model.specs.declared.cond.Op.TheVariants.{Eq, Le, Ge};
 ghost use Rattle.bw_model.specs.Fault.{at_line};
@@ -41,7 +42,7 @@ pub fn pair<'a>(
     requires { IsTrue (names_within (length schema.now.columns.items) cond.now) }
     ensures pair { Answers result
         (pair_of schema.now.columns.items diagram.now end cond.now lines.now) }
-    ensures code { IfErr result (λ fault. fault.code ≡ 606) }
+    ensures code { IfErr result (λ fault. fault.code ≡ CONDITION_LINE) }
 {
     match cond {
         Cond::Always => constant(Truth::Yes, lines, end),
@@ -76,7 +77,7 @@ fn joined<'a>(
     requires { IsTrue (list_all (names_within (length schema.now.columns.items)) parts.now) }
     ensures pair { Answers result (joined_parts schema.now.columns.items diagram.now end junction
         (map (pair_of schema.now.columns.items diagram.now end) parts.now) lines.now) }
-    ensures code { IfErr result (λ fault. fault.code ≡ 606) }
+    ensures code { IfErr result (λ fault. fault.code ≡ CONDITION_LINE) }
 {
     let Some((first, others)) = parts.split_first() else {
         return Err(refused(lines, end));
@@ -104,7 +105,7 @@ fn among<'a>(
     requires items { IsTrue (list_all (is_within (length schema.now.columns.items)) items.now) }
     ensures pair { Answers result (joined_parts schema.now.columns.items diagram.now end Any
         (equations schema.now.columns.items diagram.now end x items.now) lines.now) }
-    ensures code { IfErr result (λ fault. fault.code ≡ 606) }
+    ensures code { IfErr result (λ fault. fault.code ≡ CONDITION_LINE) }
 {
     let Some((first, others)) = items.split_first() else {
         return Err(refused(lines, end));
@@ -130,7 +131,7 @@ fn one_more<'a>(
     requires item { IsTrue (is_within (length schema.now.columns.items) item) }
     ensures pair { Answers result (one_more schema.now.columns.items diagram.now end Any
         (by_line end (comparison schema.now.columns.items diagram.now Eq x item)) (made, lines.now)) }
-    ensures code { IfErr result (λ fault. fault.code ≡ 606) }
+    ensures code { IfErr result (λ fault. fault.code ≡ CONDITION_LINE) }
 {
     let (next, rest) = compared(schema, diagram, Op::Eq, x, item, lines, end)?;
     join(diagram, Junction::Any, made, next, rest, end)
@@ -152,7 +153,7 @@ fn between<'a>(
     ensures pair { Answers result (joined_parts schema.now.columns.items diagram.now end All
         (by_line end (comparison schema.now.columns.items diagram.now Ge x y)
         ∷ by_line end (comparison schema.now.columns.items diagram.now Le x z) ∷ []) lines.now) }
-    ensures code { IfErr result (λ fault. fault.code ≡ 606) }
+    ensures code { IfErr result (λ fault. fault.code ≡ CONDITION_LINE) }
 {
     let (lower, rest) = compared(schema, diagram, Op::Ge, x, y, lines, end)?;
     let (upper, rest) = compared(schema, diagram, Op::Le, x, z, rest, end)?;
@@ -174,7 +175,7 @@ fn compared<'a>(
     requires right { IsTrue (is_within (length schema.now.columns.items) y) }
     ensures pair { Answers result
         (by_line end (comparison schema.now.columns.items diagram.now op x y) lines.now) }
-    ensures code { IfErr result (λ fault. fault.code ≡ 606) }
+    ensures code { IfErr result (λ fault. fault.code ≡ CONDITION_LINE) }
 {
     let made = match next_entry(lines) {
         Some(entry) => comparison(schema, diagram, op, x, y, entry),
@@ -187,7 +188,7 @@ fn compared<'a>(
 #[tactic(auto, unfolding(crate::specs::Pair::by_line))]
 fn constant<'a>(truth: Truth, lines: &'a [BodyLine], end: u64) -> Read<'a>
     ensures pair { Answers result (by_line end (fixed truth) lines.now) }
-    ensures code { IfErr result (λ fault. fault.code ≡ 606) }
+    ensures code { IfErr result (λ fault. fault.code ≡ CONDITION_LINE) }
 {
     let made = match next_entry(lines) {
         Some(entry) => fixed(truth, entry),
@@ -208,7 +209,7 @@ fn null_tested<'a>(
     requires { IsTrue (is_within (length schema.now.columns.items) x) }
     ensures pair { Answers result
         (by_line end (is_null_test schema.now.columns.items diagram.now x) lines.now) }
-    ensures code { IfErr result (λ fault. fault.code ≡ 606) }
+    ensures code { IfErr result (λ fault. fault.code ≡ CONDITION_LINE) }
 {
     let made = match next_entry(lines) {
         Some(entry) => is_null_test(schema, diagram, x, entry),
@@ -260,7 +261,7 @@ fn join<'a>(
 ) -> Read<'a>
     ensures pair { Answers result
         (by_line end (joined_pair diagram.now junction a b) lines.now) }
-    ensures code { IfErr result (λ fault. fault.code ≡ 606) }
+    ensures code { IfErr result (λ fault. fault.code ≡ CONDITION_LINE) }
 {
     let made = match next_entry(lines) {
         Some(entry) => joined_pair(diagram, junction, a, b, entry),
@@ -297,7 +298,7 @@ fn joined_pair(
 #[tactic(auto, unfolding(crate::specs::Pair::by_line, crate::specs::Pair::negated_pair))]
 fn negated<'a>(pair: Pair, lines: &'a [BodyLine], end: u64) -> Read<'a>
     ensures pair { Answers result (by_line end (negated_pair pair) lines.now) }
-    ensures code { IfErr result (λ fault. fault.code ≡ 606) }
+    ensures code { IfErr result (λ fault. fault.code ≡ CONDITION_LINE) }
 {
     let made = match next_entry(lines) {
         Some(ConditionEntry::Not) => Some(pair.exchanged()),
@@ -317,7 +318,7 @@ fn tested<'a>(
 ) -> Read<'a>
     ensures pair { Answers result
         (by_line end (tested_pair diagram.now wanted pair) lines.now) }
-    ensures code { IfErr result (λ fault. fault.code ≡ 606) }
+    ensures code { IfErr result (λ fault. fault.code ≡ CONDITION_LINE) }
 {
     let made = match next_entry(lines) {
         Some(entry) => tested_pair(diagram, wanted, pair, entry),
@@ -370,7 +371,7 @@ fn next_entry(lines: &[BodyLine]) -> Option<ConditionEntry>
 /// The pair that the next line makes, and the lines after it, or the refusal of that line.
 fn taken<'a>(made: Option<Pair>, lines: &'a [BodyLine], end: u64) -> Read<'a>
     ensures pair { Answers result (taken end made lines.now) }
-    ensures code { IfErr result (λ fault. fault.code ≡ 606) }
+    ensures code { IfErr result (λ fault. fault.code ≡ CONDITION_LINE) }
 {
     match (made, lines) {
         (Some(pair), [_, rest @ ..]) => Ok((pair, rest)),
@@ -380,7 +381,7 @@ fn taken<'a>(made: Option<Pair>, lines: &'a [BodyLine], end: u64) -> Read<'a>
 
 /// The refusal of the next line, or of END's where there is none.
 fn refused(lines: &[BodyLine], end: u64) -> Fault
-    ensures { result ≡ at_line 606 (next_number end lines.now) }
+    ensures { result ≡ at_line CONDITION_LINE (next_number end lines.now) }
 {
     let line = match lines.first() {
         Some(line) => line.line,

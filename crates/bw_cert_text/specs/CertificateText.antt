@@ -1,5 +1,6 @@
 -- Certificate texts: what a text says, or the first fault in it.
 use Rattle.std.specs.Prelude.{◌≤◌, ℕ, Bool, false, ◌||◌, ◌==◌, List, [], ◌∷◌, Option, Some, None, Result, Ok, Err, IsTrue, nat_lt}
+use Rattle.bw_model.specs.declared.fault.code.TheConstants.{CERTIFICATE_FORM}
 use Rattle.bw_model.specs.declared.fault.Fault.{Fault}
 use Rattle.bw_model.specs.Fault.{at_line, is_memory, ◌>>=◌, refused_if}
 use Rattle.bw_model.specs.Lines.{NumberedWords, lines_in, end_in, from_line}
@@ -60,7 +61,7 @@ IsCertificateText first text certificate = SpellsFrom 0 (lines_in (from_line fir
 
 -- another form, which is the one fault of a certificate text
 abbrev pub form_fault : ℕ → Fault
-form_fault line = at_line 605 line
+form_fault line = at_line CERTIFICATE_FORM line
 
 -- what a line says, where it has no line of a later section before it
 abbrev pub is_before : ℕ → Said → Bool
@@ -96,7 +97,7 @@ certificate_of first text = certificate_from 0 (lines_in (from_line first text))
 
 -- 605, or out of memory
 abbrev pub is_certificate_fault : Fault → Bool
-is_certificate_fault fault = (fault.code == 605) || is_memory fault
+is_certificate_fault fault = (fault.code == CERTIFICATE_FORM) || is_memory fault
 
 abbrev pub IsCertificateFault : Fault → Type 0
 IsCertificateFault fault = IsTrue (is_certificate_fault fault)

@@ -2,6 +2,7 @@
 -- that 64 bits hold.
 use Rattle.std.specs.Prelude.{ℕ, ℤ, ◌+◌, Bool, List, [], ◌∷◌, not, ◌==◌, length, Option, Some, None, Result, Ok, Err, if◌then◌else◌, nat_lt}
 use Rattle.csv.specs.Reading.{records, strip_bom, default_config}
+use Rattle.bw_model.specs.declared.fault.code.TheConstants.{RECORD_LENGTH, NOT_A_NUMBER, OUT_OF_RANGE, TOO_MANY_ROWS}
 use Rattle.bw_model.specs.declared.fault.Fault.{Fault}
 use Rattle.bw_model.specs.Fault.{at_record, ◌>>=◌, refused_if}
 use Rattle.bw_model.specs.Limits.{most_rows}
@@ -15,12 +16,12 @@ records_of text = records default_config (strip_bom text)
 
 -- a number, where 64 bits hold it, or the fault of the record of this number
 abbrev pub within_64_bits : ℕ → Option ℤ → Result Value Fault
-within_64_bits number None = Err (at_record 205 number)
+within_64_bits number None = Err (at_record OUT_OF_RANGE number)
 within_64_bits number (Some n) = Ok (Some n)
 
 -- what a sign and digits spell: one digit or more, and then a number that 64 bits hold
 abbrev pub bare_number : ℕ → Bool → List ℕ → Result Value Fault
-bare_number number is_negative digits = refused_if (not (are_digits digits)) (at_record 204 number)
+bare_number number is_negative digits = refused_if (not (are_digits digits)) (at_record NOT_A_NUMBER number)
     (within_64_bits number (number_of is_negative digits))
 
 -- what a text without blanks spells: null, or an optional sign and then a number
@@ -41,8 +42,8 @@ bare_values number (field ∷ fields) = bare_value number field >>= λ value. ba
 -- its fields
 unfoldable pub bare_row : ℕ → ℕ → List (List ℕ) → Result (List Value) Fault
 bare_row number width fields =
-    refused_if (not (length fields == width)) (at_record 203 number)
-    (refused_if (nat_lt most_rows number) (at_record 207 number)
+    refused_if (not (length fields == width)) (at_record RECORD_LENGTH number)
+    (refused_if (nat_lt most_rows number) (at_record TOO_MANY_ROWS number)
     (bare_values number fields))
 
 -- the rows of records, the first of which has this number

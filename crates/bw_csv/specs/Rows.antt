@@ -3,6 +3,7 @@
 use Rattle.std.specs.Prelude.{◌≡◌, ◌+◌, ◌-◌, ℕ, ℤ, Bool, true, false, List, [], ◌∷◌, ◌++◌, ◌⊎◌, ◌||◌, ◌&&◌, not, ◌==◌, length, Option, Some, None, Result, Ok, Err, IsOkAnd, IsTrue, if◌then◌else◌, codes, int_le, nat_le, nat_lt, slice_index, drop, take}
 use Rattle.std.specs.List.{prefix_len, suffix_len}
 use Rattle.csv.specs.Reading.{records, strip_bom, default_config}
+use Rattle.bw_model.specs.declared.fault.code.TheConstants.{NO_HEADING, HEADING, RECORD_LENGTH, NOT_A_NUMBER, OUT_OF_RANGE, NULL_NOT_ALLOWED, TOO_MANY_ROWS, CSV_TOO_LONG, CSV_FAULT}
 use Rattle.bw_model.specs.declared.column.Column.{Column}
 use Rattle.bw_model.specs.declared.fault.Fault.{Fault}
 use Rattle.bw_model.specs.declared.fault.Place.{Place}
@@ -29,14 +30,14 @@ without_blanks field = without_end_blanks (without_front_blanks field)
 
 -- a number that 64 bits hold, where they do, within the bounds of a column, or the fault of the record of this number
 abbrev pub within_bounds : ℕ → Column → Option ℤ → Result Value Fault
-within_bounds number column None = Err (at_record 205 number)
+within_bounds number column None = Err (at_record OUT_OF_RANGE number)
 within_bounds number column (Some n) = refused_if (not (int_le column.lo n && int_le n column.hi))
-    (at_record 205 number) (Ok (Some n))
+    (at_record OUT_OF_RANGE number) (Ok (Some n))
 
 -- what a sign and digits spell: one digit or more, and then a number within the bounds of the column
 abbrev pub number_value : ℕ → Column → Bool → List ℕ → Result Value Fault
 number_value number column is_negative digits =
-    refused_if (not (are_digits digits)) (at_record 204 number)
+    refused_if (not (are_digits digits)) (at_record NOT_A_NUMBER number)
     (within_bounds number column (number_of is_negative digits))
 
 -- a text that begins with a minus sign, which is byte 45, or a plus sign, byte 43
@@ -60,7 +61,7 @@ is_null_text text = (length text == 0) || same_text text (codes "NULL")
 -- what a text without blanks spells: null, where the column takes it, or an optional sign and then a number
 abbrev pub text_value : ℕ → Column → List ℕ → Result Value Fault
 text_value number column text =
-    if is_null_text text then refused_if (not column.nullable) (at_record 206 number) (Ok None)
+    if is_null_text text then refused_if (not column.nullable) (at_record NULL_NOT_ALLOWED number) (Ok None)
     else number_value number column (is_minus text) (unsigned text)
 
 -- the value of a field in a column of the record of this number, or its fault
@@ -70,7 +71,7 @@ value_of_field number column field = text_value number column (without_blanks fi
 -- the values of the fields, from the left, or the first fault among them
 unfoldable pub values_of_fields : ℕ → List Column → List (List ℕ) → Result (List Value) Fault
 values_of_fields number [] fields = Ok []
-values_of_fields number (column ∷ columns) [] = Err (at_record 203 number)
+values_of_fields number (column ∷ columns) [] = Err (at_record RECORD_LENGTH number)
 values_of_fields number (column ∷ columns) (field ∷ fields) =
     value_of_field number column field >>= λ value. values_of_fields number columns fields
     >>= λ values. Ok (value ∷ values)
@@ -78,8 +79,8 @@ values_of_fields number (column ∷ columns) (field ∷ fields) =
 -- the row of a record, or the first fault in it: the number of its fields, a row past 2^24, and then its fields
 unfoldable pub row_of_record : ℕ → List Column → List (List ℕ) → Result (List Value) Fault
 row_of_record number columns fields =
-    refused_if (not (length fields == length columns)) (at_record 203 number)
-    (refused_if (nat_lt most_rows number) (at_record 207 number)
+    refused_if (not (length fields == length columns)) (at_record RECORD_LENGTH number)
+    (refused_if (nat_lt most_rows number) (at_record TOO_MANY_ROWS number)
     (values_of_fields number columns fields))
 
 -- a row, and the rows after it
@@ -102,8 +103,8 @@ is_heading (column ∷ columns) (field ∷ fields) = same_text column.name (with
 
 -- the rows of records, the first of which is the heading and has number 0
 unfoldable pub rows_behind : List Column → List (List (List ℕ)) → Result (List (List Value)) Fault
-rows_behind columns [] = Err (at_record 201 0)
-rows_behind columns (heading ∷ more) = refused_if (not (is_heading columns heading)) (at_record 202 0)
+rows_behind columns [] = Err (at_record NO_HEADING 0)
+rows_behind columns (heading ∷ more) = refused_if (not (is_heading columns heading)) (at_record HEADING 0)
     (rows_from columns 1 more)
 
 -- the rows that a text spells, after a byte order mark where it has one, or the first fault in it
@@ -125,7 +126,7 @@ is_record number (Rec at) = at == number
 
 -- an error of the reader's own at a record (209), which no rule of the rows foresees
 abbrev pub is_reader_fault : Fault → Bool
-is_reader_fault fault = (fault.code == 209) && is_any_record fault.place
+is_reader_fault fault = (fault.code == CSV_FAULT) && is_any_record fault.place
 
 -- out of memory, or an error of the reader's own
 abbrev pub is_aside : Fault → Bool
@@ -133,14 +134,14 @@ is_aside fault = is_memory fault || is_reader_fault fault
 
 -- one of 201 to 208, or one that is set aside
 abbrev pub is_rows_fault : Fault → Bool
-is_rows_fault fault = (nat_le 201 fault.code && nat_le fault.code 208) || is_aside fault
+is_rows_fault fault = (nat_le NO_HEADING fault.code && nat_le fault.code CSV_TOO_LONG) || is_aside fault
 
 abbrev pub IsRowsFault : Fault → Type 0
 IsRowsFault fault = IsTrue (is_rows_fault fault)
 
 -- an error of the reader's own stands at the record of this number
 abbrev pub stands_at : ℕ → Fault → Bool
-stands_at number fault = not (fault.code == 209) || is_record number fault.place
+stands_at number fault = not (fault.code == CSV_FAULT) || is_record number fault.place
 
 -- an error of the reader's own stands at the heading, or at the record after those whose rows were handed over
 abbrev pub stands_behind : ℕ → Fault → Bool
@@ -155,12 +156,12 @@ pub record StopsBehind (rows_from_number : ℕ → List (List (List ℕ)) → Re
   pub all : records ≡ done ++ rest
   pub rows : List (List Value)
   pub good : rows_from_number 1 done ≡ Ok rows
-  pub is : fault ≡ at_record 209 (length done + 1)
+  pub is : fault ≡ at_record CSV_FAULT (length done + 1)
 
 -- An error of the reader's own stands at the heading, or at a record after a good heading and records that have rows.
 abbrev pub Stops : (List (List ℕ) → List (List (List ℕ)) → Fault → Type 0) → List (List (List ℕ)) → Fault → Type 0
 Stops behind records fault =
-    (fault ≡ at_record 209 0) ⊎ ((heading : List (List ℕ)) × (more : List (List (List ℕ))) × (records ≡ heading ∷ more)
+    (fault ≡ at_record CSV_FAULT 0) ⊎ ((heading : List (List ℕ)) × (more : List (List (List ℕ))) × (records ≡ heading ∷ more)
     × behind heading more fault)
 
 -- so it is under columns

@@ -1,12 +1,13 @@
 -- What came of a source that a call read to its end, or until it passed a limit.
 use Rattle.std.specs.Prelude.{◌≡◌, ◌==◌, ◌&&◌, ◌||◌, Bool, ℕ, ◌+◌, ◌<◌, ◌≤◌, List, length, Option, Some, None, IfSome, Result, Ok, Err, MatchBool}
 use Rattle.std.specs.Io.KnownBytes.{Consumes, IsAtEnd}
+use Rattle.bw_model.specs.declared.fault.code.TheConstants.{READ_FAILED}
 use Rattle.bw_model.specs.declared.fault.Fault.{Fault}
 use Rattle.bw_model.specs.Fault.{nowhere, no_memory, is_memory, stands_nowhere}
 
 -- a failed read, and what a call that only reads refuses by: a failed read or out of memory
 abbrev pub is_read_fault : Fault → Bool
-is_read_fault fault = (fault.code == 701) && stands_nowhere fault.place
+is_read_fault fault = (fault.code == READ_FAILED) && stands_nowhere fault.place
 
 abbrev pub is_input_fault : Fault → Bool
 is_input_fault fault = is_memory fault || is_read_fault fault
@@ -30,7 +31,7 @@ TookAtMost most old new = (bytes : List ℕ) × Consumes old new bytes × (lengt
 -- What a call leaves of a source: of its bytes to come it took at most so many, and where a read failed it ends with that.
 abbrev pub LeavesSource : {T : Type 0} → ℕ → Option (List ℕ) → Option (List ℕ) → ℕ → ℕ → Result T Fault → Type 0
 LeavesSource most old new before after result = TookAtMost most old new
-    × EndsWith (nowhere 701) before after result
+    × EndsWith (nowhere READ_FAILED) before after result
 
 -- What came: all bytes, which are within the limit; or None, for more than the limit; or want of
 -- memory; or a failed read. The source's failures rise from before to after, by one, at a failed
@@ -41,4 +42,4 @@ Came limit old new before after (Ok (Some bytes)) = GaveAll limit old new bytes 
 Came limit old new before after (Ok None) = PassedLimit limit old new × (after ≡ before)
 Came limit old new before after (Err fault) =
     MatchBool (is_memory fault) ((fault ≡ no_memory) × (after ≡ before))
-    ((fault ≡ nowhere 701) × (after ≡ before + 1))
+    ((fault ≡ nowhere READ_FAILED) × (after ≡ before + 1))

@@ -1,5 +1,6 @@
 -- What a diagram holds, what it says of every assignment, and what each line makes of it.
 use Rattle.std.specs.Prelude.{◌≡◌, ℕ, Bool, not, ◌&&◌, ◌||◌, List, [], ◌∷◌, ◌++◌, length, Option, Some, None, Result, Ok, Err, slice_get, nat_le}
+use Rattle.bw_model.specs.declared.fault.code.TheConstants.{NODE, PRODUCT_ROW, CHAIN_ROW, LIMIT}
 use Rattle.bw_model.specs.declared.column.Column.{Column}
 use Rattle.bw_model.specs.declared.fault.Fault.{Fault}
 use Rattle.bw_model.specs.Fault.{is_memory, nowhere, refused_if, ◌>>=◌}
@@ -42,8 +43,8 @@ no_facts columns = record { columns = columns; nodes = []; chains = []; rows = [
 -- A node that may come next under a number: 604 where there is no room, and then 601 where it breaks its rule.
 unfoldable pub judged_node : Facts → ℕ → Node → Result Node Fault
 judged_node facts number node =
-    refused_if (nat_le most_nodes (length facts.nodes)) (nowhere 604)
-    (refused_if (not (obeys_node (variables_of facts.columns) facts.nodes number node)) (nowhere 601) (Ok node))
+    refused_if (nat_le most_nodes (length facts.nodes)) (nowhere LIMIT)
+    (refused_if (not (obeys_node (variables_of facts.columns) facts.nodes number node)) (nowhere NODE) (Ok node))
 
 -- what is held after its line
 abbrev pub with_node : Facts → ℕ → Node → Result Facts Fault
@@ -53,13 +54,13 @@ with_node facts number node =
 -- A chain that may come next under a number, if its line's words name columns: 604 where there is no room, and then 603
 -- where they don't, or it breaks its rule.
 abbrev pub judged_if_named : Facts → ℕ → Option Chain → Result Chain Fault
-judged_if_named facts number None = Err (nowhere 603)
+judged_if_named facts number None = Err (nowhere CHAIN_ROW)
 judged_if_named facts number (Some chain) =
-    refused_if (not (obeys_chain facts.columns facts.nodes facts.chains number chain)) (nowhere 603) (Ok chain)
+    refused_if (not (obeys_chain facts.columns facts.nodes facts.chains number chain)) (nowhere CHAIN_ROW) (Ok chain)
 
 unfoldable pub judged_chain : Facts → ℕ → Option Chain → Result Chain Fault
 judged_chain facts number named =
-    refused_if (nat_le most_chains (length facts.chains)) (nowhere 604) (judged_if_named facts number named)
+    refused_if (nat_le most_chains (length facts.chains)) (nowhere LIMIT) (judged_if_named facts number named)
 
 -- what is held after its line
 abbrev pub with_chain : Facts → ℕ → Option Chain → Result Facts Fault
@@ -69,8 +70,8 @@ with_chain facts number named =
 -- A product row that may come next under a number: 604 where there is no room, and then 602 where it breaks its rule.
 unfoldable pub judged_row : Facts → ℕ → Product → Reason → Result Product Fault
 judged_row facts number row reason =
-    refused_if (nat_le most_products (length facts.rows)) (nowhere 604)
-    (refused_if (not (obeys_row (variables_of facts.columns) facts.nodes facts.rows number row reason)) (nowhere 602)
+    refused_if (nat_le most_products (length facts.rows)) (nowhere LIMIT)
+    (refused_if (not (obeys_row (variables_of facts.columns) facts.nodes facts.rows number row reason)) (nowhere PRODUCT_ROW)
     (Ok row))
 
 -- what is held after its line
@@ -80,4 +81,4 @@ with_row facts number row reason =
 
 -- one of 601 to 604, or out of memory
 abbrev pub is_diagram_fault : Fault → Bool
-is_diagram_fault fault = (nat_le 601 fault.code && nat_le fault.code 604) || is_memory fault
+is_diagram_fault fault = (nat_le NODE fault.code && nat_le fault.code LIMIT) || is_memory fault

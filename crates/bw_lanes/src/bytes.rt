@@ -4,11 +4,12 @@ ghost use Rattle.std.specs.List.{range_with_len};
 ghost use Rattle.std.specs.Int.{bit_at};
 ghost use Rattle.bw_lanes.specs.Lanes.{bits_from_least, lanes_of_words, are_zero};
 
+use crate::lanes::LANES;
 use crate::plane::Plane;
 use std::simd::prelude::*;
 
 /// The rows whose byte is below c. Byte i is row i's.
-pub fn bytes_lt(bytes: &[u8; 512], c: u8) -> Plane
+pub fn bytes_lt(bytes: &[u8; LANES], c: u8) -> Plane
     ensures { lanes_of_words result ≡ map (λ byte. nat_lt byte c) bytes.now }
 {
     let mut words = [0; 8];
@@ -19,7 +20,7 @@ pub fn bytes_lt(bytes: &[u8; 512], c: u8) -> Plane
 }
 
 /// The rows whose byte is c. Byte i is row i's.
-pub fn bytes_eq(bytes: &[u8; 512], c: u8) -> Plane
+pub fn bytes_eq(bytes: &[u8; LANES], c: u8) -> Plane
     ensures { lanes_of_words result ≡ map (λ byte. byte == c) bytes.now }
 {
     let mut words = [0; 8];
@@ -30,7 +31,7 @@ pub fn bytes_eq(bytes: &[u8; 512], c: u8) -> Plane
 }
 
 /// The rows in whose byte a bit is 1, of which bit 0 is the least. Byte i is row i's.
-pub fn bytes_bit(bytes: &[u8; 512], bit: u32) -> Plane
+pub fn bytes_bit(bytes: &[u8; LANES], bit: u32) -> Plane
     requires { bit < 8 }
     ensures { lanes_of_words result ≡ map (λ byte. bit_at byte bit == 1) bytes.now }
 {
@@ -63,7 +64,7 @@ fn joined(slices: &[u8], count: usize, first: usize) -> u8x64
 {
     let mut bytes = u8x64::splat(0);
     for place in 0..count {
-        bytes = bytes | u8x64::from_slice(&slices[512 * place + first..]);
+        bytes = bytes | u8x64::from_slice(&slices[LANES * place + first..]);
     }
     bytes
 }

@@ -9,6 +9,7 @@
 #![tactic(auto)]
 
 mod bytes;
+mod lanes;
 mod last;
 mod picked;
 mod plane;
@@ -16,6 +17,7 @@ mod shifted;
 mod stored;
 
 pub use bytes::{bytes_bit, bytes_eq, bytes_lt, bytes_none};
+pub use lanes::LANES;
 pub use last::last_between;
 pub use picked::{bytes_of_plane, greatest_in, keep_in, least_in, sum_in};
 pub use plane::{Plane, and, count, count_and, is_zero, lane, mask, not, or, xor};

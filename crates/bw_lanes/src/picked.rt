@@ -5,6 +5,7 @@ ghost use lib.Lanes.{Each1, zip2, sum_l, put_chunk};
 ghost use Rattle.bw_lanes.specs.Lanes.{bits_from_least, lanes_of_words};
 ghost use Rattle.bw_lanes.specs.Picked.{as_byte, bytes_picked};
 
+use crate::lanes::LANES;
 use crate::plane::Plane;
 use std::simd::prelude::*;
 
@@ -22,10 +23,10 @@ const BIT_OF_ROW: [u8; 64] = [
 ];
 
 /// A byte a row: 255 where its lane is 1, and else 0.
-pub fn bytes_of_plane(plane: &Plane) -> [u8; 512]
+pub fn bytes_of_plane(plane: &Plane) -> [u8; LANES]
     ensures { result ≡ map as_byte (lanes_of_words plane.now) }
 {
-    let mut bytes = [0; 512];
+    let mut bytes = [0; LANES];
     for word in 0..8 {
         put(&mut bytes, word, bytes_of_word(plane[word]));
     }
@@ -33,7 +34,7 @@ pub fn bytes_of_plane(plane: &Plane) -> [u8; 512]
 }
 
 /// Puts the bytes of the 64 rows of a word in their place.
-pub(crate) fn put(bytes: &mut [u8; 512], word: usize, some: u8x64)
+pub(crate) fn put(bytes: &mut [u8; LANES], word: usize, some: u8x64)
     requires { word < 8 }
     ensures { bytes.new ≡ put_chunk (64 * word) bytes.old some }
 {
@@ -53,7 +54,7 @@ pub(crate) fn bytes_of_word(word: u64) -> u8x64
 
 /// The sum of the bytes of some rows, which are given as [`bytes_of_plane`] spreads a plane: 255 for a row that counts, 0 for
 /// another.
-pub fn sum_in(bytes: &[u8; 512], rows: &[u8; 512]) -> u32
+pub fn sum_in(bytes: &[u8; LANES], rows: &[u8; LANES]) -> u32
     ensures sum { (lanes : List Bool) → rows.now ≡ map as_byte lanes
         → result ≡ sum (bytes_picked 0 lanes bytes.now) }
     ensures bound { result ≤ 130560 }
@@ -76,7 +77,7 @@ fn fours(bytes: u8x64) -> u32x16
 }
 
 /// The least of the bytes of some rows; 255 where there are none.
-pub fn least_in(bytes: &[u8; 512], rows: &[u8; 512]) -> u8
+pub fn least_in(bytes: &[u8; LANES], rows: &[u8; LANES]) -> u8
     ensures { (lanes : List Bool) → rows.now ≡ map as_byte lanes
         → result ≡ fold min 255 (bytes_picked 255 lanes bytes.now) }
 {
@@ -89,7 +90,7 @@ pub fn least_in(bytes: &[u8; 512], rows: &[u8; 512]) -> u8
 }
 
 /// The greatest of the bytes of some rows; 0 where there are none.
-pub fn greatest_in(bytes: &[u8; 512], rows: &[u8; 512]) -> u8
+pub fn greatest_in(bytes: &[u8; LANES], rows: &[u8; LANES]) -> u8
     ensures { (lanes : List Bool) → rows.now ≡ map as_byte lanes
         → result ≡ fold max 0 (bytes_picked 0 lanes bytes.now) }
 {
@@ -102,7 +103,7 @@ pub fn greatest_in(bytes: &[u8; 512], rows: &[u8; 512]) -> u8
 }
 
 /// Of some rows those whose byte is c.
-pub fn keep_in(rows: &mut [u8; 512], bytes: &[u8; 512], c: u8)
+pub fn keep_in(rows: &mut [u8; LANES], bytes: &[u8; LANES], c: u8)
     ensures { (lanes : List Bool) → rows.old ≡ map as_byte lanes
         → rows.new ≡ map as_byte (zip2 (λ lane byte. lane && (byte == c)) lanes bytes.now) }
 {

@@ -4,6 +4,7 @@ ghost use lib.Lanes.{zip2};
 ghost use Rattle.bw_lanes.specs.Lanes.{bits_from_least, lanes_of_words};
 ghost use Rattle.bw_lanes.specs.Shifted.{with_bit};
 
+use crate::lanes::LANES;
 use crate::picked::{bytes_of_word, put};
 use crate::plane::Plane;
 use std::simd::prelude::*;
@@ -11,7 +12,7 @@ use std::simd::prelude::*;
 /// Shifts one more bit into a byte of each lane: each byte becomes its double, and 1 more where the plane's lane is 1,
 /// modulo 256. Byte i is row i's. So the planes of numbers' bits, as BitWeaving's vertical layout has them, become bytes
 /// of the numbers, from the most significant bit down.
-pub fn push_bit(bytes: &mut [u8; 512], plane: &Plane)
+pub fn push_bit(bytes: &mut [u8; LANES], plane: &Plane)
     ensures { bytes.new ≡ zip2 with_bit bytes.old (lanes_of_words plane.now) }
 {
     for word in 0..8 {

@@ -1,6 +1,7 @@
 -- Refusals: a fault, and what a call that may run out of memory gives.
 use Rattle.std.specs.Prelude.{◌≡◌, ℕ, Bool, ◌==◌, ◌&&◌, true, false, List, [], ◌++◌, codes, Result, Ok, Err}
 use Rattle.std.specs.Fmt.{decimal}
+use Rattle.bw_model.specs.declared.fault.code.TheConstants.{OUT_OF_MEMORY}
 use Rattle.bw_model.specs.declared.fault.Fault.{Fault}
 use Rattle.bw_model.specs.declared.fault.Place.{Place}
 use Rattle.bw_model.specs.declared.fault.Place.TheVariants.{Nowhere, Byte, Line, Rec}
@@ -27,7 +28,7 @@ place_text (Rec at) = codes " at record " ++ decimal at
 
 -- out of memory
 abbrev pub no_memory : Fault
-no_memory = nowhere 801
+no_memory = nowhere OUT_OF_MEMORY
 
 -- the fault stands nowhere
 abbrev pub stands_nowhere : Place → Bool
@@ -38,7 +39,7 @@ stands_nowhere (Rec at) = false
 
 -- the fault is out of memory, which no rule of a format foresees
 abbrev pub is_memory : Fault → Bool
-is_memory fault = (fault.code == 801) && stands_nowhere fault.place
+is_memory fault = (fault.code == OUT_OF_MEMORY) && stands_nowhere fault.place
 
 -- an answer or the first fault, and then what follows from the answer
 infixl 10 ◌>>=◌

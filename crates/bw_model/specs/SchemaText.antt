@@ -1,6 +1,7 @@
 -- Schema texts: what a text says, or the first fault in it.
 use Rattle.std.specs.Prelude.{◌≡◌, ◌≤◌, IsTrue, ℕ, ℤ, pos, ◌-ℤ◌, ◌^◌, Bool, true, false, List, [], ◌∷◌, ◌++◌, map, drop, length, Option, Some, None, Result, Ok, Err, codes, not, ◌&&◌, ◌||◌, ◌==◌, if◌then◌else◌, int_le, int_lt, nat_le, nat_lt, slice_index}
 use Rattle.std.specs.List.{list_any, AllZip}
+use Rattle.bw_model.specs.declared.fault.code.TheConstants.{SCHEMA_FORM, SCHEMA_NAME, SCHEMA_RANGE, NAME_TWICE, COLUMN_COUNT, SCHEMA_TOO_LONG}
 use Rattle.bw_model.specs.declared.fault.Fault.{Fault}
 use Rattle.bw_model.specs.declared.column.Column.{Column}
 use Rattle.bw_model.specs.declared.parse.Words.{Words}
@@ -78,8 +79,8 @@ table_words (a ∷ b ∷ c ∷ more) = None
 
 -- the table's name on its line, or the first fault there: the form, and then the name
 abbrev pub named_table : ℕ → Option (List ℕ) → Result (List ℕ) Fault
-named_table line None = Err (at_line 101 line)
-named_table line (Some name) = refused_if (not (is_name name)) (at_line 102 line) (Ok name)
+named_table line None = Err (at_line SCHEMA_FORM line)
+named_table line (Some name) = refused_if (not (is_name name)) (at_line SCHEMA_NAME line) (Ok name)
 
 abbrev pub table_on : NumberedWords → Result (List ℕ) Fault
 table_on line = named_table line.number (table_words line.words)
@@ -87,17 +88,17 @@ table_on line = named_table line.number (table_words line.words)
 -- a column that there is room for, or the first fault: the name, a name that comes twice, and the range
 abbrev pub after_room : List (List ℕ) → ℕ → ColumnShape → Result ColumnShape Fault
 after_room before line column =
-    refused_if (not (is_name column.name)) (at_line 102 line)
-    (refused_if (list_any (λ name. same_text name column.name) before) (at_line 104 line)
-    (refused_if (not (is_range column.lo column.hi)) (at_line 103 line)
+    refused_if (not (is_name column.name)) (at_line SCHEMA_NAME line)
+    (refused_if (list_any (λ name. same_text name column.name) before) (at_line NAME_TWICE line)
+    (refused_if (not (is_range column.lo column.hi)) (at_line SCHEMA_RANGE line)
     (Ok column)))
 
 -- the column on a line, after columns of these names, or the first fault there: the form, the 65th column, and then
 -- the column's own
 abbrev pub next_column : List (List ℕ) → ℕ → Option ColumnShape → Result ColumnShape Fault
-next_column before line None = Err (at_line 101 line)
+next_column before line None = Err (at_line SCHEMA_FORM line)
 next_column before line (Some column) =
-    refused_if (nat_le most_columns (length before)) (at_line 105 line) (after_room before line column)
+    refused_if (nat_le most_columns (length before)) (at_line COLUMN_COUNT line) (after_room before line column)
 
 abbrev pub column_on : List (List ℕ) → NumberedWords → Result ColumnShape Fault
 column_on before line = next_column before line.number (column_words line.words)
@@ -113,17 +114,17 @@ columns_on before (line ∷ lines) = column_on (shape_names before) line
 
 -- the schema on lines whose end is numbered so
 abbrev pub with_columns : List ℕ → ℕ → List ColumnShape → Result SchemaShape Fault
-with_columns name end columns = refused_if (is_empty columns) (at_line 105 end)
+with_columns name end columns = refused_if (is_empty columns) (at_line COLUMN_COUNT end)
     (Ok (record { name = name; columns = columns }))
 
 unfoldable pub schema_on : List NumberedWords → ℕ → Result SchemaShape Fault
-schema_on [] end = Err (at_line 101 end)
+schema_on [] end = Err (at_line SCHEMA_FORM end)
 schema_on (line ∷ lines) end = table_on line >>= λ name. columns_on [] lines
     >>= λ columns. with_columns name end columns
 
 -- what a schema text says, or the first fault in it: its length, and then its lines
 unfoldable pub schema_of : List ℕ → Result SchemaShape Fault
-schema_of text = refused_if (nat_lt longest_schema (length text)) (nowhere 106)
+schema_of text = refused_if (nat_lt longest_schema (length text)) (nowhere SCHEMA_TOO_LONG)
     (schema_on (lines_in (whole text)) (end_in (whole text)))
 
 -- the words of a line spell a column
@@ -149,7 +150,7 @@ IsSchemaText text schema = (length text ≤ longest_schema) × SpellsSchema (lin
 
 -- one of 101 to 106, or out of memory
 abbrev pub is_schema_fault : Fault → Bool
-is_schema_fault fault = (nat_le 101 fault.code && nat_le fault.code 106) || is_memory fault
+is_schema_fault fault = (nat_le SCHEMA_FORM fault.code && nat_le fault.code SCHEMA_TOO_LONG) || is_memory fault
 
 abbrev pub IsSchemaFault : Fault → Type 0
 IsSchemaFault fault = IsTrue (is_schema_fault fault)

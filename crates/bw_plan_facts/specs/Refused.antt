@@ -1,11 +1,12 @@
 -- Why nothing is proposed.
 use Rattle.std.specs.Prelude.{Bool, IsTrue, ◌==◌, ◌||◌, ◌&&◌}
+use Rattle.bw_model.specs.declared.fault.code.TheConstants.{NO_PROGRAM, OUT_OF_MEMORY}
 use Rattle.bw_model.specs.declared.fault.Fault.{Fault}
 use Rattle.bw_model.specs.Fault.{stands_nowhere}
 
 -- no program within the limits, or out of memory; neither stands anywhere
 abbrev pub is_refusal : Fault → Bool
-is_refusal fault = ((fault.code == 651) || (fault.code == 801)) && stands_nowhere fault.place
+is_refusal fault = ((fault.code == NO_PROGRAM) || (fault.code == OUT_OF_MEMORY)) && stands_nowhere fault.place
 
 abbrev pub IsRefusal : Fault → Type 0
 IsRefusal fault = IsTrue (is_refusal fault)

@@ -1,5 +1,6 @@
 -- Program texts: what a text says under a schema's columns, or the first fault in it.
 use Rattle.std.specs.Prelude.{◌≡◌, ◌<◌, ◌≤◌, ℕ, suc, ◌||◌, ◌&&◌, ◌==◌, Bool, true, false, not, IsTrue, List, [], ◌∷◌, ◌++◌, drop, length, map, Option, Some, None, Result, Ok, Err, if◌then◌else◌, nat_le, nat_lt, slice_index}
+use Rattle.bw_model.specs.declared.fault.code.TheConstants.{PROGRAM_FORM, REGISTER, COLUMN_OR_BIT, SKIP_TARGET, PROGRAM_TOO_LONG, NO_RESULT, NO_NULLS}
 use Rattle.bw_model.specs.declared.column.Column.{Column}
 use Rattle.bw_model.specs.declared.fault.Fault.{Fault}
 use Rattle.bw_model.specs.Code.{width_at, slices_at}
@@ -33,58 +34,58 @@ found_on code line (Some x) = Ok x
 
 -- a number (501), a register (502) and a column (503)
 abbrev pub natural_on : ℕ → List ℕ → Result ℕ Fault
-natural_on line word = found_on 501 line (natural_of word)
+natural_on line word = found_on PROGRAM_FORM line (natural_of word)
 
 abbrev pub register_on : ℕ → List ℕ → Result ℕ Fault
-register_on line word = found_on 502 line (register_of word)
+register_on line word = found_on REGISTER line (register_of word)
 
 abbrev pub column_on : List Column → ℕ → List ℕ → Result ℕ Fault
-column_on columns line word = found_on 503 line (column_named columns word)
+column_on columns line word = found_on COLUMN_OR_BIT line (column_named columns word)
 
 -- what the words after an opcode say, or the first fault of the line: the number of words and the numbers among them,
 -- the registers, the column with its bit, slice or null plane, and a skip's target, which lies after the instruction
 abbrev pub load_on : List Column → ℕ → List (List ℕ) → Result Instr Fault
 load_on columns line (r ∷ c ∷ b ∷ []) =
     natural_on line b >>= λ bit. register_on line r >>= λ register. column_on columns line c >>= λ column.
-    refused_if (not (nat_lt bit (width_at columns column))) (at_line 503 line) (Ok (Load register column bit))
-load_on columns line words = Err (at_line 501 line)
+    refused_if (not (nat_lt bit (width_at columns column))) (at_line COLUMN_OR_BIT line) (Ok (Load register column bit))
+load_on columns line words = Err (at_line PROGRAM_FORM line)
 
 abbrev pub nulls_on : List Column → ℕ → List (List ℕ) → Result Instr Fault
 nulls_on columns line (r ∷ c ∷ []) =
     register_on line r >>= λ register. column_on columns line c >>= λ column.
-    refused_if (not (is_nullable columns column)) (at_line 507 line) (Ok (Nulls register column))
-nulls_on columns line words = Err (at_line 501 line)
+    refused_if (not (is_nullable columns column)) (at_line NO_NULLS line) (Ok (Nulls register column))
+nulls_on columns line words = Err (at_line PROGRAM_FORM line)
 
 abbrev pub fill_on : ℕ → List (List ℕ) → Result Instr Fault
 fill_on line (r ∷ b ∷ []) =
-    natural_on line b >>= λ bit. refused_if (nat_lt 1 bit) (at_line 501 line)
+    natural_on line b >>= λ bit. refused_if (nat_lt 1 bit) (at_line PROGRAM_FORM line)
     (register_on line r >>= λ register. Ok (Fill register (bit == 1)))
-fill_on line words = Err (at_line 501 line)
+fill_on line words = Err (at_line PROGRAM_FORM line)
 
 abbrev pub three_on : ℕ → List (List ℕ) → Result (ℕ × ℕ × ℕ) Fault
 three_on line (r ∷ a ∷ b ∷ []) =
     register_on line r >>= λ register. register_on line a >>= λ x. register_on line b >>= λ y. Ok (register, x, y)
-three_on line words = Err (at_line 501 line)
+three_on line words = Err (at_line PROGRAM_FORM line)
 
 abbrev pub not_on : ℕ → List (List ℕ) → Result Instr Fault
 not_on line (r ∷ a ∷ []) = register_on line r >>= λ register. register_on line a >>= λ x. Ok (Not register x)
-not_on line words = Err (at_line 501 line)
+not_on line words = Err (at_line PROGRAM_FORM line)
 
 abbrev pub byte_on : List Column → ℕ → List (List ℕ) → Result (ℕ × ℕ × ℕ × ℕ) Fault
 byte_on columns line (r ∷ c ∷ s ∷ b ∷ []) =
-    natural_on line s >>= λ slice. natural_on line b >>= λ byte. refused_if (nat_lt 255 byte) (at_line 501 line)
+    natural_on line s >>= λ slice. natural_on line b >>= λ byte. refused_if (nat_lt 255 byte) (at_line PROGRAM_FORM line)
     (register_on line r >>= λ register. column_on columns line c >>= λ column.
-    refused_if (not (nat_lt slice (slices_at columns column))) (at_line 503 line) (Ok (register, column, slice, byte)))
-byte_on columns line words = Err (at_line 501 line)
+    refused_if (not (nat_lt slice (slices_at columns column))) (at_line COLUMN_OR_BIT line) (Ok (register, column, slice, byte)))
+byte_on columns line words = Err (at_line PROGRAM_FORM line)
 
 abbrev pub skip_on : ℕ → ℕ → List (List ℕ) → Result Instr Fault
 skip_on number line (a ∷ l ∷ []) =
     natural_on line l >>= λ target. register_on line a >>= λ x.
-    refused_if (nat_le target number) (at_line 504 line) (Ok (Skip x target))
-skip_on number line words = Err (at_line 501 line)
+    refused_if (nat_le target number) (at_line SKIP_TARGET line) (Ok (Skip x target))
+skip_on number line words = Err (at_line PROGRAM_FORM line)
 
 abbrev pub instr_behind : List Column → ℕ → ℕ → Option Opcode → List (List ℕ) → Result Instr Fault
-instr_behind columns number line None words = Err (at_line 501 line)
+instr_behind columns number line None words = Err (at_line PROGRAM_FORM line)
 instr_behind columns number line (Some op.Load) words = load_on columns line words
 instr_behind columns number line (Some op.Nulls) words = nulls_on columns line words
 instr_behind columns number line (Some op.Fill) words = fill_on line words
@@ -97,7 +98,7 @@ instr_behind columns number line (Some op.ByteLt) words = byte_on columns line w
 instr_behind columns number line (Some op.ByteEq) words = byte_on columns line words
     >>= λ four. Ok (ByteEq four.0 four.1 four.2 four.3)
 instr_behind columns number line (Some op.Skip) words = skip_on number line words
-instr_behind columns number line (Some op.Result) words = Err (at_line 501 line)
+instr_behind columns number line (Some op.Result) words = Err (at_line PROGRAM_FORM line)
 
 -- a line's opcode, and the words after it
 abbrev pub opcode_in : List (List ℕ) → Option Opcode
@@ -120,7 +121,7 @@ is_result_line line = names_result (opcode_in line.words)
 -- the result register of such a line
 abbrev pub result_behind : ℕ → List (List ℕ) → Result ℕ Fault
 result_behind line (r ∷ []) = register_on line r
-result_behind line words = Err (at_line 501 line)
+result_behind line words = Err (at_line PROGRAM_FORM line)
 
 abbrev pub instrs_of : List Placed → List Instr
 instrs_of placed = map (λ p. p.instr) placed
@@ -128,7 +129,7 @@ instrs_of placed = map (λ p. p.instr) placed
 -- no line may follow that of the result
 abbrev pub last_line : {A : Type 0} → List NumberedWords → A → Result A Fault
 last_line [] x = Ok x
-last_line (line ∷ lines) x = Err (at_line 501 line.number)
+last_line (line ∷ lines) x = Err (at_line PROGRAM_FORM line.number)
 
 -- no skip goes past the end, where that is so many instructions on; else the first one that does is the fault
 abbrev pub goes_past : ℕ → Instr → Bool
@@ -145,7 +146,7 @@ goes_past end (Skip x target) = nat_lt end target
 
 unfoldable pub within_end : {A : Type 0} → ℕ → List Placed → A → Result A Fault
 within_end end [] x = Ok x
-within_end end (p ∷ placed) x = refused_if (goes_past end p.instr) (at_line 504 p.line) (within_end end placed x)
+within_end end (p ∷ placed) x = refused_if (goes_past end p.instr) (at_line SKIP_TARGET p.line) (within_end end placed x)
 
 abbrev pub ended : List Placed → ℕ → Result ProgramShape Fault
 ended placed result = within_end (length placed) placed (record { instrs = instrs_of placed; result = result })
@@ -156,12 +157,12 @@ finished placed lines result = last_line lines result >>= λ register. ended pla
 
 -- the program on lines, after instructions that came before; the lines end with this number
 unfoldable pub program_on : List Column → List Placed → List NumberedWords → ℕ → Result ProgramShape Fault
-program_on columns before [] end = Err (at_line 506 end)
+program_on columns before [] end = Err (at_line NO_RESULT end)
 program_on columns before (line ∷ lines) end =
     if is_result_line line then
     (result_behind line.number (drop 1 line.words) >>= λ result. finished before lines result)
     else
-    (refused_if (nat_le most_instructions (length before)) (at_line 505 line.number)
+    (refused_if (nat_le most_instructions (length before)) (at_line PROGRAM_TOO_LONG line.number)
     (instr_on columns (length before) line >>= λ instr.
     program_on columns (before ++ record { line = line.number; instr = instr } ∷ []) lines end))
 
@@ -226,7 +227,7 @@ IsProgramText columns text program =
 
 -- one of 501 to 507, or out of memory
 abbrev pub is_program_fault : Fault → Bool
-is_program_fault fault = (nat_le 501 fault.code && nat_le fault.code 507) || is_memory fault
+is_program_fault fault = (nat_le PROGRAM_FORM fault.code && nat_le fault.code NO_NULLS) || is_memory fault
 
 abbrev pub IsProgramFault : Fault → Type 0
 IsProgramFault fault = IsTrue (is_program_fault fault)

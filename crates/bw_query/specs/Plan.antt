@@ -1,5 +1,6 @@
 -- What a plan for a statement is: a program file that is accepted for it.
 use Rattle.std.specs.Prelude.{◌≡◌, ℕ, List, ◌++◌, codes, false, Result, Ok, Err}
+use Rattle.bw_model.specs.declared.fault.code.TheConstants.{NO_PROGRAM}
 use Rattle.bw_model.specs.declared.column.Column.{Column}
 use Rattle.bw_model.specs.declared.fault.Fault.{Fault}
 use Rattle.bw_model.specs.declared.query.Query.{Query}
@@ -39,7 +40,7 @@ pub data IsPlanFault (text sql : List ℕ) : Fault → Type 0 where
   statement_refused : {schema : Schema} {fault : Fault} → IsSchemaText text (schema_shape schema) →
       IsReadAs schema sql (Err fault) → IsPlanFault text sql fault
   unplanned : {schema : Schema} (query : Query) → IsSchemaText text (schema_shape schema) →
-      IsReadAs schema sql (Ok query) → IsPlanFault text sql (nowhere 651)
+      IsReadAs schema sql (Ok query) → IsPlanFault text sql (nowhere NO_PROGRAM)
 
 -- a plan, or the first fault, out of memory aside
 abbrev pub IsPlanned : List ℕ → List ℕ → Result (List ℕ) Fault → Type 0

@@ -1,5 +1,6 @@
 //! Plans: program files that the planner writes.
 ghost use Rattle.std.specs.Prelude.{◌≡◌, ◌-◌, ◌^◌, ◌<◌, ℕ, List, Result, false, length, IfOk, IfErr, IsTrue};
+ghost use Rattle.bw_model.specs.declared.fault.code.TheConstants.{NO_PROGRAM};
 ghost use Rattle.bw_model.specs.declared.fault.Fault.{Fault};
 ghost use Rattle.bw_model.specs.Cond.{names_within};
 ghost use Rattle.bw_model.specs.Fault.{is_memory, nowhere};
@@ -48,7 +49,7 @@ fn plan_of(alloc: Global, schema: &Schema, cond: &Cond) -> Result<Vec<u8>, Fault
     ensures printed { IfOk result (λ file. IsPrinted schema.now.columns.items file.items) }
     ensures certifies { IfOk result (λ file. (program : ProgramShape) × (certificate : CertificateShape)
         × Certifies schema.now.columns.items cond.now file.items program certificate) }
-    ensures fault { IfErr result (λ fault. is_memory fault ≡ false → fault ≡ nowhere 651) }
+    ensures fault { IfErr result (λ fault. is_memory fault ≡ false → fault ≡ nowhere NO_PROGRAM) }
 {
     let file = proposed_file(alloc, schema, cond)?;
     match certify(alloc, schema, cond, &file) {
@@ -61,7 +62,7 @@ fn plan_of(alloc: Global, schema: &Schema, cond: &Cond) -> Result<Vec<u8>, Fault
 fn proposed_file(alloc: Global, schema: &Schema, cond: &Cond) -> Result<Vec<u8>, Fault>
     requires { IsTrue (names_within (length schema.now.columns.items) cond.now) }
     ensures printed { IfOk result (λ file. IsPrinted schema.now.columns.items file.items) }
-    ensures fault { IfErr result (λ fault. is_memory fault ≡ false → fault ≡ nowhere 651) }
+    ensures fault { IfErr result (λ fault. is_memory fault ≡ false → fault ≡ nowhere NO_PROGRAM) }
 {
     let proposal = propose(alloc, schema, cond)?;
     file_of(alloc, schema, &proposal)
@@ -81,7 +82,7 @@ fn file_of(alloc: Global, schema: &Schema, proposal: &Proposal) -> Result<Vec<u8
 
 /// Out of memory, or else that there is no plan.
 fn unplanned_unless_memory(fault: Fault) -> Fault
-    ensures { is_memory result ≡ false → result ≡ nowhere 651 }
+    ensures { is_memory result ≡ false → result ≡ nowhere NO_PROGRAM }
 {
     match fault {
         Fault {

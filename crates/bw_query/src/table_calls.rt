@@ -2,6 +2,7 @@
 ghost use Rattle.std.specs.Prelude.{◌≡◌, ◌-◌, ◌^◌, ◌<◌, ◌≤◌, ℕ, List, Option, Result, Ok, Err, None, Some, false, length, vec_len, IsTrue, IfOk, IfErr, OnOk};
 ghost use Rattle.std.specs.Io.KnownBytes.{Appends};
 ghost use Rattle.std.specs.List.{list_all};
+ghost use Rattle.bw_model.specs.declared.fault.code.TheConstants.{READ_FAILED};
 ghost use Rattle.bw_model.specs.declared.fault.Fault.{Fault};
 ghost use Rattle.bw_model.specs.declared.query.Query.{Query};
 ghost use Rattle.bw_model.specs.declared.schema.Schema.{Schema};
@@ -76,7 +77,7 @@ pub fn answer<S: Source, K: Sink>(
         → S.to_come table.old ≡ Some bytes → IsFileText bytes layout schema rows
         → by_statement (given_file program.entry) sql.now schema (Ok query)
         → IfErr result (λ fault. IsTrue (is_no_verdict fault)) }
-    ensures table { EndsWith (nowhere 701) (S.failures table.old) (S.failures table.new) result }
+    ensures table { EndsWith (nowhere READ_FAILED) (S.failures table.old) (S.failures table.new) result }
     ensures sink { LeavesSink (K.taken sink.old) (K.taken sink.new) (K.failures sink.old) (K.failures sink.new) result }
 {
     let answered = answered(alloc, table, sql, program)?;
@@ -112,7 +113,7 @@ fn answered<S: Source>(
         → S.to_come table.old ≡ Some bytes → IsFileText bytes layout schema rows
         → by_statement (given_file program.entry) sql.now schema (Ok query)
         → IfErr result (λ fault. IsTrue (is_no_verdict fault)) }
-    ensures failed { EndsWith (nowhere 701) (S.failures table.old) (S.failures table.new) result }
+    ensures failed { EndsWith (nowhere READ_FAILED) (S.failures table.old) (S.failures table.new) result }
 {
     a_file_text_is_read_whole();
     let mut reader = TableReader::begin(alloc, table)?;
@@ -146,7 +147,7 @@ fn answered_after_header<S: Source>(
         → IfErr result (λ fault. IsTrue (is_no_verdict fault)) }
     ensures failed { (start : State)
         → Began start (state (S.to_come table.old) (bytes_taken reader.old) (S.failures table.old)) reader.old
-        → EndsWith (nowhere 701) (S.failures table.old) (S.failures table.new) result }
+        → EndsWith (nowhere READ_FAILED) (S.failures table.old) (S.failures table.new) result }
 {
     a_file_text_is_read_whole();
     let prepared = prepare(alloc, reader.schema(), sql, program)?;
@@ -216,7 +217,7 @@ pub fn dump<S: Source, K: Sink>(alloc: Global, table: &mut S, sink: &mut K) -> R
     ensures accepted { (bytes : List ℕ) (layout : Layout) (schema : Schema) (rows : List (List Value))
         → S.to_come table.old ≡ Some bytes → IsFileText bytes layout schema rows
         → IfErr result (λ fault. IsTrue (is_no_verdict fault)) }
-    ensures table { EndsWith (nowhere 701) (S.failures table.old) (S.failures table.new) result }
+    ensures table { EndsWith (nowhere READ_FAILED) (S.failures table.old) (S.failures table.new) result }
     ensures sink { LeavesSink (K.taken sink.old) (K.taken sink.new) (K.failures sink.old) (K.failures sink.new) result }
 {
     a_file_text_is_read_whole();

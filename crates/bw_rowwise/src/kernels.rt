@@ -9,21 +9,21 @@ ghost use Rattle.bw_rowwise.specs.Numbers.{among_numbers};
 
 use crate::logic::{both, compared, either, opposite};
 use crate::numbers::Numbers;
-use bw_lanes::{Plane, bytes_eq};
+use bw_lanes::{LANES, Plane, bytes_eq};
 use bw_model::{Op, Truth, Value};
 
 /// A value in each lane.
-pub type Values = [Value; 512];
+pub type Values = [Value; LANES];
 
 /// A truth value in each lane.
-pub type Truths = [Truth; 512];
+pub type Truths = [Truth; LANES];
 
 /// The truth of a comparison in each lane.
 pub fn compared_in_lanes(op: Op, xs: &Values, ys: &Values) -> Truths
     ensures { (lane : ℕ) → lane < 512 → slice_index_or result lane No
         ≡ compared op (slice_index_or xs.now lane None) (slice_index_or ys.now lane None) }
 {
-    let mut truths = [Truth::Unknown; 512];
+    let mut truths = [Truth::Unknown; LANES];
     for lane in 0..512 {
         truths[lane] = compared(op, xs[lane], ys[lane]);
     }
@@ -35,7 +35,7 @@ pub fn among_in_lanes(numbers: &Numbers, xs: &Values) -> Truths
     ensures { (lane : ℕ) → lane < 512 → slice_index_or result lane No
         ≡ among_numbers (slice_index_or xs.now lane None) numbers.now.sorted.items }
 {
-    let mut truths = [Truth::Unknown; 512];
+    let mut truths = [Truth::Unknown; LANES];
     for lane in 0..512 {
         truths[lane] = numbers.among(xs[lane]);
     }
@@ -47,7 +47,7 @@ pub fn nulls_in_lanes(xs: &Values) -> Truths
     ensures { (lane : ℕ) → lane < 512 → slice_index_or result lane No
         ≡ truth_from (is_null (slice_index_or xs.now lane None)) }
 {
-    let mut truths = [Truth::Unknown; 512];
+    let mut truths = [Truth::Unknown; LANES];
     for lane in 0..512 {
         truths[lane] = Truth::of(xs[lane].is_none());
     }
@@ -59,7 +59,7 @@ pub fn both_in_lanes(a: &Truths, b: &Truths) -> Truths
     ensures { (lane : ℕ) → lane < 512 → slice_index_or result lane No
         ≡ least (slice_index_or a.now lane No) (slice_index_or b.now lane No) }
 {
-    let mut truths = [Truth::Unknown; 512];
+    let mut truths = [Truth::Unknown; LANES];
     for lane in 0..512 {
         truths[lane] = both(a[lane], b[lane]);
     }
@@ -71,7 +71,7 @@ pub fn either_in_lanes(a: &Truths, b: &Truths) -> Truths
     ensures { (lane : ℕ) → lane < 512 → slice_index_or result lane No
         ≡ greatest (slice_index_or a.now lane No) (slice_index_or b.now lane No) }
 {
-    let mut truths = [Truth::Unknown; 512];
+    let mut truths = [Truth::Unknown; LANES];
     for lane in 0..512 {
         truths[lane] = either(a[lane], b[lane]);
     }
@@ -83,7 +83,7 @@ pub fn opposite_in_lanes(a: &Truths) -> Truths
     ensures { (lane : ℕ) → lane < 512 → slice_index_or result lane No
         ≡ negation (slice_index_or a.now lane No) }
 {
-    let mut truths = [Truth::Unknown; 512];
+    let mut truths = [Truth::Unknown; LANES];
     for lane in 0..512 {
         truths[lane] = opposite(a[lane]);
     }
@@ -95,7 +95,7 @@ pub fn tested_in_lanes(a: &Truths, wanted: Truth) -> Truths
     ensures { (lane : ℕ) → lane < 512 → slice_index_or result lane No
         ≡ truth_from (is_truth (slice_index_or a.now lane No) wanted) }
 {
-    let mut truths = [Truth::Unknown; 512];
+    let mut truths = [Truth::Unknown; LANES];
     for lane in 0..512 {
         truths[lane] = Truth::of(a[lane] == wanted);
     }
@@ -110,7 +110,7 @@ pub fn true_in_lanes(truths: &Truths, rows: u32) -> Plane
         ≡ keeps (slice_index_or those lane []))
         → lanes_of_words result ≡ map keeps those ++ replicate (group_size - length those) false }
 {
-    let mut bytes = [0; 512];
+    let mut bytes = [0; LANES];
     for lane in 0..rows as usize {
         bytes[lane] = (truths[lane] == Truth::Yes) as u8;
     }

@@ -13,7 +13,7 @@ use crate::kernels::{
     nulls_in_lanes, opposite_in_lanes, tested_in_lanes, true_in_lanes,
 };
 use crate::prepared::Prepared;
-use bw_lanes::Plane;
+use bw_lanes::{LANES, Plane};
 use bw_model::{Op, Operand, Truth, admitted_rows_have_each_value};
 use bw_segment::{Segment, values_in_lanes};
 
@@ -37,7 +37,7 @@ fn truths<S: Segment>(cond: &Prepared, segment: &S) -> Truths
         ≡ prepared_truth (row_at (S.meaning segment.now).rows lane) cond.now }
 {
     match cond {
-        Prepared::Always => [Truth::Yes; 512],
+        Prepared::Always => [Truth::Yes; LANES],
         Prepared::Cmp(op, x, y) => compared_rows(*op, *x, *y, segment),
         Prepared::Between(x, y, z) => both_in_lanes(
             &compared_rows(Op::Ge, *x, *y, segment),
@@ -62,7 +62,7 @@ fn all_of<S: Segment>(parts: &[Prepared], segment: &S) -> Truths
     ensures { (lane : ℕ) → lane < 512 → slice_index_or result lane No
         ≡ all_of (map (prepared_truth (row_at (S.meaning segment.now).rows lane)) parts.now) }
 {
-    let mut least = [Truth::Yes; 512];
+    let mut least = [Truth::Yes; LANES];
     for part in parts {
         least = both_in_lanes(&least, &truths(part, segment));
     }
@@ -76,7 +76,7 @@ fn any_of<S: Segment>(parts: &[Prepared], segment: &S) -> Truths
     ensures { (lane : ℕ) → lane < 512 → slice_index_or result lane No
         ≡ any_of (map (prepared_truth (row_at (S.meaning segment.now).rows lane)) parts.now) }
 {
-    let mut greatest = [Truth::No; 512];
+    let mut greatest = [Truth::No; LANES];
     for part in parts {
         greatest = either_in_lanes(&greatest, &truths(part, segment));
     }
@@ -99,7 +99,7 @@ fn among_others<S: Segment>(x: Operand, others: &[Operand], segment: &S) -> Trut
         ≡ among (operand_value (row_at (S.meaning segment.now).rows lane) x)
         (map (operand_value (row_at (S.meaning segment.now).rows lane)) others.now) }
 {
-    let mut greatest = [Truth::No; 512];
+    let mut greatest = [Truth::No; LANES];
     for other in others {
         greatest = either_in_lanes(&greatest, &compared_rows(Op::Eq, x, *other, segment));
     }
@@ -113,8 +113,8 @@ fn values_of<S: Segment>(operand: Operand, segment: &S) -> Values
 {
     match operand {
         Operand::Col(column) => column_values(column, segment),
-        Operand::Lit(n) => [Some(n); 512],
-        Operand::Null => [None; 512],
+        Operand::Lit(n) => [Some(n); LANES],
+        Operand::Null => [None; LANES],
     }
 }
 
@@ -124,7 +124,7 @@ fn column_values<S: Segment>(column: usize, segment: &S) -> Values
         ≡ value_in (row_at (S.meaning segment.now).rows lane) column }
 {
     admitted_rows_have_each_value();
-    let mut values = [None; 512];
+    let mut values = [None; LANES];
     if column < segment.schema().columns.len() {
         values_in_lanes(segment, column, &mut values);
     }

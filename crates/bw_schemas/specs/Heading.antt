@@ -1,6 +1,7 @@
 -- The names of the columns that a heading makes.
 use Rattle.std.specs.Prelude.{ℕ, List, [], ◌∷◌, ◌++◌, map, not, length, nat_le, Result, Ok}
 use Rattle.std.specs.List.{list_any}
+use Rattle.bw_model.specs.declared.fault.code.TheConstants.{SCHEMA_NAME, NAME_TWICE, COLUMN_COUNT}
 use Rattle.bw_model.specs.declared.fault.Fault.{Fault}
 use Rattle.bw_model.specs.Fault.{at_record, ◌>>=◌, refused_if}
 use Rattle.bw_model.specs.Limits.{most_columns}
@@ -14,14 +15,14 @@ use Rattle.bw_csv.specs.Rows.{without_blanks}
 unfoldable pub names_from : List (List ℕ) → List (List ℕ) → Result (List (List ℕ)) Fault
 names_from before [] = Ok before
 names_from before (name ∷ names) =
-    refused_if (nat_le most_columns (length before)) (at_record 105 0)
-    (refused_if (not (is_name name)) (at_record 102 0)
-    (refused_if (list_any (λ other. same_text other name) before) (at_record 104 0)
+    refused_if (nat_le most_columns (length before)) (at_record COLUMN_COUNT 0)
+    (refused_if (not (is_name name)) (at_record SCHEMA_NAME 0)
+    (refused_if (list_any (λ other. same_text other name) before) (at_record NAME_TWICE 0)
     (names_from (before ++ name ∷ []) names)))
 
 -- a heading has a name at least
 abbrev pub some_names : List (List ℕ) → Result (List (List ℕ)) Fault
-some_names names = refused_if (is_empty names) (at_record 105 0) (Ok names)
+some_names names = refused_if (is_empty names) (at_record COLUMN_COUNT 0) (Ok names)
 
 -- the names that the fields of a heading are, without the blanks at their ends
 unfoldable pub heading_names : List (List ℕ) → Result (List (List ℕ)) Fault

@@ -1,6 +1,7 @@
 -- What a call that infers a schema is to write, by what came of the CSV's source.
 use Rattle.std.specs.Prelude.{◌≡◌, ◌||◌, ◌&&◌, Bool, ℕ, List, length, nat_le, not, Option, Result, Ok}
 use Rattle.std.specs.Io.KnownBytes.{Appends}
+use Rattle.bw_model.specs.declared.fault.code.TheConstants.{SCHEMA_NAME, COLUMN_COUNT}
 use Rattle.bw_model.specs.declared.fault.Fault.{Fault}
 use Rattle.bw_model.specs.declared.schema.Schema.{Schema}
 use Rattle.bw_model.specs.Fault.{nowhere, ◌>>=◌, refused_if}
@@ -19,7 +20,7 @@ inferred_text table csv = inferred table csv >>= λ schema. Ok (schema_text sche
 
 -- the same by what came, once it's certain that the table's name is a name
 abbrev pub text_from : List ℕ → Result (Option (List ℕ)) Fault → Result (List ℕ) Fault
-text_from table csv = refused_if (not (is_name table)) (nowhere 102) (csv_from csv >>= inferred_text table)
+text_from table csv = refused_if (not (is_name table)) (nowhere SCHEMA_NAME) (csv_from csv >>= inferred_text table)
 
 -- an error of the reader's own stands at the heading, or at a record after a heading of names and records that have rows
 abbrev pub StopsInferring : List ℕ → Fault → Type 0
@@ -41,4 +42,4 @@ pub record InfersExactly (csv : List ℕ) (old new : Option (List ℕ)) : Type 0
 
 -- a fault of a heading or of the bounds (102 to 105), or of a CSV text
 abbrev pub is_inferring_fault : Fault → Bool
-is_inferring_fault fault = (nat_le 102 fault.code && nat_le fault.code 105) || is_rows_fault fault
+is_inferring_fault fault = (nat_le SCHEMA_NAME fault.code && nat_le fault.code COLUMN_COUNT) || is_rows_fault fault

@@ -1,6 +1,7 @@
 -- The schema that is inferred from a CSV text: the columns of its heading, as narrow as the values that stand in them.
 use Rattle.std.specs.Prelude.{◌≡◌, ℕ, ℤ, suc, pos, ◌<◌, Bool, not, List, [], ◌∷◌, length, Option, Some, None, Result, Ok, Err, slice_index_or}
 use Rattle.std.specs.List.{list_any}
+use Rattle.bw_model.specs.declared.fault.code.TheConstants.{SCHEMA_RANGE, NO_HEADING}
 use Rattle.bw_model.specs.declared.column.Column.{Column}
 use Rattle.bw_model.specs.declared.fault.Fault.{Fault}
 use Rattle.bw_model.specs.declared.query.Item.TheVariants.{Min, Max}
@@ -34,7 +35,7 @@ columns_over rows column (name ∷ names) = column_over rows column name ∷ col
 
 -- a column, unless its bounds are 2^63 or more apart, which is a fault at the heading; and columns
 abbrev pub ranged_column : ColumnShape → Result ColumnShape Fault
-ranged_column column = refused_if (not (is_range column.lo column.hi)) (at_record 103 0) (Ok column)
+ranged_column column = refused_if (not (is_range column.lo column.hi)) (at_record SCHEMA_RANGE 0) (Ok column)
 
 unfoldable pub ranged : List ColumnShape → Result (List ColumnShape) Fault
 ranged [] = Ok []
@@ -50,7 +51,7 @@ schema_over table names rows = ranged (columns_over rows 0 names) >>= λ columns
 -- the schema of records, the first of which is the heading and has number 0, or the first fault in them: the heading, the
 -- records after it, and then the bounds
 unfoldable pub inferred_behind : List ℕ → List (List (List ℕ)) → Result SchemaShape Fault
-inferred_behind table [] = Err (at_record 201 0)
+inferred_behind table [] = Err (at_record NO_HEADING 0)
 inferred_behind table (heading ∷ more) =
     heading_names heading >>= λ names. bare_rows (length names) 1 more >>= λ rows. schema_over table names rows
 

@@ -1,5 +1,6 @@
 //! The header of a table file, written as text.
 ghost use Rattle.std.specs.Prelude.{◌≡◌, ◌-◌, ◌^◌, ◌<◌, ℕ, List, Result, Some, length, IfErr, IsTrue, OnOk};
+ghost use Rattle.bw_model.specs.declared.fault.code.TheConstants.{READ_FAILED};
 ghost use Rattle.bw_model.specs.declared.fault.Fault.{Fault};
 ghost use Rattle.bw_model.specs.declared.schema.Schema.{Schema};
 ghost use Rattle.bw_model.specs.Fault.{nowhere};
@@ -41,7 +42,7 @@ pub fn info<S: Source, K: Sink>(alloc: Global, table: &mut S, sink: &mut K) -> R
     ensures accepted { (bytes : List ℕ) (layout : Layout) (schema : Schema) (rows : List (List Value))
         → S.to_come table.old ≡ Some bytes → IsFileText bytes layout schema rows
         → IfErr result (λ fault. IsTrue (is_no_verdict fault)) }
-    ensures table { EndsWith (nowhere 701) (S.failures table.old) (S.failures table.new) result }
+    ensures table { EndsWith (nowhere READ_FAILED) (S.failures table.old) (S.failures table.new) result }
     ensures sink { LeavesSink (K.taken sink.old) (K.taken sink.new) (K.failures sink.old) (K.failures sink.new) result }
 {
     a_file_text_is_read_whole();

@@ -1,6 +1,7 @@
 -- The first fault of a column's block, by its number: 308, a bit of a padding row is 1; 307, a row that is null has a
 -- code that isn't 0; 306, a code is above the column's greatest.
 use Rattle.std.specs.Prelude.{◌≡◌, ℕ, zero, suc, ◌+◌, ◌-◌, ◌<◌, ◌≤◌, Bool, true, false, not, ◌&&◌, ◌||◌, ◌==◌, nat_lt, List, length, slice_index, slice_index_or, Option, Some, None, if◌then◌else◌}
+use Rattle.bw_model.specs.declared.fault.code.TheConstants.{CODE_TOO_LARGE, NULL_WITH_CODE, PADDING}
 use Rattle.bw_model.specs.declared.column.Column.{Column}
 use Rattle.bw_model.specs.Code.{span_at}
 use Rattle.bw_model.specs.Groups.{group_size}
@@ -13,11 +14,11 @@ or_else (Some fault) other = Some fault
 
 -- the fault of a padding row's null bit and code
 abbrev pub padding_fault : Bool → ℕ → Option ℕ
-padding_fault null code = if null || not (code == 0) then Some 308 else None
+padding_fault null code = if null || not (code == 0) then Some PADDING else None
 
 -- the fault of a row's, in a column with this greatest code
 abbrev pub row_fault : ℕ → Bool → ℕ → Option ℕ
-row_fault span null code = if null && not (code == 0) then Some 307 else (if nat_lt span code then Some 306 else None)
+row_fault span null code = if null && not (code == 0) then Some NULL_WITH_CODE else (if nat_lt span code then Some CODE_TOO_LARGE else None)
 
 -- the first fault among so many rows: that of the rows before the last one, or else the last one's
 abbrev pub first_fault : (ℕ → Option ℕ) → ℕ → Option ℕ

@@ -1,5 +1,6 @@
 -- What the sources of a schema and of a CSV say, by what came of them.
 use Rattle.std.specs.Prelude.{◌≡◌, ℕ, List, Option, Some, None, Result, Ok, Err, MatchBool}
+use Rattle.bw_model.specs.declared.fault.code.TheConstants.{SCHEMA_TOO_LONG}
 use Rattle.bw_model.specs.declared.fault.Fault.{Fault}
 use Rattle.bw_model.specs.declared.schema.Schema.{Schema}
 use Rattle.bw_model.specs.Fault.{nowhere, no_memory, is_memory}
@@ -11,7 +12,7 @@ use Rattle.bw_csv.specs.Rows.{StopsUnder}
 abbrev pub IsSchemaFrom : Result (Option (List ℕ)) Fault → Result Schema Fault → Type 0
 IsSchemaFrom (Ok (Some text)) (Ok schema) = IsSchemaText text (schema_shape schema)
 IsSchemaFrom (Ok (Some text)) (Err fault) = schema_of text ≡ Err fault
-IsSchemaFrom (Ok None) outcome = outcome ≡ Err (nowhere 106)
+IsSchemaFrom (Ok None) outcome = outcome ≡ Err (nowhere SCHEMA_TOO_LONG)
 IsSchemaFrom (Err fault) outcome = outcome ≡ Err fault
 
 -- What a call that reads a schema answered is the schema or fault of what came; where it found no memory, so did what

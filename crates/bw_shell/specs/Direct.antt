@@ -1,5 +1,6 @@
 -- What an answer straight from a CSV text is to be, by what came of the schema's source and of the CSV's.
 use Rattle.std.specs.Prelude.{◌≡◌, ◌&&◌, ◌||◌, Bool, ℕ, List, nat_le, Option, Result, Ok, Err}
+use Rattle.bw_model.specs.declared.fault.code.TheConstants.{SCHEMA_FORM, SCHEMA_TOO_LONG, CHARACTER, NESTING}
 use Rattle.bw_model.specs.declared.fault.Fault.{Fault}
 use Rattle.bw_model.specs.declared.query.Query.{Query}
 use Rattle.bw_model.specs.declared.schema.Schema.{Schema}
@@ -14,8 +15,8 @@ use Rattle.bw_shell.specs.Arrived.{IsSchemaFrom}
 
 -- a fault of a schema text or of a statement, which is answered before the CSV is read
 abbrev pub is_before_csv : Fault → Bool
-is_before_csv fault = (nat_le 101 fault.code && nat_le fault.code 106)
-    || (nat_le 401 fault.code && nat_le fault.code 408)
+is_before_csv fault = (nat_le SCHEMA_FORM fault.code && nat_le fault.code SCHEMA_TOO_LONG)
+    || (nat_le CHARACTER fault.code && nat_le fault.code NESTING)
 
 -- the text of the answer to a query over the rows that a CSV text spells, or the first fault in that text
 abbrev pub answer_of : List Column → Query → List ℕ → Result (List ℕ) Fault

@@ -1,5 +1,6 @@
 -- What a text is read as by the reading functions, or the fault at which they stop.
 use Rattle.std.specs.Prelude.{◌≡◌, ℕ, ◌-◌, List, length, Option, Some, None, Result, Ok, Err, false, slice_get}
+use Rattle.bw_model.specs.declared.fault.code.TheConstants.{CHARACTER}
 use Rattle.bw_model.specs.declared.fault.Fault.{Fault}
 use Rattle.bw_model.specs.declared.query.Query.{Query}
 use Rattle.bw_model.specs.declared.schema.Schema.{Schema}
@@ -17,7 +18,7 @@ use Rattle.bw_sql.specs.Statement.{tokens_of}
 -- else the refusal stands at the end.
 abbrev pub fault_at : Option Spot → Option ℕ → ℕ → Refusal → Fault
 fault_at (Some spot) stop end why = at_byte (code_of why) spot.at
-fault_at None (Some at) end why = at_byte 401 at
+fault_at None (Some at) end why = at_byte CHARACTER at
 fault_at None None end why = at_byte (code_of why) end
 
 -- the token from which on so many are left
@@ -27,7 +28,7 @@ spot_from left tokens = slice_get tokens (length tokens - left)
 -- what was read, once all tokens were cut, or the fault
 abbrev pub judged : List Spot → Option ℕ → ℕ → Result Asked Halt → Result Asked Fault
 judged tokens None end (Ok query) = Ok query
-judged tokens (Some at) end (Ok query) = Err (at_byte 401 at)
+judged tokens (Some at) end (Ok query) = Err (at_byte CHARACTER at)
 judged tokens stop end (Err halt) = Err (fault_at (spot_from halt.left tokens) stop end halt.why)
 
 -- a text is read as what its tokens give

@@ -1,5 +1,6 @@
 -- What a text says: the query that it spells, or its fault.
 use Rattle.std.specs.Prelude.{◌≡◌, ℕ, ◌<◌, ◌≤◌, ◌⊎◌, List, map, length, Option, Some, None, Result, Ok, Err, false, slice_get}
+use Rattle.bw_model.specs.declared.fault.code.TheConstants.{CHARACTER, STATEMENT_TOO_LONG}
 use Rattle.bw_model.specs.declared.fault.Fault.{Fault}
 use Rattle.bw_model.specs.declared.query.Query.{Query}
 use Rattle.bw_model.specs.declared.schema.Schema.{Schema}
@@ -37,11 +38,11 @@ pub data IsRefusal (schema : Schema) (text : List ℕ) : Fault → Type 0 where
       → IsRefusal schema text (at_byte (code_of Syntax) (length text))
   byte_refused : {tokens : List Spot} {at : ℕ} → IsCut 0 text tokens (Some at) →
       ((why : Refusal) (place : ℕ) → IsFirst schema (tokens_of tokens) why place → length tokens ≤ place)
-      → IsRefusal schema text (at_byte 401 at)
+      → IsRefusal schema text (at_byte CHARACTER at)
 
 -- the fault of a text: 407 at its first byte past the most, where it is too long
 pub data IsFault (schema : Schema) (text : List ℕ) : Fault → Type 0 where
-  too_long : longest_statement < length text → IsFault schema text (at_byte 407 longest_statement)
+  too_long : longest_statement < length text → IsFault schema text (at_byte STATEMENT_TOO_LONG longest_statement)
   refused : {fault : Fault} → length text ≤ longest_statement → IsRefusal schema text fault → IsFault schema text fault
 
 -- a text is read as the query that it spells, or as its fault

@@ -19,6 +19,7 @@
 
 ghost use Rattle.std.specs.Prelude.{List, ℕ, Option, ◌≡◌, ◌<◌, ◌≤◌, length, IfOk, IfErr, IsTrue, vec_len};
 ghost use Rattle.std.specs.List.{list_all};
+ghost use Rattle.bw_model.specs.declared.fault.code.TheConstants.{STATEMENT_TOO_LONG};
 ghost use Rattle.bw_model.specs.Fault.{at_byte, is_memory};
 ghost use Rattle.bw_model.specs.Cond.{names_within, is_whole};
 ghost use Rattle.bw_model.specs.SchemaText.{schema_shape};
@@ -66,7 +67,7 @@ pub fn parse(alloc: Global, schema: &Schema, text: &[u8]) -> Result<Query, Fault
     ensures read { Parses schema.now text.now result }
     ensures refused { (query : Asked) → Spells schema.now text.now query
         → IfErr result (λ fault. IsTrue (is_memory fault)) }
-    ensures too_long { longest_statement < length text.now → result ≡ Err (at_byte 407 longest_statement) }
+    ensures too_long { longest_statement < length text.now → result ≡ Err (at_byte STATEMENT_TOO_LONG longest_statement) }
     ensures columns { IfOk result (λ query.
         IsTrue (names_within (vec_len schema.now.columns) query.cond)) }
     ensures whole { IfOk result (λ query. IsTrue (is_whole query.cond)) }
@@ -81,7 +82,7 @@ pub fn parse(alloc: Global, schema: &Schema, text: &[u8]) -> Result<Query, Fault
 
 /// The query that a statement is read as, or the fault at which reading stopped.
 fn read(alloc: Global, schema: &Schema, text: &[u8]) -> Result<Query, Fault>
-    ensures too_long { longest_statement < length text.now → result ≡ Err (at_byte 407 longest_statement) }
+    ensures too_long { longest_statement < length text.now → result ≡ Err (at_byte STATEMENT_TOO_LONG longest_statement) }
     ensures exact { length text.now ≤ longest_statement → Answers schema.now text.now result }
     ensures fault { IfErr result IsStatementFault }
 {
