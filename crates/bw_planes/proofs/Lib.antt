@@ -2,3 +2,4 @@ pub mod ChoiceLemmas
 pub mod CodeLemmas
 pub mod CompareLemmas
 pub mod SumLemmas
+pub mod TransposeLemmas

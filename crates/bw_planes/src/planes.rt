@@ -1,12 +1,13 @@
 //! Codes kept as planes, and what they answer.
-ghost use Rattle.std.specs.Prelude.{◌≡◌, ◌*◌, ◌^◌, ◌<◌, ◌≤◌};
-ghost use Rattle.bw_planes.specs.Planes.{plane_packing};
+ghost use Rattle.std.specs.Prelude.{◌≡◌, ◌*◌, ◌^◌, ◌<◌, ◌≤◌, length, map};
+ghost use Rattle.bw_model.specs.Stored.{byte_of};
+ghost use Rattle.bw_planes.specs.Planes.{plane_packing, planes_codes};
 ghost use Rattle.bw_planes.specs.Kept.{planes_keep_codes};
 
 use crate::compare::{at_least, eq};
-use bw_lanes::{Plane, and, bytes_bit, count_and, is_zero, load, not, or, to_bytes};
+use bw_lanes::{Plane, and, bytes_bit, count_and, is_zero, load, not, or, push_bit, to_bytes};
 use bw_model::Fault;
-use bw_segment::{Layout, slices_of};
+use bw_segment::{Layout, push_byte, put_byte, slices_of};
 
 /// Codes kept as planes, one for each bit, from the top bit down, 64 bytes a plane: bit i mod 8, the least first, of byte
 /// i / 8 is row i's.
@@ -111,7 +112,32 @@ impl Layout for Planes {
         code
     }
 
+    fn unpack(width: u32, bytes: &[u8], codes: &mut [u64; 512]) {
+        let slices = (width as usize + 7) / 8;
+        put_byte(codes, &byte_at(width, bytes, slices - 1));
+        for place in 1..slices {
+            push_byte(codes, &byte_at(width, bytes, slices - 1 - place));
+        }
+    }
+
     ghost keeps = { planes_keep_codes };
+}
+
+/// A byte of each code, of which byte 0 is the least: the planes of its bits are shifted into a byte of each lane, from the
+/// top one down.
+fn byte_at(width: u32, bytes: &[u8], slice: usize) -> [u8; 512]
+    requires width { (1 ≤ width) × (width ≤ 63) }
+    requires size { length bytes.now ≡ 64 * width }
+    requires slice { 8 * slice < width }
+    ensures { result ≡ map (byte_of slice) (planes_codes width bytes.now) }
+{
+    let low = 8 * slice as u32;
+    let count = (width - low).min(8);
+    let mut byte = [0; 512];
+    for place in 0..count {
+        push_bit(&mut byte, &Planes::bit(width, bytes, low + count - 1 - place));
+    }
+    byte
 }
 
 /// What a bit adds to the sum of codes in which it is 1, so many of them.

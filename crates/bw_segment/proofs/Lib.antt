@@ -1,3 +1,4 @@
+pub mod ByteLemmas
 pub mod CodeLemmas
 pub mod ColumnLemmas
 pub mod DescentLemmas
@@ -12,5 +13,4 @@ pub mod ShapeLemmas
 pub mod SoundLemmas
 pub mod SpanLemmas
 pub mod TextLemmas
-pub mod TransposeLemmas
 pub mod ValueLemmas

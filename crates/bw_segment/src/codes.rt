@@ -1,5 +1,6 @@
-//! The bytes of the codes of one column of a group, from which both layouts are built.
-ghost use Rattle.std.specs.Prelude.{◌≡◌, ◌<◌, ◌≤◌, ℕ, [], length, map, slice_index_or};
+//! The bytes of the codes of one column of a group, from which both layouts are built, and codes made of bytes.
+ghost use Rattle.std.specs.Prelude.{◌≡◌, ◌<◌, ◌≤◌, ◌+◌, ◌*◌, ◌%◌, ◌^◌, ℕ, [], length, map, slice_index_or};
+ghost use lib.Lanes.{zip2};
 ghost use Rattle.bw_model.specs.Stored.{byte_of};
 
 /// A byte of each code, of which byte 0 is the least.
@@ -25,4 +26,30 @@ pub fn slices_of(codes: &[u64; 512], count: usize) -> [[u8; 512]; 8]
         slices[slice] = bytes_of(codes, slice);
     }
     slices
+}
+
+/// Makes each byte the code of its lane.
+pub fn put_byte(codes: &mut [u64; 512], bytes: &[u8; 512])
+    ensures { codes.new ≡ bytes.now }
+{
+    for lane in 0..512 {
+        codes[lane] = u64::from(bytes[lane]);
+    }
+}
+
+/// Shifts one more byte into each code: a code becomes 256 times itself plus the byte, modulo 2^64.
+pub fn push_byte(codes: &mut [u64; 512], bytes: &[u8; 512])
+    ensures { codes.new ≡ zip2 (λ code byte. (256 * code + byte) % 2 ^ 64) codes.old bytes.now }
+{
+    for lane in 0..512 {
+        codes[lane] = with_byte(codes[lane], bytes[lane]);
+    }
+}
+
+/// A code becomes 256 times itself plus a byte, modulo 2^64.
+#[tactic(auto, using(crate::proofs::ByteLemmas::byte_shifted))]
+fn with_byte(code: u64, byte: u8) -> u64
+    ensures { result ≡ (256 * code + byte) % 2 ^ 64 }
+{
+    code << 8 | u64::from(byte)
 }

@@ -101,6 +101,12 @@ pub trait Layout {
         requires lane { lane < 512 }
         ensures { result ≡ slice_index (packing.codes width bytes.now) lane };
 
+    /// The code of each lane.
+    fn unpack(width: u32, bytes: &[u8], codes: &mut [u64; 512])
+        requires width { (1 ≤ width) × (width ≤ 63) }
+        requires size { length bytes.now ≡ packing.size width }
+        ensures { codes.new ≡ packing.codes width bytes.now };
+
     /// A law: what is kept is read again.
     ghost keeps: { IsPacking packing };
 }

@@ -2,8 +2,8 @@
 //!
 //! The contract that the crates above use: a [`Segment`] means the columns of a schema and 1 to 512 rows that
 //! they admit, and each of its methods answers from that meaning alone, whatever the layout. Bit i of
-//! `plane(v)` is row i's bit of the variable v, and 0 past the last row. [`codes_in_lanes`] and [`values_in_lanes`] give a
-//! column in all 512 lanes at once, out of its planes.
+//! `plane(v)` is row i's bit of the variable v, and 0 past the last row. `codes` and [`values_in_lanes`] give a column in all
+//! 512 lanes at once.
 //!
 //! A [`PackedSegment`] is kept as the bytes of its blocks, in a [`Layout`], which says how the codes of one column are kept:
 //! bit planes, after BitWeaving's vertical layout (Li and Patel), in `bw_planes`, and byte slices, after ByteSlice (Feng, Lo,
@@ -36,7 +36,7 @@ mod shape;
 mod values;
 
 pub use block::fault_of_lanes;
-pub use codes::{bytes_of, slices_of};
+pub use codes::{bytes_of, push_byte, put_byte, slices_of};
 pub use columns::{ColumnCodes, clear_rows, columns_of, keep_row, no_rows};
 pub use group::is_group;
 pub use lanes::lanes_hold_codes;
@@ -45,4 +45,4 @@ pub use packed::PackedSegment;
 pub use packing::{blocks_are_added, sound_bytes_spell_a_group, text_of_a_group_is_sound};
 pub use segment::Segment;
 pub use shape::Shape;
-pub use values::{codes_in_lanes, values_in_lanes};
+pub use values::values_in_lanes;

@@ -38,7 +38,7 @@ impl<L: Layout> Segment for PackedSegment<L> {
 
     #[inline(always)]
     fn bit(&self, col: usize, bit: u32) -> Plane {
-        let (width, codes) = self.codes(col);
+        let (width, codes) = self.kept(col);
         L::bit(width, codes, bit)
     }
 
@@ -49,36 +49,41 @@ impl<L: Layout> Segment for PackedSegment<L> {
 
     #[inline(always)]
     fn byte_lt(&self, col: usize, slice: usize, c: u8) -> Plane {
-        let (width, codes) = self.codes(col);
+        let (width, codes) = self.kept(col);
         L::byte_lt(width, codes, slice, c)
     }
 
     #[inline(always)]
     fn byte_eq(&self, col: usize, slice: usize, c: u8) -> Plane {
-        let (width, codes) = self.codes(col);
+        let (width, codes) = self.kept(col);
         L::byte_eq(width, codes, slice, c)
     }
 
     fn sum_of_codes(&self, col: usize, rows: &Plane) -> u128 {
-        let (width, codes) = self.codes(col);
+        let (width, codes) = self.kept(col);
         L::sum(width, codes, rows)
     }
 
     fn least_code(&self, col: usize, rows: &Plane) -> Option<u64> {
-        let (width, codes) = self.codes(col);
+        let (width, codes) = self.kept(col);
         L::least(width, codes, rows)
     }
 
     fn greatest_code(&self, col: usize, rows: &Plane) -> Option<u64> {
-        let (width, codes) = self.codes(col);
+        let (width, codes) = self.kept(col);
         L::greatest(width, codes, rows)
+    }
+
+    fn codes(&self, col: usize, codes: &mut [u64; 512]) {
+        let (width, kept) = self.kept(col);
+        L::unpack(width, kept, codes);
     }
 
     fn value(&self, col: usize, row: usize) -> Value {
         if lane(&self.nulls(col), row) {
             return None;
         }
-        let (width, codes) = self.codes(col);
+        let (width, codes) = self.kept(col);
         Some(self.shape.schema.value(col, L::code(width, codes, row)))
     }
 
@@ -158,7 +163,7 @@ impl<L: Layout> PackedSegment<L> {
 
     /// How many digits a column's codes have, and the bytes that keep them, which end its block.
     #[inline(always)]
-    fn codes(&self, col: usize) -> (u32, &[u8])
+    fn kept(&self, col: usize) -> (u32, &[u8])
         requires { col < length self.now.shape.value.schema.columns.items }
         ensures width { result.0 ≡ width_at self.now.shape.value.schema.columns.items col }
         ensures bounds { (1 ≤ result.0) × (result.0 ≤ 63) }

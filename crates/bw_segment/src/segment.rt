@@ -6,7 +6,7 @@ ghost use Rattle.bw_model.specs.Code.{has_bit, slices_at, width_at};
 ghost use Rattle.bw_model.specs.Groups.{group_size};
 ghost use Rattle.bw_model.specs.Row.{value_in};
 ghost use Rattle.bw_model.specs.Variable.{bit_variable, null_variable, variables_of};
-ghost use Rattle.bw_segment.specs.Meaning.{Meaning, IsGroup, variable_lanes, byte_lanes, null_lanes};
+ghost use Rattle.bw_segment.specs.Meaning.{Meaning, IsGroup, variable_lanes, byte_lanes, code_lanes, null_lanes};
 ghost use Rattle.bw_segment.specs.Picked.{bit_lanes, codes_in};
 
 use bw_lanes::Plane;
@@ -74,6 +74,12 @@ pub trait Segment {
         ensures greatest { result
             ≡ reduce max (codes_in (meaning self.now) col (lanes_of_words rows.now)) }
         ensures bound { IfSome result (λ code. code < 2 ^ 63) };
+
+    /// The codes of a column in the 512 lanes, as they are stored: that of row i in lane i, and 0 where the row is null and
+    /// past the last row.
+    fn codes(&self, col: usize, codes: &mut [u64; 512])
+        requires { col < length (meaning self.now).columns }
+        ensures { codes.new ≡ code_lanes (meaning self.now) col };
 
     /// The value of a row, from 0, in a column.
     fn value(&self, col: usize, row: usize) -> Value

@@ -1,34 +1,13 @@
-//! A column in all 512 lanes of a group at once, out of its planes: they are transposed.
-ghost use Rattle.std.specs.Prelude.{◌≡◌, ◌==◌, ◌<◌, ◌≤◌, ◌+◌, ◌-◌, ◌*◌, ◌%◌, ◌^◌, ℕ, true, [], ◌++◌, Some, None, All, length, map, replicate, slice_index, slice_index_or, if◌then◌else◌};
-ghost use lib.Lanes.{zip2};
+//! The values of a column in all 512 lanes of a group at once.
+ghost use Rattle.std.specs.Prelude.{◌≡◌, ◌==◌, ◌<◌, ◌≤◌, ◌-◌, ℕ, true, [], ◌++◌, Some, None, All, length, map, replicate, slice_index, slice_index_or, if◌then◌else◌};
 ghost use Rattle.bw_lanes.specs.Lanes.{lanes_of_words};
 ghost use Rattle.bw_model.specs.Code.{span_of, value_of_code};
 ghost use Rattle.bw_model.specs.Row.{value_in};
 ghost use Rattle.bw_model.specs.Truth.{is_null};
-ghost use Rattle.bw_segment.specs.Meaning.{code_lanes};
 
 use crate::segment::Segment;
-use bw_lanes::{Plane, bytes_of_plane, mask, not, or, push_bit};
+use bw_lanes::{Plane, bytes_of_plane, mask, not, or};
 use bw_model::{Column, Value};
-
-/// The codes of a column in the 512 lanes, as they are stored: that of row i in lane i, and 0 where the row is null and
-/// past the last row. The planes of the column's bits, as BitWeaving's vertical layout has them, are shifted into a byte
-/// of each lane, from the top bit down, and each byte that is whole is shifted into the codes.
-pub fn codes_in_lanes<S: Segment>(segment: &S, col: usize, codes: &mut [u64; 512])
-    requires { col < length (S.meaning segment.now).columns }
-    ensures { codes.new ≡ code_lanes (S.meaning segment.now) col }
-{
-    *codes = [0; 512];
-    let mut bytes = [0; 512];
-    let mut bit = segment.schema().width(col);
-    while bit > 0 {
-        bit -= 1;
-        push_bit(&mut bytes, &segment.bit(col, bit));
-        if bit % 8 == 0 {
-            push_byte(codes, &bytes);
-        }
-    }
-}
 
 /// The values of a column in the 512 lanes: that of row i in lane i, and null past the last row.
 pub fn values_in_lanes<S: Segment>(segment: &S, col: usize, values: &mut [Value; 512])
@@ -37,26 +16,9 @@ pub fn values_in_lanes<S: Segment>(segment: &S, col: usize, values: &mut [Value;
         ≡ value_in (slice_index_or (S.meaning segment.now).rows lane []) col }
 {
     let mut codes = [0; 512];
-    codes_in_lanes(segment, col, &mut codes);
+    segment.codes(col, &mut codes);
     let nulls = bytes_of_plane(&no_values(segment, col));
     put_values(&segment.schema().columns[col], &codes, &nulls, values);
-}
-
-/// Shifts one more byte into the code of each lane.
-fn push_byte(codes: &mut [u64; 512], bytes: &[u8; 512])
-    ensures { codes.new ≡ zip2 (λ code byte. (256 * code + byte) % 2 ^ 64) codes.old bytes.now }
-{
-    for lane in 0..512 {
-        codes[lane] = with_byte(codes[lane], bytes[lane]);
-    }
-}
-
-/// A code becomes 256 times itself plus a byte, modulo 2^64.
-#[tactic(auto, using(crate::proofs::TransposeLemmas::byte_shifted))]
-fn with_byte(code: u64, byte: u8) -> u64
-    ensures { result ≡ (256 * code + byte) % 2 ^ 64 }
-{
-    code << 8 | u64::from(byte)
 }
 
 /// The lanes in which a column has no value: those of the rows that are null in it, and those past the last row.

@@ -9,7 +9,7 @@ use bw_lanes::{
     Plane, and, bytes_bit, bytes_eq, bytes_lt, bytes_none, bytes_of_plane, is_zero, not, or, sum_in,
 };
 use bw_model::Fault;
-use bw_segment::{Layout, bytes_of};
+use bw_segment::{Layout, bytes_of, push_byte, put_byte};
 
 /// Codes kept as byte slices. For each byte of the codes, from the most significant down, there are 512 bytes, byte i being
 /// lane i's.
@@ -100,6 +100,14 @@ impl Layout for Slices {
             code = 256 * code + u64::from(bytes[512 * place + lane]);
         }
         code
+    }
+
+    fn unpack(width: u32, bytes: &[u8], codes: &mut [u64; 512]) {
+        let slices = slices_in(width);
+        put_byte(codes, slice_of(width, bytes, slices - 1));
+        for place in 1..slices {
+            push_byte(codes, slice_of(width, bytes, slices - 1 - place));
+        }
     }
 
     ghost keeps = { slices_keep_codes };

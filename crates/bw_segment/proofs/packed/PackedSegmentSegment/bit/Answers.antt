@@ -5,4 +5,4 @@ use Rattle.bw_segment.proofs.packed.PackedSegmentSegment.bit.Goals as goal
 
 pub returns : goal.returns
 unfolding bit_lanes
-returns g c = c.bit.ensures ∙ ap (map (λ code. has_bit code c.args.bit)) c.codes-width.ensures.lanes
+returns g c = c.bit.ensures ∙ ap (map (λ code. has_bit code c.args.bit)) c.kept-width.ensures.lanes

@@ -6,4 +6,4 @@ use Rattle.bw_segment.proofs.packed.PackedSegmentSegment.sum_of_codes.Goals as g
 
 pub returns-clause-sum : goal.returns-clause-sum
 unfolding codes_in
-returns-clause-sum g c = c.sum.ensures.sum ∙ ap (λ codes. sum (picked (lanes_of_words c.args.rows.now) codes)) c.codes-width.ensures.lanes
+returns-clause-sum g c = c.sum.ensures.sum ∙ ap (λ codes. sum (picked (lanes_of_words c.args.rows.now) codes)) c.kept-width.ensures.lanes

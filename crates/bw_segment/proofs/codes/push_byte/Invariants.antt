@@ -1,6 +1,6 @@
 use Rattle.std.proofs.Common.{◌≡◌, ◌<◌, ◌≤◌, ℕ, get_or, length}
-use Rattle.bw_segment.proofs.TransposeLemmas.{with_byte}
-use Rattle.bw_segment.proofs.values.push_byte.Given as goal
+use Rattle.bw_segment.proofs.ByteLemmas.{with_byte}
+use Rattle.bw_segment.proofs.codes.push_byte.Given as goal
 
 -- the codes so far have their bytes, and the others are as they were
 abbrev pub invariant-loop-lane : goal.invariant-loop-lane

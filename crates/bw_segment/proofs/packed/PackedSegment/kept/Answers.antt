@@ -3,7 +3,7 @@ use Rattle.bw_model.specs.Code.{width_at}
 use Rattle.bw_segment.specs.declared.shape.Shape.{Shape}
 use Rattle.bw_segment.specs.Packing.{bytes_before}
 use Rattle.bw_segment.proofs.PackedLemmas.{block_within, codes_held, codes_small}
-use Rattle.bw_segment.proofs.packed.PackedSegment.codes.Goals as goal
+use Rattle.bw_segment.proofs.packed.PackedSegment.kept.Goals as goal
 
 pub slice_bounds-result-end : goal.slice_bounds-result-end
 slice_bounds-result-end g c =

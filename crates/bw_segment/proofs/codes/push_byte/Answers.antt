@@ -2,8 +2,8 @@ use Rattle.std.proofs.Common.{◌∙◌, sym, arith}
 use Rattle.std.proofs.lemmas.List.{ext_get_or}
 use Rattle.std.proofs.lemmas.Simd.{length-zip2, get_or-zip2}
 use lib.Lanes.{zip2}
-use Rattle.bw_segment.proofs.TransposeLemmas.{with_byte}
-use Rattle.bw_segment.proofs.values.push_byte.Goals as goal
+use Rattle.bw_segment.proofs.ByteLemmas.{with_byte}
+use Rattle.bw_segment.proofs.codes.push_byte.Goals as goal
 
 pub returns : goal.returns
 returns c =

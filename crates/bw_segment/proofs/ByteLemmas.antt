@@ -1,0 +1,54 @@
+-- Codes made of their bytes, from the most significant down, in many lanes at once.
+use Rattle.std.proofs.Common.{◌≡◌, ◌∙◌, sym, ap, ap₂, ℕ, suc, ◌+◌, ◌*◌, ◌/◌, ◌%◌, ◌^◌, ◌<◌, ◌≤◌, List, [], ◌∷◌, map, refl, bit_or, arith}
+use Rattle.std.specs.List.{AllByRecursion}
+use Rattle.std.proofs.Math.Nat.{div-one, mod-eq_of_lt}
+use Rattle.std.proofs.Math.Pow.{pow_mono, shr_lt}
+use Rattle.std.proofs.lemmas.Nat.{shr-shr, shr_le, or_shifted}
+use lib.Lanes.{zip2}
+use Rattle.bw_model.specs.Stored.{byte_of}
+
+-- a code with a byte shifted into it
+abbrev pub with_byte : ℕ → ℕ → ℕ
+with_byte code byte = (256 * code + byte) % 2 ^ 64
+
+-- as it is computed
+pub byte_shifted : (code byte : ℕ) → byte < 256 → bit_or (code * 2 ^ 8 % 2 ^ 64) byte ≡ with_byte code byte
+byte_shifted code byte small =
+    let low : code * 2 ^ 8 % 2 ^ 64 ≡ code % 2 ^ 56 * 2 ^ 8 = omega arith in
+    ap (λ k. bit_or k byte) low ∙ or_shifted (code % 2 ^ 56) 8 byte small ∙ omega arith
+
+-- what stands in codes from a byte on
+abbrev pub codes_from : ℕ → List ℕ → List ℕ
+codes_from slice codes = map (λ code. code / 2 ^ (8 * slice)) codes
+
+-- the byte above which there is nothing
+tops : (width slice : ℕ) (codes : List ℕ) → width ≤ 8 * slice + 8 → AllByRecursion (λ code. code < 2 ^ width) codes → map (byte_of slice) codes ≡ codes_from slice codes
+tops width slice [] le small = refl
+tops width slice (code ∷ codes) le small =
+    let wide = pow_mono {i = width} {j = 8 + 8 * slice} (omega arith) in
+    let fits : code / 2 ^ (8 * slice) < 2 ^ 8 = shr_lt 8 (8 * slice) (omega (arith, small.0, wide)) in
+    ap₂ ◌∷◌ (mod-eq_of_lt fits) (tops width slice codes le small.1)
+
+pub top_byte : (width slice : ℕ) (codes bytes : List ℕ) → width ≤ 8 * slice + 8 → AllByRecursion (λ code. code < 2 ^ width) codes → bytes ≡ map (byte_of slice) codes → bytes ≡ codes_from slice codes
+top_byte width slice codes bytes le small is = is ∙ tops width slice codes le small
+
+-- one byte more
+with_bytes : (width slice : ℕ) (codes : List ℕ) → width ≤ 64 → AllByRecursion (λ code. code < 2 ^ width) codes → zip2 with_byte (codes_from (suc slice) codes) (map (byte_of slice) codes) ≡ codes_from slice codes
+with_bytes width slice [] few small = refl
+with_bytes width slice (code ∷ codes) few small =
+    let rest = code / 2 ^ (8 * slice) in
+    let most = pow_mono {i = width} {j = 64} few in
+    let fits : rest < 2 ^ 64 = omega (arith, shr_le code (8 * slice), small.0, most) in
+    let next : 8 * suc slice ≡ 8 * slice + 8 = omega arith in
+    let whole : 256 * (rest / 256) + rest % 256 ≡ rest = omega arith in
+    ap₂ ◌∷◌ (ap (λ k. with_byte (code / 2 ^ k) (rest % 256)) next ∙ ap (λ k. with_byte k (rest % 256)) (sym (shr-shr code (8 * slice) 8)) ∙ ap (λ k. k % 2 ^ 64) whole ∙ mod-eq_of_lt fits)
+    (with_bytes width slice codes few small.1)
+
+pub byte_more : (width above slice : ℕ) (codes held bytes : List ℕ) → above ≡ suc slice → width ≤ 64 → AllByRecursion (λ code. code < 2 ^ width) codes → held ≡ codes_from above codes → bytes ≡ map (byte_of slice) codes
+    → zip2 with_byte held bytes ≡ codes_from slice codes
+byte_more width above slice codes held bytes next few small before is = ap₂ (zip2 with_byte) (before ∙ ap (λ k. codes_from k codes) next) is ∙ with_bytes width slice codes few small
+
+-- from byte 0 on there are the codes
+pub codes_whole : (slice : ℕ) (codes : List ℕ) → slice ≡ 0 → codes_from slice codes ≡ codes
+codes_whole slice [] least = refl
+codes_whole slice (code ∷ codes) least = ap₂ ◌∷◌ (ap (λ k. code / 2 ^ (8 * k)) least ∙ div-one code) (codes_whole slice codes least)
