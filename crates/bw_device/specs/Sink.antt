@@ -1,5 +1,5 @@
 -- What of a text went out to a sink.
-use Rattle.std.specs.Prelude.{◌≡◌, ◌==◌, ◌⊎◌, ℕ, ◌+◌, ◌<◌, Bool, true, false, List, length, take, Option, Result, Ok, Err, IfErr, IsOkAnd, OnOk}
+use Rattle.std.specs.Prelude.{◌≡◌, ◌==◌, ℕ, ◌+◌, ◌<◌, Bool, true, false, List, length, take, Option, Result, Ok, Err, IfErr, IsOkAnd, OnOk}
 use Rattle.std.specs.Io.KnownBytes.{Appends, Keeps}
 use Rattle.bw_model.specs.declared.fault.code.TheConstants.{WRITE_FAILED}
 use Rattle.bw_model.specs.declared.fault.Fault.{Fault}
@@ -33,33 +33,16 @@ GoesOut old new before after text (Err fault) =
 -- A call that is to write a text, or to refuse: the text went out, or up to a failed write; or the
 -- call wrote nothing and refused as it was to, where the fault isn't one of those that are set
 -- aside.
-abbrev pub Went : {T : Type 0} → (Fault → Bool) → Option (List ℕ) → Option (List ℕ) → ℕ → ℕ
+abbrev pub Wrote : {T : Type 0} → (Fault → Bool) → Option (List ℕ) → Option (List ℕ) → ℕ → ℕ
     → Result (List ℕ) Fault → Result T Fault → Type 0
-Went aside old new before after given (Ok x) =
+Wrote aside old new before after given (Ok x) =
     IsOkAnd given (λ text. Appends old new text) × (after ≡ before)
-Went aside old new before after given (Err fault) =
+Wrote aside old new before after given (Err fault) =
     (is_write_fault fault ≡ true
     → (fault ≡ nowhere WRITE_FAILED) × IsOkAnd given (TookPart old new) × (after ≡ before + 1))
     × (is_write_fault fault ≡ false
     → Keeps old new × (after ≡ before) × (aside fault ≡ false → given ≡ Err fault))
 
--- A call that is to write a text, or to refuse: the text went out; or up to a failed write; or the
--- call wrote nothing and refused as it was to.
-pub record WriteFailed (old new : Option (List ℕ)) (before after : ℕ) (given : Result (List ℕ) Fault)
-    (fault : Fault) : Type 0 where
-  pub is : fault ≡ nowhere WRITE_FAILED
-  pub part : IsOkAnd given (TookPart old new)
-  pub count : after ≡ before + 1
-
-pub record WroteNothing (old new : Option (List ℕ)) (before after : ℕ) (given : Result (List ℕ) Fault)
-    (fault : Fault) : Type 0 where
-  pub kept : Keeps old new
-  pub count : after ≡ before
-  pub is : given ≡ Err fault
-
-abbrev pub Wrote : {T : Type 0} → Option (List ℕ) → Option (List ℕ) → ℕ → ℕ → Result (List ℕ) Fault
-    → Result T Fault → Type 0
-Wrote old new before after given (Ok x) =
-    IsOkAnd given (λ text. Appends old new text) × (after ≡ before)
-Wrote old new before after given (Err fault) =
-    WriteFailed old new before after given fault ⊎ WroteNothing old new before after given fault
+-- no fault is set aside
+abbrev pub none_aside : Fault → Bool
+none_aside fault = false

@@ -1,6 +1,7 @@
 -- Reading bytes field by field: what is read of them, and the bytes after it, or the first fault.
 use Rattle.std.specs.Prelude.{◌≡◌, ℕ, ◌+◌, true, false, List, [], ◌++◌, length, take, drop, Option, IfSome, Result, Ok, Err, if◌then◌else◌, nat_lt, ◌<◌, slice_index}
 use Rattle.std.specs.Io.KnownBytes.{Consumes}
+use Rattle.bw_model.specs.declared.fault.code.TheConstants.{TRUNCATED, BYTES_AFTER_END}
 use Rattle.bw_model.specs.declared.fault.Fault.{Fault}
 use Rattle.bw_model.specs.Fault.{at_byte, refused_if}
 use Rattle.bw_device.specs.Source.{is_read_fault, is_input_fault}
@@ -35,7 +36,7 @@ give x t = Ok (x, t)
 -- file
 unfoldable pub field : ℕ → Reading (List ℕ)
 field size t =
-    refused_if (nat_lt (length t.bytes) size) (at_byte 305 (t.at + length t.bytes))
+    refused_if (nat_lt (length t.bytes) size) (at_byte TRUNCATED (t.at + length t.bytes))
     (Ok (take size t.bytes, tail (t.at + size) (drop size t.bytes)))
 
 -- what bytes say, or their fault, which stands at a place
@@ -75,11 +76,11 @@ pub record Took (old new : State) (bytes : List ℕ) : Type 0 where
 -- too early.
 abbrev pub NeedsEach : {A : Type 0} → Reading A → ℕ → List ℕ → Type 0
 NeedsEach reading at bytes =
-    (n : ℕ) → n < length bytes → reading (tail at (take n bytes)) ≡ Err (at_byte 305 (at + n))
+    (n : ℕ) → n < length bytes → reading (tail at (take n bytes)) ≡ Err (at_byte TRUNCATED (at + n))
 
 -- Reading needs more than these bytes: where there are no others, they end too early.
 abbrev pub NeedsMore : {A : Type 0} → Reading A → ℕ → List ℕ → Type 0
-NeedsMore reading at bytes = reading (tail at bytes) ≡ Err (at_byte 305 (at + length bytes))
+NeedsMore reading at bytes = reading (tail at bytes) ≡ Err (at_byte TRUNCATED (at + length bytes))
 
 -- Bytes were taken of a source, none that reading doesn't need, with no failed read, and reading
 -- goes on after them, whatever stands there.
@@ -122,7 +123,7 @@ pub record HasByteMore (old new : State) (fault : Fault) : Type 0 where
   pub unfinished : is_read_fault fault ≡ true → bytes ≡ []
   pub failures : new.failures ≡ old.failures + failed_reads fault
   pub refused : is_read_fault fault ≡ false
-      → (length bytes ≡ 1) × (fault ≡ at_byte 309 old.offset)
+      → (length bytes ≡ 1) × (fault ≡ at_byte BYTES_AFTER_END old.offset)
 
 -- What a call took of a source says what the call answered, seen by view, whatever stands after
 -- it; or it has the fault that the call answered.

@@ -1,6 +1,7 @@
 -- What a reader of a table file knows, and what the bytes that came so far say.
 use Rattle.std.specs.Prelude.{◌≡◌, ℕ, ◌-◌, true, false, List, [], ◌∷◌, ◌++◌, ◌+◌, ◌<◌, ◌⊎◌, length, take, min, Option, Some, None, IfSome, IfOk, IfErr, Result, Ok, Err}
 use Rattle.std.specs.Io.KnownBytes.{IsAtEnd}
+use Rattle.bw_model.specs.declared.fault.code.TheConstants.{TRUNCATED, BYTES_AFTER_END}
 use Rattle.bw_model.specs.declared.fault.Fault.{Fault}
 use Rattle.bw_model.specs.declared.schema.Schema.{Schema}
 use Rattle.bw_model.specs.Fault.{at_byte}
@@ -86,7 +87,7 @@ found_so_far reader groups =
 -- or they are a table's, and a byte after them would be one
 abbrev pub AreTooFew : List ℕ → ℕ → Type 0
 AreTooFew bytes n =
-    IsReadAs (take n bytes) (Err (at_byte 305 n)) ⊎ ((found : Found) × IsReadAs (take n bytes) (Ok found))
+    IsReadAs (take n bytes) (Err (at_byte TRUNCATED n)) ⊎ ((found : Found) × IsReadAs (take n bytes) (Ok found))
 
 -- none of the bytes could be spared: fewer of them are too few
 abbrev pub NoneToSpare : List ℕ → Type 0
@@ -105,8 +106,8 @@ pub record ReadWhole (start now : State) (found : Found) : Type 0 where
 -- table's, and it is a byte after them
 abbrev pub LacksFault : List ℕ → ℕ → Fault → Type 0
 LacksFault bytes n fault =
-    IsReadAs (take n bytes) (Err (at_byte 305 n))
-    ⊎ ((found : Found) × IsReadAs (take n bytes) (Ok found) × (fault ≡ at_byte 309 n))
+    IsReadAs (take n bytes) (Err (at_byte TRUNCATED n))
+    ⊎ ((found : Found) × IsReadAs (take n bytes) (Ok found) × (fault ≡ at_byte BYTES_AFTER_END n))
 
 -- bytes, none of which could be spared, and some after them, which are those to come where they
 -- are known, are read as this fault
@@ -120,7 +121,7 @@ pub record HasFirstFault (now : State) (bytes : List ℕ) (fault : Fault) : Type
 -- and a byte after them would be one
 abbrev pub AreUnfinished : List ℕ → Type 0
 AreUnfinished bytes =
-    IsReadAs bytes (Err (at_byte 305 (length bytes))) ⊎ ((found : Found) × IsReadAs bytes (Ok found))
+    IsReadAs bytes (Err (at_byte TRUNCATED (length bytes))) ⊎ ((found : Found) × IsReadAs bytes (Ok found))
 
 -- Since the start of the file bytes were taken, none of which could be spared, and a fault was
 -- answered: that of a failed read, where another byte or the end was to be seen; out of memory; or

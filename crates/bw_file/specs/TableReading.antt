@@ -4,6 +4,7 @@ use Rattle.std.specs.Prelude.{◌≡◌, ℕ, ℤ, zero, suc, ◌+◌, ◌-◌, 
 use Rattle.std.specs.Int.{w16, w32, w64, bit_at, from_le_bytes, cast_signed}
 use Rattle.std.specs.List.{list_any, range_with_len}
 use Rattle.std.specs.Str.{bytes_eq}
+use Rattle.bw_model.specs.declared.fault.code.TheConstants.{MAGIC, VERSION, LAYOUT, HEADER, PADDING, BYTES_AFTER_END, ROW_COUNT}
 use Rattle.bw_model.specs.declared.column.Column.{Column}
 use Rattle.bw_model.specs.declared.fault.Fault.{Fault}
 use Rattle.bw_model.specs.declared.schema.Schema.{Schema}
@@ -25,30 +26,30 @@ use Rattle.bw_file.specs.Reading.{Tail, tail, Reading, ◌>>=◌, give, field, s
 
 -- the magic: another is 301
 unfoldable pub magic_says : List ℕ → Result (Unit {0}) ℕ
-magic_says bytes = if bytes_eq bytes magic then Ok tt else Err 301
+magic_says bytes = if bytes_eq bytes magic then Ok tt else Err MAGIC
 
 -- the version, which is 1 or 2: another is 302
 unfoldable pub version_says : List ℕ → Result ℕ ℕ
 version_says bytes =
     let version = slice_index bytes 0 in
-    if (version == 1) || (version == 2) then Ok version else Err 302
+    if (version == 1) || (version == 2) then Ok version else Err VERSION
 
 -- the layout: an unknown one is 303
 unfoldable pub layout_says : List ℕ → Result Layout ℕ
 layout_says bytes =
     if slice_index bytes 0 == 0 then Ok Planes
-    else (if slice_index bytes 0 == 1 then Ok Slices else Err 303)
+    else (if slice_index bytes 0 == 1 then Ok Slices else Err LAYOUT)
 
 -- the number of columns: none, or more than 64, is 304
 unfoldable pub count_says : List ℕ → Result ℕ ℕ
 count_says bytes =
     let count = from_le_bytes w16 bytes in
-    if (count == 0) || nat_lt most_columns count then Err 304 else Ok count
+    if (count == 0) || nat_lt most_columns count then Err HEADER else Ok count
 
 -- the number of rows: more than 2^24 is 310
 unfoldable pub rows_say : List ℕ → Result ℕ ℕ
 rows_say bytes =
-    let rows = from_le_bytes w32 bytes in if nat_lt most_rows rows then Err 310 else Ok rows
+    let rows = from_le_bytes w32 bytes in if nat_lt most_rows rows then Err ROW_COUNT else Ok rows
 
 -- the bounds of a column in a file of a version: others than those are 304
 abbrev pub bound_in : List ℕ → ℤ
@@ -58,18 +59,18 @@ unfoldable pub bounds_say : ℕ → List ℕ → Result Bounds ℕ
 bounds_say version bytes =
     let lo = bound_in (take 8 bytes) in
     let hi = bound_in (take 8 (drop 8 bytes)) in
-    if are_bounds version lo hi then Ok (record { lo = lo; hi = hi }) else Err 304
+    if are_bounds version lo hi then Ok (record { lo = lo; hi = hi }) else Err HEADER
 
 -- whether a column takes null: another byte than 0 and 1 is 304
 unfoldable pub nullable_says : List ℕ → Result Bool ℕ
 nullable_says bytes =
     if slice_index bytes 0 == 0 then Ok false
-    else (if slice_index bytes 0 == 1 then Ok true else Err 304)
+    else (if slice_index bytes 0 == 1 then Ok true else Err HEADER)
 
 -- a name after others: what isn't one, or one of the others, ignoring case, is 304
 unfoldable pub name_says : List (List ℕ) → List ℕ → Result (List ℕ) ℕ
 name_says before text =
-    if not (is_name text) || list_any (λ name. same_text name text) before then Err 304 else Ok text
+    if not (is_name text) || list_any (λ name. same_text name text) before then Err HEADER else Ok text
 
 -- a name, after a byte for its length, at which its fault stands once all its bytes are there
 unfoldable pub name : List (List ℕ) → Reading (List ℕ)
@@ -161,7 +162,7 @@ padding_from layout schema rows number (byte ∷ bytes) at =
 -- another at the first byte
 unfoldable pub fault_place : Layout → List Column → ℕ → ℕ → List ℕ → ℕ → ℕ
 fault_place layout schema rows number block code =
-    if code == 308 then padding_from layout schema rows number block 0 else 0
+    if code == PADDING then padding_from layout schema rows number block 0 else 0
 
 -- a block, unless it has a fault
 abbrev pub sound_at : ℕ → Layout → List Column → ℕ → ℕ → List ℕ → Option ℕ → Reading (List ℕ)
@@ -205,7 +206,7 @@ has_bytes [] = false
 has_bytes (byte ∷ bytes) = true
 
 unfoldable pub end : Reading (Unit {0})
-end t = refused_if (has_bytes t.bytes) (at_byte 309 t.at) (Ok (tt, t))
+end t = refused_if (has_bytes t.bytes) (at_byte BYTES_AFTER_END t.at) (Ok (tt, t))
 
 -- what stands after the header, or is left of it after groups that were read before: groups of
 -- these sizes, and the end
@@ -244,7 +245,7 @@ IsReadAs bytes read = IsReadBehind (header (tail 0 bytes)) read
 
 -- what a call that reads a table file refuses by: 301 to 310, a failed read or out of memory
 abbrev pub is_table_fault : Fault → Bool
-is_table_fault fault = (nat_le 301 fault.code && nat_le fault.code 310) || is_input_fault fault
+is_table_fault fault = (nat_le MAGIC fault.code && nat_le fault.code ROW_COUNT) || is_input_fault fault
 
 abbrev pub IsTableFault : Fault → Type 0
 IsTableFault fault = IsTrue (is_table_fault fault)

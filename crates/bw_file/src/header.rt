@@ -1,6 +1,7 @@
 //! A table file's header, read field by field from a source.
 ghost use Rattle.std.specs.Prelude.{◌≡◌, ◌+◌, ◌-◌, ◌*◌, ◌^◌, ◌<◌, ◌≤◌, ◌≤ℤ◌, ◌<ℤ◌, ◌-ℤ◌, pos, [], map, length, false, true, Ok, Err, if◌then◌else◌, OnOk, IfOk, IsTrue};
 ghost use Rattle.std.specs.List.{list_any};
+ghost use Rattle.bw_model.specs.declared.fault.code.TheConstants.{HEADER};
 ghost use Rattle.bw_model.specs.Column.{names_of};
 ghost use Rattle.bw_model.specs.Limits.{most_rows};
 ghost use Rattle.bw_model.specs.Name.{is_name, are_apart};
@@ -166,7 +167,7 @@ fn is_new_name(before: &[Column], text: &[u8]) -> bool
     ensures apart { IsTrue result
         → list_any (λ other. same_text other text.now) (names_of before.now) ≡ false }
     ensures says { name_says (names_of before.now) text.now
-        ≡ (if result then Ok text.now else Err 304) }
+        ≡ (if result then Ok text.now else Err HEADER) }
 {
     is_name(text) && !has_name(before, text)
 }

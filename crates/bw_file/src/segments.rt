@@ -102,6 +102,14 @@ impl Segment for AnySegment {
     }
 
     #[tactic(auto, unfolding(crate::specs::AnySegment::any_meaning))]
+    fn codes(&self, col: usize, codes: &mut [u64; 512]) {
+        match self {
+            AnySegment::Planes(segment) => segment.codes(col, codes),
+            AnySegment::Slices(segment) => segment.codes(col, codes),
+        }
+    }
+
+    #[tactic(auto, unfolding(crate::specs::AnySegment::any_meaning))]
     fn value(&self, col: usize, row: usize) -> Value {
         match self {
             AnySegment::Planes(segment) => segment.value(col, row),

@@ -7,14 +7,18 @@ use Rattle.std.proofs.lemmas.List.{append-nil}
 use Rattle.bw_model.specs.declared.fault.Fault.{Fault}
 use Rattle.bw_model.specs.declared.query.Query.{Query}
 use Rattle.bw_model.specs.declared.schema.Schema.{Schema}
-use Rattle.bw_model.specs.Fault.{is_memory}
+use Rattle.bw_model.specs.Fault.{is_memory, no_memory, nowhere}
+use Rattle.bw_model.specs.SchemaText.{IsSchemaFault, is_schema_fault}
+use Rattle.bw_sql.specs.Refusal.{IsStatementFault, is_statement_fault}
+use Rattle.bw_cert_file.specs.Judged.{is_file_fault}
 use Rattle.bw_model.specs.Groups.{groups_of, together}
 use Rattle.bw_model.specs.Row.{Value}
-use Rattle.bw_device.specs.Sink.{GoesOut, Wrote, is_write_fault}
+use Rattle.bw_device.specs.Sink.{GoesOut, Wrote, is_write_fault, none_aside}
+use Rattle.bw_device.proofs.SinkLemmas.{no_write_fault, wrote_nothing, wrote_text}
 use Rattle.bw_device.specs.Source.{is_input_fault, is_read_fault}
 use Rattle.bw_file.specs.FileText.{IsFileText}
 use Rattle.bw_file.specs.Reading.{State, Fails, GoesOn, failed_reads, give}
-use Rattle.bw_file.specs.TableReading.{header}
+use Rattle.bw_file.specs.TableReading.{IsTableFault, header, is_table_fault}
 use Rattle.bw_file.specs.TableReader.{AnswersFault, schema_in, version_in, header_told}
 use Rattle.bw_file.specs.declared.table_reader.TableReader.{TableReader}
 use Rattle.bw_file.proofs.FileSpelling.{read_is_spelled_by}
@@ -131,21 +135,13 @@ table_answered asks start now text found Told told bytes known old new appends =
       told,
     )
 
-pub file_answered : (asks : Schema → Result Query Fault → Type 0) (start now : State) (schema : Schema) (query : Query) (scan : Scan) (text : List ℕ) (scanned : Scanned)
-    → asks schema (Ok query) → TextOver start now schema query scan text scanned → (bytes : List ℕ) → start.known ≡ Some bytes
-    → (old new : Option (List ℕ)) → Appends old new text → AnswersFile asks bytes old new
-file_answered asks start now schema query scan text scanned asked over bytes known old new appends =
-    let found = text_over asks start now schema query scan text scanned (λ s q r. Unit {0}) (λ rows counts. tt) asked over in
-    (table_answered asks start now text found.0 (λ s q r. Unit {0}) tt bytes known old new appends).0
-
 -- and so where it went out at all
-pub answered_or_not : (asks : Schema → Result Query Fault → Type 0) (start now : State) (schema : Schema) (query : Query) (scan : Scan) (text : List ℕ) (scanned : Scanned)
-    → asks schema (Ok query) → TextOver start now schema query scan text scanned → (bytes : List ℕ) → start.known ≡ Some bytes
+pub answered_or_not : (asks : Schema → Result Query Fault → Type 0) (start now : State) (text : List ℕ) → TableText asks start now text → (bytes : List ℕ) → start.known ≡ Some bytes
     → (old new : Option (List ℕ)) (before after : ℕ) (result : Result (Unit {0}) Fault) → GoesOut old new before after text result
     → OnOk result (AnswersFile asks bytes old new)
-answered_or_not asks start now schema query scan text scanned asked over bytes known old new before after (Ok x) goes =
-    file_answered asks start now schema query scan text scanned asked over bytes known old new goes.0
-answered_or_not asks start now schema query scan text scanned asked over bytes known old new before after (Err fault) goes = tt
+answered_or_not asks start now text found bytes known old new before after (Ok x) goes =
+    (table_answered asks start now text found (λ s q r. Unit {0}) tt bytes known old new goes.0).0
+answered_or_not asks start now text found bytes known old new before after (Err fault) goes = tt
 
 -- the file was read whole
 pub text_gave : (asks : Schema → Result Query Fault → Type 0) (start now : State) (schema : Schema) (query : Query) (scan : Scan) (text : List ℕ) (scanned : Scanned)
@@ -154,23 +150,37 @@ text_gave asks start now schema query scan text scanned asked over =
     let found = text_over asks start now schema query scan text scanned (λ s q r. Unit {0}) (λ rows counts. tt) asked over in
     record { failures = omega (arith, over.read.failures); answer = found.0 }
 
--- a call that wrote nothing
-keeps_itself : (old : Option (List ℕ)) → Keeps old old
-keeps_itself None = tt
-keeps_itself (Some xs) = refl
-
-pub wrote_nothing : (T : Type 0) (old : Option (List ℕ)) (count : ℕ) (fault : Fault) → Wrote {T = T} old old count count (Err fault) (Err fault)
-wrote_nothing T old count fault = inr (record { kept = keeps_itself old; count = refl; is = refl })
+-- a fault was answered that is no failed write, and nothing was written
+pub refused : (T : Type 0) (old : Option (List ℕ)) (count : ℕ) (fault : Fault) → is_write_fault fault ≡ false → Wrote {T = T} none_aside old old count count (Err fault) (Err fault)
+refused T old count fault other = wrote_nothing T none_aside old count fault (Err fault) other (λ _. refl)
 
 -- the text went out whole, or up to a failed write
-pub wrote_text : (T : Type 0) (old new : Option (List ℕ)) (before after : ℕ) (text : List ℕ) (fault : Fault) → GoesOut {T = T} old new before after text (Err fault)
-    → Wrote {T = T} old new before after (Ok text) (Err fault)
-wrote_text T old new before after text fault goes = inl (record { is = goes.0; part = goes.1; count = goes.2 })
+pub went : (T : Type 0) (old new : Option (List ℕ)) (before after : ℕ) (text : List ℕ) (result : Result T Fault) → GoesOut {T = T} old new before after text result
+    → Wrote {T = T} none_aside old new before after (Ok text) result
+went T old new before after text result goes = wrote_text T none_aside old new before after text (Ok text) result refl goes
 
-pub wrote_either : (T : Type 0) (old new : Option (List ℕ)) (before after : ℕ) (text : List ℕ) (result : Result T Fault) → GoesOut {T = T} old new before after text result
-    → Wrote {T = T} old new before after (Ok text) result
-wrote_either T old new before after text (Ok x) goes = goes
-wrote_either T old new before after text (Err fault) goes = wrote_text T old new before after text fault goes
+-- faults of a schema, of a statement, of a table file and of a program file, and out of memory, are no failed writes
+pub schema_writes_nothing : (fault : Fault) → IsSchemaFault fault → is_write_fault fault ≡ false
+schema_writes_nothing fault is = no_write_fault is_schema_fault fault is refl
+
+pub statement_writes_nothing : (fault : Fault) → IsStatementFault fault → is_write_fault fault ≡ false
+statement_writes_nothing fault is = no_write_fault is_statement_fault fault is refl
+
+pub table_writes_nothing : (fault : Fault) → IsTableFault fault → is_write_fault fault ≡ false
+table_writes_nothing fault is = no_write_fault is_table_fault fault is refl
+
+pub file_writes_nothing : (fault : Fault) → is_file_fault fault ≡ true → is_write_fault fault ≡ false
+file_writes_nothing fault is = no_write_fault is_file_fault fault is refl
+
+pub memory_writes_nothing : (fault : Fault) → fault ≡ no_memory → is_write_fault fault ≡ false
+memory_writes_nothing fault is = ap is_write_fault is
+
+pub unplanned_writes_nothing : (fault : Fault) → (is_memory fault ≡ false → fault ≡ nowhere 651) → is_write_fault fault ≡ false
+unplanned_writes_nothing fault own = by_memory (is_memory fault) refl
+  where
+    by_memory : (memory : Bool) → is_memory fault ≡ memory → is_write_fault fault ≡ false
+    by_memory true is = no_write_fault is_memory fault is refl
+    by_memory false is = ap is_write_fault (own is)
 
 -- a fault that isn't a failed read
 pub no_failed_read : (allowed : Fault → Bool) (fault : Fault) → allowed fault ≡ true → allowed (record { code = 701; place = fault.place }) ≡ false → is_read_fault fault ≡ false

@@ -1,5 +1,6 @@
 -- What a call answered before its text went out.
-use Rattle.std.specs.Prelude.{ℕ, List, Result, Ok, Err}
+use Rattle.std.specs.Prelude.{ℕ, List, Result, Ok, Err, Vec}
+use Rattle.std.specs.declared.alloc.Global.{Global}
 use Rattle.bw_model.specs.declared.fault.Fault.{Fault}
 use Rattle.bw_query.specs.declared.table_calls.AnswerText.{AnswerText}
 
@@ -7,3 +8,8 @@ use Rattle.bw_query.specs.declared.table_calls.AnswerText.{AnswerText}
 abbrev pub text_in : Result AnswerText Fault → Result (List ℕ) Fault
 text_in (Ok answered) = Ok answered.text.items
 text_in (Err fault) = Err fault
+
+-- the same of a text alone
+abbrev pub bytes_in : Result (Vec ℕ Global) Fault → Result (List ℕ) Fault
+bytes_in (Ok text) = Ok text.items
+bytes_in (Err fault) = Err fault

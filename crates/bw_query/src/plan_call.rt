@@ -7,7 +7,7 @@ ghost use Rattle.bw_model.specs.Fault.{is_memory, nowhere};
 ghost use Rattle.bw_program.specs.Program.{ProgramShape, fits};
 ghost use Rattle.bw_cert_lines.specs.CertificateShape.{CertificateShape};
 ghost use Rattle.bw_cert_file.specs.Judged.{Certifies};
-ghost use Rattle.bw_device.specs.Sink.{LeavesSink, Wrote};
+ghost use Rattle.bw_device.specs.Sink.{LeavesSink, Wrote, none_aside};
 ghost use Rattle.bw_query.specs.Plan.{IsPlanned, IsPrinted};
 
 use bw_cert_file::certify;
@@ -34,7 +34,8 @@ pub fn plan_text<K: Sink>(
 ) -> Result<(), Fault>
     requires { K.failures sink.old < 2 ^ 64 - 1 }
     ensures planned { (given : Result (List ℕ) Fault) × IsPlanned schema.now sql.now given
-        × Wrote (K.taken sink.old) (K.taken sink.new) (K.failures sink.old) (K.failures sink.new) given result }
+        × Wrote none_aside (K.taken sink.old) (K.taken sink.new) (K.failures sink.old) (K.failures sink.new) given
+        result }
     ensures sink { LeavesSink (K.taken sink.old) (K.taken sink.new) (K.failures sink.old) (K.failures sink.new) result }
 {
     let schema = Schema::parse(alloc, schema)?;

@@ -17,9 +17,9 @@ ghost use Rattle.bw_file.specs.declared.layout.Layout.{Layout};
 ghost use Rattle.bw_file.specs.FileText.{IsFileText};
 ghost use Rattle.bw_file.specs.Reading.{State, state};
 ghost use Rattle.bw_file.specs.TableReader.{bytes_taken, rows_given, settled};
-ghost use Rattle.bw_device.specs.Sink.{LeavesSink, Wrote};
+ghost use Rattle.bw_device.specs.Sink.{LeavesSink, Wrote, is_write_fault, none_aside};
 ghost use Rattle.bw_device.specs.Source.{EndsWith, is_read_fault};
-ghost use Rattle.bw_query.specs.AnswerText.{text_in};
+ghost use Rattle.bw_query.specs.AnswerText.{bytes_in, text_in};
 ghost use Rattle.bw_query.specs.Scan.{IsChosen, IsFor, given_file};
 ghost use Rattle.bw_query.specs.Served.{IsServed};
 ghost use Rattle.bw_query.specs.TableAnswer.{AnswersFile, Began, IsEveryRow, TableGave, TableText, by_dump, by_statement, is_no_verdict};
@@ -58,7 +58,8 @@ pub fn answer<S: Source, K: Sink>(
         × TableGave (by_statement (given_file program.entry) sql.now)
         (state (S.to_come table.old) 0 (S.failures table.old))
         (state (S.to_come table.new) offset (S.failures table.new)) given
-        × Wrote (K.taken sink.old) (K.taken sink.new) (K.failures sink.old) (K.failures sink.new) given result }
+        × Wrote none_aside (K.taken sink.old) (K.taken sink.new) (K.failures sink.old) (K.failures sink.new) given
+        result }
     ensures served { IfOk result (λ served. (offset : ℕ) × (text : List ℕ)
         × (found : TableText (by_statement (given_file program.entry) sql.now)
         (state (S.to_come table.old) 0 (S.failures table.old))
@@ -113,6 +114,7 @@ fn answered<S: Source>(
         → S.to_come table.old ≡ Some bytes → IsFileText bytes layout schema rows
         → by_statement (given_file program.entry) sql.now schema (Ok query)
         → IfErr result (λ fault. IsTrue (is_no_verdict fault)) }
+    ensures fault { IfErr result (λ fault. is_write_fault fault ≡ false) }
     ensures failed { EndsWith (nowhere READ_FAILED) (S.failures table.old) (S.failures table.new) result }
 {
     a_file_text_is_read_whole();
@@ -145,17 +147,20 @@ fn answered_after_header<S: Source>(
         → start.known ≡ Some bytes → IsFileText bytes layout schema rows
         → by_statement (given_file program.entry) sql.now schema (Ok query)
         → IfErr result (λ fault. IsTrue (is_no_verdict fault)) }
+    ensures fault { IfErr result (λ fault. is_write_fault fault ≡ false) }
     ensures failed { (start : State)
         → Began start (state (S.to_come table.old) (bytes_taken reader.old) (S.failures table.old)) reader.old
         → EndsWith (nowhere READ_FAILED) (S.failures table.old) (S.failures table.new) result }
 {
     a_file_text_is_read_whole();
     let prepared = prepare(alloc, reader.schema(), sql, program)?;
-    let found = table_text(alloc, reader, table, &prepared.query, &prepared.scan)?;
-    Ok(AnswerText {
-        served: served_by(&prepared.scan, found.scanned),
-        text: found.text,
-    })
+    match table_text(alloc, reader, table, &prepared.query, &prepared.scan) {
+        Ok(found) => Ok(AnswerText {
+            served: served_by(&prepared.scan, found.scanned),
+            text: found.text,
+        }),
+        Err(fault) => Err(fault),
+    }
 }
 
 /// What a statement asks, and who finds its rows.
@@ -184,6 +189,7 @@ fn prepare(
     ensures kinds { IfOk result (λ prepared. AreOfOneKind prepared.query.items.items) }
     ensures refused { IfErr result (λ fault. is_memory fault ≡ false
         → by_statement (given_file program.entry) sql.now schema.now (Err fault)) }
+    ensures fault { IfErr result (λ fault. is_write_fault fault ≡ false) }
     ensures unread { IfErr result (λ fault. is_read_fault fault ≡ false) }
     // A statement that spells a query under a schema of the same shape, with a program file that is accepted for its
     // condition, is refused only where memory runs out.
@@ -209,7 +215,8 @@ pub fn dump<S: Source, K: Sink>(alloc: Global, table: &mut S, sink: &mut K) -> R
     ensures answer { (offset : ℕ) × (given : Result (List ℕ) Fault)
         × TableGave by_dump (state (S.to_come table.old) 0 (S.failures table.old))
         (state (S.to_come table.new) offset (S.failures table.new)) given
-        × Wrote (K.taken sink.old) (K.taken sink.new) (K.failures sink.old) (K.failures sink.new) given result }
+        × Wrote none_aside (K.taken sink.old) (K.taken sink.new) (K.failures sink.old) (K.failures sink.new) given
+        result }
 
     // Where the bytes to come are known, as of [`answer`].
     ensures file { (bytes : List ℕ) → S.to_come table.old ≡ Some bytes
@@ -220,11 +227,57 @@ pub fn dump<S: Source, K: Sink>(alloc: Global, table: &mut S, sink: &mut K) -> R
     ensures table { EndsWith (nowhere READ_FAILED) (S.failures table.old) (S.failures table.new) result }
     ensures sink { LeavesSink (K.taken sink.old) (K.taken sink.new) (K.failures sink.old) (K.failures sink.new) result }
 {
+    let text = dumped(alloc, table)?;
+    write_whole(sink, &text)
+}
+
+/// The text of every row of a table file, once the last segment was found good and the file has ended. Refuses as [`dump`]
+/// does, but for the sink.
+fn dumped<S: Source>(alloc: Global, table: &mut S) -> Result<Vec<u8>, Fault>
+    requires { S.failures table.old < 2 ^ 64 - 1 }
+    ensures answer { (offset : ℕ) × TableGave by_dump (state (S.to_come table.old) 0 (S.failures table.old))
+        (state (S.to_come table.new) offset (S.failures table.new)) (bytes_in result) }
+    ensures text { IfOk result (λ text. (offset : ℕ) × TableText by_dump
+        (state (S.to_come table.old) 0 (S.failures table.old))
+        (state (S.to_come table.new) offset (S.failures table.new)) text.items) }
+    ensures accepted { (bytes : List ℕ) (layout : Layout) (schema : Schema) (rows : List (List Value))
+        → S.to_come table.old ≡ Some bytes → IsFileText bytes layout schema rows
+        → IfErr result (λ fault. IsTrue (is_no_verdict fault)) }
+    ensures fault { IfErr result (λ fault. is_write_fault fault ≡ false) }
+    ensures failed { EndsWith (nowhere READ_FAILED) (S.failures table.old) (S.failures table.new) result }
+{
     a_file_text_is_read_whole();
     let mut reader = TableReader::begin(alloc, table)?;
+    dumped_after_header(alloc, &mut reader, table)
+}
+
+/// The same of a table file whose header was read, and no segment.
+fn dumped_after_header<S: Source>(alloc: Global, reader: &mut TableReader, table: &mut S) -> Result<Vec<u8>, Fault>
+    requires countable { S.failures table.old < 2 ^ 64 - 1 }
+    requires fresh { (rows_given reader.old ≡ 0) × (settled reader.old ≡ None) }
+    ensures answer { (start : State)
+        → Began start (state (S.to_come table.old) (bytes_taken reader.old) (S.failures table.old)) reader.old
+        → TableGave by_dump start
+        (state (S.to_come table.new) (bytes_taken reader.new) (S.failures table.new)) (bytes_in result) }
+    ensures text { IfOk result (λ text. (start : State)
+        → Began start (state (S.to_come table.old) (bytes_taken reader.old) (S.failures table.old)) reader.old
+        → TableText by_dump start
+        (state (S.to_come table.new) (bytes_taken reader.new) (S.failures table.new)) text.items) }
+    ensures accepted { (start : State) (bytes : List ℕ) (layout : Layout) (schema : Schema) (rows : List (List Value))
+        → Began start (state (S.to_come table.old) (bytes_taken reader.old) (S.failures table.old)) reader.old
+        → start.known ≡ Some bytes → IsFileText bytes layout schema rows
+        → IfErr result (λ fault. IsTrue (is_no_verdict fault)) }
+    ensures fault { IfErr result (λ fault. is_write_fault fault ≡ false) }
+    ensures failed { (start : State)
+        → Began start (state (S.to_come table.old) (bytes_taken reader.old) (S.failures table.old)) reader.old
+        → EndsWith (nowhere READ_FAILED) (S.failures table.old) (S.failures table.new) result }
+{
+    a_file_text_is_read_whole();
     let query = every_row(alloc, reader.schema())?;
-    let found = table_text(alloc, &mut reader, table, &query, &Scan::Rows)?;
-    write_whole(sink, &found.text)
+    match table_text(alloc, reader, table, &query, &Scan::Rows) {
+        Ok(found) => Ok(found.text),
+        Err(fault) => Err(fault),
+    }
 }
 
 /// The query for every row in every column.

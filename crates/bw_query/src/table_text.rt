@@ -1,5 +1,5 @@
 //! The text of an answer over the rows of a table file, one segment at a time.
-ghost use Rattle.std.specs.Prelude.{◌≡◌, ◌+◌, ◌-◌, ◌^◌, ◌<◌, ◌≤◌, ◌++◌, ℕ, List, [], None, true, IsTrue, IfOk, IfErr, OnOk, length, vec_len};
+ghost use Rattle.std.specs.Prelude.{◌≡◌, ◌+◌, ◌-◌, ◌^◌, ◌<◌, ◌≤◌, ◌++◌, ℕ, List, [], None, false, true, IsTrue, IfOk, IfErr, OnOk, length, vec_len};
 ghost use Rattle.std.specs.List.{list_all};
 ghost use Rattle.bw_model.specs.Column.{names_of};
 ghost use Rattle.bw_model.specs.Fault.{no_memory};
@@ -10,6 +10,7 @@ ghost use Rattle.bw_sql.specs.Items.{AreOfOneKind};
 ghost use Rattle.bw_answer.specs.AreOver.{CountsRows};
 ghost use Rattle.bw_answer.specs.Over.{GoesOver, asked_by};
 ghost use Rattle.bw_answer.specs.declared.answer.Answer.{Answer};
+ghost use Rattle.bw_device.specs.Sink.{is_write_fault};
 ghost use Rattle.bw_file.specs.AnySegment.{any_meaning};
 ghost use Rattle.bw_file.specs.Reading.{State, state};
 ghost use Rattle.bw_file.specs.TableReader.{schema_in, bytes_taken, rows_given, settled, SoFar, AnswersFault};
@@ -63,6 +64,7 @@ pub(crate) fn table_text<S: Source>(
         → SoFar start (state (S.to_come source.old) (bytes_taken reader.old) (S.failures source.old)) reader.old []
         → AnswersFault start (state (S.to_come source.old) (bytes_taken reader.old) (S.failures source.old))
         (state (S.to_come source.new) (bytes_taken reader.new) (S.failures source.new)) fault) }
+    ensures fault { IfErr result (λ fault. is_write_fault fault ≡ false) }
 {
     bytes_were_taken();
     let mut answer = Answer::new(alloc, reader.schema(), query)?;
@@ -93,6 +95,7 @@ fn take_rows<S: Source>(
         → SoFar start (state (S.to_come source.old) (bytes_taken reader.old) (S.failures source.old)) reader.old []
         → AnswersFault start (state (S.to_come source.old) (bytes_taken reader.old) (S.failures source.old))
         (state (S.to_come source.new) (bytes_taken reader.new) (S.failures source.new)) fault) }
+    ensures fault { IfErr result (λ fault. is_write_fault fault ≡ false) }
 {
     bytes_were_taken();
     let counts = answer.counts_rows();

@@ -7,14 +7,15 @@ use Rattle.bw_model.specs.declared.schema.Schema.{Schema}
 use Rattle.bw_model.specs.Fault.{no_memory}
 use Rattle.bw_model.specs.Row.{Value}
 use Rattle.bw_model.specs.SchemaText.{IsSchemaText, SchemaShape, schema_shape}
-use Rattle.bw_device.specs.Sink.{GoesOut, Wrote, is_write_fault}
+use Rattle.bw_device.specs.Sink.{GoesOut, Wrote, is_write_fault, none_aside}
+use Rattle.bw_device.proofs.SinkLemmas.{no_write_fault, wrote_nothing}
 use Rattle.bw_device.specs.Source.{is_input_fault, is_read_fault}
 use Rattle.bw_file.specs.declared.layout.Layout.{Layout}
 use Rattle.bw_file.specs.declared.table_reader.TableReader.{TableReader}
 use Rattle.bw_file.specs.FileText.{IsFileText}
 use Rattle.bw_file.specs.Reading.{State, Fails, GoesOn, failed_reads, give}
 use Rattle.bw_file.specs.TableReader.{GaveFirst, header_told, layout_in, rows_told, schema_in, version_in}
-use Rattle.bw_file.specs.TableReading.{header}
+use Rattle.bw_file.specs.TableReading.{IsTableFault, header, is_table_fault}
 use Rattle.bw_model.proofs.SameColumns.{columns_same}
 use Rattle.bw_schemas.specs.Info.{InfoGave, TellsFile, info_text, is_no_verdict}
 use Rattle.bw_schemas.proofs.SizeLemmas.{file_sized}
@@ -65,19 +66,13 @@ text_exit start now offset W reader text read is spelled w =
       w,
     )
 
--- a call that wrote nothing
-keeps_itself : (old : Option (List ℕ)) → Keeps old old
-keeps_itself None = tt
-keeps_itself (Some xs) = refl
+-- a fault of a table file was answered, or out of memory, and nothing was written
+pub refused_table : (old : Option (List ℕ)) (count : ℕ) (fault : Fault) → IsTableFault fault → Wrote {T = Unit {0}} none_aside old old count count (Err fault) (Err fault)
+refused_table old count fault is =
+    wrote_nothing (Unit {0}) none_aside old count fault (Err fault) (no_write_fault is_table_fault fault is refl) (λ _. refl)
 
-pub wrote_nothing : (T : Type 0) (old : Option (List ℕ)) (count : ℕ) (fault : Fault) → Wrote {T = T} old old count count (Err fault) (Err fault)
-wrote_nothing T old count fault = inr (record { kept = keeps_itself old; count = refl; is = refl })
-
--- the text went out whole, or up to a failed write
-pub wrote_either : (T : Type 0) (old new : Option (List ℕ)) (before after : ℕ) (text : List ℕ) (result : Result T Fault) → GoesOut {T = T} old new before after text result
-    → Wrote {T = T} old new before after (Ok text) result
-wrote_either T old new before after text (Ok x) goes = goes
-wrote_either T old new before after text (Err fault) goes = inl (record { is = goes.0; part = goes.1; count = goes.2 })
+pub refused_memory : (old : Option (List ℕ)) (count : ℕ) (fault : Fault) → fault ≡ no_memory → Wrote {T = Unit {0}} none_aside old old count count (Err fault) (Err fault)
+refused_memory old count fault is = wrote_nothing (Unit {0}) none_aside old count fault (Err fault) (ap is_write_fault is) (λ _. refl)
 
 -- the text of a schema's header is that of another's with the same name and columns
 text_same : (version : ℕ) (l m : Layout) (s t : Schema) (n o : ℕ) → l ≡ m → schema_shape s ≡ schema_shape t → n ≡ o → info_text version l s n ≡ info_text version m t o

@@ -3,7 +3,7 @@ ghost use Rattle.std.specs.Prelude.{◌≡◌, ◌+◌, ◌-◌, ◌^◌, ◌<�
 ghost use Rattle.bw_model.specs.declared.fault.Fault.{Fault};
 ghost use Rattle.bw_model.specs.Limits.{longest_csv};
 ghost use Rattle.bw_model.specs.Name.{is_name};
-ghost use Rattle.bw_device.specs.Sink.{LeavesSink, Went};
+ghost use Rattle.bw_device.specs.Sink.{LeavesSink, Wrote};
 ghost use Rattle.bw_device.specs.Source.{Came, LeavesSource};
 ghost use Rattle.bw_csv.specs.Rows.{is_aside, is_reader_fault, GivesButAside};
 ghost use Rattle.bw_schemas.specs.Infer.{inferred_text, is_inferring_fault, text_from, InfersExactly, SpellsExactly, StopsInferring};
@@ -39,7 +39,7 @@ pub fn infer<C: Source, K: Sink>(
         × Came longest_csv (C.to_come csv_source.old) (C.to_come csv_source.new)
         (C.failures csv_source.old) (C.failures csv_source.new) csv
         × (given ≡ text_from table.now csv)
-        × Went is_aside (K.taken sink.old) (K.taken sink.new) (K.failures sink.old) (K.failures sink.new) given result }
+        × Wrote is_aside (K.taken sink.old) (K.taken sink.new) (K.failures sink.old) (K.failures sink.new) given result }
 
     // Where the bytes to come are known: the text that went out spells a schema under which they have their rows without a
     // fault, and no column of it could be narrower.

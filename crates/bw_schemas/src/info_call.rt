@@ -6,7 +6,7 @@ ghost use Rattle.bw_model.specs.declared.schema.Schema.{Schema};
 ghost use Rattle.bw_model.specs.Fault.{nowhere};
 ghost use Rattle.bw_model.specs.Groups.{groups_of};
 ghost use Rattle.bw_model.specs.Row.{Value};
-ghost use Rattle.bw_device.specs.Sink.{LeavesSink, Wrote};
+ghost use Rattle.bw_device.specs.Sink.{LeavesSink, Wrote, none_aside};
 ghost use Rattle.bw_device.specs.Source.{EndsWith};
 ghost use Rattle.bw_file.specs.declared.layout.Layout.{Layout};
 ghost use Rattle.bw_file.specs.FileText.{AreRows, IsFileText, text_of_version};
@@ -32,7 +32,8 @@ pub fn info<S: Source, K: Sink>(alloc: Global, table: &mut S, sink: &mut K) -> R
     ensures info { (offset : ℕ) × (given : Result (List ℕ) Fault)
         × InfoGave (state (S.to_come table.old) 0 (S.failures table.old))
         (state (S.to_come table.new) offset (S.failures table.new)) given
-        × Wrote (K.taken sink.old) (K.taken sink.new) (K.failures sink.old) (K.failures sink.new) given result }
+        × Wrote none_aside (K.taken sink.old) (K.taken sink.new) (K.failures sink.old) (K.failures sink.new) given
+        result }
 
     // Where the bytes to come are a table file's: its schema, its rows and its length are reported, and it's only a device or
     // memory that can fail.

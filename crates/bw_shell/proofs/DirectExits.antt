@@ -5,11 +5,12 @@ use Rattle.bw_model.specs.declared.query.Query.{Query}
 use Rattle.bw_model.specs.declared.schema.Schema.{Schema}
 use Rattle.bw_model.specs.Fault.{no_memory, is_memory}
 use Rattle.bw_device.specs.Sink.{is_write_fault}
+use Rattle.bw_device.proofs.SinkLemmas.{no_write_fault}
 use Rattle.bw_sql.specs.Refusal.{is_statement_fault, IsStatementFault}
 use Rattle.bw_sql.specs.Statement.{IsReadAs, Parses}
 use Rattle.bw_shell.specs.Arrived.{IsSchemaFrom}
 use Rattle.bw_shell.specs.Direct.{IsAnswer, answer_from}
-use Rattle.bw_shell.proofs.Exits.{Arrival, Given, Ends, IsFaultOf, memory_is_aside, other_fault, unread}
+use Rattle.bw_shell.proofs.Exits.{Arrival, Given, Ends, IsFaultOf, memory_is_aside, unread}
 
 -- what an answer is, by what came of the sources
 abbrev pub AnswerTo : List ℕ → Arrival → Arrival → Given → Type 0
@@ -55,4 +56,4 @@ statement_exit P Q sql W came schema fault = statement_exit_by P Q sql W came sc
 
 -- faults of a statement are no failed writes
 pub statement_writes_nothing : (fault : Fault) → IsStatementFault fault → is_write_fault fault ≡ false
-statement_writes_nothing fault is = other_fault is_statement_fault fault (is_write_fault fault) refl is refl
+statement_writes_nothing fault is = no_write_fault is_statement_fault fault is refl

@@ -9,7 +9,8 @@ use Rattle.bw_model.specs.declared.schema.Schema.{Schema}
 use Rattle.bw_model.specs.Fault.{no_memory, nowhere, is_memory, ◌>>=◌}
 use Rattle.bw_csv.specs.Bare.{records_of}
 use Rattle.bw_csv.specs.Rows.{StopsUnder, is_aside, is_any_record, is_rows_fault, IsRowsFault}
-use Rattle.bw_device.specs.Sink.{is_write_fault, TookPart, GoesOut, Went}
+use Rattle.bw_device.specs.Sink.{is_write_fault, GoesOut, Wrote}
+use Rattle.bw_device.proofs.SinkLemmas.{no_write_fault, wrote_nothing, wrote_text}
 use Rattle.bw_device.specs.Source.{Came}
 use Rattle.bw_csv.specs.Input.{csv_from, CsvTold}
 use Rattle.bw_shell.specs.Arrived.{CsvStopped, SchemaCame, IsSchemaFrom, SchemaTold}
@@ -46,17 +47,6 @@ never_read limit old count =
     let same : no_memory ≡ no_memory = refl in
     let kept : count ≡ count = refl in
     (same, kept)
-
-keeps_itself : (old : Option (List ℕ)) → Keeps old old
-keeps_itself None = tt
-keeps_itself (Some xs) = refl
-
--- a call that wrote nothing
-wrote_nothing : (old : Option (List ℕ)) (count : ℕ) (fault : Fault) (given : Given) → is_write_fault fault ≡ false → IsFaultOf fault given
-    → Went {T = Unit {0}} is_aside old old count count given (Err fault)
-wrote_nothing old count fault given other is =
-    let kept : count ≡ count = refl in
-    (λ w. absurd (cc (w, other)), λ w. (keeps_itself old, kept, is))
 
 aside_memory : (fault : Fault) → is_memory fault ≡ true → is_aside fault ≡ true
 aside_memory fault m = ap (λ b. b || ((fault.code == 209) && is_any_record fault.place)) m
@@ -100,32 +90,18 @@ pub text_exit : (P Q : Arrival → Type 0) (Is : Arrival → Arrival → Given �
     → Is came (Ok (Some bytes)) (make bytes) → P came → Q csv → csv ≡ Ok (Some bytes) → W (make bytes) → Ends P Q Is W
 text_exit P Q Is W came csv make bytes is p q told w = (came, Ok (Some bytes), make bytes, p, subst Q told q, is, w)
 
--- the text went out, or up to a failed write
-went_out : (old new : Option (List ℕ)) (before after : ℕ) (text : List ℕ) (given : Given) (result : Result (Unit {0}) Fault) → given ≡ Ok text
-    → GoesOut old new before after text result → Went is_aside old new before after given result
-went_out old new before after text given (Ok x) is goes = (subst (λ g. IsOkAnd g (Appends old new)) (sym is) goes.0, goes.1)
-went_out old new before after text given (Err fault) is goes =
-    let write : is_write_fault fault ≡ true = ap is_write_fault goes.0 in
-    (λ w. (goes.0, subst (λ g. IsOkAnd g (TookPart old new)) (sym is) goes.1, goes.2), λ other. absurd (cc (write, other)))
-
 -- what was given went out, or a fault was, and nothing went
 pub went_on : (P Q : Arrival → Type 0) (Is : Arrival → Arrival → Given → Type 0) (old new : Option (List ℕ)) (before after : ℕ) (text : List ℕ) (result : Result (Unit {0}) Fault)
-    → Ends P Q Is (λ given. given ≡ Ok text) → GoesOut old new before after text result → Ends P Q Is (λ given. Went is_aside old new before after given result)
-went_on P Q Is old new before after text result e goes = (e.0, e.1, e.2, e.3, e.4, e.5, went_out old new before after text e.2 result e.6 goes)
+    → Ends P Q Is (λ given. given ≡ Ok text) → GoesOut old new before after text result → Ends P Q Is (λ given. Wrote is_aside old new before after given result)
+went_on P Q Is old new before after text result e goes = (e.0, e.1, e.2, e.3, e.4, e.5, wrote_text (Unit {0}) is_aside old new before after text e.2 result e.6 goes)
 
 pub went_nowhere : (P Q : Arrival → Type 0) (Is : Arrival → Arrival → Given → Type 0) (old : Option (List ℕ)) (count : ℕ) (fault : Fault) → is_write_fault fault ≡ false
-    → Ends P Q Is (IsFaultOf fault) → Ends P Q Is (λ given. Went {T = Unit {0}} is_aside old old count count given (Err fault))
-went_nowhere P Q Is old count fault other e = (e.0, e.1, e.2, e.3, e.4, e.5, wrote_nothing old count fault e.2 other e.6)
+    → Ends P Q Is (IsFaultOf fault) → Ends P Q Is (λ given. Wrote {T = Unit {0}} is_aside old old count count given (Err fault))
+went_nowhere P Q Is old count fault other e = (e.0, e.1, e.2, e.3, e.4, e.5, wrote_nothing (Unit {0}) is_aside old count fault e.2 other e.6)
 
--- faults of other kinds are no failed writes, whatever their places
-pub other_fault : (allowed : Fault → Bool) (fault : Fault) (write : Bool) → is_write_fault fault ≡ write → allowed fault ≡ true
-    → allowed (record { code = 702; place = fault.place }) ≡ false → write ≡ false
-other_fault allowed fault true e is none =
-    absurd (cc (sym is ∙ ap (λ code. allowed (record { code = code; place = fault.place })) (eqb-true fault.code 702 e) ∙ none))
-other_fault allowed fault false e is none = refl
-
+-- faults of a CSV are no failed writes
 pub rows_write_nothing : (fault : Fault) → IsRowsFault fault → is_write_fault fault ≡ false
-rows_write_nothing fault is = other_fault is_rows_fault fault (is_write_fault fault) refl is refl
+rows_write_nothing fault is = no_write_fault is_rows_fault fault is refl
 
 -- a schema that was read came of a text that came whole
 pub came_of : (came : Arrival → Type 0) (schema : Schema) → ((arrived : Arrival) × came arrived × SchemaTold arrived (Ok schema)) → SchemaCame came schema

@@ -4,7 +4,7 @@ ghost use Rattle.std.specs.List.{list_all};
 ghost use Rattle.bw_model.specs.declared.fault.Fault.{Fault};
 ghost use Rattle.bw_model.specs.declared.query.Query.{Query};
 ghost use Rattle.bw_model.specs.declared.schema.Schema.{Schema};
-ghost use Rattle.bw_device.specs.Sink.{LeavesSink, Went, is_write_fault};
+ghost use Rattle.bw_device.specs.Sink.{LeavesSink, Wrote, is_write_fault};
 ghost use Rattle.bw_model.specs.Limits.{longest_schema, longest_csv};
 ghost use Rattle.bw_device.specs.Source.{Came, LeavesSource};
 ghost use Rattle.bw_model.specs.Total.{item_within};
@@ -50,7 +50,7 @@ pub fn direct<S: Source, C: Source, K: Sink>(
         × Came longest_csv (C.to_come csv_source.old) (C.to_come csv_source.new)
         (C.failures csv_source.old) (C.failures csv_source.new) csv
         × IsAnswer schema sql.now csv given
-        × Went is_aside (K.taken sink.old) (K.taken sink.new) (K.failures sink.old) (K.failures sink.new) given result }
+        × Wrote is_aside (K.taken sink.old) (K.taken sink.new) (K.failures sink.old) (K.failures sink.new) given result }
 
     // Where the CSV's reader has an error of its own, the schema and the statement were accepted, the CSV came whole, and
     // the error's place is the heading, or the record after those whose rows are good.

@@ -3,20 +3,20 @@ use Rattle.std.proofs.Common.{List, ℕ, Result, Ok, Err, subst, sym}
 use Rattle.std.proofs.lemmas.Result.{err_from_is_err_and}
 use Rattle.bw_model.specs.declared.fault.Fault.{Fault}
 use Rattle.bw_query.specs.Plan.{IsPlanFault, schema_refused, statement_refused, unplanned}
-use Rattle.bw_query.proofs.TableExits.{wrote_either, wrote_nothing}
+use Rattle.bw_query.proofs.TableExits.{refused, schema_writes_nothing, statement_writes_nothing, unplanned_writes_nothing, went}
 use Rattle.bw_query.proofs.plan_call.plan_text.Goals as goal
 
 pub returns-in_err-schema-clause-planned : goal.returns-in_err-schema-clause-planned
 returns-in_err-schema-clause-planned g c =
     let p = err_from_is_err_and c.from_residual.result c.from_residual.ensures.1 in
     let given : Result (List ℕ) Fault = Err c.in_err-schema.field-0.0 in
-    rw (p.1, p.2) (given, λ own. schema_refused (c.in_err-schema.ensures.fault own), wrote_nothing (Unit {0}) _ _ _)
+    rw (p.1, p.2) (given, λ own. schema_refused (c.in_err-schema.ensures.fault own), refused (Unit {0}) _ _ _ (schema_writes_nothing _ c.in_err-schema.ensures.code))
 
 pub returns-in_err-query-clause-planned : goal.returns-in_err-query-clause-planned
 returns-in_err-query-clause-planned g c =
     let p = err_from_is_err_and c.from_residual-in_err-query.result c.from_residual-in_err-query.ensures.1 in
     let given : Result (List ℕ) Fault = Err c.in_err-query.field-0.0 in
-    rw (p.1, p.2) (given, λ own. statement_refused c.in_ok-schema.ensures.spelled (c.in_err-query.ensures.read own), wrote_nothing (Unit {0}) _ _ _)
+    rw (p.1, p.2) (given, λ own. statement_refused c.in_ok-schema.ensures.spelled (c.in_err-query.ensures.read own), refused (Unit {0}) _ _ _ (statement_writes_nothing _ c.in_err-query.ensures.fault))
 
 pub returns-in_err-file-clause-planned : goal.returns-in_err-file-clause-planned
 returns-in_err-file-clause-planned g c =
@@ -27,7 +27,7 @@ returns-in_err-file-clause-planned g c =
     rw (p.1, p.2) (
       given,
       λ own. subst F (sym (c.in_err-file.ensures.fault own)) (unplanned c.in_ok-query.query c.in_ok-schema.ensures.spelled c.in_ok-query.ensures.read),
-      wrote_nothing (Unit {0}) _ _ _,
+      refused (Unit {0}) _ _ _ (unplanned_writes_nothing fault c.in_err-file.ensures.fault),
     )
 
 pub returns-clause-planned : goal.returns-clause-planned
@@ -46,5 +46,5 @@ returns-clause-planned g c =
         printed = c.in_ok-file.ensures.printed;
         certifies = certifies.2;
       },
-      wrote_either (Unit {0}) _ _ _ _ _ _ goes,
+      went (Unit {0}) _ _ _ _ _ c.write_whole.result goes,
     )

@@ -4,20 +4,20 @@ use Rattle.bw_report.specs.declared.served.Served.{Served}
 use Rattle.bw_query.specs.Scan.{given_file}
 use Rattle.bw_query.specs.Served.{IsServed}
 use Rattle.bw_query.specs.TableAnswer.{by_statement}
-use Rattle.bw_query.proofs.TableExits.{ends, table_answered, wrote_nothing, wrote_text}
+use Rattle.bw_query.proofs.TableExits.{ends, refused, table_answered, went}
 use Rattle.bw_query.proofs.table_calls.answer.Goals as goal
 
 pub returns-in_err-answered-clause-answer : goal.returns-in_err-answered-clause-answer
 returns-in_err-answered-clause-answer g c =
     let p = err_from_is_err_and c.from_residual.result c.from_residual.ensures.1 in
     let gave = c.in_err-answered.ensures.answer in
-    rw (p.1, p.2) (ends _ _ _ _ _ gave (wrote_nothing Served _ _ _))
+    rw (p.1, p.2) (ends _ _ _ _ _ gave (refused Served _ _ _ c.in_err-answered.ensures.fault))
 
 pub returns-in_err-write_whole-clause-answer : goal.returns-in_err-write_whole-clause-answer
 returns-in_err-write_whole-clause-answer g c =
     let p = err_from_is_err_and c.from_residual-in_err-write_whole.result c.from_residual-in_err-write_whole.ensures.1 in
     let goes = rw c.deref.ensures.value at c.in_err-write_whole.ensures in
-    rw (p.1, p.2) (ends _ _ _ _ _ c.in_ok-answered.ensures.answer (wrote_text Served _ _ _ _ _ _ goes))
+    rw (p.1, p.2) (ends _ _ _ _ _ c.in_ok-answered.ensures.answer (went Served _ _ _ _ _ _ goes))
 
 pub returns-clause-answer : goal.returns-clause-answer
 returns-clause-answer g c =

@@ -3,7 +3,7 @@ use Rattle.std.proofs.lemmas.Result.{IfOk-weaker, err_from_is_err_and}
 use Rattle.bw_file.specs.TableReader.{bytes_taken}
 use Rattle.bw_query.specs.Scan.{given_file}
 use Rattle.bw_query.specs.TableAnswer.{by_statement}
-use Rattle.bw_query.proofs.TableExits.{header_exit, input_verdict}
+use Rattle.bw_query.proofs.TableExits.{header_exit, input_verdict, table_writes_nothing}
 use Rattle.bw_query.proofs.table_calls.answered.Goals as goal
 
 pub returns-in_err-reader-clause-answer : goal.returns-in_err-reader-clause-answer
@@ -17,6 +17,11 @@ returns-in_err-reader-clause-accepted g c =
     let refused = c.in_err-reader.ensures.refused in
     rw (p.1, p.2) (λ bytes layout schema rows query known file asks.
     input_verdict c.in_err-reader.field-0.0 (c.a_file_text_is_read_whole.ensures.faults bytes layout schema rows file _ _ _ _ known refused.1))
+
+pub returns-in_err-reader-clause-fault : goal.returns-in_err-reader-clause-fault
+returns-in_err-reader-clause-fault g c =
+    let p = err_from_is_err_and c.from_residual.result c.from_residual.ensures.1 in
+    rw (p.1, p.2) (table_writes_nothing c.in_err-reader.field-0.0 c.in_err-reader.ensures.fault)
 
 pub returns-clause-answer : goal.returns-clause-answer
 returns-clause-answer g c =

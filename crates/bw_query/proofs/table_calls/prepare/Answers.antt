@@ -7,7 +7,7 @@ use Rattle.bw_sql.specs.Asked.{Asked, asked}
 use Rattle.bw_sql.specs.Refusal.{is_statement_fault}
 use Rattle.bw_query.specs.Scan.{IsUsable, given_file}
 use Rattle.bw_query.proofs.ScanLemmas.{usable}
-use Rattle.bw_query.proofs.TableExits.{no_failed_read}
+use Rattle.bw_query.proofs.TableExits.{file_writes_nothing, no_failed_read, statement_writes_nothing}
 use Rattle.bw_query.proofs.table_calls.prepare.Goals as goal
 
 pub returns-clause-asked : goal.returns-clause-asked
@@ -49,3 +49,13 @@ pub returns-in_err-scan-clause-unread : goal.returns-in_err-scan-clause-unread
 returns-in_err-scan-clause-unread c =
     let p = err_from_is_err_and c.from_residual-in_err-scan.result c.from_residual-in_err-scan.ensures.1 in
     rw (p.1, p.2) (no_failed_read is_file_fault c.in_err-scan.field-0.0 c.in_err-scan.ensures.code refl)
+
+pub returns-in_err-query-clause-fault : goal.returns-in_err-query-clause-fault
+returns-in_err-query-clause-fault c =
+    let p = err_from_is_err_and c.from_residual.result c.from_residual.ensures.1 in
+    rw (p.1, p.2) (statement_writes_nothing c.in_err-query.field-0.0 c.in_err-query.ensures.fault)
+
+pub returns-in_err-scan-clause-fault : goal.returns-in_err-scan-clause-fault
+returns-in_err-scan-clause-fault c =
+    let p = err_from_is_err_and c.from_residual-in_err-scan.result c.from_residual-in_err-scan.ensures.1 in
+    rw (p.1, p.2) (file_writes_nothing c.in_err-scan.field-0.0 c.in_err-scan.ensures.code)

@@ -12,6 +12,7 @@ use Rattle.bw_file.specs.TableReader.{IsSegmentOf, SameTable, schema_in}
 use Rattle.bw_query.specs.Scan.{IsFor, loads_in, skips_in}
 use Rattle.bw_file.specs.AnySegment.{any_is_group, any_meaning}
 use Rattle.bw_query.proofs.TableLemmas.{goes_nowhere, goes_on, later_answers, memory_answers, one_more, same_table}
+use Rattle.bw_query.proofs.TableExits.{table_writes_nothing}
 use Rattle.bw_query.proofs.table_text.take_rows.Goals as goal
 
 pub loop-segment-init : goal.loop-segment-init
@@ -120,3 +121,8 @@ returns-clause-took g c =
       read = λ start read. rw (so_far.same.layout, so_far.same.schema) at (asked.ended c.in_default.is so_far.reading start so_far.groups (so_far.read start read));
       cut = λ start read. asked.groups c.in_default.is so_far.reading start so_far.groups (so_far.read start read);
     }
+
+pub returns-in_err-segment-clause-fault : goal.returns-in_err-segment-clause-fault
+returns-in_err-segment-clause-fault g c =
+    let p = err_from_is_err_and c.from_residual.result c.from_residual.ensures.1 in
+    rw (p.1, p.2) (table_writes_nothing c.in_err-segment.field-0.0 c.in_err-segment.ensures.fault)

@@ -6,7 +6,7 @@ use Rattle.bw_model.specs.Fault.{no_memory, nowhere}
 use Rattle.bw_model.specs.Limits.{longest_csv}
 use Rattle.bw_model.specs.Name.{is_name}
 use Rattle.bw_csv.specs.Rows.{is_aside}
-use Rattle.bw_device.specs.Sink.{is_write_fault, Went}
+use Rattle.bw_device.specs.Sink.{is_write_fault, Wrote}
 use Rattle.bw_device.specs.Source.{Came}
 use Rattle.bw_schemas.specs.Infer.{text_from}
 use Rattle.bw_schemas.proofs.infer_call.infer.Goals as goal
@@ -17,7 +17,7 @@ keeps_itself (Some xs) = refl
 
 not_named : (table : List ℕ) (source sink : Option (List ℕ)) (reads writes : ℕ) (fault : Fault) → is_name table ≡ false → fault ≡ nowhere 102
     → (came : Result (Option (List ℕ)) Fault) × (given : Result (List ℕ) Fault) × Came longest_csv source source reads reads came × (given ≡ text_from table came)
-    × Went {T = Unit {0}} is_aside sink sink writes writes given (Err fault)
+    × Wrote {T = Unit {0}} is_aside sink sink writes writes given (Err fault)
 not_named table source sink reads writes fault named is =
     let unread : Result (Option (List ℕ)) Fault = Err no_memory in
     let given : Result (List ℕ) Fault = Err (nowhere 102) in
