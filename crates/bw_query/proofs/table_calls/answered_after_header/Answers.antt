@@ -24,31 +24,30 @@ returns-in_err-prepared-clause-accepted g c =
     let gave = c.a_file_text_is_read_whole.ensures.groups bytes layout schema rows file _ _ c.args.reader.now [] known began.so_far in
     memory_verdict c.in_err-prepared.field-0.0 (accepted schema query gave.schema asks))
 
-pub returns-in_err-found-clause-answer : goal.returns-in_err-found-clause-answer
-returns-in_err-found-clause-answer g c =
-    let p = err_from_is_err_and c.from_residual-in_err-found.result c.from_residual-in_err-found.ensures.1 in
+pub returns-in-Err-clause-answer : goal.returns-in-Err-clause-answer
+returns-in-Err-clause-answer g c = λ start began.
     let asked = rw c.schema.ensures at c.in_ok-prepared.ensures.asked in
-    rw (p.1, p.2) (λ start began.
-    segment_refused (by_statement (given_file c.args.program) c.args.sql.now) start _ _ c.args.reader.now c.in_ok-prepared.prepared.query c.in_err-found.field-0.0 began.told
-    asked (c.in_err-found.ensures.refused start began.so_far))
+    segment_refused (by_statement (given_file c.args.program) c.args.sql.now) start _ _ c.args.reader.now c.in_ok-prepared.prepared.query c.in-Err.fault began.told
+    asked (c.in-Err.ensures.refused start began.so_far)
 
-pub returns-in_err-found-clause-accepted : goal.returns-in_err-found-clause-accepted
-returns-in_err-found-clause-accepted g c =
-    let p = err_from_is_err_and c.from_residual-in_err-found.result c.from_residual-in_err-found.ensures.1 in
-    rw (p.1, p.2) (λ start bytes layout schema rows query began known file asks.
-    input_verdict c.in_err-found.field-0.0 (c.a_file_text_is_read_whole.ensures.faults bytes layout schema rows file _ _ _ _ known (c.in_err-found.ensures.refused start began.so_far)))
+pub returns-in-Err-clause-accepted : goal.returns-in-Err-clause-accepted
+returns-in-Err-clause-accepted g c = λ start bytes layout schema rows query began known file asks.
+    input_verdict c.in-Err.fault (c.a_file_text_is_read_whole.ensures.faults bytes layout schema rows file _ _ _ _ known (c.in-Err.ensures.refused start began.so_far))
 
-pub returns-clause-answer : goal.returns-clause-answer
-returns-clause-answer g c = λ start began.
-    let found = c.in_ok-found.found in
+pub returns-in-Err-clause-failed : goal.returns-in-Err-clause-failed
+returns-in-Err-clause-failed g c = λ start began. let answers = (c.in-Err.ensures.refused start began.so_far).failures in search rules
+
+pub returns-in-Ok-clause-answer : goal.returns-in-Ok-clause-answer
+returns-in-Ok-clause-answer g c = λ start began.
+    let found = c.in-Ok.found in
     let prepared = c.in_ok-prepared.prepared in
     let asked = rw c.schema.ensures at c.in_ok-prepared.ensures.asked in
     text_gave (by_statement (given_file c.args.program) c.args.sql.now) start _ (schema_in c.args.reader.now) prepared.query prepared.scan found.text.items found.scanned
-    asked (c.in_ok-found.ensures.text start began.so_far)
+    asked (c.in-Ok.ensures.text start began.so_far)
 
-pub returns-clause-served : goal.returns-clause-served
-returns-clause-served g c =
-    let found = c.in_ok-found.found in
+pub returns-in-Ok-clause-served : goal.returns-in-Ok-clause-served
+returns-in-Ok-clause-served g c =
+    let found = c.in-Ok.found in
     let prepared = c.in_ok-prepared.prepared in
     let schema = schema_in c.args.reader.now in
     let asked = rw c.schema.ensures at c.in_ok-prepared.ensures.asked in
@@ -56,14 +55,9 @@ returns-clause-served g c =
     rw c.served_by.ensures (λ start began.
     text_over (by_statement (given_file c.args.program) c.args.sql.now) start _ schema prepared.query prepared.scan found.text.items found.scanned
     (served (given_file c.args.program) prepared.scan found.scanned) (λ rows. serves (given_file c.args.program) schema prepared.query rows prepared.scan found.scanned chosen) asked
-    (c.in_ok-found.ensures.text start began.so_far))
+    (c.in-Ok.ensures.text start began.so_far))
 
-pub returns-in_err-found-clause-failed : goal.returns-in_err-found-clause-failed
-returns-in_err-found-clause-failed g c =
-    let p = err_from_is_err_and c.from_residual-in_err-found.result c.from_residual-in_err-found.ensures.1 in
-    rw (p.1, p.2) (λ start began. let answers = (c.in_err-found.ensures.refused start began.so_far).failures in search rules)
-
-pub returns-clause-failed : goal.returns-clause-failed
-returns-clause-failed g c = λ start began risen.
-    let read = (c.in_ok-found.ensures.text start began.so_far).read.failures in
+pub returns-in-Ok-clause-failed : goal.returns-in-Ok-clause-failed
+returns-in-Ok-clause-failed g c = λ start began risen.
+    let read = (c.in-Ok.ensures.text start began.so_far).read.failures in
     absurd (omega (arith, read, risen))
