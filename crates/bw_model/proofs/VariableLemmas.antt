@@ -30,10 +30,5 @@ first_variable_more (c ∷ columns) (suc column) lt =
 pub first_variable_within : (columns : List Column) (column : ℕ) → first_variable columns column ≤ variables_of columns
 first_variable_within columns column = omega (arith, sum_by-take-drop variable_count columns column)
 
--- where a column has a variable at all, the first one is below their number
-pub first_variable_below : (columns : List Column) (column : ℕ) → column < length columns → first_variable columns column < variables_of columns
-first_variable_below columns column lt =
-    omega (arith, first_variable_within columns (suc column), first_variable_more columns column lt, width_positive columns column lt)
-
 pub first_variable_next : (columns : List Column) (column : ℕ) → first_variable columns (column + 1) ≡ first_variable columns (suc column)
 first_variable_next columns column = rw add-one

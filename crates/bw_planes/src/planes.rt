@@ -135,7 +135,10 @@ fn byte_at(width: u32, bytes: &[u8], slice: usize) -> [u8; 512]
     let count = (width - low).min(8);
     let mut byte = [0; 512];
     for place in 0..count {
-        push_bit(&mut byte, &Planes::bit(width, bytes, low + count - 1 - place));
+        push_bit(
+            &mut byte,
+            &Planes::bit(width, bytes, low + count - 1 - place),
+        );
     }
     byte
 }

@@ -63,13 +63,29 @@ chosen (true ∷ lanes) zero n = refl
 chosen (false ∷ lanes) zero n = refl
 chosen (empty ∷ lanes) (suc lane) n = chosen lanes lane n
 
+none_empty : (lanes : List Bool) (lane : ℕ) → list_all not lanes ≡ true → get_or lanes lane false ≡ false
+none_empty [] lane none = refl
+none_empty (true ∷ lanes) lane none = cc
+none_empty (false ∷ lanes) zero none = refl
+none_empty (false ∷ lanes) (suc lane) none = none_empty lanes lane none
+
 -- the value that is put into a lane
-pub put_in_lane : (meaning : Meaning) (col lane : ℕ) (column : Column) → IsGroup meaning → col < length meaning.columns → lane < 512 → column ≡ get_or meaning.columns col column
-    → cond (get_or (map as_byte (empty_lanes meaning.rows col)) lane 0 == 0) (Some (value_of_code column (get_or (code_lanes meaning col) lane 0))) None ≡ value_in (get_or meaning.rows lane []) col
-unfolding stored_codes group_size
-put_in_lane meaning col lane column group lt there is =
-    let empty = empty_lanes meaning.rows col in
-    let code = get_or (code_lanes meaning col) lane 0 in
-    let value : value_of_code column code ≡ value_at meaning.columns col code = ap (λ c. value_of_code c code) is ∙ sym (get_or-map (λ c. value_of_code c code) meaning.columns col column (pos 0) lt) in
-    chosen empty lane (value_of_code column code) ∙ ap (λ n. cond (get_or empty lane false) None (Some n)) value
-    ∙ held_in_lanes meaning.columns col (512 - length meaning.rows) meaning.rows lane group.admitted lt (omega arith)
+module _ (meaning : Meaning) (col lane : ℕ) (column : Column) (group : IsGroup meaning) (lt : col < length meaning.columns) (there : lane < 512) (is : column ≡ get_or meaning.columns col column) where
+  abbrev empty : List Bool
+  empty = empty_lanes meaning.rows col
+
+  abbrev code : ℕ
+  code = get_or (code_lanes meaning col) lane 0
+
+  value_here : cond (get_or empty lane false) None (Some (value_of_code column code)) ≡ value_in (get_or meaning.rows lane []) col
+  unfolding stored_codes group_size
+  value_here =
+      let value : value_of_code column code ≡ value_at meaning.columns col code = ap (λ c. value_of_code c code) is ∙ sym (get_or-map (λ c. value_of_code c code) meaning.columns col column (pos 0) lt) in
+      ap (λ n. cond (get_or empty lane false) None (Some n)) value ∙ held_in_lanes meaning.columns col (512 - length meaning.rows) meaning.rows lane group.admitted lt (omega arith)
+
+  pub put_in_lane : cond (get_or (map as_byte empty) lane 0 == 0) (Some (value_of_code column code)) None ≡ value_in (get_or meaning.rows lane []) col
+  put_in_lane = chosen empty lane (value_of_code column code) ∙ value_here
+
+  -- where no lane is without one
+  pub put_in_full : list_all not empty ≡ true → Some (value_of_code column code) ≡ value_in (get_or meaning.rows lane []) col
+  put_in_full none = ap {B = Value} (λ null. cond null None (Some (value_of_code column code))) (sym (none_empty empty lane none)) ∙ value_here

@@ -1,12 +1,12 @@
 //! The values of a column in all 512 lanes of a group at once.
-ghost use Rattle.std.specs.Prelude.{◌≡◌, ◌==◌, ◌<◌, ◌≤◌, ◌-◌, ℕ, true, [], ◌++◌, Some, None, All, length, map, replicate, slice_index, slice_index_or, if◌then◌else◌};
+ghost use Rattle.std.specs.Prelude.{◌≡◌, ◌==◌, ◌<◌, ◌≤◌, ◌^◌, ◌-◌, ◌+ℤ◌, ◌-ℤ◌, ◌<ℤ◌, ◌≤ℤ◌, ℕ, true, [], ◌++◌, Some, None, All, length, map, pos, replicate, slice_index, slice_index_or, unsigned_abs, if◌then◌else◌};
 ghost use Rattle.bw_lanes.specs.Lanes.{lanes_of_words};
 ghost use Rattle.bw_model.specs.Code.{span_of, value_of_code};
 ghost use Rattle.bw_model.specs.Row.{value_in};
 ghost use Rattle.bw_model.specs.Truth.{is_null};
 
 use crate::segment::Segment;
-use bw_lanes::{Plane, bytes_of_plane, mask, not, or};
+use bw_lanes::{Plane, bytes_of_plane, is_zero, mask, not, or};
 use bw_model::{Column, Value};
 
 /// The values of a column in the 512 lanes: that of row i in lane i, and null past the last row.
@@ -17,8 +17,13 @@ pub fn values_in_lanes<S: Segment>(segment: &S, col: usize, values: &mut [Value;
 {
     let mut codes = [0; 512];
     segment.codes(col, &mut codes);
-    let nulls = bytes_of_plane(&no_values(segment, col));
-    put_values(&segment.schema().columns[col], &codes, &nulls, values);
+    let column = &segment.schema().columns[col];
+    let none = no_values(segment, col);
+    if is_zero(&none) {
+        put_all(column, &codes, values);
+    } else {
+        put_values(column, &codes, &bytes_of_plane(&none), values);
+    }
 }
 
 /// The lanes in which a column has no value: those of the rows that are null in it, and those past the last row.
@@ -32,24 +37,44 @@ fn no_values<S: Segment>(segment: &S, col: usize) -> Plane
     or(&past, &segment.nulls(col))
 }
 
-/// Puts the value of each lane's code in the lane where its byte in `nulls` is 0, and null in the others.
+/// Puts the value of each lane's code in the lane.
+fn put_all(column: &Column, codes: &[u64; 512], values: &mut [Value; 512])
+    requires { All (λ code. code ≤ span_of column.now) codes.now }
+    ensures { (lane : ℕ) → lane < 512 → slice_index_or values.new lane None
+        ≡ Some (value_of_code column.now (slice_index codes.now lane)) }
+{
+    let (lo, hi) = (column.lo, column.hi);
+    for lane in 0..512 {
+        values[lane] = Some(value_of(lo, hi, codes[lane]));
+    }
+}
+
+/// The same in the lanes where a byte in `nulls` is 0, and null in the others.
 fn put_values(column: &Column, codes: &[u64; 512], nulls: &[u8; 512], values: &mut [Value; 512])
     requires { All (λ code. code ≤ span_of column.now) codes.now }
     ensures { (lane : ℕ) → lane < 512 → slice_index_or values.new lane None
         ≡ (if slice_index nulls.now lane == 0
         then Some (value_of_code column.now (slice_index codes.now lane)) else None) }
 {
+    let (lo, hi) = (column.lo, column.hi);
     for lane in 0..512 {
-        values[lane] = value_or_null(column, codes[lane], nulls[lane]);
+        values[lane] = value_or_null(value_of(lo, hi, codes[lane]), nulls[lane]);
     }
 }
 
-/// The value of a code where a byte is 0, and else null.
-fn value_or_null(column: &Column, code: u64, null: u8) -> Value
-    requires { code ≤ span_of column.now }
-    ensures { result ≡ (if null == 0 then Some (value_of_code column.now code) else None) }
+/// The value of a code of a column, by its least and its greatest value.
+fn value_of(lo: i64, hi: i64, code: u64) -> i64
+    requires ordered { lo ≤ℤ hi }
+    requires narrow { (hi -ℤ lo) <ℤ pos (2 ^ 63) }
+    requires code { code ≤ unsigned_abs (hi -ℤ lo) }
+    ensures { result ≡ lo +ℤ pos code }
 {
-    prove!(column.lo <= column.hi);
-    let value = column.lo + code as i64;
+    lo + code as i64
+}
+
+/// A value where a byte is 0, and else null.
+fn value_or_null(value: i64, null: u8) -> Value
+    ensures { result ≡ (if null == 0 then Some value else None) }
+{
     if null == 0 { Some(value) } else { None }
 }

@@ -1,5 +1,5 @@
 -- How the codes compare with a number, byte by byte from the most significant down.
-use Rattle.std.proofs.Common.{◌≡◌, ◌∙◌, refl, sym, ap, ap₂, ◌⊎◌, inl, inr, ℕ, ◌+◌, ◌-◌, ◌*◌, ◌/◌, ◌%◌, ◌^◌, ◌<◌, ◌≤◌, Bool, true, false, not, ltb, eqb, ◌==◌, ◌&&◌, ◌||◌, List, [], ◌∷◌, map, length, get_or, replicate, arith}
+use Rattle.std.proofs.Common.{◌≡◌, ◌∙◌, refl, sym, ap, ap₂, ◌⊎◌, inl, inr, ℕ, ◌+◌, ◌-◌, ◌*◌, ◌/◌, ◌%◌, ◌^◌, ◌<◌, ◌≤◌, Bool, true, false, not, ltb, eqb, ◌==◌, ◌&&◌, ◌||◌, List, [], ◌∷◌, map, get_or, replicate, arith}
 use Rattle.std.specs.List.{list_all}
 use Rattle.std.proofs.Math.Nat.{div-eq_of_lt}
 use Rattle.std.proofs.lemmas.Bool.{cases_lt, le-ltb, lt-ltb, eq-eqb}

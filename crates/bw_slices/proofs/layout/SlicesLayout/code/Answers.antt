@@ -1,6 +1,5 @@
-use Rattle.std.proofs.Common.{◌≡◌, ◌∙◌, sym, ap, ap₂, subst, ◌+◌, ◌*◌, ◌/◌, ◌^◌, ◌<◌, length, get_or, add-one, arith}
-use Rattle.std.proofs.lemmas.List.{get_or_read}
-use Rattle.bw_slices.specs.Slices.{number_from, slices_codes}
+use Rattle.std.proofs.Common.{◌≡◌, ◌∙◌, sym, ap, ap₂, subst, ◌+◌, ◌*◌, ◌/◌, ◌^◌, ◌<◌, add-one, arith}
+use Rattle.bw_slices.specs.Slices.{number_from}
 use Rattle.bw_slices.specs.Kept.{bytes_in}
 use Rattle.bw_slices.proofs.CodeLemmas.{next_small, byte_more, code_in_lane}
 use Rattle.bw_slices.proofs.layout.SlicesLayout.code.Goals as goal
