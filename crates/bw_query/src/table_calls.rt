@@ -252,7 +252,11 @@ fn dumped<S: Source>(alloc: Global, table: &mut S) -> Result<Vec<u8>, Fault>
 }
 
 /// The same of a table file whose header was read, and no segment.
-fn dumped_after_header<S: Source>(alloc: Global, reader: &mut TableReader, table: &mut S) -> Result<Vec<u8>, Fault>
+fn dumped_after_header<S: Source>(
+    alloc: Global,
+    reader: &mut TableReader,
+    table: &mut S,
+) -> Result<Vec<u8>, Fault>
     requires countable { S.failures table.old < 2 ^ 64 - 1 }
     requires fresh { (rows_given reader.old ≡ 0) × (settled reader.old ≡ None) }
     ensures answer { (start : State)

@@ -1,16 +1,14 @@
 -- Where a call that reads a schema and a CSV and writes a text ends: at the schema, at the CSV, at what is made of it, or
 -- when the text goes out.
-use Rattle.std.proofs.Common.{◌≡◌, ℕ, List, Bool, true, false, ◌&&◌, ◌||◌, ◌==◌, Option, Some, None, Result, Ok, Err, refl, sym, subst, ◌∙◌, ap}
-use Rattle.std.specs.Prelude.{MatchBool, IsOkAnd}
-use Rattle.std.specs.Io.KnownBytes.{Appends, Keeps}
-use Rattle.std.proofs.lemmas.Bool.{eqb-true}
+use Rattle.std.proofs.Common.{◌≡◌, ℕ, List, Bool, true, false, ◌&&◌, ◌||◌, ◌==◌, Option, Some, None, Result, Ok, Err, refl, subst, ap}
+use Rattle.std.specs.Prelude.{MatchBool}
 use Rattle.bw_model.specs.declared.fault.Fault.{Fault}
 use Rattle.bw_model.specs.declared.schema.Schema.{Schema}
 use Rattle.bw_model.specs.Fault.{no_memory, nowhere, is_memory, ◌>>=◌}
 use Rattle.bw_csv.specs.Bare.{records_of}
-use Rattle.bw_csv.specs.Rows.{StopsUnder, is_aside, is_any_record, is_rows_fault, IsRowsFault}
+use Rattle.bw_csv.specs.Rows.{StopsUnder, is_aside, is_any_record}
 use Rattle.bw_device.specs.Sink.{is_write_fault, GoesOut, Wrote}
-use Rattle.bw_device.proofs.SinkLemmas.{no_write_fault, wrote_nothing, wrote_text}
+use Rattle.bw_device.proofs.SinkLemmas.{wrote_nothing, wrote_text}
 use Rattle.bw_device.specs.Source.{Came}
 use Rattle.bw_csv.specs.Input.{csv_from, CsvTold}
 use Rattle.bw_shell.specs.Arrived.{CsvStopped, SchemaCame, IsSchemaFrom, SchemaTold}
@@ -98,10 +96,6 @@ went_on P Q Is old new before after text result e goes = (e.0, e.1, e.2, e.3, e.
 pub went_nowhere : (P Q : Arrival → Type 0) (Is : Arrival → Arrival → Given → Type 0) (old : Option (List ℕ)) (count : ℕ) (fault : Fault) → is_write_fault fault ≡ false
     → Ends P Q Is (IsFaultOf fault) → Ends P Q Is (λ given. Wrote {T = Unit {0}} is_aside old old count count given (Err fault))
 went_nowhere P Q Is old count fault other e = (e.0, e.1, e.2, e.3, e.4, e.5, wrote_nothing (Unit {0}) is_aside old count fault e.2 other e.6)
-
--- faults of a CSV are no failed writes
-pub rows_write_nothing : (fault : Fault) → IsRowsFault fault → is_write_fault fault ≡ false
-rows_write_nothing fault is = no_write_fault is_rows_fault fault is refl
 
 -- a schema that was read came of a text that came whole
 pub came_of : (came : Arrival → Type 0) (schema : Schema) → ((arrived : Arrival) × came arrived × SchemaTold arrived (Ok schema)) → SchemaCame came schema
