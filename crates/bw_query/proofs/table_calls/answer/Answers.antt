@@ -1,4 +1,5 @@
 -- Each exit, by what its calls' contracts say.
+use Rattle.std.proofs.Common.{Err}
 use Rattle.std.proofs.lemmas.Result.{err_from_is_err_and}
 use Rattle.bw_report.specs.declared.served.Served.{Served}
 use Rattle.bw_query.specs.Scan.{given_file}
@@ -17,7 +18,8 @@ pub returns-in_err-write_whole-clause-answer : goal.returns-in_err-write_whole-c
 returns-in_err-write_whole-clause-answer g c =
     let p = err_from_is_err_and c.from_residual-in_err-write_whole.result c.from_residual-in_err-write_whole.ensures.1 in
     let goes = rw c.deref.ensures.value at c.in_err-write_whole.ensures in
-    rw (p.1, p.2) (ends _ _ _ _ _ c.in_ok-answered.ensures.answer (went Served _ _ _ _ _ _ goes))
+    rw (p.1, p.2) (ends _ _ _ _ _ c.in_ok-answered.ensures.answer (went Served (g.K.Sink.taken c.args.sink.now) (g.K.Sink.taken c.write_whole.new.sink) (g.K.Sink.failures c.args.sink.now) (g.K.Sink.failures c.write_whole.new.sink)
+    c.in_ok-answered.answered.text.items (Err c.in_err-write_whole.field-0.0) goes))
 
 pub returns-clause-answer : goal.returns-clause-answer
 returns-clause-answer g c =

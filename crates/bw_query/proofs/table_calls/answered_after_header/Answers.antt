@@ -24,18 +24,18 @@ returns-in_err-prepared-clause-accepted g c =
     let gave = c.a_file_text_is_read_whole.ensures.groups bytes layout schema rows file _ _ c.args.reader.now [] known began.so_far in
     memory_verdict c.in_err-prepared.field-0.0 (accepted schema query gave.schema asks))
 
-pub returns-in-Err-clause-answer : goal.returns-in-Err-clause-answer
-returns-in-Err-clause-answer g c = λ start began.
+pub returns-clause-answer : goal.returns-clause-answer
+returns-clause-answer g c = λ start began.
     let asked = rw c.schema.ensures at c.in_ok-prepared.ensures.asked in
     segment_refused (by_statement (given_file c.args.program) c.args.sql.now) start _ _ c.args.reader.now c.in_ok-prepared.prepared.query c.in-Err.fault began.told
     asked (c.in-Err.ensures.refused start began.so_far)
 
-pub returns-in-Err-clause-accepted : goal.returns-in-Err-clause-accepted
-returns-in-Err-clause-accepted g c = λ start bytes layout schema rows query began known file asks.
+pub returns-clause-accepted : goal.returns-clause-accepted
+returns-clause-accepted g c = λ start bytes layout schema rows query began known file asks.
     input_verdict c.in-Err.fault (c.a_file_text_is_read_whole.ensures.faults bytes layout schema rows file _ _ _ _ known (c.in-Err.ensures.refused start began.so_far))
 
-pub returns-in-Err-clause-failed : goal.returns-in-Err-clause-failed
-returns-in-Err-clause-failed g c = λ start began. let answers = (c.in-Err.ensures.refused start began.so_far).failures in search rules
+pub returns-clause-failed : goal.returns-clause-failed
+returns-clause-failed g c = λ start began. let answers = (c.in-Err.ensures.refused start began.so_far).failures in search rules
 
 pub returns-in-Ok-clause-answer : goal.returns-in-Ok-clause-answer
 returns-in-Ok-clause-answer g c = λ start began.

@@ -1,5 +1,5 @@
 -- Each exit, by what its calls' contracts say.
-use Rattle.std.proofs.Common.{◌≡◌, ◌∙◌, [], Unit, arith, rules, true, false, sym, ap}
+use Rattle.std.proofs.Common.{◌≡◌, ◌∙◌, arith, rules, true, false, sym, ap}
 use Rattle.std.proofs.lemmas.Result.{err_from_is_err_and}
 use Rattle.bw_file.specs.Reading.{failed_reads}
 use Rattle.bw_file.specs.TableReader.{schema_in}
@@ -26,17 +26,17 @@ returns-in_err-query-clause-fault g c =
     let p = err_from_is_err_and c.from_residual.result c.from_residual.ensures.1 in
     rw (p.1, p.2) (memory_writes_nothing c.in_err-query.field-0.0 c.in_err-query.ensures.only_memory)
 
-pub returns-in-Err-clause-answer : goal.returns-in-Err-clause-answer
-returns-in-Err-clause-answer g c = λ start began.
+pub returns-clause-answer : goal.returns-clause-answer
+returns-clause-answer g c = λ start began.
     let asked = rw c.schema.ensures at c.in_ok-query.ensures.every in
     segment_refused by_dump start _ _ c.args.reader.now c.in_ok-query.query c.in-Err.fault began.told asked (c.in-Err.ensures.refused start began.so_far)
 
-pub returns-in-Err-clause-accepted : goal.returns-in-Err-clause-accepted
-returns-in-Err-clause-accepted g c = λ start bytes layout schema rows began known file.
+pub returns-clause-accepted : goal.returns-clause-accepted
+returns-clause-accepted g c = λ start bytes layout schema rows began known file.
     input_verdict c.in-Err.fault (c.a_file_text_is_read_whole.ensures.faults bytes layout schema rows file _ _ _ _ known (c.in-Err.ensures.refused start began.so_far))
 
-pub returns-in-Err-clause-failed : goal.returns-in-Err-clause-failed
-returns-in-Err-clause-failed g c = λ start began. let answers = (c.in-Err.ensures.refused start began.so_far).failures in search rules
+pub returns-clause-failed : goal.returns-clause-failed
+returns-clause-failed g c = λ start began. let answers = (c.in-Err.ensures.refused start began.so_far).failures in search rules
 
 pub returns-in-Ok-clause-answer : goal.returns-in-Ok-clause-answer
 returns-in-Ok-clause-answer g c = λ start began.
