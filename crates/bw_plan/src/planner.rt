@@ -62,10 +62,7 @@ fn planned(
         IsTrue (has_columns schema.now.columns.items (certificate_fields proposal.certificate))) }
 {
     let (node, mut code) = begun(alloc, schema, cond, with_skips)?;
-    let (program, row) = programmed(schema, cond, node, &mut code)?;
-    if !with_skips && code.looks() > MOST_LOOKS {
-        return Err(Refusal::NoProgram);
-    }
+    let (program, row) = programmed(schema, cond, node, &mut code, with_skips)?;
     let certificate = certified(schema, code, row)?;
     Ok(Proposal {
         program,
@@ -95,10 +92,14 @@ fn programmed(
     cond: &Cond,
     node: u32,
     code: &mut Code<'_>,
+    with_skips: bool,
 ) -> Result<(Program, u32), Refusal>
     ensures { IfOk result (λ made. IsTrue (fits schema.now.columns.items made.0)) }
 {
     let answer = written(code, cond)?;
+    if !with_skips && code.looks() > MOST_LOOKS {
+        return Err(Refusal::NoProgram);
+    }
     let row = agreeing(code, answer, node)?;
     let program = emit::program(code.alloc, schema, &code.instrs, answer)?;
     Ok((program, row))
