@@ -6,7 +6,7 @@
 # Run by hand on an idle machine: bench/table.sh [ROWS [FOLDER]], by default ten million rows in a new folder. It keeps in
 # FOLDER the CSV of ROWS rows (23 bytes a row) and a table file of each layout.
 # Each line has the least wall time of five runs, the runs of all lines taken in turn; millions of bytes a second, of the CSV
-# or the table file that is read, or of the text that a dump writes; and the most memory.
+# or the table file that is read, or of the text that a dump or a listing of half of the rows writes; and the most memory.
 set -euo pipefail
 top=$(cd "$(dirname "$0")/.." && pwd)
 . "$top/bench/common.sh"
@@ -44,7 +44,9 @@ text=$(stat -c %s "$csv")
 for layout in planes slices; do
     "$bw" load --layout $layout "$schema" "$csv" "$folder/$layout-$rows.bw"
 done
+half='SELECT * FROM m WHERE c < 500000'
 dumped=$("$bw" dump "$folder/planes-$rows.bw" | wc -c)
+listed=$("$bw" query "$folder/planes-$rows.bw" "$half" | wc -c)
 echo "CSV $text bytes, planes $(stat -c %s "$folder/planes-$rows.bw"), slices $(stat -c %s "$folder/slices-$rows.bw"), dump $dumped"
 echo "load of the machine before: $(cut -d ' ' -f 1-3 /proc/loadavg)"
 for _ in 1 2 3 4 5; do
@@ -67,6 +69,7 @@ for _ in 1 2 3 4 5; do
         done
         run "$layout: COUNT(*) WHERE a < 8" "$bytes" "$bw" query "$file" 'SELECT COUNT(*) FROM m WHERE a < 8'
         run "$layout: dump" "$dumped" "$bw" dump "$file"
+        run "$layout: SELECT * of half" "$listed" "$bw" query "$file" "$half"
     done
 done
 for name in "${names[@]}"; do
