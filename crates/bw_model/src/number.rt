@@ -23,23 +23,19 @@ pub fn whole_number(is_negative: bool, digits: &[u8]) -> Option<i64>
 pub fn number_in(is_negative: bool, text: &[u8]) -> Option<Option<i64>>
     ensures { result ≡ if are_digits text.now then Some (number_of is_negative text.now) else None }
 {
-    if !text.is_empty() && text.len() <= 4 {
-        short_number(is_negative, few_magnitude(text))
-    } else if 4 < text.len() && text.len() <= 18 {
-        short_number(is_negative, short_magnitude(text))
+    if text.len() <= 18 {
+        short_number(is_negative, text)
     } else {
         long_number(is_negative, text)
     }
 }
 
-/// The same, of the magnitude that the digits of a text spell, where 63 bits hold it.
-#[inline(always)]
-fn short_number(is_negative: bool, magnitude: Option<u64>) -> Option<Option<i64>>
-    requires { IfSome magnitude (λ magnitude. magnitude < 2 ^ 63) }
-    ensures { (text : List ℕ) → magnitude ≡ (if are_digits text then Some (digits_value text) else None) → result
-        ≡ if are_digits text then Some (number_of is_negative text) else None }
+/// The same for a text so short that 64 bits hold each number on the way.
+fn short_number(is_negative: bool, text: &[u8]) -> Option<Option<i64>>
+    requires { length text.now ≤ 18 }
+    ensures { result ≡ if are_digits text.now then Some (number_of is_negative text.now) else None }
 {
-    match magnitude {
+    match short_magnitude(text) {
         None => None,
         Some(magnitude) => Some(Some(with_sign(is_negative, magnitude))),
     }
@@ -104,71 +100,22 @@ fn magnitude_of(digits: &[u8]) -> u64
     magnitude
 }
 
-/// What a digit stands for; none for another byte.
-#[inline(always)]
-fn digit_in(byte: u8) -> Option<u64>
-    ensures value { result ≡ if is_ascii_digit byte then Some (byte - 48) else None }
-    ensures small { IfSome result (λ digit. digit < 10) }
-{
-    let digit = u64::from(byte).wrapping_sub(48);
-    if digit < 10 { Some(digit) } else { None }
-}
-
-/// By the length of a text of one to four digits, what those at 0, at a quarter and at half of the length weigh; the last
-/// one weighs 1.
-static WEIGHTS: [[u32; 3]; 5] = [
-    [0, 0, 0],
-    [0, 0, 0],
-    [10, 0, 0],
-    [100, 0, 10],
-    [1000, 100, 10],
-];
-
-/// What one to four digits spell; none for another text. There is no branch on their number, which no processor foresees:
-/// the bytes at 0, at a quarter and at half of the length and the last one are all that the text has, and one that comes
-/// again weighs nothing there.
-#[inline(always)]
-fn few_magnitude(text: &[u8]) -> Option<u64>
-    requires some { 0 < length text.now }
-    requires few { length text.now ≤ 4 }
-    ensures magnitude { result ≡ if are_digits text.now then Some (digits_value text.now) else None }
-    ensures small { IfSome result (λ magnitude. magnitude < 10 ^ 4) }
-{
-    let n = text.len();
-    let last = digit_in(text[n - 1])?;
-    let third = digit_in(text[n / 2])?;
-    let second = digit_in(text[n / 4])?;
-    let first = digit_in(text[0])?;
-    let weights = WEIGHTS[n];
-    Some(
-        weighed(weights[0], first)
-            + weighed(weights[1], second)
-            + weighed(weights[2], third)
-            + last,
-    )
-}
-
-/// What a digit of this weight adds to a number.
-#[inline(always)]
-fn weighed(weight: u32, digit: u64) -> u64
-    requires { digit < 10 }
-    ensures value { result ≡ weight * digit }
-    ensures small { result < 2 ^ 36 }
-{
-    u64::from(weight) * digit
-}
-
-/// What five to 18 digits spell; none for another text. The first four need no test of their number.
+/// What the digits of a short text spell; none for another text.
 fn short_magnitude(text: &[u8]) -> Option<u64>
-    requires some { 4 < length text.now }
-    requires few { length text.now ≤ 18 }
+    requires { length text.now ≤ 18 }
     ensures magnitude { result ≡ if are_digits text.now then Some (digits_value text.now) else None }
     ensures small { IfSome result (λ magnitude. magnitude < 2 ^ 63) }
 {
-    let mut magnitude = few_magnitude(&text[..4])?;
-    for i in 4..text.len() {
-        let digit = digit_in(text[i])?;
-        magnitude = 10 * magnitude + digit;
+    if text.is_empty() {
+        return None;
+    }
+    let mut magnitude: u64 = 0;
+    for digit in text {
+        if !digit.is_ascii_digit() {
+            return None;
+        }
+        let units = u64::from(digit.saturating_sub(b'0'));
+        magnitude = 10 * magnitude + units;
     }
     Some(magnitude)
 }

@@ -5,9 +5,9 @@ use Rattle.bw_model.specs.Number.{digits_value}
 use Rattle.bw_model.proofs.number.short_magnitude.Given as goal
 
 -- all so far are digits, and spell the magnitude, which is below the power of ten that has as many zeros
-abbrev pub invariant-loop-i : goal.invariant-loop-i
-invariant-loop-i l = record {
-  digits : list_all is_ascii_digit (take l.i l.text) ≡ true;
-  magnitude : l.magnitude ≡ digits_value (take l.i l.text);
-  below : l.magnitude < 10 ^ l.i;
+abbrev pub invariant-loop-digit : goal.invariant-loop-digit
+invariant-loop-digit l = record {
+  digits : list_all is_ascii_digit (take l.digit-index l.text) ≡ true;
+  magnitude : l.magnitude ≡ digits_value (take l.digit-index l.text);
+  below : l.magnitude < 10 ^ l.digit-index;
 }
