@@ -4,18 +4,18 @@ ghost use Rattle.std.specs.Prelude.{◌≡◌};
 use crate::calls::{answer, check, direct, dump, infer, info, load, plan};
 use crate::out_file::{OutFile, is_same_file};
 use bw_cert_file::MAX_PROGRAM_FILE_LEN;
-use bw_device::{FromRead, Input, Source, ToWrite, read_limited};
+use bw_device::{FromRead, Input, ReadAhead, Source, ToWrite, read_limited};
 use bw_file::Layout;
 use bw_model::{Fault, MAX_SCHEMA_LEN, code};
 use bw_report::{By, Served, accepted_line, report, stats_line};
 use bw_tell::{Ended, explain, explain_rows};
 use bw_words::{Asked, USAGE, Words, asked_by, words_given};
 use std::fs::File;
-use std::io::{BufReader, IsTerminal};
+use std::io::IsTerminal;
 use std::rt::{Env, Files};
 
 /// How many bytes of a table file are asked for at once.
-const PIECE: usize = 64 * 1024;
+const PIECE: usize = 128 * 1024;
 
 /// Runs the command of the process's command line.
 pub fn run(rt: &HostRuntime) -> u8 {
@@ -147,7 +147,7 @@ fn run_query<'a>(
     table_path: &'a str,
     sql: &str,
 ) -> Result<Served, Ended<'a>> {
-    let table = open_buffered(rt, table_path)?;
+    let table = open_ahead(rt, table_path)?;
     let program = program_given(rt, program)?;
     let served = answer_from(rt, table_path, table, sql, program.as_deref())?;
     if stats {
@@ -171,11 +171,10 @@ fn program_given<'a>(
 fn answer_from<'a>(
     rt: &HostRuntime,
     path: &'a str,
-    table: BufReader<File>,
+    mut table: ReadAhead<File>,
     sql: &str,
     program: Option<&[u8]>,
 ) -> Result<Served, Ended<'a>> {
-    let mut table = FromRead::new(table);
     let mut out = ToWrite::new(rt.stdout());
     let done = answer(rt.alloc(), &mut table, sql, program, &mut out);
     or_ended(done, &[(path, table.failures())])
@@ -199,14 +198,14 @@ fn run_plan<'a>(rt: &HostRuntime, schema_path: &'a str, sql: &str) -> Result<(),
 
 /// Runs `bw info`.
 fn run_info<'a>(rt: &HostRuntime, table_path: &'a str) -> Result<(), Ended<'a>> {
-    let mut table = FromRead::new(open_buffered(rt, table_path)?);
+    let mut table = open_ahead(rt, table_path)?;
     let done = info(rt.alloc(), &mut table, &mut ToWrite::new(rt.stdout()));
     or_ended(done, &[(table_path, table.failures())])
 }
 
 /// Runs `bw dump`.
 fn run_dump<'a>(rt: &HostRuntime, table_path: &'a str) -> Result<(), Ended<'a>> {
-    let mut table = FromRead::new(open_buffered(rt, table_path)?);
+    let mut table = open_ahead(rt, table_path)?;
     let done = dump(rt.alloc(), &mut table, &mut ToWrite::new(rt.stdout()));
     or_ended(done, &[(table_path, table.failures())])
 }
@@ -274,10 +273,7 @@ fn open<'a>(rt: &HostRuntime, path: &'a str) -> Result<File, Ended<'a>> {
 }
 
 /// A table file, which the system is asked for in large pieces.
-fn open_buffered<'a>(rt: &HostRuntime, path: &'a str) -> Result<BufReader<File>, Ended<'a>> {
+fn open_ahead<'a>(rt: &HostRuntime, path: &'a str) -> Result<ReadAhead<File>, Ended<'a>> {
     let file = open(rt, path)?;
-    match BufReader::with_capacity(rt.alloc(), PIECE, file) {
-        Ok(reader) => Ok(reader),
-        Err(_) => Err(Ended::of(Fault::new(code::OUT_OF_MEMORY), &[])),
-    }
+    or_ended(ReadAhead::new(rt.alloc(), file, PIECE), &[])
 }

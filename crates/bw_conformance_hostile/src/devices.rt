@@ -1,7 +1,7 @@
 //! Sources and sinks that give or take little at a time, fail at a given call, or never end.
-ghost use Rattle.std.specs.Prelude.{◌≡◌, None};
+ghost use Rattle.std.specs.Prelude.{◌≡◌, None, []};
 
-use bw_device::{Failed, Sink, Source};
+use bw_device::{Failed, SharedBytes, Sink, Source};
 
 /// What one call may move, at which call the device fails (from 1; 0 for never), and what has happened.
 #[derive(Drop)]
@@ -37,6 +37,8 @@ impl Source for Pieces<'_> {
 
     ghost failures = { λ s. s.calls.failures };
 
+    ghost kept = { λ _. [] };
+
     fn read(&mut self, buffer: &mut [u8]) -> Result<usize, Failed> {
         self.calls.made = self.calls.made.saturating_add(1);
         if self.calls.made == self.calls.fail_at {
@@ -48,6 +50,12 @@ impl Source for Pieces<'_> {
         self.left = &self.left[n..];
         Ok(n)
     }
+
+    fn share(&self, _count: usize) -> Option<SharedBytes> {
+        None
+    }
+
+    fn pass(&mut self, _count: usize) {}
 
     fn failures(&self) -> u64 {
         self.calls.failures
@@ -68,6 +76,8 @@ impl Source for Endless<'_> {
 
     ghost failures = { λ _. 0 };
 
+    ghost kept = { λ _. [] };
+
     fn read(&mut self, buffer: &mut [u8]) -> Result<usize, Failed> {
         let all = self.piece.min(buffer.len());
         let n = all.min(self.left.len());
@@ -79,6 +89,12 @@ impl Source for Endless<'_> {
         self.given = self.given.saturating_add(all);
         Ok(all)
     }
+
+    fn share(&self, _count: usize) -> Option<SharedBytes> {
+        None
+    }
+
+    fn pass(&mut self, _count: usize) {}
 
     fn failures(&self) -> u64 {
         0

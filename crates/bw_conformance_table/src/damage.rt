@@ -29,7 +29,7 @@ fn each_front_of_a_file_is_truncated(rt: HostRuntime) -> Result<(), Fail> {
 }
 
 /// Changes a bit of a byte, where there is one.
-fn flip(bytes: &mut Vec<u8>, at: usize, bit: u32) {
+pub(crate) fn flip(bytes: &mut Vec<u8>, at: usize, bit: u32) {
     if at < bytes.len() && bit < 8 {
         bytes[at] ^= 1 << bit;
     }

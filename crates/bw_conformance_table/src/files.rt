@@ -87,6 +87,23 @@ pub(crate) fn wide_file(rt: &impl Abort, alloc: Global, layout: Layout) -> Resul
     Ok(file_of(rt, alloc, layout, &schema, &rows)?)
 }
 
+/// The file of a column of 11 bits, in which row i has i, of so many rows.
+pub(crate) fn long_file(
+    rt: &impl Abort,
+    alloc: Global,
+    layout: Layout,
+    count: i64,
+) -> Result<Vec<u8>, Fail> {
+    let schema = Schema::parse(alloc, b"TABLE l\nCOLUMN x 0 2000 NOT NULL\n")?;
+    let mut rows = Vec::new(alloc);
+    for number in 0..count {
+        rows.push(Row {
+            values: vec![in alloc; Some(number)]?,
+        })?;
+    }
+    Ok(file_of(rt, alloc, layout, &schema, &rows)?)
+}
+
 /// The five rows' files and the wide column's, in planes and in slices.
 pub(crate) fn worked_files(rt: &impl Abort, alloc: Global) -> Result<Vec<Vec<u8>>, Fail> {
     let files = vec![in alloc;

@@ -11,4 +11,6 @@ mod device;
 #[cfg(test)]
 mod files;
 #[cfg(test)]
+mod read_ahead;
+#[cfg(test)]
 mod sources;

@@ -1,8 +1,8 @@
 //! Table files from sources that give little, or fail.
-ghost use Rattle.std.specs.Prelude.{None};
+ghost use Rattle.std.specs.Prelude.{None, []};
 
 use crate::files::worked_files;
-use bw_device::{Failed, Source};
+use bw_device::{Failed, SharedBytes, Source};
 use bw_file::TableReader;
 use bw_model::{Fault, code};
 use std::alloc::Global;
@@ -21,6 +21,8 @@ impl Source for Drops<'_> {
 
     ghost failures = { λ drops. drops.failures };
 
+    ghost kept = { λ _. [] };
+
     fn read(&mut self, buffer: &mut [u8]) -> Result<usize, Failed> {
         if self.left == 0 {
             self.failures += 1;
@@ -36,6 +38,12 @@ impl Source for Drops<'_> {
             _ => Ok(0),
         }
     }
+
+    fn share(&self, _count: usize) -> Option<SharedBytes> {
+        None
+    }
+
+    fn pass(&mut self, _count: usize) {}
 
     fn failures(&self) -> u64 {
         self.failures
@@ -87,6 +95,8 @@ impl Source for Endless<'_> {
 
     ghost failures = { λ _. 0 };
 
+    ghost kept = { λ _. [] };
+
     fn read(&mut self, buffer: &mut [u8]) -> Result<usize, Failed> {
         let n = buffer.len().min(self.rest.len());
         buffer[..n].copy_from_slice(&self.rest[..n]);
@@ -96,6 +106,12 @@ impl Source for Endless<'_> {
         }
         Ok(buffer.len())
     }
+
+    fn share(&self, _count: usize) -> Option<SharedBytes> {
+        None
+    }
+
+    fn pass(&mut self, _count: usize) {}
 
     fn failures(&self) -> u64 {
         0

@@ -1,12 +1,13 @@
 //! A source over any reader of std.
-ghost use Rattle.std.specs.Prelude.{◌≡◌};
+ghost use Rattle.std.specs.Prelude.{◌≡◌, []};
 ghost use Rattle.bw_device.specs.FromRead.{reader_of, read_failures};
 
 use crate::failed::Failed;
+use crate::shared::SharedBytes;
 use crate::source::Source;
 use std::io::Read;
 
-/// A reader of std as a source. Each of its errors, that of an interrupted call too, counts as a
+/// A reader of std as a source, which keeps nothing. Each of its errors, that of an interrupted call too, counts as a
 /// failure.
 #[derive(Drop)]
 pub struct FromRead<R> {
@@ -35,6 +36,8 @@ impl<R: Read> Source for FromRead<R> {
 
     ghost failures = { read_failures };
 
+    ghost kept = { λ _. [] };
+
     fn read(&mut self, buffer: &mut [u8]) -> Result<usize, Failed> {
         match self.inner.read(buffer) {
             Ok(n) => Ok(n),
@@ -44,6 +47,12 @@ impl<R: Read> Source for FromRead<R> {
             }
         }
     }
+
+    fn share(&self, _count: usize) -> Option<SharedBytes> {
+        None
+    }
+
+    fn pass(&mut self, _count: usize) {}
 
     fn failures(&self) -> u64 {
         self.failures

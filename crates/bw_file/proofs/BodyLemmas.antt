@@ -150,14 +150,12 @@ before_within layout schema column (suc count) lt =
       | inr same ↦ let e : column ≡ count = omega arith in rw e (omega arith)
     ]
 
--- blocks that are sound, in a buffer, and a block after them
-pub sound_more : (layout : Layout) (schema : List Column) (rows column start size room : ℕ) (bytes added : List ℕ) → start ≤ length bytes → size ≡ block_size layout schema column
-    → length added ≡ size → AreSound layout schema rows column (take start bytes) → block_fault layout schema column rows added ≡ None
-    → AreSound layout schema rows (column + 1) (take (start + size) (put_mid start room bytes added))
-sound_more layout schema rows column start size room bytes added within sized long sound good =
+-- blocks that are sound, and a block after them
+pub sound_more : (layout : Layout) (schema : List Column) (rows column : ℕ) (before added : List ℕ) → length added ≡ block_size layout schema column
+    → AreSound layout schema rows column before → block_fault layout schema column rows added ≡ None → AreSound layout schema rows (column + 1) (before ++ added)
+sound_more layout schema rows column before added long sound good =
     let next : suc column ≡ column + 1 = omega arith in
-    let front = take-put_mid start room bytes added (start + size) (omega arith) within in
-    rw front (subst (λ (k : ℕ). AreSound layout schema rows k (take start bytes ++ added)) next (block_added (form_of layout) schema rows column (take start bytes) added sound (long ∙ sized) good))
+    subst (λ (k : ℕ). AreSound layout schema rows k (before ++ added)) next (block_added (form_of layout) schema rows column before added sound long good)
 
 pub before_more : (layout : Layout) (schema : List Column) (column start size : ℕ) → start ≡ bytes_before layout schema column → size ≡ block_size layout schema column
     → start + size ≡ bytes_before layout schema (column + 1)

@@ -8,6 +8,7 @@ pub mod NextLemmas
 pub mod ReaderLemmas
 pub mod ReaderSpelling
 pub mod ReadingLemmas
+pub mod SegmentBytesLemmas
 pub mod SegmentLemmas
 pub mod SpelledBody
 pub mod SpelledFile

@@ -1,4 +1,5 @@
 -- What a segment in either layout means, and its layout.
+use Rattle.bw_device.specs.Shared.{bytes_in}
 use Rattle.bw_planes.specs.Planes.{plane_packing}
 use Rattle.bw_slices.specs.Slices.{slice_packing}
 use Rattle.bw_segment.specs.Meaning.{Meaning, IsGroup}
@@ -10,9 +11,9 @@ use Rattle.bw_file.specs.declared.layout.Layout.TheVariants as layouts
 
 unfoldable pub any_meaning : AnySegment → Meaning
 any_meaning (Planes segment) =
-    meaning_spelled plane_packing segment.shape.value.schema segment.rows segment.bytes.items
+    meaning_spelled plane_packing segment.shape.value.schema segment.rows (bytes_in segment.bytes)
 any_meaning (Slices segment) =
-    meaning_spelled slice_packing segment.shape.value.schema segment.rows segment.bytes.items
+    meaning_spelled slice_packing segment.shape.value.schema segment.rows (bytes_in segment.bytes)
 
 -- which is one group's rows
 pub any_is_group : (segment : AnySegment) → IsGroup (any_meaning segment)

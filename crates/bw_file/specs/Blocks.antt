@@ -1,5 +1,5 @@
 -- The two layouts of segments, by the names that a table file gives them.
-use Rattle.std.specs.Prelude.{ℕ, List, Option}
+use Rattle.std.specs.Prelude.{ℕ, ◌+◌, List, Option, slice_range}
 use Rattle.bw_model.specs.declared.column.Column.{Column}
 use Rattle.bw_model.specs.Row.{Value}
 use Rattle.bw_planes.specs.Planes.{plane_packing}
@@ -22,6 +22,10 @@ block_size layout columns column = kept.block_size (form_of layout) columns colu
 
 abbrev pub bytes_before : Layout → List Column → ℕ → ℕ
 bytes_before layout columns column = kept.bytes_before (form_of layout) columns column
+
+-- the block of a column that begins at a place among bytes
+abbrev pub block_from : Layout → List Column → ℕ → ℕ → List ℕ → List ℕ
+block_from layout columns column start bytes = slice_range bytes start (start + block_size layout columns column)
 
 abbrev pub segment_size : Layout → List Column → ℕ
 segment_size layout columns = kept.segment_size (form_of layout) columns

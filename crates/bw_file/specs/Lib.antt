@@ -4,6 +4,7 @@ pub mod Encoder
 pub mod FileText
 pub mod Header
 pub mod Reading
+pub mod SegmentBytes
 pub mod Table
 pub mod TableReader
 pub mod TableReading

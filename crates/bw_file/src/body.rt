@@ -1,31 +1,34 @@
 //! What stands after a table file's header, read from a source: segments, block by block, and the
 //! end.
-ghost use Rattle.std.specs.Prelude.{◌≡◌, ◌+◌, ◌-◌, ◌^◌, ◌<◌, ◌≤◌, [], length, None, OnOk, IfOk, IfErr};
+ghost use Rattle.std.specs.Prelude.{◌≡◌, ◌+◌, ◌-◌, ◌^◌, ◌<◌, ◌≤◌, [], length, take, None, OnOk, IfOk, IfErr};
 ghost use Rattle.std.specs.Io.KnownBytes.{IsAtEnd};
 ghost use Rattle.bw_model.specs.Groups.{group_size};
 ghost use Rattle.bw_file.specs.AnySegment.{any_layout, any_meaning};
-ghost use Rattle.bw_file.specs.Blocks.{block_size, block_fault, bytes_before, segment_size, IsPlaced, IsSound};
+ghost use Rattle.bw_file.specs.Blocks.{block_size, block_fault, block_from, bytes_before, segment_size, IsPlaced, IsSound};
+ghost use Rattle.bw_file.specs.SegmentBytes.{bytes_held, AreNext};
 ghost use Rattle.bw_file.specs.Reading.{Reads, HasByteMore, Took, state};
 ghost use Rattle.bw_file.specs.TableReading.{plane_has_padding, has_padding, padding_from, fault_place, one_block, blocks, segment};
 
 use crate::layout::Layout;
+use crate::segment_bytes::SegmentBytes;
 use crate::segments::{AnySegment, block_size, judge, segment_size};
-use crate::take::{are_bytes, take};
+use crate::take::are_bytes;
 use bw_device::{Failed, Source};
 use bw_model::{Fault, code};
 use bw_segment::Shape;
+use std::alloc::Global;
 use std::rc::Rc;
 
-/// Reads a segment of so many rows into memory that was used before: a block at a time, each of
+/// Reads a segment of so many rows, in the source's memory where it keeps the whole segment: a block at a time, each of
 /// which is judged before the next is taken. Faults: 308 at the first byte with a bit of a padding
 /// row; 307, 306 at the first byte of a block; and 305 at the end of the file.
 pub(crate) fn read_segment<S: Source>(
+    alloc: Global,
     source: &mut S,
     offset: &mut u64,
     layout: Layout,
     shape: &Rc<Shape>,
     rows: u32,
-    mut bytes: Vec<u8>,
 ) -> Result<AnySegment, Fault>
     requires countable { S.failures source.old < 2 ^ 64 - 1 }
     requires room { offset.old < 2 ^ 62 }
@@ -43,46 +46,39 @@ pub(crate) fn read_segment<S: Source>(
         (λ found. (any_meaning found).columns ≡ shape.now.value.schema.columns.items) }
     ensures count { IfOk result (λ found. length (any_meaning found).rows ≡ rows) }
 {
-    let shared = shape.clone()?;
-    bytes.resize(segment_size(layout, shape), 0)?;
+    let same = shape.clone()?;
+    let mut bytes = SegmentBytes::of(alloc, source, segment_size(layout, shape))?;
     read_blocks(source, offset, layout, shape, rows, &mut bytes)?;
-    Ok(AnySegment::of_blocks(layout, shared, rows, bytes))
+    let shared = bytes.into_shared(alloc)?;
+    Ok(AnySegment::of_blocks(layout, same, rows, shared))
 }
 
-/// Fills a segment's bytes, block by block.
+/// Takes a segment's bytes, block by block.
 fn read_blocks<S: Source>(
     source: &mut S,
     offset: &mut u64,
     layout: Layout,
     shape: &Shape,
     rows: u32,
-    bytes: &mut [u8],
+    bytes: &mut SegmentBytes,
 ) -> Result<(), Fault>
     requires countable { S.failures source.old < 2 ^ 64 - 1 }
     requires room { offset.old < 2 ^ 62 }
     requires rows { rows ≤ group_size }
-    requires size { length bytes.old ≡ segment_size layout shape.now.schema.columns.items }
-    ensures reads { Reads (λ _. bytes.new) (blocks layout shape.now.schema.columns.items rows 0
+    requires size { length (bytes_held bytes.old) ≡ segment_size layout shape.now.schema.columns.items }
+    requires next { AreNext bytes.old 0 (S.kept source.old) }
+    ensures reads { Reads (λ _. bytes_held bytes.new) (blocks layout shape.now.schema.columns.items rows 0
         (length shape.now.schema.columns.items) [])
         (state (S.to_come source.old) offset.old (S.failures source.old))
         (state (S.to_come source.new) offset.new (S.failures source.new)) result }
     ensures counted { OnOk result (offset.new ≤ offset.old + 2 ^ 19) }
-    ensures sound { OnOk result (IsSound layout shape.now.schema.columns.items rows bytes.new) }
+    ensures sound { OnOk result (IsSound layout shape.now.schema.columns.items rows (bytes_held bytes.new)) }
 {
     let mut start = 0;
     for col in 0..shape.schema.columns.len() {
-        let size = block_size(layout, shape, col);
         block_is_within(layout, shape, col);
-        read_block(
-            source,
-            offset,
-            layout,
-            shape,
-            col,
-            rows,
-            &mut bytes[start..start + size],
-        )?;
-        start += size;
+        read_block(source, offset, layout, shape, col, rows, bytes, start)?;
+        start += block_size(layout, shape, col);
     }
     Ok(())
 }
@@ -95,7 +91,7 @@ fn block_is_within(layout: Layout, shape: &Shape, col: usize)
         ≤ segment_size layout shape.now.schema.columns.items }
 {}
 
-/// Fills a column's block, and judges it.
+/// Takes a column's block, which is to begin at `start` among the bytes, and judges it.
 fn read_block<S: Source>(
     source: &mut S,
     offset: &mut u64,
@@ -103,24 +99,32 @@ fn read_block<S: Source>(
     shape: &Shape,
     col: usize,
     rows: u32,
-    block: &mut [u8],
+    bytes: &mut SegmentBytes,
+    start: usize,
 ) -> Result<(), Fault>
     requires countable { S.failures source.old < 2 ^ 64 - 1 }
     requires room { offset.old < 2 ^ 63 }
     requires column { col < length shape.now.schema.columns.items }
     requires rows { rows ≤ group_size }
-    requires size { length block.old ≡ block_size layout shape.now.schema.columns.items col }
-    requires small { length block.old ≤ 4160 }
-    ensures reads { Reads (λ _. block.new)
+    requires within { start + block_size layout shape.now.schema.columns.items col ≤ length (bytes_held bytes.old) }
+    requires next { AreNext bytes.old start (S.kept source.old) }
+    ensures reads { Reads (λ _. block_from layout shape.now.schema.columns.items col start (bytes_held bytes.new))
         (one_block layout shape.now.schema.columns.items rows col)
         (state (S.to_come source.old) offset.old (S.failures source.old))
         (state (S.to_come source.new) offset.new (S.failures source.new)) result }
-    ensures counted { OnOk result (offset.new ≡ offset.old + length block.old) }
-    ensures good { OnOk result
-        (block_fault layout shape.now.schema.columns.items col rows block.new ≡ None) }
+    ensures counted { OnOk result
+        (offset.new ≡ offset.old + block_size layout shape.now.schema.columns.items col) }
+    ensures good { OnOk result (block_fault layout shape.now.schema.columns.items col rows
+        (block_from layout shape.now.schema.columns.items col start (bytes_held bytes.new)) ≡ None) }
+    ensures next { OnOk result (AreNext bytes.new
+        (start + block_size layout shape.now.schema.columns.items col) (S.kept source.new)) }
+    ensures before { take start (bytes_held bytes.new) ≡ take start (bytes_held bytes.old) }
+    ensures long { length (bytes_held bytes.new) ≡ length (bytes_held bytes.old) }
 {
     let at = *offset;
-    take(source, offset, block)?;
+    let size = block_size(layout, shape, col);
+    bytes.take(source, offset, start, size)?;
+    let block = &bytes.as_slice()[start..start + size];
     match judge(layout, shape, col, rows, block) {
         None => Ok(()),
         Some(code) => {

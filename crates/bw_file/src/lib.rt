@@ -27,6 +27,7 @@ mod layout;
 mod memory;
 mod phase;
 mod reader_laws;
+mod segment_bytes;
 mod segments;
 mod table;
 mod table_reader;

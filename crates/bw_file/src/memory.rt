@@ -1,7 +1,7 @@
 //! Bytes in memory as a source that never fails.
-ghost use Rattle.std.specs.Prelude.{Some};
+ghost use Rattle.std.specs.Prelude.{Some, []};
 
-use bw_device::{Failed, Source};
+use bw_device::{Failed, SharedBytes, Source};
 
 /// Bytes that are still to come.
 #[derive(Drop)]
@@ -14,6 +14,8 @@ impl Source for Memory<'_> {
 
     ghost failures = { λ _. 0 };
 
+    ghost kept = { λ _. [] };
+
     fn read(&mut self, buffer: &mut [u8]) -> Result<usize, Failed> {
         let count = self.rest.len().min(buffer.len());
         let (front, rest) = self.rest.split_at(count);
@@ -21,6 +23,12 @@ impl Source for Memory<'_> {
         self.rest = rest;
         Ok(count)
     }
+
+    fn share(&self, _count: usize) -> Option<SharedBytes> {
+        None
+    }
+
+    fn pass(&mut self, _count: usize) {}
 
     fn failures(&self) -> u64 {
         0

@@ -1,5 +1,6 @@
 //! Segments in either layout, behind the same calls.
 ghost use Rattle.std.specs.Prelude.{◌≡◌, ◌++◌, ◌<◌, ◌≤◌, List, length, take, IfOk, OnOk, OnErr, IsOkUnless};
+ghost use Rattle.bw_device.specs.Shared.{bytes_in};
 ghost use Rattle.bw_model.specs.Fault.{no_memory};
 ghost use Rattle.bw_model.specs.Groups.{group_size};
 ghost use Rattle.bw_model.specs.Row.{Value};
@@ -7,6 +8,7 @@ ghost use Rattle.bw_segment.specs.Columns.{KeepRows};
 ghost use Rattle.bw_file.specs.Blocks.{form_of, block_size, block_fault, segment_size, segment_text, IsPlaced, IsSound, rows_spelled};
 
 use crate::layout::Layout;
+use bw_device::SharedBytes;
 use bw_lanes::Plane;
 use bw_model::{Fault, Schema, Value};
 use bw_planes::{PlaneSegment, Planes};
@@ -123,26 +125,18 @@ impl Segment for AnySegment {
 impl AnySegment {
     ghost use Rattle.bw_file.specs.AnySegment.{any_layout, any_meaning};
 
-    /// The memory of the segment's bytes, for another one.
-    pub(crate) fn into_bytes(self) -> Vec<u8> {
-        match self {
-            AnySegment::Planes(segment) => segment.into_bytes(),
-            AnySegment::Slices(segment) => segment.into_bytes(),
-        }
-    }
-
     /// The segment of bytes that have no fault, in a layout.
     #[tactic(auto, unfolding(crate::specs::AnySegment::any_meaning, crate::specs::Blocks::form_of))]
-    pub(crate) fn of_blocks(layout: Layout, shape: Rc<Shape>, rows: u32, bytes: Vec<u8>) -> Self
+    pub(crate) fn of_blocks(layout: Layout, shape: Rc<Shape>, rows: u32, bytes: SharedBytes) -> Self
         requires placed { IsPlaced layout shape.value }
         requires some { 1 ≤ rows }
         requires few { rows ≤ group_size }
-        requires sound { IsSound layout shape.value.schema.columns.items rows bytes.items }
+        requires sound { IsSound layout shape.value.schema.columns.items rows (bytes_in bytes) }
         ensures layout { any_layout result ≡ layout }
         ensures name { (any_meaning result).name ≡ shape.value.schema.name }
         ensures columns { (any_meaning result).columns ≡ shape.value.schema.columns.items }
         ensures rows { (any_meaning result).rows
-            ≡ rows_spelled layout shape.value.schema.columns.items rows bytes.items }
+            ≡ rows_spelled layout shape.value.schema.columns.items rows (bytes_in bytes) }
     {
         match layout {
             Layout::Planes => AnySegment::Planes(PlaneSegment::of_blocks(shape, rows, bytes)),

@@ -99,45 +99,11 @@ impl TableReader {
             (state (S.to_come source.new) (bytes_taken self.new) (S.failures source.new))
             self.old self.new result }
     {
-        let bytes = Vec::new(self.alloc);
-        self.next_in(source, bytes)
-    }
-
-    /// The same in the memory of a segment that isn't needed any more, where there is one.
-    pub fn refill<S: Source>(
-        &mut self,
-        source: &mut S,
-        spare: Option<AnySegment>,
-    ) -> Result<Option<AnySegment>, Fault>
-        requires { S.failures source.old < 2 ^ 64 - 1 }
-        ensures { GivesNext source.old source.new
-            (state (S.to_come source.old) (bytes_taken self.old) (S.failures source.old))
-            (state (S.to_come source.new) (bytes_taken self.new) (S.failures source.new))
-            self.old self.new result }
-    {
-        match spare {
-            None => self.next_segment(source),
-            Some(segment) => self.next_in(source, segment.into_bytes()),
-        }
-    }
-
-    /// The next segment in this memory.
-    fn next_in<S: Source>(
-        &mut self,
-        source: &mut S,
-        bytes: Vec<u8>,
-    ) -> Result<Option<AnySegment>, Fault>
-        requires { S.failures source.old < 2 ^ 64 - 1 }
-        ensures { GivesNext source.old source.new
-            (state (S.to_come source.old) (bytes_taken self.old) (S.failures source.old))
-            (state (S.to_come source.new) (bytes_taken self.new) (S.failures source.new))
-            self.old self.new result }
-    {
         match self.phase {
             Phase::Ended => Ok(None),
             Phase::Failed(fault) => Err(fault),
             Phase::Reading if self.given == self.rows => self.see_end(source),
-            Phase::Reading => self.give_segment(source, bytes),
+            Phase::Reading => self.give_segment(source),
         }
     }
 
@@ -167,11 +133,7 @@ impl TableReader {
     }
 
     /// Reads a segment of the rows that are left.
-    fn give_segment<S: Source>(
-        &mut self,
-        source: &mut S,
-        bytes: Vec<u8>,
-    ) -> Result<Option<AnySegment>, Fault>
+    fn give_segment<S: Source>(&mut self, source: &mut S) -> Result<Option<AnySegment>, Fault>
         requires countable { S.failures source.old < 2 ^ 64 - 1 }
         requires open { self.old.phase ≡ Reading }
         requires left { self.old.given < self.old.rows }
@@ -182,7 +144,14 @@ impl TableReader {
     {
         let rows = (self.rows - self.given).min(512);
         let mut offset = self.offset;
-        let answer = read_segment(source, &mut offset, self.layout, &self.shape, rows, bytes);
+        let answer = read_segment(
+            self.alloc,
+            source,
+            &mut offset,
+            self.layout,
+            &self.shape,
+            rows,
+        );
         self.offset = offset;
         match answer {
             Ok(segment) => {

@@ -104,13 +104,11 @@ fn take_rows<S: Source>(
         loads: 0,
         skips: 0,
     };
-    let mut spare = None;
-    while let Some(segment) = reader.refill(source, spare)? {
+    while let Some(segment) = reader.next_segment(source)? {
         let more = take_either(&segment, scan, counts, answer)?;
         scanned.segments += 1;
         scanned.loads += more.loads as u64;
         scanned.skips += more.skips as u64;
-        spare = Some(segment);
     }
     Ok(scanned)
 }

@@ -12,6 +12,7 @@ use crate::layout::Layout;
 use crate::packed::PackedSegment;
 use crate::segment::Segment;
 use crate::shape::Shape;
+use bw_device::SharedBytes;
 use bw_model::{Fault, Row, Schema};
 use std::alloc::Global;
 use std::rc::Rc;
@@ -39,7 +40,7 @@ impl<L: Layout> PackedSegment<L> {
     {
         let shared: &Shape = shape;
         let kept = columns_of(alloc, &shared.schema, rows)?;
-        let bytes = text_of::<L>(alloc, shared, &kept)?;
+        let bytes = SharedBytes::new(alloc, text_of::<L>(alloc, shared, &kept)?)?;
         let shape = shape.clone()?;
         let count = rows.len() as u32;
         Ok(PackedSegment::of_blocks(shape, count, bytes))

@@ -1,5 +1,6 @@
 //! A segment kept as bytes in a layout, and what it answers.
 ghost use Rattle.std.specs.Prelude.{◌≡◌, ◌≤◌, length};
+ghost use Rattle.bw_device.specs.Shared.{bytes_in};
 ghost use Rattle.bw_model.specs.Groups.{group_size};
 ghost use Rattle.bw_segment.specs.BlockFault.{IsSound};
 ghost use Rattle.bw_segment.specs.Packing.{block_size, meaning_spelled, segment_size, segment_text};
@@ -8,6 +9,7 @@ ghost use Rattle.bw_segment.specs.Packed.{IsPacked, IsPlaced};
 use crate::layout::Layout;
 use crate::segment::Segment;
 use crate::shape::Shape;
+use bw_device::SharedBytes;
 use bw_lanes::{Plane, lane};
 use bw_model::{Schema, Value};
 use std::marker::PhantomData;
@@ -19,14 +21,14 @@ use std::rc::Rc;
 pub struct PackedSegment<L: Layout> {
     pub shape: Rc<Shape>,
     pub rows: u32,
-    pub bytes: Vec<u8>,
+    pub bytes: SharedBytes,
     layout: PhantomData<L>,
-    pub ghost packed: { IsPacked L.packing shape.value rows bytes.items },
+    pub ghost packed: { IsPacked L.packing shape.value rows (bytes_in bytes) },
 }
 
 impl<L: Layout> Segment for PackedSegment<L> {
     ghost meaning = { λ segment.
-        meaning_spelled L.packing segment.shape.value.schema segment.rows segment.bytes.items };
+        meaning_spelled L.packing segment.shape.value.schema segment.rows (bytes_in segment.bytes) };
 
     fn schema(&self) -> &Schema {
         &self.shape.schema
@@ -97,14 +99,15 @@ impl<L: Layout> PackedSegment<L> {
     ghost use Rattle.bw_segment.specs.Packing.{block_at};
 
     /// The segment of so many rows whose blocks are these bytes, each without fault.
-    pub fn of_blocks(shape: Rc<Shape>, rows: u32, bytes: Vec<u8>) -> Self
+    pub fn of_blocks(shape: Rc<Shape>, rows: u32, bytes: SharedBytes) -> Self
         requires placed { IsPlaced L.packing shape.value }
         requires some { 1 ≤ rows }
         requires few { rows ≤ group_size }
-        requires sound { IsSound L.packing shape.value.schema.columns.items rows bytes.items }
+        requires sound { IsSound L.packing shape.value.schema.columns.items rows (bytes_in bytes) }
         ensures means { ⟦<PackedSegment<L> as Segment>⟧.meaning result
-            ≡ meaning_spelled L.packing shape.value.schema rows bytes.items }
+            ≡ meaning_spelled L.packing shape.value.schema rows (bytes_in bytes) }
     {
+        bytes.are_bytes();
         PackedSegment {
             shape,
             rows,
@@ -130,22 +133,13 @@ impl<L: Layout> PackedSegment<L> {
         shape.start::<L>(shape.schema.columns.len())
     }
 
-    /// The bytes of the segment, whose memory is used again for another one.
-    pub fn into_bytes(self) -> Vec<u8>
-        ensures { result.items ≡ segment_text L.packing
-            (⟦<PackedSegment<L> as Segment>⟧.meaning self).columns
-            (⟦<PackedSegment<L> as Segment>⟧.meaning self).rows }
-    {
-        self.bytes
-    }
-
     /// The bytes of the segment: the blocks of its columns, in order.
     pub fn bytes(&self) -> &[u8]
         ensures { result.now ≡ segment_text L.packing
             (⟦<PackedSegment<L> as Segment>⟧.meaning self.now).columns
             (⟦<PackedSegment<L> as Segment>⟧.meaning self.now).rows }
     {
-        &self.bytes
+        self.bytes.as_slice()
     }
 
     /// A column's block.
@@ -153,12 +147,12 @@ impl<L: Layout> PackedSegment<L> {
     fn block(&self, col: usize) -> &[u8]
         requires { col < length self.now.shape.value.schema.columns.items }
         ensures block { result.now
-            ≡ block_at L.packing self.now.shape.value.schema.columns.items col self.now.bytes.items }
+            ≡ block_at L.packing self.now.shape.value.schema.columns.items col (bytes_in self.now.bytes) }
         ensures size { length result.now
             ≡ block_size L.packing self.now.shape.value.schema.columns.items col }
     {
         let shape: &Shape = &self.shape;
-        &self.bytes[shape.start::<L>(col)..shape.start::<L>(col + 1)]
+        &self.bytes.as_slice()[shape.start::<L>(col)..shape.start::<L>(col + 1)]
     }
 
     /// How many digits a column's codes have, and the bytes that keep them, which end its block.
@@ -175,6 +169,6 @@ impl<L: Layout> PackedSegment<L> {
         let shape: &Shape = &self.shape;
         let width = shape.schema.width(col);
         let end = shape.start::<L>(col + 1);
-        (width, &self.bytes[end - L::size(width)..end])
+        (width, &self.bytes.as_slice()[end - L::size(width)..end])
     }
 }

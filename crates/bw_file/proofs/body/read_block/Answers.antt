@@ -1,18 +1,22 @@
-use Rattle.std.proofs.Common.{sym, arith}
+use Rattle.std.proofs.Common.{◌≡◌, ◌∙◌, ◌+◌, ◌-◌, ℕ, take, drop, ap, sym, arith}
 use Rattle.std.proofs.lemmas.Result.{err_from_is_err_and}
+use Rattle.bw_file.specs.Blocks.{block_from}
+use Rattle.bw_file.specs.SegmentBytes.{bytes_held}
 use Rattle.bw_file.proofs.BodyLemmas.{block_good, block_bad, block_stops}
 use Rattle.bw_file.proofs.body.read_block.Goals as goal
 
 pub returns-in_err-take-clause-reads : goal.returns-in_err-take-clause-reads
 returns-in_err-take-clause-reads g c =
     let p = err_from_is_err_and c.from_residual.result c.from_residual.ensures.1 in
-    rw (p.1, p.2) (block_stops c.args.layout c.args.shape.now.schema.columns.items c.args.rows c.args.col _ _ _ (rw c.requires.size at c.in_err-take.ensures.reads))
+    rw (p.1, p.2) (block_stops c.args.layout c.args.shape.now.schema.columns.items c.args.rows c.args.col _ _ _ (rw c.block_size-size.ensures.size at c.in_err-take.ensures.reads))
 
 pub returns-in-None-clause-reads : goal.returns-in-None-clause-reads
 returns-in-None-clause-reads g c =
-    block_good c.args.layout c.args.shape.now.schema.columns.items c.args.rows c.args.col c.take.new.buffer _ _ (rw c.requires.size at c.in_ok-take.ensures.reads) (sym c.in-None.ensures)
+    block_good c.args.layout c.args.shape.now.schema.columns.items c.args.rows c.args.col _ _ _ (rw c.block_size-size.ensures.size at c.in_ok-take.ensures.reads)
+    (rw (c.as_slice.ensures, c.block_size-size.ensures.size) at (sym c.in-None.ensures))
 
 pub returns-in-Some-clause-reads : goal.returns-in-Some-clause-reads
 returns-in-Some-clause-reads g c =
-    rw c.at_byte.ensures (block_bad c.args.layout c.args.shape.now.schema.columns.items c.args.rows c.args.col c.in-Some.code _ c.take.new.buffer _ _
-    (rw c.requires.size at c.in_ok-take.ensures.reads) (sym c.in-Some.ensures) (omega (arith, c.fault_place-place.ensures.place)))
+    rw c.at_byte.ensures (block_bad c.args.layout c.args.shape.now.schema.columns.items c.args.rows c.args.col c.in-Some.code _ _ _ _
+    (rw c.block_size-size.ensures.size at c.in_ok-take.ensures.reads) (rw (c.as_slice.ensures, c.block_size-size.ensures.size) at (sym c.in-Some.ensures))
+    (omega (arith, rw (c.as_slice.ensures, c.block_size-size.ensures.size) at c.fault_place-place.ensures.place)))

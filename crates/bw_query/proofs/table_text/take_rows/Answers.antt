@@ -47,7 +47,7 @@ returns-in_err-more-clause-refused g c =
     let given = rw c.in-Some.is at c.in_ok-segment.ensures.given in
     let no_more = c.in_ok-segment.ensures.read so_far.reading in
     rw (p.1, p.2) (λ start read. memory_answers start _ _ c.in_err-more.field-0.0
-    (c.bytes_were_taken.ensures start _ c.refill.new.self _ (given start so_far.groups (so_far.read start read))).0
+    (c.bytes_were_taken.ensures start _ c.next_segment.new.self _ (given start so_far.groups (so_far.read start read))).0
     (omega (arith, no_more.failures, so_far.failures)) c.in_err-more.ensures.only_memory)
 
 pub loop-segment-smaller : goal.loop-segment-smaller

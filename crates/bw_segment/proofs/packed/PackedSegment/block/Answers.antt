@@ -7,4 +7,4 @@ use Rattle.bw_segment.proofs.packed.PackedSegment.block.Goals as goal
 pub slice_bounds-result-end : goal.slice_bounds-result-end
 slice_bounds-result-end g c =
     let end = c.start-2.ensures ∙ ap (λ (shape : Shape). bytes_before g.L.Layout.packing shape.schema.columns.items (c.args.col + 1)) c.deref-shape.ensures in
-    omega (arith, end, block_within c.args.self.now.packed c.args.col c.requires, ap length c.deref.ensures.value)
+    omega (arith, end, block_within c.args.self.now.packed c.args.col c.requires, ap length c.as_slice.ensures)

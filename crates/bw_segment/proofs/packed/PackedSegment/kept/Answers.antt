@@ -8,7 +8,7 @@ use Rattle.bw_segment.proofs.packed.PackedSegment.kept.Goals as goal
 pub slice_bounds-result-end : goal.slice_bounds-result-end
 slice_bounds-result-end g c =
     let end = c.start-end.ensures ∙ ap (λ (shape : Shape). bytes_before g.L.Layout.packing shape.schema.columns.items (c.args.col + 1)) c.deref-shape.ensures in
-    omega (arith, end, block_within c.args.self.now.packed c.args.col c.requires, ap length c.deref.ensures.value)
+    omega (arith, end, block_within c.args.self.now.packed c.args.col c.requires, ap length c.as_slice.ensures)
 
 pub returns-clause-lanes : goal.returns-clause-lanes
 returns-clause-lanes g c =
@@ -16,7 +16,7 @@ returns-clause-lanes g c =
     let first = c.start-end.result - c.size.result in
     let width = c.width-width.ensures.width ∙ ap (λ (shape : Shape). width_at shape.schema.columns.items c.args.col) c.deref-shape.ensures in
     let end = c.start-end.ensures ∙ ap (λ (shape : Shape). bytes_before packing shape.schema.columns.items (c.args.col + 1)) c.deref-shape.ensures in
-    ap (λ (l : List ℕ). packing.codes c.width-width.result (take (c.start-end.result - first) (drop first l))) c.deref.ensures.value
+    ap (λ (l : List ℕ). packing.codes c.width-width.result (take (c.start-end.result - first) (drop first l))) c.as_slice.ensures
     ∙ codes_held c.args.self.now.packed c.args.col c.width-width.result c.size.result c.start-end.result c.requires width c.size.ensures.size end
 
 pub returns-clause-small : goal.returns-clause-small
@@ -25,5 +25,5 @@ returns-clause-small g c =
     let first = c.start-end.result - c.size.result in
     let width = c.width-width.ensures.width ∙ ap (λ (shape : Shape). width_at shape.schema.columns.items c.args.col) c.deref-shape.ensures in
     let end = c.start-end.ensures ∙ ap (λ (shape : Shape). bytes_before packing shape.schema.columns.items (c.args.col + 1)) c.deref-shape.ensures in
-    subst (λ (l : List ℕ). All (λ code. code < 2 ^ c.width-width.result) (packing.codes c.width-width.result (take (c.start-end.result - first) (drop first l)))) (sym c.deref.ensures.value)
+    subst (λ (l : List ℕ). All (λ code. code < 2 ^ c.width-width.result) (packing.codes c.width-width.result (take (c.start-end.result - first) (drop first l)))) (sym c.as_slice.ensures)
     (codes_small c.args.self.now.packed c.args.col c.width-width.result c.size.result c.start-end.result c.requires width c.size.ensures.size end)

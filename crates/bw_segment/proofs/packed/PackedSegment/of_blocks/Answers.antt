@@ -1,21 +1,20 @@
-use Rattle.std.proofs.Common.{◌<◌, ◌^◌, sym, rules}
-use Rattle.std.specs.List.{All}
+use Rattle.std.proofs.Common.{sym}
+use Rattle.bw_device.specs.Shared.{bytes_in}
 use Rattle.bw_segment.proofs.SoundLemmas.{spelled_group, text_again}
 use Rattle.bw_segment.proofs.packed.PackedSegment.of_blocks.Goals as goal
 
 pub invariant_of-result : goal.invariant_of-result
 invariant_of-result g c =
     let schema = c.args.shape.value.schema in
-    let bytes = c.args.bytes.items in
+    let bytes = bytes_in c.args.bytes in
     let packing = g.L.Layout.packing in
     let law = g.met.L.Layout.keeps in
-    let small : All (λ byte. byte < 2 ^ 8) bytes = search rules in
     record {
       packed = record {
         law = law;
         placed = c.requires.placed;
         sound = c.requires.sound;
         group = spelled_group packing law schema.columns.items c.args.rows bytes c.requires.few c.requires.sound schema.name c.requires.some;
-        text = sym (text_again packing law schema.columns.items c.args.rows bytes c.requires.few c.requires.sound small);
+        text = sym (text_again packing law schema.columns.items c.args.rows bytes c.requires.few c.requires.sound c.are_bytes.ensures);
       };
     }

@@ -1,0 +1,142 @@
+//! Table files from a source that reads ahead and shares what it keeps.
+ghost use Rattle.std.specs.Prelude.{◌<◌};
+
+use crate::damage::flip;
+use crate::files::{long_file, worked_files};
+use bw_device::{Failed, ReadAhead, Source};
+use bw_file::{Layout, TableReader, decode};
+use bw_model::{Fault, Value};
+use bw_segment::Segment;
+use std::alloc::Global;
+use std::io;
+use std::io::Read;
+use std::test::Fail;
+
+/// The first fault of a file of at most two segments, if it has one, by a source that asks for so many bytes at a time.
+fn fault_ahead(alloc: Global, file: &[u8], piece: usize) -> Result<(), Fault>
+    requires { 0 < piece }
+{
+    let mut source = ReadAhead::new(alloc, file, piece)?;
+    let mut reader = TableReader::begin(alloc, &mut source)?;
+    for _ in 0..3 {
+        if source.failures() > 0 {
+            break;
+        }
+        reader.next_segment(&mut source)?;
+    }
+    Ok(())
+}
+
+#[test]
+fn each_bit_is_told_the_same(rt: HostRuntime) -> Result<(), Fail> {
+    let alloc = rt.alloc();
+    for file in &mut worked_files(&rt, alloc)? {
+        for at in 0..file.len() {
+            flip(file, at, 1);
+            let fault = decode(alloc, file).err();
+            for piece in [700, 8192] {
+                assert_eq!(rt;
+                    fault_ahead(alloc, file, piece).err(),
+                    fault,
+                    "byte {at}, pieces of {piece}"
+                );
+            }
+            flip(file, at, 1);
+        }
+    }
+    Ok(())
+}
+
+#[test]
+fn each_front_of_a_file_is_truncated(rt: HostRuntime) -> Result<(), Fail> {
+    let alloc = rt.alloc();
+    for file in &worked_files(&rt, alloc)? {
+        for len in 0..file.len() {
+            for piece in [700, 8192] {
+                let fault = Some(Fault::at_byte(305, len as u64));
+                assert_eq!(rt;
+                    fault_ahead(alloc, &file[..len], piece).err(),
+                    fault,
+                    "length {len}, pieces of {piece}"
+                );
+            }
+        }
+    }
+    Ok(())
+}
+
+/// The first value of each segment of a file, while all of them are held.
+fn first_values(alloc: Global, file: &[u8], piece: usize) -> Result<Vec<Value>, Fault>
+    requires { 0 < piece }
+{
+    let mut source = ReadAhead::new(alloc, file, piece)?;
+    let mut reader = TableReader::begin(alloc, &mut source)?;
+    let mut held = Vec::new(alloc);
+    for _ in 0..4 {
+        if source.failures() > 0 {
+            break;
+        }
+        if let Some(segment) = reader.next_segment(&mut source)? {
+            held.push(segment)?;
+        }
+    }
+    let mut values = Vec::new(alloc);
+    for segment in &held {
+        if !segment.schema().columns.is_empty() {
+            values.push(segment.value(0, 0))?;
+        }
+    }
+    Ok(values)
+}
+
+/// Rows 0, 1, 2 and so on to 1,199, in three segments: whatever is read after a segment leaves its bytes as they are.
+#[test]
+fn segments_that_are_held_keep_their_bytes(rt: HostRuntime) -> Result<(), Fail> {
+    let alloc = rt.alloc();
+    for layout in [Layout::Planes, Layout::Slices] {
+        let file = long_file(&rt, alloc, layout, 1_200)?;
+        for piece in [1, 100, 1_500, 3_000, 100_000] {
+            let values = first_values(alloc, &file, piece)?;
+            assert_eq!(rt;
+                values.as_slice(),
+                [Some(0), Some(512), Some(1_024)].as_slice(),
+                "pieces of {piece}"
+            );
+        }
+    }
+    Ok(())
+}
+
+/// Fails at its second read, and gives a byte at each other one.
+#[derive(Drop)]
+struct FailsOnce {
+    reads: u32,
+}
+
+impl Read for FailsOnce {
+    fn read(&mut self, buffer: &mut [u8]) -> io::Result<usize> {
+        self.reads = self.reads.saturating_add(1);
+        if self.reads == 2 {
+            return Err(io::ErrorKind::Interrupted.into());
+        }
+        match buffer {
+            [first, ..] => {
+                *first = 7;
+                Ok(1)
+            }
+            [] => Ok(0),
+        }
+    }
+}
+
+#[test]
+fn a_read_ahead_that_fails_is_counted(rt: HostRuntime) -> Result<(), Fail> {
+    let mut source = ReadAhead::new(rt.alloc(), FailsOnce { reads: 0 }, 16)?;
+    let mut buffer = [0; 4];
+    assert_eq!(rt; source.read(&mut buffer), Ok(1));
+    assert_eq!(rt; source.read(&mut buffer), Err(Failed));
+    assert_eq!(rt; source.failures(), 1);
+    assert_eq!(rt; source.read(&mut buffer), Ok(1));
+    assert_eq!(rt; source.failures(), 1);
+    Ok(())
+}
