@@ -114,10 +114,10 @@ impl<R> ReadAhead<R> {
     {
         let memory: &Vec<u8> = &self.memory;
         let left = &memory[self.start..self.end];
-        let count = left.len().min(buffer.len());
-        buffer[..count].copy_from_slice(&left[..count]);
-        self.start += count;
-        count
+        let given = left.len().min(buffer.len());
+        buffer[..given].copy_from_slice(&left[..given]);
+        self.start += given;
+        given
     }
 }
 
