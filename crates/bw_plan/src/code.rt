@@ -497,10 +497,11 @@ impl<'a> Code<'a> {
             .count()
     }
 
-    /// Whether a skip stands among the instructions.
-    pub(crate) fn has_skips(&self) -> bool {
+    /// Whether a skip stands among the instructions from a number on.
+    pub(crate) fn has_skips_from(&self, number: usize) -> bool {
         self.instrs
             .iter()
+            .skip(number)
             .any(|instr| matches!(instr, Instr::Skip(..)))
     }
 }

@@ -143,7 +143,7 @@ fn written(code: &mut Code<'_>, cond: &Cond) -> Result<u8, Refusal> {
     let made = code.truths(cond, wanted)?;
     let answer = made.yes.ok_or(Refusal::NoProgram)?;
     code.meet()?;
-    if !code.has_skips() {
+    if !code.has_skips_from(0) {
         let first = code.waiting()?;
         code.skip(answer)?;
         code.meet_from(first);

@@ -1,7 +1,9 @@
 //! Instructions that compare a column's codes with numbers, from the most significant byte down.
 use crate::code::Code;
 use crate::digits::Upper;
-use crate::sets::{byte_of, first_group, going_on, is_soon_done, most_instructions};
+use crate::sets::{
+    byte_of, first_group, going_on, groups_from, is_rare, is_soon_done, most_instructions,
+};
 use bw_plan_facts::{Kind, Logic, Refusal};
 
 impl Code<'_> {
@@ -21,7 +23,7 @@ impl Code<'_> {
                 self.split_bytes(column, bounds)?;
                 self.has_few_skips = most_instructions(bounds, top, self.split_slice())
                     > self.room();
-                let made = self.within(column, top, bounds, None, None)?;
+                let made = self.within(column, top, bounds, None)?;
                 self.forget_digits();
                 Ok(made)
             }
@@ -41,8 +43,8 @@ impl Code<'_> {
         Ok(same)
     }
 
-    /// A register, `out` if there is one, with the lanes turned round that are 1 in `mask` and whose
-    /// low bytes, from this one down, have an odd number of bounds above them.
+    /// A register that is 1, among the lanes of `mask`, where the low bytes of the codes, from this one down, have an odd
+    /// number of bounds above them. What it is in other lanes is left open.
     #[cycle(within)]
     fn within(
         &mut self,
@@ -50,10 +52,8 @@ impl Code<'_> {
         slice: u8,
         bounds: &[u64],
         mask: Option<u8>,
-        out: Option<u8>,
     ) -> Result<u8, Refusal> {
-        let here = self.bytes(column, slice, bounds)?;
-        let mut out = self.added(here, mask, out)?;
+        let mut out = self.bytes(column, slice, bounds)?;
         if slice > 0 {
             let mut rest = bounds;
             let mut before = None;
@@ -70,7 +70,8 @@ impl Code<'_> {
         }
     }
 
-    /// The same for the bounds with one byte in common, where the codes have it too.
+    /// The register `out`, or a new one, with the lanes turned round that are 1 in `mask`, have the one byte that some bounds
+    /// have in common, and below it an odd number of these bounds above them.
     #[cycle(within)]
     fn below(
         &mut self,
@@ -88,19 +89,40 @@ impl Code<'_> {
         if slice == 0 {
             return Ok(out);
         }
-        let out = match out {
-            Some(register) => register,
-            None => self.fill(false)?,
-        };
         let first = self.waiting()?;
         let same = self.same_byte(column, slice, byte, mask, before)?;
         if !(self.has_few_skips && is_soon_done(inner, slice)) {
             self.skip(same)?;
         }
-        let out = self.within(column, slice - 1, inner, Some(same), Some(out))?;
-        self.release(same);
+        self.narrow(column, slice - 1, inner, same)?;
+        let found = self.within(column, slice - 1, inner, Some(same))?;
+        self.join_into(Logic::And, same, found)?;
+        let out = match out {
+            Some(register) => {
+                self.join_into(Logic::Xor, register, same)?;
+                register
+            }
+            None => same,
+        };
         self.meet_from(first);
         Ok(Some(out))
+    }
+
+    /// Takes those lanes out of a register whose byte is above that of the last bound, and skips where none is left. That's
+    /// so in most segments whose rows are in no order, if few codes remain, and else more than two looks at the byte come.
+    fn narrow(&mut self, column: u8, slice: u8, bounds: &[u64], same: u8) -> Result<(), Refusal> {
+        let Some(last) = bounds.last().map(|bound| byte_of(*bound, slice)) else {
+            return Ok(());
+        };
+        let width = self.facts.width(column);
+        let few = is_rare(last, slice, width) && !is_rare(u8::MAX, slice, width);
+        let looks = groups_from(bounds, u32::from(slice) * 8);
+        if slice == 0 || looks < 2 || !few || self.split_slice() == Some(slice) {
+            return Ok(());
+        }
+        let below = self.byte(Kind::Less, column, slice, last.saturating_add(1))?;
+        self.join_into(Logic::And, same, below)?;
+        self.skip(same)
     }
 
     /// A register that is 1 where a byte has an odd number of the bounds' bytes above it.
@@ -121,12 +143,12 @@ impl Code<'_> {
             before = match before {
                 Some(last) if last.checked_add(1) == Some(byte) => {
                     let next = self.same_byte(column, slice, last, None, &mut upper)?;
-                    made = self.added(Some(next), None, made)?;
+                    made = self.added(next, made)?;
                     None
                 }
                 Some(last) => {
                     let next = self.byte(Kind::Less, column, slice, last)?;
-                    made = self.added(Some(next), None, made)?;
+                    made = self.added(next, made)?;
                     Some(byte)
                 }
                 None => Some(byte),
@@ -135,26 +157,14 @@ impl Code<'_> {
         match before {
             Some(last) => {
                 let next = self.byte(Kind::Less, column, slice, last)?;
-                self.added(Some(next), None, made)
+                self.added(next, made)
             }
             None => Ok(made),
         }
     }
 
-    /// A register, `out` if there is one, with the lanes turned round that are 1 in another and in
-    /// `mask`.
-    fn added(
-        &mut self,
-        next: Option<u8>,
-        mask: Option<u8>,
-        out: Option<u8>,
-    ) -> Result<Option<u8>, Refusal> {
-        let Some(next) = next else {
-            return Ok(out);
-        };
-        if let Some(mask) = mask {
-            self.join(Logic::And, next, next, mask)?;
-        }
+    /// A register, `out` if there is one, with the lanes turned round that are 1 in another.
+    fn added(&mut self, next: u8, out: Option<u8>) -> Result<Option<u8>, Refusal> {
         let Some(out) = out else {
             return Ok(Some(next));
         };

@@ -98,7 +98,7 @@ impl Code<'_> {
             let Some(before) = made else {
                 break;
             };
-            if number < SKIPPED_PARTS {
+            if number < SKIPPED_PARTS && !is_quick(part) {
                 self.skip_if_settled(any, before)?;
             }
             let next = self.truths(part, wanted)?;
@@ -161,7 +161,7 @@ impl Code<'_> {
             _ => return Err(Refusal::NoProgram),
         };
         Ok(
-            self.sides(held, &[], wanted.turned(negated))?
+            self.sides(held, &[], false, wanted.turned(negated))?
                 .turned(negated),
         )
     }
@@ -183,7 +183,7 @@ impl Code<'_> {
             };
         }
         match self.nulls(column)? {
-            Some(nulls) => self.sides(nulls, &[], wanted),
+            Some(nulls) => self.sides(nulls, &[], false, wanted),
             None => self.constant(Truth::No, wanted),
         }
     }
@@ -212,8 +212,10 @@ impl Code<'_> {
     /// The registers of whether a column's code is in a set.
     fn in_set(&mut self, column: u8, set: &Set, wanted: Wanted) -> Result<Halves, Refusal> {
         let first = self.waiting()?;
+        let start = self.instrs.len();
         let inside = self.codes(column, &set.bounds)?;
-        let made = self.sides(inside, &[column], wanted.turned(set.inverted))?;
+        let early = self.has_skips_from(start);
+        let made = self.sides(inside, &[column], early, wanted.turned(set.inverted))?;
         self.meet_from(first);
         Ok(made.turned(set.inverted))
     }
@@ -315,7 +317,7 @@ impl Code<'_> {
         let [c, d] = relation.columns;
         let both = [c, d];
         let count = if c == d { 1 } else { 2 };
-        let made = self.sides(held, &both[..count], wanted.turned(relation.negated))?;
+        let made = self.sides(held, &both[..count], true, wanted.turned(relation.negated))?;
         self.meet_from(first);
         self.meet()?;
         self.order = VariableOrder::Whole;
@@ -323,8 +325,14 @@ impl Code<'_> {
     }
 
     /// The registers that are 1 where all of some columns have values and a register is 1, and
-    /// where they have values and it is 0.
-    fn sides(&mut self, held: u8, columns: &[u8], wanted: Wanted) -> Result<Halves, Refusal> {
+    /// where they have values and it is 0. Where there may be an early end, the null planes are left out at one.
+    fn sides(
+        &mut self,
+        held: u8,
+        columns: &[u8],
+        early: bool,
+        wanted: Wanted,
+    ) -> Result<Halves, Refusal> {
         let mut made = Halves {
             yes: None,
             no: None,
@@ -341,7 +349,7 @@ impl Code<'_> {
         }
         if wanted.yes {
             for column in columns {
-                if !wanted.no && self.facts.nulls(*column)?.is_some() {
+                if early && !wanted.no && self.facts.nulls(*column)?.is_some() {
                     self.skip(held)?;
                 }
                 if let Some(values) = self.values(*column)? {
@@ -360,5 +368,13 @@ impl Code<'_> {
         let copy = self.fill(false)?;
         self.join(Logic::Or, copy, copy, register)?;
         Ok(copy)
+    }
+}
+
+/// Whether a part takes but two instructions or three, which takes no longer than to ask whether they may be left out.
+fn is_quick(part: &Cond) -> bool {
+    match part {
+        Cond::Not(part) => matches!(**part, Cond::IsNull(_)),
+        _ => matches!(part, Cond::IsNull(_) | Cond::Always),
     }
 }

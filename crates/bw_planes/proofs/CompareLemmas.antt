@@ -1,9 +1,8 @@
 -- Some bits of codes, compared bit by bit with a constant: from the top bit down, or from the least one up.
-use Rattle.std.proofs.Common.{◌≡◌, ◌∙◌, refl, sym, ap, ap₂, subst, ℕ, suc, ◌+◌, ◌-◌, ◌*◌, ◌/◌, ◌%◌, ◌^◌, ◌<◌, Bool, true, false, not, cond, ltb, eqb, ◌==◌, ◌&&◌, ◌||◌, List, [], ◌∷◌, map, length, bit_and, replicate, min, inl, inr, arith}
-use Rattle.std.specs.List.{list_all}
+use Rattle.std.proofs.Common.{◌≡◌, ◌∙◌, refl, sym, ap, ap₂, subst, ℕ, ◌+◌, ◌-◌, ◌*◌, ◌/◌, ◌%◌, ◌^◌, ◌<◌, Bool, true, false, not, cond, ltb, eqb, ◌==◌, ◌&&◌, ◌||◌, List, [], ◌∷◌, map, length, bit_and, replicate, min, inl, inr, arith}
 use Rattle.std.proofs.Math.Nat.{div-eq_of_lt, mod-eq_of_lt, mod-lt}
 use Rattle.std.proofs.Math.Pow.{pow_mono, shr_lt}
-use Rattle.std.proofs.lemmas.Bool.{cases_lt, ne_eqb, eqb-false, not-true}
+use Rattle.std.proofs.lemmas.Bool.{cases_lt}
 use Rattle.std.proofs.lemmas.Bool.Decides.{nat_tests}
 use Rattle.std.proofs.lemmas.Nat.{div-add-mod', shr-shr, pow_pos}
 use Rattle.std.proofs.lemmas.Nat.Bits.{shr_and_one}
@@ -11,9 +10,7 @@ use Rattle.std.proofs.lemmas.Simd.{zip2_of_maps, splat_is_map}
 use lib.Lanes.{zip2}
 use Rattle.bw_model.specs.Code.{has_bit}
 use Rattle.bw_model.specs.Stored.{byte_of}
-use Rattle.bw_model.proofs.BitsLemmas.{both}
-use Rattle.bw_planes.specs.Kept.{low_more, low_bit}
-use Rattle.bw_planes.proofs.CodeLemmas.{high_more}
+use Rattle.bw_planes.specs.Kept.{low_more}
 
 pub zip2_map_right : {A B C D : Type 0} (f : A → C → D) (g : B → C) (xs : List A) (ys : List B) → zip2 f xs (map g ys) ≡ zip2 (λ x y. f x (g y)) xs ys
 zip2_map_right f g [] ys = refl
@@ -70,45 +67,34 @@ pub whole_constant : (c count : ℕ) → c / 2 ^ count ≡ 0 → c % 2 ^ count �
 whole_constant c count none = omega (arith, div-add-mod' c (2 ^ count), ap (λ q. q * 2 ^ count) none)
 
 -- before a bit is compared, all are equal
-pub all_equal : (n c count : ℕ) → c / 2 ^ count ≡ 0 → true ≡ eqb (n % 2 ^ count / 2 ^ (count - 0)) (c / 2 ^ (count - 0))
-all_equal n c count none =
-    let all : count - 0 ≡ count = omega arith in
-    sym (ap₂ (λ x y. eqb x y) (ap (λ k. n % 2 ^ count / 2 ^ k) all ∙ div-eq_of_lt (mod-lt n (pow_pos count))) (ap (λ k. c / 2 ^ k) all ∙ none))
+pub all_equal : (n c : ℕ) → true ≡ eqb (n % 2 ^ 0) (c % 2 ^ 0)
+all_equal n c =
+    let no_bits : n % 2 ^ 0 ≡ 0 = omega arith in
+    let none : c % 2 ^ 0 ≡ 0 = omega arith in
+    sym (ap₂ (λ x y. eqb x y) no_bits none)
 
-same_bit : (s t : ℕ) (b one : Bool) → (eqb s t && cond one b (not b)) ≡ eqb (2 * s + cond b 1 0) (2 * t + cond one 1 0)
-same_bit s t true true = grind (arith, nat_tests)
-same_bit s t true false = grind (arith, nat_tests)
-same_bit s t false true = grind (arith, nat_tests)
-same_bit s t false false = grind (arith, nat_tests)
+-- numbers are equal where their highest bit is, and those below it are
+same_bit : (s t p : ℕ) (b one : Bool) → s < p → t < p → (eqb s t && cond one b (not b)) ≡ eqb (cond b p 0 + s) (cond one p 0 + t)
+same_bit s t p true true ls lt = grind (arith, nat_tests, ls, lt)
+same_bit s t p true false ls lt = grind (arith, nat_tests, ls, lt)
+same_bit s t p false true ls lt = grind (arith, nat_tests, ls, lt)
+same_bit s t p false false ls lt = grind (arith, nat_tests, ls, lt)
 
-pub equal_next : (codes : List ℕ) (low count place bit c : ℕ) (equal plane : List Bool) → place < count → bit ≡ count - 1 - place
-    → equal ≡ map (λ code. eqb (code / 2 ^ low % 2 ^ count / 2 ^ (count - place)) (c / 2 ^ (count - place))) codes → plane ≡ map (λ code. has_bit code (low + bit)) codes
-    → zip2 (λ e p. e && cond (bit_and (c / 2 ^ bit) 1 == 1) p (not p)) equal plane ≡ map (λ code. eqb (code / 2 ^ low % 2 ^ count / 2 ^ (count - (place + 1))) (c / 2 ^ (count - (place + 1)))) codes
-equal_next codes low count place bit c equal plane lt is so_far here =
-    (λ i. zip2 (λ e p. e && cond (shr_and_one c bit i == 1) p (not p)) equal plane)
-    ∙ zip2_of_maps (λ e p. e && cond (has_bit c bit) p (not p)) (λ code. eqb (code / 2 ^ low % 2 ^ count / 2 ^ (count - place)) (c / 2 ^ (count - place))) (λ code. has_bit code (low + bit)) codes so_far here
+pub equal_next : (codes : List ℕ) (low place c : ℕ) (equal plane : List Bool)
+    → equal ≡ map (λ code. eqb (code / 2 ^ low % 2 ^ place) (c % 2 ^ place)) codes → plane ≡ map (λ code. has_bit code (low + place)) codes
+    → zip2 (λ e p. e && cond (bit_and (c / 2 ^ place) 1 == 1) p (not p)) equal plane ≡ map (λ code. eqb (code / 2 ^ low % 2 ^ (place + 1)) (c % 2 ^ (place + 1))) codes
+equal_next codes low place c equal plane so_far here =
+    (λ i. zip2 (λ e p. e && cond (shr_and_one c place i == 1) p (not p)) equal plane)
+    ∙ zip2_of_maps (λ e p. e && cond (has_bit c place) p (not p)) (λ code. eqb (code / 2 ^ low % 2 ^ place) (c % 2 ^ place)) (λ code. has_bit code (low + place)) codes so_far here
     ∙ (λ i. map (λ code. step code i) codes)
   where
-    step : (code : ℕ) → (eqb (code / 2 ^ low % 2 ^ count / 2 ^ (count - place)) (c / 2 ^ (count - place)) && cond (has_bit c bit) (has_bit code (low + bit)) (not (has_bit code (low + bit))))
-        ≡ eqb (code / 2 ^ low % 2 ^ count / 2 ^ (count - (place + 1))) (c / 2 ^ (count - (place + 1)))
+    step : (code : ℕ) → (eqb (code / 2 ^ low % 2 ^ place) (c % 2 ^ place) && cond (has_bit c place) (has_bit code (low + place)) (not (has_bit code (low + place))))
+        ≡ eqb (code / 2 ^ low % 2 ^ (place + 1)) (c % 2 ^ (place + 1))
     step code =
-        let n = code / 2 ^ low % 2 ^ count in
-        let above : count - place ≡ suc bit = omega arith in
-        let next : bit ≡ count - (place + 1) = omega arith in
-        let shown = bit_from code low bit ∙ sym (low_bit (code / 2 ^ low) count bit (omega arith)) in
-        ap₂ (λ k b. eqb (n / 2 ^ k) (c / 2 ^ k) && cond (has_bit c bit) b (not b)) above shown
-        ∙ same_bit (n / 2 ^ suc bit) (c / 2 ^ suc bit) (has_bit n bit) (has_bit c bit)
-        ∙ sym (ap₂ (λ x y. eqb x y) (high_more n bit) (high_more c bit)) ∙ ap (λ k. eqb (n / 2 ^ k) (c / 2 ^ k)) next
-
--- numbers of which no high bits are equal to those of the constant are none of them equal to it
-pub equal_stopped : (codes : List ℕ) (number : ℕ → ℕ) (rest c : ℕ) → list_all not (map (λ code. eqb (number code / 2 ^ rest) (c / 2 ^ rest)) codes) ≡ true
-    → map (λ code. eqb (number code / 2 ^ rest) (c / 2 ^ rest)) codes ≡ map (λ code. eqb (number code) c) codes
-equal_stopped [] number rest c none = refl
-equal_stopped (code ∷ codes) number rest c none =
-    let high = eqb (number code / 2 ^ rest) (c / 2 ^ rest) in
-    let each = both (not high) (list_all not (map (λ code. eqb (number code / 2 ^ rest) (c / 2 ^ rest)) codes)) none in
-    let apart = not-true high each.0 in
-    ap₂ ◌∷◌ (apart ∙ sym (ne_eqb (number code) c (λ same. eqb-false (number code / 2 ^ rest) (c / 2 ^ rest) apart (ap (λ n. n / 2 ^ rest) same)))) (equal_stopped codes number rest c each.1)
+        let n = code / 2 ^ low in
+        ap (λ b. eqb (n % 2 ^ place) (c % 2 ^ place) && cond (has_bit c place) b (not b)) (bit_from code low place)
+        ∙ same_bit (n % 2 ^ place) (c % 2 ^ place) (2 ^ place) (has_bit n place) (has_bit c place) (mod-lt n (pow_pos place)) (mod-lt c (pow_pos place))
+        ∙ sym (ap₂ (λ x y. eqb x y) (low_more n place) (low_more c place))
 
 -- the bits of a byte of a number of so many digits are this byte
 pub byte_bits : (code width slice count : ℕ) → code < 2 ^ width → 8 * slice < width → count ≡ min (width - 8 * slice) 8 → code / 2 ^ (8 * slice) % 2 ^ count ≡ byte_of slice code

@@ -1,78 +1,161 @@
--- The sum of numbers, by the bits of all of them.
-use Rattle.std.proofs.Common.{◌≡◌, ◌∙◌, refl, sym, ap, ap₂, ℕ, suc, ◌+◌, ◌*◌, ◌%◌, ◌^◌, ◌<◌, ◌≤◌, cond, List, [], ◌∷◌, sum, sum_by, count_by, arith}
+-- The sum of the codes in some lanes: word by word, and in a word by the bits of the codes.
+use Rattle.std.proofs.Common.{◌≡◌, ◌∙◌, refl, sym, ap, ap₂, ℕ, zero, suc, ◌+◌, ◌-◌, ◌*◌, ◌/◌, ◌%◌, ◌^◌, ◌<◌, ◌≤◌, Bool, true, false, cond, List, [], ◌∷◌, ◌++◌, map, length, take, drop, get_or, take_all, sum, sum_by, count_by, arith}
 use Rattle.std.specs.List.{AllByRecursion}
 use Rattle.std.specs.Int.{bit_at}
-use Rattle.std.proofs.Math.Nat.{mod-eq_of_lt, mul-le-mul, pow-le-pow_right}
-use Rattle.std.proofs.lemmas.Grind.{pow_more}
-use Rattle.std.proofs.lemmas.Nat.{mod-pow-add}
+use Rattle.std.proofs.Math.Nat.{mod-eq_of_lt, mul-le-mul}
+use Rattle.std.proofs.Math.Pow.{pow_mono}
+use Rattle.std.proofs.Math.Seq.{take-add, take-append-add, drop-append-add, drop-drop, drop-nil}
+use Rattle.std.proofs.lemmas.Nat.{mod-pow-add, pow-add}
 use Rattle.std.proofs.lemmas.Nat.Bits.{bit_at-lt}
-use Rattle.std.proofs.lemmas.List.Sums.{sum_by-cons}
+use Rattle.std.proofs.lemmas.List.{take-take, drop-take, take-map, drop-map, take_more, length-take}
+use Rattle.std.proofs.lemmas.List.Sums.{sum_by-cons, sum_by-append}
+use Rattle.bw_lanes.specs.Lanes.{bits_from_least, lanes_of_words, lanes_of_bytes}
+use Rattle.bw_lanes.proofs.BitLemmas.{length-bits_from_least}
+use Rattle.bw_lanes.proofs.WordLemmas.{length-lanes_of_words, lanes_of_words-append, lanes_of_word}
 use Rattle.bw_model.specs.Code.{has_bit}
+use Rattle.bw_model.specs.Selection.{picked}
 use Rattle.bw_model.proofs.BitsLemmas.{bit_worth}
+use Rattle.bw_planes.specs.Planes.{plane_lanes, planes_codes, codes_in_word}
+use Rattle.bw_planes.specs.Kept.{plane_of_codes}
+use Rattle.bw_planes.proofs.CodeLemmas.{high_more, codes_small}
 
-more : (n bit : ℕ) → n % 2 ^ (bit + 1) ≡ n % 2 ^ bit + cond (has_bit n bit) 1 0 * 2 ^ bit
-more n bit =
-    let worth = bit_worth (bit_at n bit) 1 (bit_at-lt n bit) in
-    let next : bit + 1 ≡ 1 + bit = omega arith in
-    ap (λ k. n % 2 ^ k) next ∙ mod-pow-add n 1 bit ∙ omega (arith, ap (λ k. k * 2 ^ bit) worth)
+take_lanes : (k : ℕ) (bytes : List ℕ) → lanes_of_bytes (take k bytes) ≡ take (8 * k) (lanes_of_bytes bytes)
+unfolding lanes_of_bytes
+take_lanes zero bytes = refl
+take_lanes (suc k) [] = sym (take_all (8 * suc k) [] (omega arith))
+take_lanes (suc k) (byte ∷ bytes) =
+    let bits = bits_from_least 8 byte in
+    let next : length bits + 8 * k ≡ 8 * suc k = omega (arith, length-bits_from_least 8 byte) in
+    ap (λ l. bits ++ l) (take_lanes k bytes) ∙ sym (take-append-add bits (lanes_of_bytes bytes) (8 * k)) ∙ ap (λ n. take n (bits ++ lanes_of_bytes bytes)) next
 
--- the sum of numbers' lowest bits, and of one bit more
-pub sum_more : (bit : ℕ) (ns : List ℕ) → sum_by (λ n. n % 2 ^ (bit + 1)) ns ≡ sum_by (λ n. n % 2 ^ bit) ns + count_by (λ n. has_bit n bit) ns * 2 ^ bit
-sum_more bit [] = omega arith
-sum_more bit (n ∷ ns) =
-    let one = sum_by-cons (λ n. n % 2 ^ (bit + 1)) n ns in
-    let low = sum_by-cons (λ n. n % 2 ^ bit) n ns in
-    let ones = sum_by-cons (λ n. cond (has_bit n bit) 1 0) n ns in
-    one ∙ ap₂ ◌+◌ (more n bit) (sum_more bit ns) ∙ together (n % 2 ^ bit) (cond (has_bit n bit) 1 0) (sum_by (λ n. n % 2 ^ bit) ns) (count_by (λ n. has_bit n bit) ns) (2 ^ bit)
-    ∙ sym (ap₂ (λ a b. a + b * 2 ^ bit) low ones)
+drop_lanes : (k : ℕ) (bytes : List ℕ) → lanes_of_bytes (drop k bytes) ≡ drop (8 * k) (lanes_of_bytes bytes)
+unfolding lanes_of_bytes
+drop_lanes zero bytes = refl
+drop_lanes (suc k) [] = sym (drop-nil (8 * suc k))
+drop_lanes (suc k) (byte ∷ bytes) =
+    let bits = bits_from_least 8 byte in
+    let next : length bits + 8 * k ≡ 8 * suc k = omega (arith, length-bits_from_least 8 byte) in
+    drop_lanes k bytes ∙ sym (drop-append-add bits (lanes_of_bytes bytes) (8 * k)) ∙ ap (λ n. drop n (bits ++ lanes_of_bytes bytes)) next
+
+-- the lanes of a word of a plane are the bits of its codes
+pub word_of_codes : (width bit word : ℕ) (bytes : List ℕ) → length bytes ≡ 64 * width → bit < width → word < 8
+    → lanes_of_bytes (take 8 (drop (64 * (width - 1 - bit) + 8 * word) bytes)) ≡ map (λ code. has_bit code bit) (codes_in_word word (planes_codes width bytes))
+word_of_codes width bit word bytes long there lt =
+    let plane = width - 1 - bit in
+    let behind = drop (64 * plane) bytes in
+    let codes = planes_codes width bytes in
+    let same : plane ≡ width - suc bit = omega arith in
+    let all : 8 * word + (64 - 8 * word) ≡ 64 = omega arith in
+    let place : 8 * (8 * word) ≡ 64 * word = omega arith in
+    let within : take 8 (drop (8 * word) behind) ≡ take 8 (drop (8 * word) (take 64 behind)) =
+    sym (take-take 8 (64 - 8 * word) (drop (8 * word) behind) (omega arith)) ∙ ap (take 8) (sym (drop-take (8 * word) (64 - 8 * word) behind) ∙ ap (λ n. drop (8 * word) (take n behind)) all) in
+    ap (λ l. lanes_of_bytes (take 8 l)) (sym (drop-drop (8 * word) (64 * plane) bytes)) ∙ ap lanes_of_bytes within
+    ∙ take_lanes 8 (drop (8 * word) (take 64 behind)) ∙ ap (take 64) (drop_lanes (8 * word) (take 64 behind) ∙ ap (λ n. drop n (plane_lanes bytes plane)) place)
+    ∙ ap (λ l. take 64 (drop (64 * word) l)) (ap (plane_lanes bytes) same ∙ plane_of_codes width bit bytes long there)
+    ∙ ap (take 64) (drop-map (λ code. has_bit code bit) (64 * word) codes) ∙ take-map (λ code. has_bit code bit) 64 (drop (64 * word) codes)
+
+-- the number that some bits of a code are, and one more below them
+number_more : (code bit count : ℕ) → code / 2 ^ bit % 2 ^ (count + 1) ≡ 2 * (code / 2 ^ suc bit % 2 ^ count) + cond (has_bit code bit) 1 0
+number_more code bit count =
+    let n = code / 2 ^ bit in
+    let half : n / 2 ^ 1 ≡ code / 2 ^ suc bit = omega (arith, high_more code bit, bit_worth (bit_at code bit) 1 (bit_at-lt code bit), bit_at-lt code bit) in
+    let least : n % 2 ^ 1 ≡ cond (has_bit code bit) 1 0 = omega (arith, bit_worth (bit_at code bit) 1 (bit_at-lt code bit)) in
+    mod-pow-add n count 1 ∙ ap₂ (λ h l. (h % 2 ^ count) * 2 + l) half least ∙ omega arith
+
+pub numbers_more : (bit count : ℕ) (codes : List ℕ)
+    → sum_by (λ code. code / 2 ^ bit % 2 ^ (count + 1)) codes ≡ 2 * sum_by (λ code. code / 2 ^ suc bit % 2 ^ count) codes + count_by (λ code. has_bit code bit) codes
+numbers_more bit count [] = refl
+numbers_more bit count (code ∷ codes) =
+    let whole = sum_by-cons (λ code. code / 2 ^ bit % 2 ^ (count + 1)) code codes in
+    let high = sum_by-cons (λ code. code / 2 ^ suc bit % 2 ^ count) code codes in
+    let ones = sum_by-cons (λ code. cond (has_bit code bit) 1 0) code codes in
+    omega (arith, whole, high, ones, number_more code bit count, numbers_more bit count codes)
+
+pub no_numbers : (low : ℕ) (codes : List ℕ) → 0 ≡ sum_by (λ code. code / 2 ^ low % 2 ^ 0) codes
+no_numbers low [] = refl
+no_numbers low (code ∷ codes) = omega (arith, sum_by-cons (λ code. code / 2 ^ low % 2 ^ 0) code codes, no_numbers low codes)
+
+pub small_in_word : (width word : ℕ) (bytes : List ℕ) → AllByRecursion (λ code. code < 2 ^ width) (codes_in_word word (planes_codes width bytes))
+small_in_word width word bytes = all_take 64 (drop (64 * word) (planes_codes width bytes)) (all_drop (64 * word) (planes_codes width bytes) (codes_small width bytes))
   where
-    together : (a b c d k : ℕ) → a + b * k + (c + d * k) ≡ a + c + (b + d) * k
-    together a b c d k = omega (arith, distributed b d k)
-      where
-        distributed : (b d k : ℕ) → (b + d) * k ≡ b * k + d * k
-        distributed b d k = grind arith
+    all_take : (n : ℕ) (codes : List ℕ) → AllByRecursion (λ code. code < 2 ^ width) codes → AllByRecursion (λ code. code < 2 ^ width) (take n codes)
+    all_take zero codes all = tt
+    all_take (suc n) [] all = tt
+    all_take (suc n) (code ∷ codes) all = (all.0, all_take n codes all.1)
 
-pub sum_none : (ns : List ℕ) → sum_by (λ n. n % 2 ^ 0) ns ≡ 0
-sum_none [] = refl
-sum_none (n ∷ ns) = let none : n % 2 ^ 0 ≡ 0 = omega arith in sum_by-cons (λ n. n % 2 ^ 0) n ns ∙ ap₂ ◌+◌ none (sum_none ns)
+    all_drop : (n : ℕ) (codes : List ℕ) → AllByRecursion (λ code. code < 2 ^ width) codes → AllByRecursion (λ code. code < 2 ^ width) (drop n codes)
+    all_drop zero codes all = all
+    all_drop (suc n) [] all = tt
+    all_drop (suc n) (code ∷ codes) all = all_drop n codes all.1
 
-pub sum_all : (width : ℕ) (ns : List ℕ) → AllByRecursion (λ n. n < 2 ^ width) ns → sum_by (λ n. n % 2 ^ width) ns ≡ sum ns
-sum_all width [] all = refl
-sum_all width (n ∷ ns) all =
-    sum_by-cons (λ n. n % 2 ^ width) n ns ∙ ap₂ ◌+◌ (mod-eq_of_lt all.0) (sum_all width ns all.1) ∙ sym (sum_by-cons (λ n. n) n ns)
-
--- a number of lanes, moved up to a bit of a code
-few_moved : (ones bit : ℕ) → ones ≤ 512 → ones * 2 ^ bit ≤ 512 * 2 ^ bit
-few_moved ones bit few = mul-le-mul few (le_self (2 ^ bit))
+-- what the low bits of codes and the others add up to
+pub numbers_joined : (few rest : ℕ) (codes : List ℕ) → AllByRecursion (λ code. code < 2 ^ (rest + few)) codes
+    → sum_by (λ code. code / 2 ^ 0 % 2 ^ few) codes + sum_by (λ code. code / 2 ^ few % 2 ^ rest) codes * 2 ^ few ≡ sum codes
+numbers_joined few rest [] small = omega arith
+numbers_joined few rest (code ∷ codes) small =
+    let low = sum_by-cons (λ code. code / 2 ^ 0 % 2 ^ few) code codes in
+    let high = sum_by-cons (λ code. code / 2 ^ few % 2 ^ rest) code codes in
+    let all = sum_by-cons (λ n. n) code codes in
+    let whole : code ≡ code / 2 ^ 0 = omega arith in
+    let one : code ≡ (code / 2 ^ few % 2 ^ rest) * 2 ^ few + code / 2 ^ 0 % 2 ^ few = sym (mod-eq_of_lt small.0) ∙ mod-pow-add code rest few ∙ ap (λ n. (code / 2 ^ few % 2 ^ rest) * 2 ^ few + n % 2 ^ few) whole in
+    ap₂ (λ a b. a + b * 2 ^ few) low high
+    ∙ together (code / 2 ^ 0 % 2 ^ few) (code / 2 ^ few % 2 ^ rest) (sum_by (λ code. code / 2 ^ 0 % 2 ^ few) codes) (sum_by (λ code. code / 2 ^ few % 2 ^ rest) codes) (2 ^ few)
+    ∙ ap₂ ◌+◌ (sym one) (numbers_joined few rest codes small.1) ∙ sym all
   where
-    le_self : (k : ℕ) → k ≤ k
-    le_self k = omega arith
+    together : (a b c d k : ℕ) → a + c + (b + d) * k ≡ b * k + a + (c + d * k)
+    together a b c d k = grind arith
 
-pub moved_fits : (ones bit : ℕ) → ones ≤ 512 → bit < 63 → ones * 2 ^ bit % 2 ^ 128 ≡ ones * 2 ^ bit
-moved_fits ones bit few lt =
-    let most : 2 ^ bit ≤ 2 ^ 62 = pow-le-pow_right (some 1) {j = 62} (at_most bit lt) in
-    mod-eq_of_lt (omega (arith, few_moved ones bit few, most))
+pub few_joined : (few rest lower upper : ℕ) → lower + 64 ≤ 64 * 2 ^ few → upper + 64 ≤ 64 * 2 ^ rest → rest + few ≤ 63 → lower + upper * 2 ^ few ≤ 2 ^ 69
+few_joined few rest lower upper here there le =
+    let most = pow_mono {i = rest + few} {j = 63} le in
+    let moved : (upper + 64) * 2 ^ few ≤ 64 * 2 ^ rest * 2 ^ few = mul-le-mul there (same (2 ^ few)) in
+    omega (arith, here, distributed upper (2 ^ few), moved, associated (2 ^ rest) (2 ^ few), pow-add 2 rest few, most)
   where
-    some : (k : ℕ) → 0 < suc k
-    some k = omega arith
+    same : (k : ℕ) → k ≤ k
+    same k = omega arith
 
-    at_most : (k : ℕ) → k < 63 → k ≤ 62
-    at_most k lt = omega arith
+    distributed : (n k : ℕ) → (n + 64) * k ≡ n * k + 64 * k
+    distributed n k = grind arith
 
--- the sum with one bit more, and that it's small
-pub sum_with_bit : (total ones bit : ℕ) (codes : List ℕ) → total ≡ sum_by (λ code. code % 2 ^ bit) codes → ones ≡ count_by (λ code. has_bit code bit) codes
-    → total + ones * 2 ^ bit ≡ sum_by (λ code. code % 2 ^ (bit + 1)) codes
-sum_with_bit total ones bit codes so_far is = ap₂ ◌+◌ so_far (ap (λ k. k * 2 ^ bit) is) ∙ sym (sum_more bit codes)
+    associated : (n k : ℕ) → 64 * n * k ≡ 64 * (n * k)
+    associated n k = grind arith
 
-pub small_with_bit : (total ones bit : ℕ) → total ≤ 512 * 2 ^ bit → ones ≤ 512 → total + ones * 2 ^ bit ≤ 512 * 2 ^ (bit + 1)
-small_with_bit total ones bit small few =
-    let double = pow_more 2 bit in
-    omega (arith, small, double, few_moved ones bit few)
+-- the codes that are picked among those of the first words
+abbrev pub picked_before : ℕ → List ℕ → List ℕ → List ℕ
+picked_before word lanes codes = picked (lanes_of_words (take word lanes)) (take (64 * word) codes)
 
-pub sum_below : (total bit : ℕ) → total ≤ 512 * 2 ^ bit → bit ≤ 63 → total ≤ 2 ^ 72
-sum_below total bit small le =
-    let most : 2 ^ bit ≤ 2 ^ 63 = pow-le-pow_right (some 1) {j = 63} le in
-    omega (arith, small, most)
-  where
-    some : (k : ℕ) → 0 < suc k
-    some k = omega arith
+picked-append : (lanes others : List Bool) (codes more : List ℕ) → length lanes ≡ length codes → picked (lanes ++ others) (codes ++ more) ≡ picked lanes codes ++ picked others more
+picked-append [] others [] more same = refl
+picked-append [] others (code ∷ codes) more same = absurd (omega arith)
+picked-append (lane ∷ lanes) others [] more same = absurd (omega arith)
+picked-append (true ∷ lanes) others (code ∷ codes) more same = ap (λ l. code ∷ l) (picked-append lanes others codes more (omega arith))
+picked-append (false ∷ lanes) others (code ∷ codes) more same = picked-append lanes others codes more (omega arith)
+
+pub sum_more : (word : ℕ) (lanes codes : List ℕ) → length lanes ≡ 8 → length codes ≡ 512 → word < 8
+    → sum (picked_before (word + 1) lanes codes) ≡ sum (picked_before word lanes codes) + sum (picked (bits_from_least 64 (get_or lanes word 0)) (codes_in_word word codes))
+sum_more word lanes codes eight long lt =
+    let rows = get_or lanes word 0 in
+    let front = lanes_of_words (take word lanes) in
+    let next : 64 * (word + 1) ≡ 64 * word + 64 = omega arith in
+    let same : length front ≡ length (take (64 * word) codes) = omega (arith, length-lanes_of_words (take word lanes), length-take word lanes, length-take (64 * word) codes, eight, long) in
+    ap sum (ap₂ picked
+    (ap lanes_of_words (take_more lanes word 0 (omega (arith, eight))) ∙ lanes_of_words-append (take word lanes) (rows ∷ []) ∙ ap (λ l. front ++ l) (lanes_of_word rows))
+    (ap (λ n. take n codes) next ∙ take-add (64 * word) 64 codes)
+    ∙ picked-append front (bits_from_least 64 rows) (take (64 * word) codes) (codes_in_word word codes) same)
+    ∙ sum_by-append (λ n. n) (picked front (take (64 * word) codes)) (picked (bits_from_least 64 rows) (codes_in_word word codes))
+
+pub sum_whole : (word : ℕ) (lanes codes : List ℕ) → length lanes ≡ 8 → length codes ≡ 512 → word ≡ 8 → sum (picked_before word lanes codes) ≡ sum (picked (lanes_of_words lanes) codes)
+sum_whole word lanes codes eight long end =
+    ap (λ k. sum (picked_before k lanes codes)) end
+    ∙ (λ i. sum (picked (lanes_of_words (take_all 8 lanes (omega (arith, eight)) i)) (take_all 512 codes (omega (arith, long)) i)))
+
+-- of no rows none is picked
+none_picked : (lanes : List Bool) (codes : List ℕ) → count_by (λ lane. lane) lanes ≡ 0 → sum (picked lanes codes) ≡ 0
+none_picked [] codes none = refl
+none_picked (lane ∷ lanes) [] none = refl
+none_picked (true ∷ lanes) (code ∷ codes) none = absurd (omega (arith, none, sum_by-cons (λ lane. cond lane 1 0) true lanes))
+none_picked (false ∷ lanes) (code ∷ codes) none = none_picked lanes codes (omega (arith, none, sum_by-cons (λ lane. cond lane 1 0) false lanes))
+
+pub nothing_added : (rows : ℕ) (codes : List ℕ) → rows ≡ 0 → sum (picked (bits_from_least 64 rows) codes) ≡ 0
+unfolding bits_from_least
+nothing_added rows codes none = ap (λ k. sum (picked (bits_from_least 64 k) codes)) none ∙ none_picked (bits_from_least 64 0) codes refl

@@ -24,6 +24,10 @@ planes_text (suc bits) codes = bytes_of_lanes (map (λ code. has_bit code bits) 
 unfoldable pub planes_codes : ℕ → List ℕ → List ℕ
 planes_codes count bytes = map (λ row. spelled (row_bits bytes row) 0 count) (range_with_len 0 group_size)
 
+-- the codes of the 64 rows whose bits stand in a word of each plane
+abbrev pub codes_in_word : ℕ → List ℕ → List ℕ
+codes_in_word word codes = take 64 (drop (64 * word) codes)
+
 -- codes that are kept as planes, one a bit
 abbrev pub plane_packing : Packing
 plane_packing = record { size = λ width. 64 * width; text = planes_text; codes = planes_codes }

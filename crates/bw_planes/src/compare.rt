@@ -1,14 +1,12 @@
-//! Comparisons of some bits of the codes with a constant. Which codes are below it is told from the lowest bit up, by one
-//! operation a plane; which are equal, after BitWeaving, from the top bit down: once none is, the planes that remain change
-//! nothing.
+//! Comparisons of some bits of the codes with a constant, from the lowest bit up, by one operation a plane and with no early
+//! end: to ask after each plane whether a lane is left takes longer than the planes of a byte.
 ghost use Rattle.std.specs.Prelude.{◌≡◌, ◌==◌, ◌&&◌, ◌||◌, if◌then◌else◌, ◌+◌, ◌*◌, ◌/◌, ◌%◌, ◌^◌, ◌≤◌, length, map, nat_lt, not};
 ghost use lib.Lanes.{zip2};
 ghost use Rattle.bw_lanes.specs.Lanes.{lanes_of_words};
 ghost use Rattle.bw_planes.specs.Planes.{planes_codes};
 
-use crate::planes::Planes;
-use bw_lanes::{Plane, and, is_zero, not, or};
-use bw_segment::Layout;
+use crate::planes::plane_of;
+use bw_lanes::{Plane, and, not, or};
 
 /// The plane of ones.
 const ONES: Plane = [u64::MAX; 8];
@@ -24,9 +22,26 @@ pub(crate) fn at_least(width: u32, bytes: &[u8], low: u32, count: u32, c: u64) -
     if c >> count != 0 {
         return [0; 8];
     }
+    if count == 8 {
+        low_at_least(width, bytes, low, 8, c)
+    } else {
+        low_at_least(width, bytes, low, count, c)
+    }
+}
+
+/// The lanes in which that number isn't below the same bits of c. It's compiled into its callers, so that the loop over the
+/// planes of a whole byte, which most are, is written out.
+#[inline(always)]
+fn low_at_least(width: u32, bytes: &[u8], low: u32, count: u32, c: u64) -> Plane
+    requires width { (1 ≤ width) × (width ≤ 63) }
+    requires size { length bytes.now ≡ 64 * width }
+    requires bits { low + count ≤ width }
+    ensures { lanes_of_words result
+        ≡ map (λ code. not (nat_lt (code / 2 ^ low % 2 ^ count) (c % 2 ^ count))) (planes_codes width bytes.now) }
+{
     let mut at_least = ONES;
-    for place in 0..count {
-        let plane = Planes::bit(width, bytes, low + place);
+    for place in 0..count as usize {
+        let plane = plane_of(width, bytes, low as usize + place);
         at_least = risen(&at_least, &plane, c >> place & 1 == 1);
     }
     at_least
@@ -44,14 +59,27 @@ pub(crate) fn eq(width: u32, bytes: &[u8], low: u32, count: u32, c: u8) -> Plane
     if c as u32 >> count != 0 {
         return [0; 8];
     }
+    if count == 8 {
+        low_eq(width, bytes, low, 8, c)
+    } else {
+        low_eq(width, bytes, low, count, c)
+    }
+}
+
+/// The lanes in which that number is that of the same bits of c.
+#[inline(always)]
+fn low_eq(width: u32, bytes: &[u8], low: u32, count: u32, c: u8) -> Plane
+    requires width { (1 ≤ width) × (width ≤ 63) }
+    requires size { length bytes.now ≡ 64 * width }
+    requires bits { low + count ≤ width }
+    requires byte { count ≤ 8 }
+    ensures { lanes_of_words result
+        ≡ map (λ code. code / 2 ^ low % 2 ^ count == c % 2 ^ count) (planes_codes width bytes.now) }
+{
     let mut equal = ONES;
-    for place in 0..count {
-        if is_zero(&equal) {
-            return equal;
-        }
-        let bit = count - 1 - place;
-        let plane = Planes::bit(width, bytes, low + bit);
-        equal = narrowed(&equal, &plane, c >> bit & 1 == 1);
+    for place in 0..count as usize {
+        let plane = plane_of(width, bytes, low as usize + place);
+        equal = narrowed(&equal, &plane, c >> place & 1 == 1);
     }
     equal
 }

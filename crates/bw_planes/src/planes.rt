@@ -1,11 +1,14 @@
 //! Codes kept as planes, and what they answer.
 ghost use Rattle.std.specs.Prelude.{◌≡◌, ◌*◌, ◌^◌, ◌<◌, ◌≤◌, length, map};
+ghost use Rattle.bw_lanes.specs.Lanes.{lanes_of_words};
+ghost use Rattle.bw_model.specs.Code.{has_bit};
 ghost use Rattle.bw_model.specs.Stored.{byte_of};
 ghost use Rattle.bw_planes.specs.Planes.{plane_packing, planes_codes};
 ghost use Rattle.bw_planes.specs.Kept.{planes_keep_codes};
 
 use crate::compare::{at_least, eq};
-use bw_lanes::{Plane, and, bytes_bit, count_and, is_zero, load, not, or, push_bit, to_bytes};
+use crate::sum::sum_in_word;
+use bw_lanes::{Plane, and, bytes_bit, is_zero, load, not, or, push_bit, to_bytes};
 use bw_model::Fault;
 use bw_segment::{Layout, push_byte, put_byte, slices_of};
 
@@ -54,7 +57,7 @@ impl Layout for Planes {
 
     #[inline(always)]
     fn bit(width: u32, bytes: &[u8], bit: u32) -> Plane {
-        load(&bytes[64 * (width - 1 - bit) as usize..])
+        plane_of(width, bytes, bit as usize)
     }
 
     fn byte_lt(width: u32, bytes: &[u8], slice: usize, c: u8) -> Plane {
@@ -69,9 +72,10 @@ impl Layout for Planes {
 
     fn sum(width: u32, bytes: &[u8], lanes: &Plane) -> u128 {
         let mut sum = 0;
-        for bit in 0..width {
-            let ones = count_and(lanes, &Planes::bit(width, bytes, bit));
-            sum += worth(ones, bit);
+        for word in 0..8 {
+            if lanes[word] != 0 {
+                sum += sum_in_word(width, bytes, word, lanes[word]);
+            }
         }
         sum
     }
@@ -133,6 +137,18 @@ impl Layout for Planes {
     ghost keeps = { planes_keep_codes };
 }
 
+/// The plane of a bit, whose place is reckoned in whole words, so that a loop over bits moves from plane to plane.
+#[inline(always)]
+pub(crate) fn plane_of(width: u32, bytes: &[u8], bit: usize) -> Plane
+    requires width { width ≤ 63 }
+    requires size { length bytes.now ≡ 64 * width }
+    requires bit { bit < width }
+    ensures { lanes_of_words result
+        ≡ map (λ code. has_bit code bit) (planes_codes width bytes.now) }
+{
+    load(&bytes[64 * (width as usize - 1 - bit)..])
+}
+
 /// A byte of each code, of which byte 0 is the least: the planes of its bits are shifted into a byte of each lane, from the
 /// top one down.
 fn byte_at(width: u32, bytes: &[u8], slice: usize) -> [u8; 512]
@@ -151,14 +167,4 @@ fn byte_at(width: u32, bytes: &[u8], slice: usize) -> [u8; 512]
         );
     }
     byte
-}
-
-/// What a bit adds to the sum of codes in which it is 1, so many of them.
-#[tactic(auto, using(crate::proofs::SumLemmas::moved_fits))]
-fn worth(ones: u32, bit: u32) -> u128
-    requires ones { ones ≤ 512 }
-    requires bit { bit < 63 }
-    ensures { result ≡ ones * 2 ^ bit }
-{
-    u128::from(ones) << bit
 }

@@ -14,21 +14,5 @@ returns-then-c-count-ne0 c =
     everywhere (planes_codes width bytes) (λ code. not (ltb (code / 2 ^ c.args.low % 2 ^ c.args.count) c.args.c)) false _ (codes_long width bytes) zeros_are_zero
     (λ code. sym (ap not (lt-ltb _ _ (above_all (code / 2 ^ c.args.low) c.args.count c.args.c c.if-c-count-ne0.true))))
 
-pub loop-place-init : goal.loop-place-init
-loop-place-init c =
-    let width = c.args.width in
-    let bytes = c.args.bytes.now in
-    everywhere (planes_codes width bytes) (λ code. not (ltb (code / 2 ^ c.args.low % 2 ^ 0) (c.args.c % 2 ^ 0))) true _ (codes_long width bytes) ones_are_one
-    (λ code. none_below (code / 2 ^ c.args.low) c.args.c)
-
-pub loop-place-preserved : goal.loop-place-preserved
-loop-place-preserved c =
-    c.risen-at_least.ensures
-    ∙ at_least_next (planes_codes c.args.width c.args.bytes.now) c.args.low c.loop-place.place c.args.c (lanes_of_words c.loop-place.at_least) (lanes_of_words c.bit-plane.result) c.loop-place.invariant c.bit-plane.ensures
-
 pub returns : goal.returns
-returns c =
-    let codes = planes_codes c.args.width c.args.bytes.now in
-    let end : c.loop-place.place ≡ c.args.count = omega arith in
-    c.loop-place.invariant ∙ ap (λ k. map (λ code. not (ltb (code / 2 ^ c.args.low % 2 ^ k) (c.args.c % 2 ^ k))) codes) end
-    ∙ ap (λ n. map (λ code. not (ltb (code / 2 ^ c.args.low % 2 ^ c.args.count) n)) codes) (whole_constant c.args.c c.args.count c.if-c-count-ne0.false)
+returns c = ?

@@ -3,7 +3,7 @@ use Rattle.std.proofs.lemmas.List.{take-take}
 use Rattle.bw_lanes.specs.Lanes.{lanes_of_bytes}
 use Rattle.bw_planes.specs.Planes.{plane_lanes}
 use Rattle.bw_planes.specs.Kept.{plane_of_codes}
-use Rattle.bw_planes.proofs.planes.PlanesLayout.bit.Goals as goal
+use Rattle.bw_planes.proofs.planes.plane_of.Goals as goal
 
 pub returns : goal.returns
 returns c =

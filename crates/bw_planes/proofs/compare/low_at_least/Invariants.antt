@@ -1,7 +1,7 @@
 use Rattle.std.proofs.Common.{◌≡◌, ◌/◌, ◌%◌, ◌^◌, not, ltb, map}
 use Rattle.bw_lanes.specs.Lanes.{lanes_of_words}
 use Rattle.bw_planes.specs.Planes.{planes_codes}
-use Rattle.bw_planes.proofs.compare.at_least.Given as goal
+use Rattle.bw_planes.proofs.compare.low_at_least.Given as goal
 
 -- how the lowest bits, so many, stand to those of the constant
 abbrev pub invariant-loop-place : goal.invariant-loop-place

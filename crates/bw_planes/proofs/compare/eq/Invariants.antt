@@ -1,9 +1,0 @@
-use Rattle.std.proofs.Common.{◌≡◌, ◌-◌, ◌/◌, ◌%◌, ◌^◌, eqb, map}
-use Rattle.bw_lanes.specs.Lanes.{lanes_of_words}
-use Rattle.bw_planes.specs.Planes.{planes_codes}
-use Rattle.bw_planes.proofs.compare.eq.Given as goal
-
--- how the highest bits, so many, stand to those of the constant
-abbrev pub invariant-loop-place : goal.invariant-loop-place
-invariant-loop-place l =
-    lanes_of_words l.equal ≡ map (λ code. eqb (code / 2 ^ l.low % 2 ^ l.count / 2 ^ (l.count - l.place)) (l.c / 2 ^ (l.count - l.place))) (planes_codes l.width l.bytes)

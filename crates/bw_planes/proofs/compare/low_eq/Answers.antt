@@ -1,0 +1,26 @@
+use Rattle.std.proofs.Common.{◌≡◌, ◌∙◌, sym, ap, ◌/◌, ◌%◌, ◌^◌, true, false, eqb, map, arith}
+use Rattle.std.proofs.lemmas.Bool.{ne_eqb}
+use Rattle.bw_lanes.specs.Lanes.{lanes_of_words}
+use Rattle.bw_lanes.proofs.WordLemmas.{zeros_are_zero, ones_are_one}
+use Rattle.bw_planes.specs.Planes.{planes_codes}
+use Rattle.bw_planes.proofs.CodeLemmas.{codes_long}
+use Rattle.bw_planes.proofs.CompareLemmas.{everywhere, above_all, all_equal, equal_next, whole_constant}
+use Rattle.bw_planes.proofs.compare.low_eq.Goals as goal
+
+pub loop-place-init : goal.loop-place-init
+loop-place-init c =
+    let width = c.args.width in
+    let bytes = c.args.bytes.now in
+    everywhere (planes_codes width bytes) (λ code. eqb (code / 2 ^ c.args.low % 2 ^ 0) (c.args.c % 2 ^ 0)) true _ (codes_long width bytes) ones_are_one
+    (λ code. all_equal (code / 2 ^ c.args.low) c.args.c)
+
+pub loop-place-preserved : goal.loop-place-preserved
+loop-place-preserved c =
+    c.narrowed-equal.ensures
+    ∙ equal_next (planes_codes c.args.width c.args.bytes.now) c.args.low c.loop-place.place c.args.c (lanes_of_words c.loop-place.equal) (lanes_of_words c.plane_of-plane.result) c.loop-place.invariant c.plane_of-plane.ensures
+
+pub returns : goal.returns
+returns c =
+    let codes = planes_codes c.args.width c.args.bytes.now in
+    let end : c.loop-place.place ≡ c.args.count = omega arith in
+    c.loop-place.invariant ∙ ap (λ k. map (λ code. eqb (code / 2 ^ c.args.low % 2 ^ k) (c.args.c % 2 ^ k)) codes) end

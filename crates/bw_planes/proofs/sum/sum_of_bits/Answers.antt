@@ -1,0 +1,42 @@
+use Rattle.std.proofs.Common.{◌≡◌, ◌∙◌, sym, ap, ap₂, subst, suc, ◌+◌, ◌-◌, ◌*◌, ◌/◌, ◌%◌, ◌^◌, ◌≤◌, ◌&&◌, sum_by, count_by, arith}
+use lib.Lanes.{zip2}
+use Rattle.std.proofs.lemmas.Grind.{pow_more}
+use Rattle.bw_lanes.specs.Lanes.{bits_from_least}
+use Rattle.bw_model.specs.Code.{has_bit}
+use Rattle.bw_model.specs.Selection.{picked}
+use Rattle.bw_segment.proofs.PickedLemmas.{count_both}
+use Rattle.bw_planes.specs.Planes.{planes_codes, codes_in_word}
+use Rattle.bw_planes.proofs.SumLemmas.{numbers_more, no_numbers}
+use Rattle.bw_planes.proofs.sum.sum_of_bits.Goals as goal
+
+pub loop-place-init : goal.loop-place-init
+loop-place-init c = record {
+  sum = no_numbers (c.args.low + c.args.count - 0) (picked (bits_from_least 64 c.args.rows) (codes_in_word c.args.word (planes_codes c.args.width c.args.bytes.now)));
+  small = omega arith;
+}
+
+pub loop-place-preserved : goal.loop-place-preserved
+loop-place-preserved c =
+    let codes = codes_in_word c.args.word (planes_codes c.args.width c.args.bytes.now) in
+    let rows = bits_from_least 64 c.args.rows in
+    let place = c.loop-place.place in
+    let bit = c.args.low + c.args.count - 1 - place in
+    let above : c.args.low + c.args.count - place ≡ suc bit = omega (arith, c.loop-place-test.true) in
+    let next : bit ≡ c.args.low + c.args.count - (place + 1) = omega arith in
+    let ones = c.ones_in.ensures.ones ∙ ap (λ plane. count_by (λ lane. lane) (zip2 (λ a b. a && b) rows plane)) c.word_of.ensures ∙ count_both (λ code. has_bit code bit) rows codes in
+    record {
+      sum = ap₂ (λ s n. 2 * s + n) (c.loop-place.invariant.sum ∙ ap (λ k. sum_by (λ code. code / 2 ^ k % 2 ^ place) (picked rows codes)) above) (c.from.ensures ∙ ones)
+          ∙ sym (numbers_more bit place (picked rows codes)) ∙ ap (λ k. sum_by (λ code. code / 2 ^ k % 2 ^ (place + 1)) (picked rows codes)) next;
+      small = omega (arith, c.loop-place.invariant.small, c.from.ensures, c.ones_in.ensures.bound, pow_more 2 place);
+    }
+
+pub returns : goal.returns
+returns c =
+    let codes = picked (bits_from_least 64 c.args.rows) (codes_in_word c.args.word (planes_codes c.args.width c.args.bytes.now)) in
+    let count = c.args.count in
+    let end : c.loop-place.place ≡ count = omega arith in
+    let low : c.args.low + count - count ≡ c.args.low = omega arith in
+    record {
+      sum = c.loop-place.invariant.sum ∙ ap (λ k. sum_by (λ code. code / 2 ^ (c.args.low + count - k) % 2 ^ k) codes) end ∙ ap (λ k. sum_by (λ code. code / 2 ^ k % 2 ^ count) codes) low;
+      bound = subst (λ k. c.loop-place.sum + 64 ≤ 64 * 2 ^ k) end c.loop-place.invariant.small;
+    }

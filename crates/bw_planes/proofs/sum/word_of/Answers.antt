@@ -1,0 +1,12 @@
+use Rattle.std.proofs.Common.{◌∙◌, ap, ◌+◌, ◌-◌, ◌*◌, length, drop, arith}
+use Rattle.std.proofs.lemmas.List.{take-take}
+use Rattle.bw_lanes.specs.Lanes.{lanes_of_bytes}
+use Rattle.bw_planes.proofs.SumLemmas.{word_of_codes}
+use Rattle.bw_planes.proofs.sum.word_of.Goals as goal
+
+pub returns : goal.returns
+returns c =
+    let bytes = c.args.bytes.now in
+    let start = 64 * (c.args.width - 1 - c.args.bit) + 8 * c.args.word in
+    c.first_word.ensures ∙ ap lanes_of_bytes (take-take 8 (length bytes - start) (drop start bytes) (omega (arith, c.requires.size, c.requires.bit, c.requires.word)))
+    ∙ word_of_codes c.args.width c.args.bit c.args.word bytes c.requires.size c.requires.bit c.requires.word

@@ -1,0 +1,77 @@
+//! Sums of codes, 64 rows at a time. The bits of these rows stand in one word of each plane, and of rows of which none counts
+//! nothing is read.
+ghost use Rattle.std.specs.Prelude.{◌≡◌, ◌+◌, ◌*◌, ◌/◌, ◌%◌, ◌^◌, ◌<◌, ◌≤◌, ◌&&◌, length, take, map, sum, sum_by, count_by};
+ghost use lib.Lanes.{zip2};
+ghost use Rattle.bw_lanes.specs.Lanes.{bits_from_least, lanes_of_bytes};
+ghost use Rattle.bw_model.specs.Code.{has_bit};
+ghost use Rattle.bw_model.specs.Selection.{picked};
+ghost use Rattle.bw_planes.specs.Planes.{planes_codes, codes_in_word};
+
+use std::simd::prelude::*;
+
+/// The sum of the codes of some of the 64 rows of a word.
+pub(crate) fn sum_in_word(width: u32, bytes: &[u8], word: usize, rows: u64) -> u128
+    requires width { (1 ≤ width) × (width ≤ 63) }
+    requires size { length bytes.now ≡ 64 * width }
+    requires word { word < 8 }
+    ensures sum { result
+        ≡ sum (picked (bits_from_least 64 rows) (codes_in_word word (planes_codes width bytes.now))) }
+    ensures bound { result ≤ 2 ^ 69 }
+{
+    let few = width.min(32);
+    let lower = sum_of_bits(width, bytes, word, rows, 0, few);
+    let upper = sum_of_bits(width, bytes, word, rows, few, width - few);
+    u128::from(lower) + (u128::from(upper) << few)
+}
+
+/// The sum of the numbers that so many bits of these codes are, from `low` upwards: by the number of ones in each plane, from
+/// the highest down.
+#[inline(always)]
+fn sum_of_bits(width: u32, bytes: &[u8], word: usize, rows: u64, low: u32, count: u32) -> u64
+    requires width { width ≤ 63 }
+    requires size { length bytes.now ≡ 64 * width }
+    requires word { word < 8 }
+    requires bits { low + count ≤ width }
+    requires few { count ≤ 32 }
+    ensures sum { result ≡ sum_by (λ code. code / 2 ^ low % 2 ^ count)
+        (picked (bits_from_least 64 rows) (codes_in_word word (planes_codes width bytes.now))) }
+    ensures bound { result + 64 ≤ 64 * 2 ^ count }
+{
+    let mut sum = 0;
+    for place in 0..count {
+        let bit = low + count - 1 - place;
+        sum = 2 * sum + u64::from(ones_in(rows, word_of(width, bytes, word, bit)));
+    }
+    sum
+}
+
+/// A word of the plane of a bit.
+#[inline(always)]
+fn word_of(width: u32, bytes: &[u8], word: usize, bit: u32) -> u64
+    requires width { width ≤ 63 }
+    requires size { length bytes.now ≡ 64 * width }
+    requires word { word < 8 }
+    requires bit { bit < width }
+    ensures { bits_from_least 64 result
+        ≡ map (λ code. has_bit code bit) (codes_in_word word (planes_codes width bytes.now)) }
+{
+    first_word(&bytes[64 * (width - 1 - bit) as usize + 8 * word..])
+}
+
+/// The word of the first 8 bytes.
+#[inline(always)]
+fn first_word(bytes: &[u8]) -> u64
+    requires { 8 ≤ length bytes.now }
+    ensures { bits_from_least 64 result ≡ lanes_of_bytes (take 8 bytes.now) }
+{
+    u64x1::from_le_bytes(u8x8::from_slice(bytes)).to_array()[0]
+}
+
+/// How many bits are 1 in two words.
+fn ones_in(a: u64, b: u64) -> u32
+    ensures ones { result ≡ count_by (λ lane. lane)
+        (zip2 (λ x y. x && y) (bits_from_least 64 a) (bits_from_least 64 b)) }
+    ensures bound { result ≤ 64 }
+{
+    (a & b).count_ones()
+}
