@@ -22,7 +22,8 @@ impl Shape {
     /// The greatest code of a column.
     pub fn span(&self, col: usize) -> u64
         requires { col < length self.now.schema.columns.items }
-        ensures { result ≡ span_at self.now.schema.columns.items col }
+        ensures span { result ≡ span_at self.now.schema.columns.items col }
+        ensures bound { result < 2 ^ 63 }
     {
         let column = &self.schema.columns[col];
         column.hi.abs_diff(column.lo)
