@@ -1,10 +1,9 @@
-use Rattle.std.proofs.Common.{◌≡◌, ◌∙◌, sym, ap, ◌/◌, ◌%◌, ◌^◌, true, false, not, ltb, map, arith}
+use Rattle.std.proofs.Common.{◌∙◌, sym, ap, ◌/◌, ◌%◌, ◌^◌, false, not, ltb, map}
 use Rattle.std.proofs.lemmas.Bool.{lt-ltb}
-use Rattle.bw_lanes.specs.Lanes.{lanes_of_words}
-use Rattle.bw_lanes.proofs.WordLemmas.{zeros_are_zero, ones_are_one}
+use Rattle.bw_lanes.proofs.WordLemmas.{zeros_are_zero}
 use Rattle.bw_planes.specs.Planes.{planes_codes}
 use Rattle.bw_planes.proofs.CodeLemmas.{codes_long}
-use Rattle.bw_planes.proofs.CompareLemmas.{everywhere, above_all, none_below, at_least_next, whole_constant}
+use Rattle.bw_planes.proofs.CompareLemmas.{everywhere, above_all, whole_constant}
 use Rattle.bw_planes.proofs.compare.at_least.Goals as goal
 
 pub returns-then-c-count-ne0 : goal.returns-then-c-count-ne0
@@ -14,5 +13,13 @@ returns-then-c-count-ne0 c =
     everywhere (planes_codes width bytes) (λ code. not (ltb (code / 2 ^ c.args.low % 2 ^ c.args.count) c.args.c)) false _ (codes_long width bytes) zeros_are_zero
     (λ code. sym (ap not (lt-ltb _ _ (above_all (code / 2 ^ c.args.low) c.args.count c.args.c c.if-c-count-ne0.true))))
 
-pub returns : goal.returns
-returns c = ?
+pub returns-then-count-eq8 : goal.returns-then-count-eq8
+returns-then-count-eq8 c =
+    let codes = planes_codes c.args.width c.args.bytes.now in
+    c.low_at_least.ensures ∙ ap (λ k. map (λ code. not (ltb (code / 2 ^ c.args.low % 2 ^ k) (c.args.c % 2 ^ k))) codes) (sym c.if-count-eq8.true)
+    ∙ ap (λ m. map (λ code. not (ltb (code / 2 ^ c.args.low % 2 ^ c.args.count) m)) codes) (whole_constant c.args.c c.args.count c.if-c-count-ne0.false)
+
+pub returns-else-count-eq8 : goal.returns-else-count-eq8
+returns-else-count-eq8 c =
+    let codes = planes_codes c.args.width c.args.bytes.now in
+    c.low_at_least-else-count-eq8.ensures ∙ ap (λ m. map (λ code. not (ltb (code / 2 ^ c.args.low % 2 ^ c.args.count) m)) codes) (whole_constant c.args.c c.args.count c.if-c-count-ne0.false)

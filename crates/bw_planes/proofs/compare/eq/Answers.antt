@@ -1,10 +1,9 @@
-use Rattle.std.proofs.Common.{◌≡◌, ◌∙◌, sym, ap, ◌/◌, ◌%◌, ◌^◌, true, false, eqb, map, arith}
+use Rattle.std.proofs.Common.{◌∙◌, sym, ap, ◌/◌, ◌%◌, ◌^◌, false, eqb, map, arith}
 use Rattle.std.proofs.lemmas.Bool.{ne_eqb}
-use Rattle.bw_lanes.specs.Lanes.{lanes_of_words}
-use Rattle.bw_lanes.proofs.WordLemmas.{zeros_are_zero, ones_are_one}
+use Rattle.bw_lanes.proofs.WordLemmas.{zeros_are_zero}
 use Rattle.bw_planes.specs.Planes.{planes_codes}
 use Rattle.bw_planes.proofs.CodeLemmas.{codes_long}
-use Rattle.bw_planes.proofs.CompareLemmas.{everywhere, above_all, all_equal, equal_next, whole_constant}
+use Rattle.bw_planes.proofs.CompareLemmas.{everywhere, above_all, whole_constant}
 use Rattle.bw_planes.proofs.compare.eq.Goals as goal
 
 pub returns-then-c-count-ne0 : goal.returns-then-c-count-ne0
@@ -14,5 +13,13 @@ returns-then-c-count-ne0 c =
     everywhere (planes_codes width bytes) (λ code. eqb (code / 2 ^ c.args.low % 2 ^ c.args.count) c.args.c) false _ (codes_long width bytes) zeros_are_zero
     (λ code. let below = above_all (code / 2 ^ c.args.low) c.args.count c.args.c c.if-c-count-ne0.true in sym (ne_eqb _ _ (λ same. omega arith)))
 
-pub returns : goal.returns
-returns c = ?
+pub returns-then-count-eq8 : goal.returns-then-count-eq8
+returns-then-count-eq8 c =
+    let codes = planes_codes c.args.width c.args.bytes.now in
+    c.low_eq.ensures ∙ ap (λ k. map (λ code. eqb (code / 2 ^ c.args.low % 2 ^ k) (c.args.c % 2 ^ k)) codes) (sym c.if-count-eq8.true)
+    ∙ ap (λ m. map (λ code. eqb (code / 2 ^ c.args.low % 2 ^ c.args.count) m) codes) (whole_constant c.args.c c.args.count c.if-c-count-ne0.false)
+
+pub returns-else-count-eq8 : goal.returns-else-count-eq8
+returns-else-count-eq8 c =
+    let codes = planes_codes c.args.width c.args.bytes.now in
+    c.low_eq-else-count-eq8.ensures ∙ ap (λ m. map (λ code. eqb (code / 2 ^ c.args.low % 2 ^ c.args.count) m) codes) (whole_constant c.args.c c.args.count c.if-c-count-ne0.false)

@@ -1,10 +1,9 @@
-use Rattle.std.proofs.Common.{◌≡◌, ◌∙◌, sym, ap, ◌/◌, ◌%◌, ◌^◌, true, false, not, ltb, map, arith}
-use Rattle.std.proofs.lemmas.Bool.{lt-ltb}
+use Rattle.std.proofs.Common.{◌≡◌, ◌∙◌, ap, ◌/◌, ◌%◌, ◌^◌, true, not, ltb, map, arith}
 use Rattle.bw_lanes.specs.Lanes.{lanes_of_words}
-use Rattle.bw_lanes.proofs.WordLemmas.{zeros_are_zero, ones_are_one}
+use Rattle.bw_lanes.proofs.WordLemmas.{ones_are_one}
 use Rattle.bw_planes.specs.Planes.{planes_codes}
 use Rattle.bw_planes.proofs.CodeLemmas.{codes_long}
-use Rattle.bw_planes.proofs.CompareLemmas.{everywhere, above_all, none_below, at_least_next, whole_constant}
+use Rattle.bw_planes.proofs.CompareLemmas.{everywhere, none_below, at_least_next}
 use Rattle.bw_planes.proofs.compare.low_at_least.Goals as goal
 
 pub loop-place-init : goal.loop-place-init
