@@ -12,7 +12,7 @@ use Rattle.bw_model.specs.Number.{are_digits, number_of}
 use Rattle.bw_model.specs.Text.{same_text}
 use Rattle.bw_csv.specs.Rows.{behind_minus, is_blank, is_minus, is_null_text, text_value, value_of_field, within_bounds, without_blanks, without_end_blanks, without_front_blanks}
 
-both : (a b : Bool) → (a && b) ≡ true → (a ≡ true) × (b ≡ true)
+pub both : (a b : Bool) → (a && b) ≡ true → (a ≡ true) × (b ≡ true)
 both true b e = (refl, e)
 both false b e = absurd (cc e)
 
@@ -20,7 +20,7 @@ both false b e = absurd (cc e)
 digit_is : (c : ℕ) → is_ascii_digit c ≡ true → (48 ≤ c) × (c ≤ 57)
 digit_is c e = let parts = both (leb 48 c) (leb c 57) e in (leb-true 48 c parts.0, leb-true c 57 parts.1)
 
-other_than : (c d : ℕ) → is_ascii_digit c ≡ true → (d < 48) → eqb c d ≡ false
+pub other_than : (c d : ℕ) → is_ascii_digit c ≡ true → (d < 48) → eqb c d ≡ false
 other_than c d e low = let is = digit_is c e in ne_eqb c d (λ same. absurd (omega (arith, is.0, is.1, same)))
 
 no_blank : (c : ℕ) → is_ascii_digit c ≡ true → is_blank c ≡ false
@@ -86,7 +86,7 @@ by_sign number column c cs true s e = rw (eqb-true c 45 s) (digits_behind_minus 
 by_sign number column c cs false s e = digits_alone number column (c ∷ cs) e
 
 -- digits, after a minus sign where there is one
-signed_digits : (number : ℕ) (column : Column) (field : List ℕ) → are_digits (behind_minus field) ≡ true
+pub signed_digits : (number : ℕ) (column : Column) (field : List ℕ) → are_digits (behind_minus field) ≡ true
     → value_of_field number column field ≡ within_bounds number column (number_of (is_minus field) (behind_minus field))
 signed_digits number column [] e = absurd (cc e)
 signed_digits number column (c ∷ cs) e = by_sign number column c cs (eqb c 45) refl e

@@ -1,6 +1,11 @@
 pub mod BareLemmas
 pub mod DigitsAlone
 pub mod FieldLemmas
+pub mod HeadingLemmas
 pub mod Passed
+pub mod PlainFields
+pub mod PlainRecords
+pub mod PlainRows
 pub mod RecordLemmas
+pub mod RestLemmas
 pub mod RowLemmas

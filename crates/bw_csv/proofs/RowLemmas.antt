@@ -150,7 +150,7 @@ rows_behind-rows columns records more heading e h = rw (e, h) refl
 pub ruleset behind_heading = (rows_behind-none, rows_behind-other, rows_behind-rows)
 
 -- the number of a record that has a row
-row_within : (number : ℕ) (columns : List Column) (fields : List (List ℕ)) (row : List Value) → row_of_record number columns fields ≡ Ok row → number ≤ 2 ^ 24
+pub row_within : (number : ℕ) (columns : List Column) (fields : List (List ℕ)) (row : List Value) → row_of_record number columns fields ≡ Ok row → number ≤ 2 ^ 24
 unfolding row_of_record
 row_within number columns fields row e =
     elim (cases_lt (2 ^ 24) number) [

@@ -1,4 +1,6 @@
 pub mod Bare
 pub mod Input
+pub mod Plain
 pub mod Records
+pub mod Rest
 pub mod Rows

@@ -68,6 +68,7 @@ pub(crate) fn is_null_text(text: &[u8]) -> bool
 }
 
 /// Whether a text begins with a minus sign.
+#[inline(always)]
 pub(crate) fn is_minus(text: &[u8]) -> bool
     ensures { result ≡ is_minus text.now }
 {
@@ -75,7 +76,8 @@ pub(crate) fn is_minus(text: &[u8]) -> bool
 }
 
 /// A text without its minus sign, where it has one. There is no branch on the sign, which no processor foresees.
-fn behind_minus(text: &[u8]) -> &[u8]
+#[inline(always)]
+pub(crate) fn behind_minus(text: &[u8]) -> &[u8]
     ensures { result.now ≡ behind_minus text.now }
 {
     &text[is_minus(text) as usize..]

@@ -11,12 +11,13 @@ ghost use Rattle.bw_model.specs.declared.column.Column.{Column};
 ghost use Rattle.bw_model.specs.Fault.{no_memory};
 ghost use Rattle.bw_model.specs.Limits.{most_rows};
 ghost use Rattle.bw_model.specs.Row.{Value, values_of};
-ghost use Rattle.bw_csv.specs.Records.{IsOpen, coming};
+ghost use Rattle.bw_csv.specs.Rest.{IsReadable, to_come};
 ghost use Rattle.bw_csv.specs.Bare.{records_of};
 ghost use Rattle.bw_csv.specs.Rows.{rows_of, rows_from, is_reader_fault, Hands, IsRowsFault, StopsBehind, StopsUnder, stands_at, stands_behind};
 
 use crate::records::Records;
-use crate::row::{read_heading, read_row};
+use crate::rest::Rest;
+use crate::row::read_heading;
 use bw_model::{Column, Fault, Row, RowTaker, Schema, Value};
 use std::alloc::Global;
 
@@ -46,32 +47,33 @@ pub fn read_rows<K: RowTaker>(
 {
     let mut records = Records::new(alloc, text);
     read_heading(&schema.columns, &mut records)?;
+    let mut rest = Rest::new(alloc, text, records);
     let mut row = Row {
         values: Vec::with_capacity(alloc, schema.columns.len())?,
     };
-    hand_rows(&schema.columns, &mut records, &mut row, taker)
+    hand_rows(&schema.columns, &mut rest, &mut row, taker)
 }
 
 /// Hands the rows of the records to come, the first of which has number 1, to a taker, in order.
 #[tactic(auto, using(crate::proofs::RowLemmas::so_far))]
 fn hand_rows<K: RowTaker>(
     columns: &[Column],
-    records: &mut Records<'_>,
+    rest: &mut Rest<'_>,
     row: &mut Row,
     taker: &mut K,
 ) -> Result<(), Fault>
-    requires open { IsOpen records.old }
+    requires readable { IsReadable rest.old }
     requires takes { (row : List Value) → IsTrue (admits_values columns.now row) → IsTrue (K.takes taker.old row) }
     requires fresh { K.rows taker.old ≡ 0 }
     requires starts { K.led taker.old [] taker.old }
-    ensures handed { Hands K.led (rows_from columns.now 1 (coming records.old)) taker.old taker.new result }
+    ensures handed { Hands K.led (rows_from columns.now 1 (to_come rest.old)) taker.old taker.new result }
     ensures fault { IfErr result IsRowsFault }
     ensures place { IfErr result (λ fault. IsTrue (stands_at (K.rows taker.new + 1) fault)) }
     ensures reader { IfErr result (λ fault. is_reader_fault fault ≡ true
-        → StopsBehind (rows_from columns.now) (coming records.old) fault) }
+        → StopsBehind (rows_from columns.now) (to_come rest.old) fault) }
 {
     let mut number = 1;
-    'rows: while read_row(columns, records, number, row)? {
+    'rows: while rest.next_row(columns, number, row)? {
         taker.take(row)?;
         number += 1;
     }

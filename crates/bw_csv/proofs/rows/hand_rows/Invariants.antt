@@ -1,16 +1,16 @@
 use Rattle.std.proofs.Common.{◌≡◌, ◌+◌, ◌-◌, ◌^◌, ◌≤◌}
-use Rattle.bw_csv.specs.Records.{IsOpen, coming}
+use Rattle.bw_csv.specs.Rest.{IsReadable, to_come}
 use Rattle.bw_csv.proofs.RowLemmas.{LedSoFar}
 use Rattle.bw_csv.proofs.rows.hand_rows.Given as goal
 
 -- the taker was led through the rows so far, and the rows are those and then the rows of the records to come
 abbrev pub invariant-rows : goal.invariant-rows
 invariant-rows g l = record {
-  reads : IsOpen l.records;
+  readable : IsReadable l.rest;
   takes : g.K.RowTaker.takes l.taker ≡ g.K.RowTaker.takes l.initial.taker;
   count : g.K.RowTaker.rows l.taker + 1 ≡ l.number;
   within : l.number ≤ 2 ^ 24 + 1;
-  so_far : LedSoFar g.K.RowTaker.led l.initial.taker l.taker l.columns (coming l.initial.records) l.number (coming l.records);
+  so_far : LedSoFar g.K.RowTaker.led l.initial.taker l.taker l.columns (to_come l.initial.rest) l.number (to_come l.rest);
 }
 
 abbrev pub decreases-rows : goal.decreases-rows

@@ -8,4 +8,4 @@ returns-clause-handed g c =
     let columns = c.args.schema.now.columns.items in
     let heading = c.in_ok-read_heading.ensures.heading_read in
     let behind = rows_behind-rows columns _ _ heading.0 (sym c.new-records.ensures.coming ∙ heading.1) (rw c.deref.ensures.value at heading.2) in
-    rw behind (rw c.deref-2.ensures.value at c.hand_rows.ensures.handed)
+    rw (behind, ← c.new-rest.ensures.to_come) (rw c.deref-2.ensures.value at c.hand_rows.ensures.handed)

@@ -1,0 +1,65 @@
+-- Fields of digits are plain, and spell numbers that 64 bits hold.
+use Rattle.std.proofs.Common.{◌≡◌, ◌∙◌, ℕ, ℤ, pos, ◌-ℤ◌, ◌^◌, ◌<◌, ◌≤◌, List, [], ◌∷◌, Some, None, Ok, Bool, true, false, refl, arith, eqb, leb, ltb, SFits, w64, of_z, to_z}
+use Rattle.std.specs.Prelude.{◌&&◌, if◌then◌else◌, int_le}
+use Rattle.std.specs.Char.{is_ascii_digit}
+use Rattle.std.specs.List.{list_all}
+use Rattle.std.proofs.lemmas.Bool.{eqb-true, leb-true, ltb-true}
+use Rattle.std.proofs.lemmas.Int.{ints, to_z-of_z}
+use Rattle.bw_model.specs.declared.column.Column.{Column}
+use Rattle.bw_model.specs.Number.{are_digits, digits_value, number_of}
+use Rattle.bw_csv.specs.Plain.{is_plain}
+use Rattle.bw_csv.specs.Rows.{behind_minus, is_minus, value_of_field}
+use Rattle.bw_csv.proofs.DigitsAlone.{both, other_than, signed_digits}
+
+-- digits are plain, and so is a minus sign
+digit_plain : (c : ℕ) → is_ascii_digit c ≡ true → is_plain c ≡ true
+digit_plain c e = rw (other_than c 44 e (omega arith), other_than c 13 e (omega arith), other_than c 10 e (omega arith), other_than c 34 e (omega arith)) refl
+
+digits_plain : (cs : List ℕ) → list_all is_ascii_digit cs ≡ true → list_all is_plain cs ≡ true
+digits_plain [] e = refl
+digits_plain (c ∷ cs) e = let is = both (is_ascii_digit c) (list_all is_ascii_digit cs) e in rw (digit_plain c is.0, digits_plain cs is.1) refl
+
+all_digits : (cs : List ℕ) → are_digits cs ≡ true → list_all is_ascii_digit cs ≡ true
+all_digits [] e = refl
+all_digits (c ∷ cs) e = e
+
+signed_plain : (c : ℕ) (cs : List ℕ) (minus : Bool) → eqb c 45 ≡ minus → are_digits (if minus then cs else c ∷ cs) ≡ true → list_all is_plain (c ∷ cs) ≡ true
+signed_plain c cs true s e = rw (eqb-true c 45 s) (digits_plain cs (all_digits cs e))
+signed_plain c cs false s e = digits_plain (c ∷ cs) e
+
+pub plain_number : (field : List ℕ) → are_digits (behind_minus field) ≡ true → list_all is_plain field ≡ true
+plain_number [] e = refl
+plain_number (c ∷ cs) e = signed_plain c cs (eqb c 45) refl e
+
+-- a number within the bounds of a column
+positive_fits : (v : ℕ) (n : ℤ) (small : Bool) → ltb v (2 ^ 63) ≡ small → (if small then Some (pos v) else None) ≡ Some n → SFits w64 n
+positive_fits v n true l e =
+    let below : v < 2 ^ 63 = ltb-true v (2 ^ 63) l in
+    let same : n ≡ pos v = cc e in
+    rw same (grind (arith, ints))
+positive_fits v n false l e = absurd (cc e)
+
+negative_fits : (v : ℕ) (n : ℤ) (small : Bool) → leb v (2 ^ 63) ≡ small → (if small then Some (pos 0 -ℤ pos v) else None) ≡ Some n → SFits w64 n
+negative_fits v n true l e =
+    let below : v ≤ 2 ^ 63 = leb-true v (2 ^ 63) l in
+    let same : n ≡ pos 0 -ℤ pos v = cc e in
+    rw same (grind (arith, ints))
+negative_fits v n false l e = absurd (cc e)
+
+number_fits : (is_negative : Bool) (digits : List ℕ) (n : ℤ) → number_of is_negative digits ≡ Some n → SFits w64 n
+unfolding number_of
+number_fits true digits n e = negative_fits (digits_value digits) n (leb (digits_value digits) (2 ^ 63)) refl e
+number_fits false digits n e = positive_fits (digits_value digits) n (ltb (digits_value digits) (2 ^ 63)) refl e
+
+number_within : (number : ℕ) (column : Column) (field : List ℕ) (n : ℤ) → are_digits (behind_minus field) ≡ true
+    → number_of (is_minus field) (behind_minus field) ≡ Some n → (int_le column.lo n && int_le n column.hi) ≡ true
+    → value_of_field number column field ≡ Ok (Some n)
+number_within number column field n digits e within = signed_digits number column field digits ∙ rw (e, within) refl
+
+-- and as the code has it
+pub number_found : (number : ℕ) (column : Column) (field : List ℕ) (n : ℤ) → are_digits (behind_minus field) ≡ true
+    → number_of (is_minus field) (behind_minus field) ≡ Some n → (int_le column.lo (to_z w64 (of_z w64 n)) && int_le (to_z w64 (of_z w64 n)) column.hi) ≡ true
+    → value_of_field number column field ≡ Ok (Some (to_z w64 (of_z w64 n)))
+number_found number column field n digits e within =
+    let same = to_z-of_z w64 n (number_fits (is_minus field) (behind_minus field) n e) in
+    rw same (number_within number column field n digits e (rw same at within))

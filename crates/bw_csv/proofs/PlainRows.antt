@@ -1,0 +1,86 @@
+-- The values of a record's plain fields, one more at a time.
+use Rattle.std.proofs.Common.{◌≡◌, ◌∙◌, ℕ, ◌+◌, ◌≤◌, List, [], ◌∷◌, ◌++◌, length, take, drop, Ok, Bool, true, false, refl, sym, ap, eqb, append_assoc, length-append}
+use Rattle.std.specs.Prelude.{◌||◌, ◌≤◌}
+use Rattle.std.proofs.lemmas.Bool.{eqb-true, le-ltb, eq-eqb}
+use Rattle.std.proofs.lemmas.List.{append-nil, take-append-drop}
+use Rattle.csv.specs.Machine.{next_record}
+use Rattle.csv.specs.Reading.{default_config}
+use Rattle.csv.specs.declared.parser.State.TheVariants as st
+use Rattle.bw_model.specs.declared.column.Column.{Column}
+use Rattle.bw_model.specs.Limits.{most_rows}
+use Rattle.bw_model.specs.Row.{Value}
+use Rattle.bw_csv.specs.Plain.{HasRow, IsPlainField, ends_line, is_field_end, is_line_end}
+use Rattle.bw_csv.specs.Rows.{row_of_record, value_of_field, values_of_fields}
+use Rattle.bw_csv.proofs.FieldLemmas.{behind, behind-nothing, values-end, values-next}
+use Rattle.bw_csv.proofs.PlainRecords.{begins, field-comma, field-end}
+
+-- Of a text's first record these are the values so far, of so many fields, and this is left of the text.
+pub record ReadSoFar (number : ℕ) (columns : List Column) (text rest : List ℕ) (i : ℕ) (values : List Value) : Type 0 where
+  pub done : List (List ℕ)
+  pub many : length done ≡ i
+  pub reads : next_record default_config st.StartRecord [] [] text ≡ next_record default_config st.StartField done [] rest
+  pub spelled : (more : List (List ℕ)) → values_of_fields number columns (done ++ more) ≡ behind values (values_of_fields number (drop i columns) more)
+
+pub read-nothing : (number : ℕ) (columns : List Column) (text : List ℕ) → is_line_end text ≡ false → ReadSoFar number columns text text 0 []
+read-nothing number columns [] e = absurd (cc e)
+read-nothing number columns (c ∷ cs) e =
+    record { done = []; many = refl; reads = begins c cs e; spelled = λ more. behind-nothing (values_of_fields number columns more) }
+
+-- one more field
+values_more : (number : ℕ) (columns : List Column) (i : ℕ) (values : List Value) (done : List (List ℕ)) (field : List ℕ) (column : Column) (value : Value)
+    → ((more : List (List ℕ)) → values_of_fields number columns (done ++ more) ≡ behind values (values_of_fields number (drop i columns) more))
+    → drop i columns ≡ column ∷ drop (i + 1) columns → value_of_field number column field ≡ Ok value
+    → (more : List (List ℕ)) → values_of_fields number columns ((done ++ field ∷ []) ++ more) ≡ behind (values ++ value ∷ []) (values_of_fields number (drop (i + 1) columns) more)
+values_more number columns i values done field column value spelled here v more =
+    ap (λ (fields : List (List ℕ)). values_of_fields number columns fields) (append_assoc done (field ∷ []) more)
+    ∙ spelled (field ∷ more)
+    ∙ values-next number (drop i columns) (drop (i + 1) columns) (field ∷ more) more column field value values here refl v
+
+-- what is left behind a field begins with a comma, where the field is not the last
+comma_is : (behind_field : List ℕ) → is_field_end behind_field ≡ true → is_line_end behind_field ≡ false → behind_field ≡ 44 ∷ drop 1 behind_field
+comma_is [] e f = absurd (cc f)
+comma_is (c ∷ cs) e f = by (eqb c 44) refl e f
+  where
+    by : (comma : Bool) → eqb c 44 ≡ comma → (eqb c 44 || ends_line c) ≡ true → ends_line c ≡ false → c ∷ cs ≡ 44 ∷ cs
+    by true i h k = ap (λ (d : ℕ). d ∷ cs) (eqb-true c 44 i)
+    by false i h k = absurd (cc (i, h, k))
+
+pub read-next : (number : ℕ) (columns : List Column) (text rest : List ℕ) (i : ℕ) (values : List Value) (column : Column) (size : ℕ) (value : Value)
+    → ReadSoFar number columns text rest i values → drop i columns ≡ column ∷ drop (i + 1) columns
+    → IsPlainField rest size → value_of_field number column (take size rest) ≡ Ok value → is_line_end (drop size rest) ≡ false
+    → ReadSoFar number columns text (drop 1 (drop size rest)) (i + 1) (values ++ value ∷ [])
+read-next number columns text rest i values column size value so_far here plain v e =
+    let field = take size rest in
+    let next = drop 1 (drop size rest) in
+    let parts : rest ≡ field ++ 44 ∷ next = sym (take-append-drop size rest) ∙ ap (λ (l : List ℕ). field ++ l) (comma_is (drop size rest) plain.2 e) in
+    record {
+      done = so_far.done ++ field ∷ [];
+      many = length-append so_far.done (field ∷ []) ∙ ap (λ (n : ℕ). n + 1) so_far.many;
+      reads = so_far.reads ∙ ap (λ (l : List ℕ). next_record default_config st.StartField so_far.done [] l) parts ∙ field-comma so_far.done field next plain.1;
+      spelled = values_more number columns i values so_far.done field column value so_far.spelled here v;
+    }
+
+-- the last field
+row_is : (number : ℕ) (columns : List Column) (fields : List (List ℕ)) (values : List Value) → number ≤ most_rows → length fields ≡ length columns
+    → values_of_fields number columns fields ≡ Ok values → row_of_record number columns fields ≡ Ok values
+unfolding row_of_record
+row_is number columns fields values few same e =
+    rw (eq-eqb (length fields) (length columns) same, le-ltb most_rows number few) e
+
+pub read-last : (number : ℕ) (columns : List Column) (text rest : List ℕ) (i : ℕ) (values : List Value) (column : Column) (size : ℕ) (value : Value)
+    → ReadSoFar number columns text rest i values → drop i columns ≡ column ∷ drop (i + 1) columns
+    → IsPlainField rest size → value_of_field number column (take size rest) ≡ Ok value → is_line_end (drop size rest) ≡ true
+    → number ≤ most_rows → i + 1 ≡ length columns → drop (i + 1) columns ≡ []
+    → HasRow number columns text (drop size rest) (values ++ value ∷ [])
+read-last number columns text rest i values column size value so_far here plain v e few all none =
+    let field = take size rest in
+    let fields = so_far.done ++ field ∷ [] in
+    let many : length fields ≡ length columns = length-append so_far.done (field ∷ []) ∙ ap (λ (n : ℕ). n + 1) so_far.many ∙ all in
+    let reads = so_far.reads ∙ ap (λ (l : List ℕ). next_record default_config st.StartField so_far.done [] l) (sym (take-append-drop size rest)) in
+    let spelled = values_more number columns i values so_far.done field column value so_far.spelled here v [] in
+    record {
+      fields = fields;
+      first = field-end text so_far.done field (drop size rest) plain.1 e reads;
+      row = row_is number columns fields (values ++ value ∷ []) few many
+          (ap (λ (l : List (List ℕ)). values_of_fields number columns l) (sym (append-nil fields)) ∙ spelled ∙ values-end number (drop (i + 1) columns) [] (values ++ value ∷ []) none);
+    }

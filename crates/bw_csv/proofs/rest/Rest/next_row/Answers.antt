@@ -1,0 +1,38 @@
+-- What is still to be read is what it was, but for the record.
+use Rattle.std.proofs.Common.{◌≡◌, ◌∙◌, ◌∷◌, List, ℕ, Ok, ap, sym}
+use Rattle.bw_model.specs.Row.{values_of}
+use Rattle.bw_csv.specs.Rows.{row_of_record}
+use Rattle.bw_csv.proofs.RestLemmas.{found_still, plain-readable, plain-to_come, reader-open, reader-to_come, readable_still}
+use Rattle.bw_csv.proofs.RowLemmas.{row_admitted, row_within}
+use Rattle.bw_csv.proofs.rest.Rest.next_row.Goals as goal
+
+pub returns-in-Some-clause-some : goal.returns-in-Some-clause-some
+returns-in-Some-clause-some c = λ _.
+    let r = c.in-Some.ensures.row in
+    (r.fields, plain-to_come _ c.if-self.true ∙ r.first ∙ ap (λ (more : List (List (List ℕ))). r.fields ∷ more) (sym (plain-to_come _ c.if-self.true)), r.row)
+
+pub returns-in-Some-clause-readable : goal.returns-in-Some-clause-readable
+returns-in-Some-clause-readable c = λ _.
+    let r = c.in-Some.ensures.row in
+    (plain-readable _ c.if-self.true c.in-Some.ensures.end, row_within _ _ r.fields _ r.row, row_admitted _ _ r.fields _ r.row)
+
+pub read_row-requires : goal.read_row-requires
+read_row-requires c = reader-open _ c.turn_to_reader.ensures.reader c.turn_to_reader.ensures.readable
+
+pub returns-clause-some : goal.returns-clause-some
+returns-clause-some c =
+    let old = sym c.turn_to_reader.ensures.to_come ∙ reader-to_come _ c.turn_to_reader.ensures.reader in
+    rw old (found_still (λ fields. row_of_record c.args.number c.args.columns.now fields ≡ Ok (values_of c.read_row.new.row)) c.read_row.result _ _ c.turn_to_reader.ensures.reader c.read_row.ensures.some)
+
+pub returns-clause-readable : goal.returns-clause-readable
+returns-clause-readable c = readable_still _ _ c.read_row.result _ c.turn_to_reader.ensures.reader c.read_row.ensures.open
+
+pub returns-clause-none : goal.returns-clause-none
+returns-clause-none c =
+    let old = sym c.turn_to_reader.ensures.to_come ∙ reader-to_come _ c.turn_to_reader.ensures.reader in
+    rw old c.read_row.ensures.none
+
+pub returns-clause-row : goal.returns-clause-row
+returns-clause-row c =
+    let old = sym c.turn_to_reader.ensures.to_come ∙ reader-to_come _ c.turn_to_reader.ensures.reader in
+    rw old c.read_row.ensures.row

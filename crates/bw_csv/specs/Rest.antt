@@ -1,0 +1,15 @@
+-- The records that are still to be read of a text, plain ones from the text itself and others by the csv reader.
+use Rattle.std.specs.Bool.{MatchBool}
+use Rattle.std.specs.Prelude.{◌≡◌, ℕ, true, List, Some, if◌then◌else◌}
+use Rattle.csv.specs.declared.parser.State.TheVariants as st
+use Rattle.bw_csv.specs.Plain.{is_line_end}
+use Rattle.bw_csv.specs.Records.{IsOpen, coming, records_in}
+use Rattle.bw_csv.specs.declared.rest.Rest.{Rest}
+
+-- the records that are still to be read
+unfoldable pub to_come : Rest → List (List (List ℕ))
+to_come rest = if rest.is_plain then records_in st.StartRecord (Some rest.text.now) else coming rest.records
+
+-- a text that begins with a line's end or has ended, or a reader that goes on
+unfoldable pub IsReadable : Rest → Type 0
+IsReadable rest = MatchBool rest.is_plain (is_line_end rest.text.now ≡ true) (IsOpen rest.records)

@@ -1,0 +1,85 @@
+//! Where the heading of a text ends, quoted or not.
+ghost use Rattle.std.specs.Prelude.{◌≡◌, ◌∷◌, ℕ, List, Some, true, false};
+ghost use Rattle.csv.specs.Machine.{is_end, step};
+ghost use Rattle.csv.specs.Reading.{default_config, is_bom, strip_bom};
+ghost use Rattle.csv.specs.declared.parser.State.TheVariants as st;
+ghost use Rattle.bw_csv.specs.Plain.{ends_line, is_line_end, state_of};
+ghost use Rattle.bw_csv.specs.Records.{records_in};
+
+use crate::marks::{behind, ends_line};
+
+/// Where a byte of a record stands: before the record, at the front of a field, in one without quotation marks, within
+/// quotation marks, or behind a quotation mark that may be the last one.
+#[derive(Clone, Copy)]
+pub(crate) enum Inside {
+    Before,
+    Front,
+    Bare,
+    Quoted,
+    Closed,
+}
+
+/// A text without its first record: what is left is a line's end, or nothing.
+pub(crate) fn behind_record(text: &[u8]) -> &[u8]
+    ensures rest { (fields : List (List ℕ)) → (more : List (List (List ℕ)))
+        → records_in st.StartRecord (Some text.now) ≡ fields ∷ more
+        → records_in st.StartRecord (Some result.now) ≡ more }
+    ensures end { is_line_end result.now ≡ true }
+{
+    let mut inside = Inside::Before;
+    for (i, c) in text.iter().enumerate() {
+        if ends_record(inside, *c) {
+            return behind(text, i);
+        }
+        inside = inside_behind(inside, *c);
+    }
+    &[]
+}
+
+/// Whether a byte ends the record.
+fn ends_record(inside: Inside, c: u8) -> bool
+    ensures end { result ≡ is_end (step default_config (state_of inside) c).1 }
+    ensures line { result ≡ true → ends_line c ≡ true }
+{
+    match inside {
+        Inside::Before | Inside::Quoted => false,
+        Inside::Front | Inside::Bare | Inside::Closed => ends_line(c),
+    }
+}
+
+/// Where the byte behind one stands that doesn't end the record.
+fn inside_behind(inside: Inside, c: u8) -> Inside
+    requires { is_end (step default_config (state_of inside) c).1 ≡ false }
+    ensures { state_of result ≡ (step default_config (state_of inside) c).0 }
+{
+    let is_mark = c == b'"';
+    match inside {
+        Inside::Quoted if is_mark => Inside::Closed,
+        Inside::Quoted => Inside::Quoted,
+        Inside::Before | Inside::Front | Inside::Closed if is_mark => Inside::Quoted,
+        Inside::Before if ends_line(c) => Inside::Before,
+        _ if c == b',' => Inside::Front,
+        _ => Inside::Bare,
+    }
+}
+
+/// A text without the byte order mark at its start, where it has one.
+#[tactic(auto, using(crate::proofs::HeadingLemmas::byte_order_marks))]
+pub(crate) fn behind_byte_order_mark(text: &[u8]) -> &[u8]
+    ensures { result.now ≡ strip_bom text.now }
+{
+    if text.len() < 3 {
+        return text;
+    }
+    if is_byte_order_mark(text[0], text[1], text[2]) {
+        behind(text, 3)
+    } else {
+        text
+    }
+}
+
+fn is_byte_order_mark(a: u8, b: u8, c: u8) -> bool
+    ensures { result ≡ is_bom a b c }
+{
+    a == 0xEF && b == 0xBB && c == 0xBF
+}

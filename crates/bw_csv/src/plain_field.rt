@@ -1,0 +1,163 @@
+//! The value of a plain field, read from the text itself, of which the field stands at the front.
+//!
+//! A plain field has no quotation mark, and goes up to a comma, a line's end or the end of the text. What any function
+//! here answers is right; where it answers nothing, the csv reader has to say what the record is.
+ghost use Rattle.std.specs.Prelude.{◌≡◌, ◌^◌, ◌<◌, ◌≤◌, ◌&&◌, ℕ, List, Some, Ok, true, IfSome, int_le, length, take};
+ghost use Rattle.std.specs.List.{list_all};
+ghost use Rattle.bw_model.specs.Number.{are_digits, digits_value, number_of};
+ghost use Rattle.bw_csv.specs.Plain.{IsPlainField, is_plain};
+ghost use Rattle.bw_csv.specs.Rows.{behind_minus, is_minus, value_of_field};
+
+use crate::field::{behind_minus, is_minus, value_of};
+use crate::marks::{behind, is_field_end, is_plain};
+use bw_model::{Column, Value};
+
+/// Digits at the front of a text: what they spell, and how many they are.
+#[derive(Clone, Copy)]
+struct Digits {
+    magnitude: u64,
+    count: usize,
+}
+
+/// A number at the front of a text, and how many bytes spell it.
+#[derive(Clone, Copy)]
+struct Spelled {
+    number: i64,
+    len: usize,
+}
+
+/// The value of a field at the front of a text, and how long the field is.
+#[derive(Clone, Copy)]
+pub(crate) struct Found {
+    pub(crate) value: Value,
+    pub(crate) len: usize,
+}
+
+/// The value that the plain field at the front of a text spells in a column; nothing where the field isn't plain or has
+/// a fault.
+#[inline(always)]
+pub(crate) fn value_at(column: &Column, text: &[u8], number: u32) -> Option<Found>
+    ensures plain { IfSome result (λ found. IsPlainField text.now found.len) }
+    ensures value { IfSome result (λ found. value_of_field number column.now (take found.len text.now)
+        ≡ Ok found.value) }
+{
+    match number_at(column, text) {
+        Some(found) => Some(found),
+        None => other_at(column, text, number),
+    }
+}
+
+/// The same for a field of digits, alone or after a minus sign, of which there are few.
+#[inline(always)]
+fn number_at(column: &Column, text: &[u8]) -> Option<Found>
+    ensures plain { IfSome result (λ found. IsPlainField text.now found.len) }
+    ensures value { IfSome result (λ found. (number : ℕ) → value_of_field number column.now (take found.len text.now)
+        ≡ Ok found.value) }
+{
+    let Some(spelled) = spelled_at(text) else {
+        return None;
+    };
+    if is_field_end(behind(text, spelled.len)) && is_within(column, spelled.number) {
+        Some(Found {
+            value: Some(spelled.number),
+            len: spelled.len,
+        })
+    } else {
+        None
+    }
+}
+
+/// The same for a field of any other form, which few are: so it stays out of the loop over fields.
+#[inline(never)]
+fn other_at(column: &Column, text: &[u8], number: u32) -> Option<Found>
+    ensures plain { IfSome result (λ found. IsPlainField text.now found.len) }
+    ensures value { IfSome result (λ found. value_of_field number column.now (take found.len text.now)
+        ≡ Ok found.value) }
+{
+    let len = plain_len(text);
+    if !is_field_end(behind(text, len)) {
+        return None;
+    }
+    match value_of(column, &text[..len], number) {
+        Ok(value) => Some(Found { value, len }),
+        Err(_) => None,
+    }
+}
+
+/// The number that digits at the front of a text spell, at most 17, after a minus sign or none, where another byte is
+/// behind them.
+#[inline(always)]
+fn spelled_at(text: &[u8]) -> Option<Spelled>
+    ensures within { IfSome result (λ spelled. spelled.len < length text.now) }
+    ensures digits { IfSome result (λ spelled. are_digits (behind_minus (take spelled.len text.now)) ≡ true) }
+    ensures number { IfSome result (λ spelled. number_of (is_minus (take spelled.len text.now))
+        (behind_minus (take spelled.len text.now)) ≡ Some spelled.number) }
+{
+    let is_negative = is_minus(text);
+    let Some(digits) = digits_at(behind_minus(text)) else {
+        return None;
+    };
+    Some(Spelled {
+        number: with_sign(is_negative, digits.magnitude),
+        len: digits.count + is_negative as usize,
+    })
+}
+
+/// The digits at the front of a text, one at least and 17 at most, where another byte is behind them.
+#[inline(always)]
+fn digits_at(text: &[u8]) -> Option<Digits>
+    ensures within { IfSome result (λ digits. digits.count < length text.now) }
+    ensures digits { IfSome result (λ digits. are_digits (take digits.count text.now) ≡ true) }
+    ensures magnitude { IfSome result (λ digits. digits.magnitude ≡ digits_value (take digits.count text.now)) }
+    ensures small { IfSome result (λ digits. digits.magnitude < 2 ^ 63) }
+{
+    let mut magnitude: u64 = 0;
+    for i in 0..text.len().min(18) {
+        let c = text[i];
+        if !c.is_ascii_digit() {
+            return if i > 0 {
+                Some(Digits {
+                    magnitude,
+                    count: i,
+                })
+            } else {
+                None
+            };
+        }
+        let units = u64::from(c.saturating_sub(b'0'));
+        magnitude = 10 * magnitude + units;
+    }
+    None
+}
+
+/// The number of a sign and digits of this magnitude, without a branch.
+#[inline(always)]
+#[tactic(auto, unfolding(bw_model::specs::Number::number_of))]
+fn with_sign(is_negative: bool, magnitude: u64) -> i64
+    requires { magnitude < 2 ^ 63 }
+    ensures { (digits : List ℕ) → magnitude ≡ digits_value digits → number_of is_negative digits ≡ Some result }
+{
+    let number = magnitude as i64;
+    if is_negative { -number } else { number }
+}
+
+/// Whether a number is within the bounds of a column.
+#[inline(always)]
+fn is_within(column: &Column, n: i64) -> bool
+    ensures { result ≡ (int_le column.now.lo n && int_le n column.now.hi) }
+{
+    column.lo <= n && n <= column.hi
+}
+
+/// How many bytes at the front of a text are those of a plain field.
+fn plain_len(text: &[u8]) -> usize
+    ensures within { result ≤ length text.now }
+    ensures plain { list_all is_plain (take result text.now) ≡ true }
+{
+    for (i, c) in text.iter().enumerate() {
+        if !is_plain(*c) {
+            return i;
+        }
+    }
+    text.len()
+}

@@ -1,0 +1,72 @@
+//! The row of a plain record, read from the text itself.
+ghost use Rattle.std.specs.Prelude.{◌≡◌, ◌≤◌, Some, true, false, IfSome};
+ghost use Rattle.csv.specs.declared.parser.State.TheVariants as st;
+ghost use Rattle.bw_model.specs.Limits.{most_rows};
+ghost use Rattle.bw_model.specs.Row.{values_of};
+ghost use Rattle.bw_csv.specs.Plain.{HasRow, is_line_end};
+ghost use Rattle.bw_csv.specs.Records.{records_in};
+
+use crate::marks::{behind, ends_line, is_line_end};
+use crate::plain_field::value_at;
+use bw_model::{Column, MAX_ROWS, Row};
+
+/// Puts the row of the next record of a text, which has this number, into `row`, and answers what is left of the text
+/// behind the record, a line's end or nothing; nothing where the record isn't plain or has a fault, or there is none.
+#[inline(always)]
+pub(crate) fn plain_row<'a>(
+    columns: &[Column],
+    text: &'a [u8],
+    number: u32,
+    row: &mut Row,
+) -> Option<&'a [u8]>
+    ensures row { IfSome result (λ rest. HasRow number columns.now text.now rest.now (values_of row.new)) }
+    ensures end { IfSome result (λ rest. is_line_end rest.now ≡ true) }
+{
+    let record = behind_line_ends(text);
+    if number > MAX_ROWS || is_line_end(record) {
+        return None;
+    }
+    row_at(columns, record, number, row)
+}
+
+/// A text without the line ends at its front: most have one, or two.
+#[inline(always)]
+fn behind_line_ends(text: &[u8]) -> &[u8]
+    ensures { records_in st.StartRecord (Some text.now) ≡ records_in st.StartRecord (Some result.now) }
+{
+    let mut rest = text;
+    while !rest.is_empty() && ends_line(rest[0]) {
+        rest = behind(rest, 1);
+    }
+    rest
+}
+
+/// The same for a text that begins with a record.
+#[inline(always)]
+fn row_at<'a>(columns: &[Column], text: &'a [u8], number: u32, row: &mut Row) -> Option<&'a [u8]>
+    requires few { number ≤ most_rows }
+    requires record { is_line_end text.now ≡ false }
+    ensures row { IfSome result (λ rest. HasRow number columns.now text.now rest.now (values_of row.new)) }
+    ensures end { IfSome result (λ rest. is_line_end rest.now ≡ true) }
+{
+    row.values.clear();
+    let mut rest = text;
+    for (i, column) in columns.iter().enumerate() {
+        let Some(found) = value_at(column, rest, number) else {
+            return None;
+        };
+        let Ok(()) = row.values.push(found.value) else {
+            return None;
+        };
+        let left = behind(rest, found.len);
+        if is_line_end(left) {
+            return if i + 1 == columns.len() {
+                Some(left)
+            } else {
+                None
+            };
+        }
+        rest = behind(left, 1);
+    }
+    None
+}

@@ -1,0 +1,89 @@
+//! What is still to be read of a text.
+ghost use Rattle.std.specs.Prelude.{◌≡◌, ◌≤◌, ◌∷◌, ℕ, List, [], Ok, Err, true, false, IfOk, IfErr, IsTrue};
+ghost use Rattle.bw_model.specs.Column.{admits_values};
+ghost use Rattle.bw_model.specs.Limits.{most_rows};
+ghost use Rattle.bw_model.specs.Row.{values_of};
+ghost use Rattle.bw_csv.specs.Bare.{records_of};
+ghost use Rattle.bw_csv.specs.Records.{coming};
+ghost use Rattle.bw_csv.specs.Rest.{IsReadable, to_come};
+ghost use Rattle.bw_csv.specs.Rows.{is_aside, row_of_record, rows_from, IsRowsFault, stands_at};
+
+use crate::heading_end::{behind_byte_order_mark, behind_record};
+use crate::plain_row::plain_row;
+use crate::records::Records;
+use crate::row::read_row;
+use bw_model::{Column, Fault, Row};
+use std::alloc::Global;
+
+/// The records of a text that are still to be read. As long as they are plain, they are read from the text itself; from
+/// the first one on that isn't, or has a fault, the csv reader reads them.
+#[derive(Drop)]
+pub(crate) struct Rest<'a> {
+    alloc: Global,
+    is_plain: bool,
+    /// What is left of the text while the records are plain: a line's end, or nothing.
+    text: &'a [u8],
+    /// The reader of the records from then on.
+    records: Records<'a>,
+}
+
+impl<'a> Rest<'a> {
+    /// The records of a text behind the first one, which `records` has read.
+    pub(crate) fn new(alloc: Global, text: &'a [u8], records: Records<'a>) -> Self
+        requires { (heading : List (List ℕ)) × (records_of text.now ≡ heading ∷ coming records) }
+        ensures readable { IsReadable result }
+        ensures to_come { to_come result ≡ coming records.entry }
+    {
+        Rest {
+            alloc,
+            is_plain: true,
+            text: behind_record(behind_byte_order_mark(text)),
+            records,
+        }
+    }
+
+    /// Puts the row of the next record, which has this number, into `row`, in the place of what that was, or answers
+    /// that there is no record. An `Err` is as that of `read_row`.
+    #[inline(always)]
+    pub(crate) fn next_row(
+        &mut self,
+        columns: &[Column],
+        number: u32,
+        row: &mut Row,
+    ) -> Result<bool, Fault>
+        requires { IsReadable self.old }
+        ensures some { IfOk result (λ found. found ≡ true → (fields : List (List ℕ))
+            × (to_come self.old ≡ fields ∷ to_come self.new)
+            × (row_of_record number columns.now fields ≡ Ok (values_of row.new))) }
+        ensures readable { IfOk result (λ found. found ≡ true → IsReadable self.new × (number ≤ most_rows)
+            × IsTrue (admits_values columns.now (values_of row.new))) }
+        ensures none { IfOk result (λ found. found ≡ false → rows_from columns.now number (to_come self.old)
+            ≡ Ok []) }
+        ensures row { IfErr result (λ fault. is_aside fault ≡ false → rows_from columns.now number (to_come self.old)
+            ≡ Err fault) }
+        ensures fault { IfErr result IsRowsFault }
+        ensures place { IfErr result (λ fault. IsTrue (stands_at number fault)) }
+    {
+        if self.is_plain {
+            if let Some(left) = plain_row(columns, self.text, number, row) {
+                self.text = left;
+                return Ok(true);
+            }
+        }
+        self.turn_to_reader();
+        read_row(columns, &mut self.records, number, row)
+    }
+
+    /// Has the csv reader read what is left of the text, where it doesn't yet.
+    fn turn_to_reader(&mut self)
+        requires { IsReadable self.old }
+        ensures reader { self.new.is_plain ≡ false }
+        ensures readable { IsReadable self.new }
+        ensures to_come { to_come self.new ≡ to_come self.old }
+    {
+        if self.is_plain {
+            self.records = Records::new(self.alloc, self.text);
+            self.is_plain = false;
+        }
+    }
+}
