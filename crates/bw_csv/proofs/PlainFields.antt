@@ -1,31 +1,15 @@
--- A field at the front of a text.
-use Rattle.std.proofs.Common.{◌≡◌, ◌∙◌, ℕ, ℤ, zero, suc, ◌+◌, ◌<◌, ◌≤◌, List, [], ◌∷◌, Some, Ok, Bool, true, false, take, refl, arith, eqb, leb}
+-- Fields of digits are plain, and spell numbers that 64 bits hold.
+use Rattle.std.proofs.Common.{◌≡◌, ◌∙◌, ℕ, ℤ, pos, ◌-ℤ◌, ◌^◌, ◌<◌, ◌≤◌, List, [], ◌∷◌, Some, None, Ok, Bool, true, false, refl, arith, eqb, leb, ltb, SFits, w64, of_z, to_z}
 use Rattle.std.specs.Prelude.{◌&&◌, if◌then◌else◌, int_le}
 use Rattle.std.specs.Char.{is_ascii_digit}
 use Rattle.std.specs.List.{list_all}
 use Rattle.std.proofs.lemmas.Bool.{eqb-true, leb-true, ltb-true}
 use Rattle.std.proofs.lemmas.Int.{ints, to_z-of_z}
-use Rattle.std.proofs.Common.{SFits, w64, of_z, to_z, ltb, ◌^◌, pos, ◌-ℤ◌, None}
-use Rattle.bw_model.specs.Number.{digits_value}
 use Rattle.bw_model.specs.declared.column.Column.{Column}
-use Rattle.bw_model.specs.Number.{are_digits, number_of}
+use Rattle.bw_model.specs.Number.{are_digits, digits_value, number_of}
 use Rattle.bw_csv.specs.Plain.{is_plain}
 use Rattle.bw_csv.specs.Rows.{behind_minus, is_minus, value_of_field}
 use Rattle.bw_csv.proofs.DigitsAlone.{both, other_than, signed_digits}
-
--- the field of so many digits, after a minus sign where the text begins with one
-abbrev SignedFront : List ℕ → ℕ → ℕ → Type 0
-SignedFront text count size = (is_minus (take size text) ≡ is_minus text) × (behind_minus (take size text) ≡ take count (behind_minus text))
-
-by_sign : (c : ℕ) (cs : List ℕ) (count size : ℕ) (minus : Bool) → eqb c 45 ≡ minus → size ≡ suc count + (if minus then 1 else 0) → SignedFront (c ∷ cs) (suc count) size
-by_sign c cs count size true e s = let long : size ≡ suc (suc count) = omega (arith, s) in rw (long, e) (refl, refl)
-by_sign c cs count size false e s = let long : size ≡ suc count = omega (arith, s) in rw (long, e) (refl, refl)
-
-pub signed_front : (text : List ℕ) (count size : ℕ) → are_digits (take count (behind_minus text)) ≡ true → size ≡ count + (if is_minus text then 1 else 0) → SignedFront text count size
-signed_front [] zero size d s = absurd (cc d)
-signed_front [] (suc count) size d s = absurd (cc d)
-signed_front (c ∷ cs) zero size d s = absurd (cc d)
-signed_front (c ∷ cs) (suc count) size d s = by_sign c cs count size (eqb c 45) refl s
 
 -- digits are plain, and so is a minus sign
 digit_plain : (c : ℕ) → is_ascii_digit c ≡ true → is_plain c ≡ true

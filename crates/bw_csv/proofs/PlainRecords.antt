@@ -1,6 +1,6 @@
 -- How the csv crate's records are read where no quotation mark stands.
 use Rattle.std.proofs.Common.{◌≡◌, ◌∙◌, ℕ, List, [], ◌∷◌, ◌++◌, Option, Some, None, Bool, true, false, length, drop, get_or, refl, sym, ap, eqb, append_assoc}
-use Rattle.std.specs.Prelude.{◌||◌, not, ◌⊎◌}
+use Rattle.std.specs.Prelude.{◌||◌, not}
 use Rattle.std.specs.List.{list_all}
 use Rattle.std.proofs.lemmas.Bool.{eqb-true}
 use Rattle.std.proofs.lemmas.List.{append-nil}
@@ -11,6 +11,7 @@ use Rattle.csv.specs.declared.parser.State.TheVariants as st
 use Rattle.csv.specs.declared.parser.Action.TheVariants as act
 use Rattle.bw_csv.specs.Plain.{ends_line, is_line_end, is_plain}
 use Rattle.bw_csv.specs.Records.{records_in}
+use Rattle.bw_csv.proofs.DigitsAlone.{both}
 use Rattle.bw_csv.proofs.RecordLemmas.{records_in-next, records_in-none}
 
 -- a plain byte joins the field
@@ -23,10 +24,6 @@ plain_is false false false true e = absurd (cc e)
 
 joins : (c : ℕ) → is_plain c ≡ true → (step default_config st.InField c ≡ (st.InField, act.Copy)) × (step default_config st.StartField c ≡ (st.InField, act.Copy))
 joins c e = let is = plain_is (eqb c 44) (eqb c 13) (eqb c 10) (eqb c 34) e in (rw (is.0, is.1, is.2) refl, rw (is.3, is.0, is.1, is.2) refl)
-
-both : (a : Bool) (b : Bool) → Rattle.std.specs.Prelude.◌&&◌ a b ≡ true → (a ≡ true) × (b ≡ true)
-both true b e = (refl, e)
-both false b e = absurd (cc e)
 
 -- plain bytes join it
 run : (fields : List (List ℕ)) (field f rest : List ℕ) → list_all is_plain f ≡ true

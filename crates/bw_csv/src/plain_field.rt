@@ -67,7 +67,8 @@ fn number_at(column: &Column, text: &[u8]) -> Option<Found>
     }
 }
 
-/// The same for a field of any other form.
+/// The same for a field of any other form, which few are: so it stays out of the loop over fields.
+#[inline(never)]
 fn other_at(column: &Column, text: &[u8], number: u32) -> Option<Found>
     ensures plain { IfSome result (λ found. IsPlainField text.now found.len) }
     ensures value { IfSome result (λ found. value_of_field number column.now (take found.len text.now)

@@ -105,7 +105,9 @@ fn take_rows<S: Source>(
         skips: 0,
     };
     while let Some(segment) = reader.next_segment(source)? {
-        let more = take_either(&segment, scan, counts, answer)?;
+        let taken = take_either(&segment, scan, counts, answer);
+        drop(segment);
+        let more = taken?;
         scanned.segments += 1;
         scanned.loads += more.loads as u64;
         scanned.skips += more.skips as u64;

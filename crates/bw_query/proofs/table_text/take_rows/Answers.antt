@@ -50,8 +50,8 @@ returns-in_err-more-clause-refused g c =
     (c.bytes_were_taken.ensures start _ c.next_segment.new.self _ (given start so_far.groups (so_far.read start read))).0
     (omega (arith, no_more.failures, so_far.failures)) c.in_err-more.ensures.only_memory)
 
-pub loop-segment-smaller-in_ok-more : goal.loop-segment-smaller-in_ok-more
-loop-segment-smaller-in_ok-more g c =
+pub loop-segment-smaller : goal.loop-segment-smaller
+loop-segment-smaller g c =
     let segment = rw c.in-Some.is at c.in_ok-segment.ensures.segment in
     let group = any_is_group c.in-Some.segment in
     omega (arith, segment.0.count, segment.1, group.some, c.in_ok-segment.ensures.same.rows)
@@ -76,8 +76,8 @@ take_either-requires-clause-width g c =
     so_far.width ∙ ap (λ (columns : List Column). length columns)
     (sym (columns_of c.args.reader.now c.loop-segment.reader c.in-Some.segment so_far.same segment.0))
 
-pub loop-segment-preserved-in_ok-more : goal.loop-segment-preserved-in_ok-more
-loop-segment-preserved-in_ok-more g c =
+pub loop-segment-preserved : goal.loop-segment-preserved
+loop-segment-preserved g c =
     let so_far = c.loop-segment.invariant in
     let given = rw c.in-Some.is at c.in_ok-segment.ensures.given in
     let segment = rw c.in-Some.is at c.in_ok-segment.ensures.segment in
