@@ -86,7 +86,7 @@ rows_of_word word lt =
     ∙ take_range 64 (0 + 64 * word) (448 - 64 * word) ∙ ap (λ a. range_with_len a 64) first
 
 -- a part of a slice by its rows
-part_by_rows : (bytes : List ℕ) (at first : ℕ) → at + first + 64 ≤ length bytes → take 64 (drop (at + first) bytes) ≡ map (λ row. get_or bytes (at + row) 0) (range_with_len first 64)
+pub part_by_rows : (bytes : List ℕ) (at first : ℕ) → at + first + 64 ≤ length bytes → take 64 (drop (at + first) bytes) ≡ map (λ row. get_or bytes (at + row) 0) (range_with_len first 64)
 part_by_rows bytes at first le =
     let byte = λ (row : ℕ). get_or bytes (at + row) 0 in
     fill_by_all (λ i. byte (first + i)) (take 64 (drop (at + first) bytes)) 64 0 (omega (arith, length-take 64 (drop (at + first) bytes), length-drop (at + first) bytes))

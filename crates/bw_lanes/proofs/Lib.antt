@@ -1,3 +1,4 @@
+pub mod AnyLemmas
 pub mod BitLemmas
 pub mod ByteLemmas
 pub mod ChoiceLemmas

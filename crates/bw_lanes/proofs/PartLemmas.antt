@@ -16,7 +16,7 @@ use Rattle.bw_lanes.proofs.WordLemmas.{zip2-append, map-append, lanes_of_words-a
 abbrev pub part : ℕ → List ℕ → List ℕ
 part word bytes = take 64 (take (512 - 64 * word) (drop (64 * word) bytes))
 
-part_is : (word : ℕ) (bytes : List ℕ) → word < 8 → part word bytes ≡ take 64 (drop (64 * word) bytes)
+pub part_is : (word : ℕ) (bytes : List ℕ) → word < 8 → part word bytes ≡ take 64 (drop (64 * word) bytes)
 part_is word bytes lt = take-take 64 (512 - 64 * word) (drop (64 * word) bytes) (omega arith)
 
 pub length-part : (word : ℕ) (bytes : List ℕ) → length bytes ≡ 512 → word < 8 → length (part word bytes) ≡ 64
@@ -118,7 +118,7 @@ bytes_or_0 lanes bytes rows small is = ap (zip2 bit_and bytes) is ∙ picked_by 
 pub bytes_or_255 : (lanes : List Bool) (bytes rows : List ℕ) → ((at : ℕ) → get_or bytes at 0 < 256) → rows ≡ map as_byte lanes → zip2 and_others bytes rows ≡ bytes_picked 255 lanes bytes
 bytes_or_255 lanes bytes rows small is = ap (zip2 and_others bytes) is ∙ picked_by and_others 255 or_lane lanes bytes small
 
-pub mapped_right : (f : ℕ → ℕ → ℕ) (g : ℕ → ℕ) (xs ys : List ℕ) → zip2 f xs (map g ys) ≡ zip2 (λ x y. f x (g y)) xs ys
+pub mapped_right : {A B C D : Type 0} (f : A → C → D) (g : B → C) (xs : List A) (ys : List B) → zip2 f xs (map g ys) ≡ zip2 (λ x y. f x (g y)) xs ys
 mapped_right f g [] ys = refl
 mapped_right f g (x ∷ xs) [] = refl
 mapped_right f g (x ∷ xs) (y ∷ ys) = ap (λ l. f x (g y) ∷ l) (mapped_right f g xs ys)

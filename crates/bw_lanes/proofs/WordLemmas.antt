@@ -62,7 +62,7 @@ unfolding lanes_of_words
 lanes_of_word word = append-nil (bits_from_least 64 word)
 
 -- a number of so many bits is 0 exactly where none of them is 1
-zero_bits : (count n : ℕ) → n < 2 ^ count → (n == 0) ≡ list_all not (bits_from_least count n)
+pub zero_bits : (count n : ℕ) → n < 2 ^ count → (n == 0) ≡ list_all not (bits_from_least count n)
 zero_bits zero n small =
     let none : n ≡ 0 = omega arith in
     eq-eqb n 0 none ∙ sym (ap (list_all not) (nil_from_length (bits_from_least 0 n) (length-bits_from_least 0 n)))

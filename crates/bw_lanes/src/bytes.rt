@@ -1,7 +1,8 @@
 //! One byte of each of 512 rows, compared with a byte, or one bit of it taken, by vectors of 64 bytes.
-ghost use Rattle.std.specs.Prelude.{◌≡◌, ◌==◌, ◌+◌, ◌*◌, ◌<◌, ◌≤◌, length, map, nat_lt};
-ghost use Rattle.std.specs.List.{range_with_len};
+ghost use Rattle.std.specs.Prelude.{◌≡◌, ◌==◌, ◌&&◌, ◌+◌, ◌*◌, ◌<◌, ◌≤◌, length, map, nat_lt, not};
+ghost use Rattle.std.specs.List.{list_any, range_with_len};
 ghost use Rattle.std.specs.Int.{bit_at};
+ghost use lib.Lanes.{zip2};
 ghost use Rattle.bw_lanes.specs.Lanes.{bits_from_least, lanes_of_words, are_zero};
 
 use crate::lanes::LANES;
@@ -55,7 +56,34 @@ pub fn bytes_none(slices: &[u8], count: usize) -> Plane
     words
 }
 
+/// Whether a row among some has a byte that isn't 0 in so many slices, one after the other. Byte i of a slice is row i's. Of 64
+/// rows of which none is among them no byte is read.
+#[inline(always)]
+pub fn bytes_any(slices: &[u8], count: usize, rows: &Plane) -> bool
+    requires { 512 * count ≤ length slices.now }
+    ensures { result ≡ list_any (λ lane. lane) (zip2 (λ among row. among && not (are_zero slices.now row count))
+        (lanes_of_words rows.now) (range_with_len 0 512)) }
+{
+    let mut any = false;
+    for word in 0..8 {
+        any |= any_of_word(slices, count, 64 * word, rows[word]);
+    }
+    any
+}
+
+/// The same of 64 rows, from one on, and the word that says which are among them.
+#[inline(always)]
+fn any_of_word(slices: &[u8], count: usize, first: usize, rows: u64) -> bool
+    requires slices { 512 * count ≤ length slices.now }
+    requires rows { first + 64 ≤ 512 }
+    ensures { result ≡ list_any (λ lane. lane) (zip2 (λ among row. among && not (are_zero slices.now row count))
+        (bits_from_least 64 rows) (range_with_len first 64)) }
+{
+    rows != 0 && rows & !eq(joined(slices, count, first), 0) != 0
+}
+
 /// The bytes of 64 rows, from one on, in so many slices, joined by or.
+#[inline(always)]
 fn joined(slices: &[u8], count: usize, first: usize) -> u8x64
     requires slices { 512 * count ≤ length slices.now }
     requires rows { first + 64 ≤ 512 }
@@ -77,6 +105,7 @@ fn lt(bytes: u8x64, c: u8) -> u64
 }
 
 /// A bit a byte: whether it is c.
+#[inline(always)]
 fn eq(bytes: u8x64, c: u8) -> u64
     ensures { bits_from_least 64 result ≡ map (λ byte. byte == c) bytes }
 {

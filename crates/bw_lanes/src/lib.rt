@@ -16,7 +16,7 @@ mod plane;
 mod shifted;
 mod stored;
 
-pub use bytes::{bytes_bit, bytes_eq, bytes_lt, bytes_none};
+pub use bytes::{bytes_any, bytes_bit, bytes_eq, bytes_lt, bytes_none};
 pub use lanes::LANES;
 pub use last::last_between;
 pub use picked::{bytes_of_plane, greatest_in, keep_in, least_in, sum_in};

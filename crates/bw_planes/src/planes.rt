@@ -38,8 +38,18 @@ impl Layout for Planes {
         used
     }
 
+    // The ones at the lower end of the number change nothing, and nor do those bits of the codes.
     fn above(width: u32, bytes: &[u8], most: u64) -> Plane {
-        at_least(width, bytes, 0, width, most + 1)
+        let low = most.trailing_ones();
+        at_least(width, bytes, low, width - low, (most >> low) + 1)
+    }
+
+    fn any_used(width: u32, bytes: &[u8], lanes: &Plane) -> bool {
+        !is_zero(&and(lanes, &Planes::used(width, bytes)))
+    }
+
+    fn any_above(width: u32, bytes: &[u8], most: u64) -> bool {
+        !is_zero(&Planes::above(width, bytes, most))
     }
 
     #[inline(always)]

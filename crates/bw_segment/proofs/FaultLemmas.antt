@@ -1,13 +1,15 @@
 -- The first fault of lanes, from planes that tell of them.
 use Rattle.std.proofs.Common.{◌≡◌, ◌∙◌, refl, sym, ap, ap₂, ℕ, zero, suc, ◌+◌, ◌-◌, ◌<◌, ◌≤◌, Bool, true, false, not, cond, ltb, ◌==◌, ◌&&◌, ◌||◌, List, [], ◌∷◌, ◌++◌, map, length, get_or, replicate, length-append, Option, Some, None, ◌⊎◌, inl, inr, arith}
-use Rattle.std.specs.List.{list_all}
-use Rattle.std.proofs.lemmas.Bool.{cases_lt, ltb-false, le-ltb, eqb-true, eq-eqb}
+use Rattle.std.specs.List.{list_all, list_any}
+use Rattle.std.proofs.lemmas.Bool.{cases_lt, ltb-false, le-ltb, lt-ltb, eqb-true, eq-eqb}
 use Rattle.std.proofs.lemmas.List.{get_or-map, length-map, length-replicate}
+use Rattle.std.proofs.lemmas.List.Folds.{list_any_at}
 use Rattle.std.proofs.lemmas.Simd.{get_or-zip2, length-zip2}
 use Rattle.std.proofs.Math.Bool.{and-true, and-false}
 use Rattle.bw_model.proofs.BitsLemmas.{both}
 use lib.Lanes.{zip2}
 use Rattle.bw_model.specs.Groups.{group_size}
+use Rattle.bw_model.specs.Selection.{picked}
 use Rattle.bw_segment.specs.BlockFault.{or_else, padding_fault, row_fault, first_fault, lanes_fault, TellsCodes}
 
 pub first_none : (fault : ℕ → Option ℕ) (n : ℕ) → ((row : ℕ) → row < n → fault row ≡ None) → first_fault fault n ≡ None
@@ -255,3 +257,38 @@ tells_nothing count nulls used codes whole none = record {
   padding = λ row from to. absurd (omega arith);
   null = λ row lt set. let unset = sym set ∙ zero_everywhere nulls row none in cc;
 }
+
+-- no code is used in no lanes
+pub none_used : (test : ℕ → Bool) (lanes : List Bool) (codes : List ℕ) → list_all not lanes ≡ true → list_any test (picked lanes codes) ≡ false
+none_used test [] codes none = refl
+none_used test (lane ∷ lanes) [] none = refl
+none_used test (true ∷ lanes) (code ∷ codes) none = cc
+none_used test (false ∷ lanes) (code ∷ codes) none = none_used test lanes codes none
+
+unused_at : (lanes : List Bool) (codes : List ℕ) (row : ℕ) → list_any (λ code. not (code == 0)) (picked lanes codes) ≡ false → row < length codes → get_or lanes row false ≡ true → get_or codes row 0 ≡ 0
+unused_at [] codes row none lt set = cc
+unused_at (lane ∷ lanes) [] row none lt set = absurd (omega arith)
+unused_at (true ∷ lanes) (code ∷ codes) zero none lt set = first (code == 0) refl none
+  where
+    first : (b : Bool) → (code == 0) ≡ b → (not b || list_any (λ code. not (code == 0)) (picked lanes codes)) ≡ false → code ≡ 0
+    first true is none = eqb-true code 0 is
+    first false is none = cc
+unused_at (false ∷ lanes) (code ∷ codes) zero none lt set = cc
+unused_at (true ∷ lanes) (code ∷ codes) (suc row) none lt set = unused_at lanes codes row (rest (not (code == 0)) none) (omega arith) set
+  where
+    rest : (b : Bool) → (b || list_any (λ code. not (code == 0)) (picked lanes codes)) ≡ false → list_any (λ code. not (code == 0)) (picked lanes codes) ≡ false
+    rest true none = cc
+    rest false none = none
+unused_at (false ∷ lanes) (code ∷ codes) (suc row) none lt set = unused_at lanes codes row none (omega arith) set
+
+-- 512 rows of which none that is null has a code, and none a code above the greatest
+pub all_good : (span : ℕ) (nulls : List Bool) (codes : List ℕ) → length codes ≡ group_size → list_any (λ code. not (code == 0)) (picked nulls codes) ≡ false → list_any (ltb span) codes ≡ false
+    → lanes_fault span 512 nulls codes ≡ None
+unfolding group_size
+all_good span nulls codes long unused within =
+    lanes_none span 512 nulls codes (λ row from to. absurd (omega arith))
+    ∙ first_none (of_rows span 512 nulls codes) 512 (λ row lt. row_clear span (get_or nulls row false) (get_or codes row 0) (unused_at nulls codes row unused (omega (arith, long))) (below row lt (cases_lt span (get_or codes row 0))))
+  where
+    below : (row : ℕ) → row < 512 → (span < get_or codes row 0) ⊎ (get_or codes row 0 ≤ span) → get_or codes row 0 ≤ span
+    below row lt (inl above) = let found = list_any_at (ltb span) codes row 0 (omega (arith, long)) (lt-ltb span (get_or codes row 0) above) in cc
+    below row lt (inr le) = le

@@ -6,6 +6,7 @@ pub mod FaultLemmas
 pub mod LaneLemmas
 pub mod LaneValues
 pub mod LayoutLemmas
+pub mod LowLemmas
 pub mod PackedLemmas
 pub mod PickedCodes
 pub mod PickedLemmas

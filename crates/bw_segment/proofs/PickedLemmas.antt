@@ -1,6 +1,6 @@
 -- What stands in the lanes that are picked.
-use Rattle.std.proofs.Common.{◌≡◌, ◌∙◌, refl, sym, ap, ℕ, ◌+◌, ◌≤◌, Bool, true, false, not, cond, ◌&&◌, List, [], ◌∷◌, map, filter, length, count_by, arith}
-use Rattle.std.specs.List.{list_all, AllByRecursion}
+use Rattle.std.proofs.Common.{◌≡◌, ◌∙◌, refl, sym, ap, ℕ, ◌+◌, ◌≤◌, Bool, true, false, not, cond, ◌&&◌, ◌||◌, List, [], ◌∷◌, map, filter, length, count_by, arith}
+use Rattle.std.specs.List.{list_all, list_any, AllByRecursion}
 use Rattle.std.proofs.lemmas.List.Sums.{sum_by-cons}
 use lib.Lanes.{zip2}
 use Rattle.bw_model.specs.Selection.{picked}
@@ -15,6 +15,13 @@ picked_both p (true ∷ lanes) (item ∷ items) = put (p item) (picked_both p la
     put true same = ap (λ l. item ∷ l) same
     put false same = same
 picked_both p (false ∷ lanes) (item ∷ items) = picked_both p lanes items
+
+-- whether one of the items that are picked passes a test
+pub any_picked : (test : ℕ → Bool) (lanes : List Bool) (items : List ℕ) → list_any (λ lane. lane) (zip2 (λ a b. a && b) lanes (map test items)) ≡ list_any test (picked lanes items)
+any_picked test [] items = refl
+any_picked test (lane ∷ lanes) [] = refl
+any_picked test (true ∷ lanes) (item ∷ items) = ap (λ b. test item || b) (any_picked test lanes items)
+any_picked test (false ∷ lanes) (item ∷ items) = any_picked test lanes items
 
 -- how many these are
 pub count_both : (p : ℕ → Bool) (lanes : List Bool) (items : List ℕ) → count_by (λ lane. lane) (zip2 (λ a b. a && b) lanes (map p items)) ≡ count_by p (picked lanes items)

@@ -1,8 +1,8 @@
 //! The judging of a column's block.
-ghost use Rattle.std.specs.Prelude.{◌≡◌, ◌<◌, ◌≤◌, length};
+ghost use Rattle.std.specs.Prelude.{◌≡◌, ◌^◌, ◌<◌, ◌≤◌, None, length, true};
 ghost use Rattle.bw_lanes.specs.Lanes.{lanes_of_words};
 ghost use Rattle.bw_model.specs.Groups.{group_size};
-ghost use Rattle.bw_segment.specs.BlockFault.{block_fault, TellsCodes};
+ghost use Rattle.bw_segment.specs.BlockFault.{block_fault, lanes_fault, TellsCodes};
 ghost use Rattle.bw_segment.specs.Packing.{block_size};
 
 use crate::block::fault_of_lanes;
@@ -26,10 +26,26 @@ impl<L: Layout> PackedSegment<L> {
         let nulls = shape.nulls_in(col, block);
         let codes = shape.codes_in(col, block);
         let width = shape.schema.width(col);
+        let span = shape.span(col);
+        if rows == 512 && are_good::<L>(&nulls, width, codes, span) {
+            return None;
+        }
         let used = used::<L>(rows, &nulls, width, codes);
-        let above = L::above(width, codes, shape.span(col));
+        let above = L::above(width, codes, span);
         fault_of_lanes(rows, &nulls, &used, &above)
     }
+}
+
+/// Whether each of 512 rows is without fault: no code is above the greatest, and none of a null row isn't 0.
+#[inline(always)]
+fn are_good<L: Layout>(nulls: &Plane, width: u32, codes: &[u8], span: u64) -> bool
+    requires width { (1 ≤ width) × (width ≤ 63) }
+    requires size { length codes.now ≡ L.packing.size width }
+    requires span { span < 2 ^ width }
+    ensures { result ≡ true
+        → lanes_fault span 512 (lanes_of_words nulls.now) (L.packing.codes width codes.now) ≡ None }
+{
+    (is_zero(nulls) || !L::any_used(width, codes, nulls)) && !L::any_above(width, codes, span)
 }
 
 /// The lanes whose code isn't 0, where there are padding or null ones in which that is asked.

@@ -1,6 +1,6 @@
 //! How a layout keeps the codes of one column of a segment.
 ghost use Rattle.std.specs.Prelude.{◌*◌, All, ◌≡◌, ◌==◌, ◌^◌, ◌<◌, ◌≤◌, ◌++◌, ℕ, length, map, max, min, nat_lt, not, slice_index, sum, IfSome, IsOkUnless, OnOk};
-ghost use Rattle.std.specs.List.{reduce};
+ghost use Rattle.std.specs.List.{list_any, reduce};
 ghost use Rattle.bw_lanes.specs.Lanes.{lanes_of_words};
 ghost use Rattle.bw_model.specs.Code.{has_bit};
 ghost use Rattle.bw_model.specs.Fault.{no_memory};
@@ -42,6 +42,20 @@ pub trait Layout {
         requires size { length bytes.now ≡ packing.size width }
         requires most { most < 2 ^ width }
         ensures { lanes_of_words result ≡ map (nat_lt most) (packing.codes width bytes.now) };
+
+    /// Whether a code in some lanes isn't 0.
+    fn any_used(width: u32, bytes: &[u8], lanes: &Plane) -> bool
+        requires width { (1 ≤ width) × (width ≤ 63) }
+        requires size { length bytes.now ≡ packing.size width }
+        ensures { result ≡ list_any (λ code. not (code == 0))
+            (picked (lanes_of_words lanes.now) (packing.codes width bytes.now)) };
+
+    /// Whether a code is above a number of so many digits.
+    fn any_above(width: u32, bytes: &[u8], most: u64) -> bool
+        requires width { (1 ≤ width) × (width ≤ 63) }
+        requires size { length bytes.now ≡ packing.size width }
+        requires most { most < 2 ^ width }
+        ensures { result ≡ list_any (nat_lt most) (packing.codes width bytes.now) };
 
     /// The lanes in which a bit of the code is 1. Bit 0 is the least.
     fn bit(width: u32, bytes: &[u8], bit: u32) -> Plane

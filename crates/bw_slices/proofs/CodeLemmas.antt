@@ -24,7 +24,7 @@ byte_more code byte place small one few =
     let most = pow_mono {i = 8 * place} {j = 56} (omega arith) in
     omega (arith, small, one, most)
 
-number_below : (byte : ℕ → ℕ) (count : ℕ) → ((place : ℕ) → byte place < 256) → number_from byte count < 2 ^ (8 * count)
+pub number_below : (byte : ℕ → ℕ) (count : ℕ) → ((place : ℕ) → byte place < 256) → number_from byte count < 2 ^ (8 * count)
 number_below byte zero small = omega arith
 number_below byte (suc count) small =
     let next : 8 * suc count ≡ 8 * count + 8 = omega arith in

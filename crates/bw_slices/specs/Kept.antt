@@ -27,7 +27,7 @@ number_of_bytes byte slices n small each (suc count) le =
     ap₂ (λ a b. 256 * a + b) (number_of_bytes byte slices n small each count (omega arith) ∙ ap (λ k. n / 2 ^ k) before) (each count le) ∙ sym (next_byte n (8 * rest))
 
 -- and the number that bytes spell has these bytes
-number_of_front : (byte : ℕ → ℕ) (count rest : ℕ) → ((place : ℕ) → byte place < 256) → number_from byte (count + rest) / 2 ^ (8 * rest) ≡ number_from byte count
+pub number_of_front : (byte : ℕ → ℕ) (count rest : ℕ) → ((place : ℕ) → byte place < 256) → number_from byte (count + rest) / 2 ^ (8 * rest) ≡ number_from byte count
 number_of_front byte count zero small = let same : count + 0 ≡ count = omega arith in ap (λ k. number_from byte k / 1) same ∙ div-one (number_from byte count)
 number_of_front byte count (suc rest) small =
     let next : count + suc rest ≡ suc (count + rest) = omega arith in
@@ -37,7 +37,7 @@ number_of_front byte count (suc rest) small =
     ap₂ (λ k p. number_from byte k / 2 ^ p) next more ∙ ap (λ p. number_from byte (suc (count + rest)) / p) (pow-add 2 8 (8 * rest))
     ∙ sym (div-div-eq-div-mul (number_from byte (suc (count + rest))) 256 (2 ^ (8 * rest))) ∙ ap (λ n. n / 2 ^ (8 * rest)) high ∙ number_of_front byte count rest small
 
-byte_of_number : (byte : ℕ → ℕ) (count k : ℕ) → ((place : ℕ) → byte place < 256) → k < count → byte_of (count - suc k) (number_from byte count) ≡ byte k
+pub byte_of_number : (byte : ℕ → ℕ) (count k : ℕ) → ((place : ℕ) → byte place < 256) → k < count → byte_of (count - suc k) (number_from byte count) ≡ byte k
 byte_of_number byte count k small lt =
     let whole : suc k + (count - suc k) ≡ count = omega arith in
     let low = small k in

@@ -1,30 +1,82 @@
-//! How a byte of the codes compares with another one, and the bytes of a number.
-ghost use Rattle.std.specs.Prelude.{◌≡◌, ◌+◌, ◌*◌, ◌/◌, ◌<◌, ◌≤◌, length, map, nat_lt};
-ghost use Rattle.bw_lanes.specs.Lanes.{lanes_of_words};
+//! Which codes are above a number, from the least significant byte up, by vectors of 64 bytes.
+ghost use Rattle.std.specs.Prelude.{◌≡◌, ◌==◌, ◌&&◌, ◌||◌, ◌+◌, ◌*◌, ◌^◌, ◌<◌, ◌≤◌, drop, length, map, nat_lt, not, take};
+ghost use Rattle.std.specs.List.{list_any};
+ghost use lib.Lanes.{zip2};
+ghost use Rattle.bw_lanes.specs.Lanes.{bits_from_least, lanes_of_words};
 ghost use Rattle.bw_model.specs.Stored.{byte_of};
 ghost use Rattle.bw_slices.specs.Slices.{slices_codes};
 
-use crate::read::slice_of;
-use bw_lanes::{Plane, bytes_lt, not};
+use bw_lanes::Plane;
+use std::simd::prelude::*;
+
+/// The lanes in which the number that so many slices spell is above one of so many bytes.
+pub(crate) fn above(bytes: &[u8], slices: usize, most: u64) -> Plane
+    requires size { 512 * slices ≤ length bytes.now }
+    requires few { slices ≤ 8 }
+    requires most { most < 2 ^ (8 * slices) }
+    ensures { lanes_of_words result ≡ map (nat_lt most) (slices_codes slices bytes.now) }
+{
+    let mut words = [0; 8];
+    for word in 0..8 {
+        words[word] = bits_of_set(set_above(bytes, slices, 64 * word, most));
+    }
+    words
+}
+
+/// Whether one of these numbers is above it.
+#[inline(always)]
+pub(crate) fn any_above(bytes: &[u8], slices: usize, most: u64) -> bool
+    requires size { 512 * slices ≤ length bytes.now }
+    requires few { slices ≤ 8 }
+    requires most { most < 2 ^ (8 * slices) }
+    ensures { result ≡ list_any (nat_lt most) (slices_codes slices bytes.now) }
+{
+    let mut any = u8x64::splat(0);
+    for word in 0..8 {
+        any = any | set_above(bytes, slices, 64 * word, most);
+    }
+    any.reduce_or() != 0
+}
+
+/// Bytes of 64 rows, from one on, that aren't 0 where the row's number is above it.
+#[inline(always)]
+fn set_above(bytes: &[u8], slices: usize, first: usize, most: u64) -> u8x64
+    requires size { 512 * slices ≤ length bytes.now }
+    requires few { slices ≤ 8 }
+    requires rows { first + 64 ≤ 512 }
+    requires most { most < 2 ^ (8 * slices) }
+    ensures { map (λ byte. not (byte == 0)) result
+        ≡ map (nat_lt most) (take 64 (drop first (slices_codes slices bytes.now))) }
+{
+    let mut set = u8x64::splat(0);
+    for slice in 0..slices {
+        let here = u8x64::from_slice(&bytes[512 * (slices - 1 - slice) + first..]);
+        set = next_above(set, here, byte_at(most, slice));
+    }
+    set
+}
+
+/// The same with one byte more: those of the rows, and c of the number.
+#[inline(always)]
+fn next_above(set: u8x64, bytes: u8x64, c: u8) -> u8x64
+    ensures { map (λ byte. not (byte == 0)) result
+        ≡ zip2 (λ above byte. nat_lt c byte || ((byte == c) && above)) (map (λ byte. not (byte == 0)) set) bytes }
+{
+    let byte = u8x64::splat(c);
+    bytes.saturating_sub(byte) | bytes.simd_eq(byte).select(set, u8x64::splat(0))
+}
 
 /// A byte of a number, of which byte 0 is the least.
-pub(crate) fn byte_at(n: u64, slice: usize) -> u8
+fn byte_at(n: u64, slice: usize) -> u8
     requires { slice < 8 }
     ensures { result ≡ byte_of slice n }
 {
     (n >> (8 * slice) & 0xFF) as u8
 }
 
-/// The lanes in which a byte of the code is above c.
-pub(crate) fn byte_gt(width: u32, bytes: &[u8], slice: usize, c: u8) -> Plane
-    requires width { (1 ≤ width) × (width ≤ 63) }
-    requires size { length bytes.now ≡ 512 * ((width + 7) / 8) }
-    requires slice { 8 * slice < width }
-    ensures { lanes_of_words result
-        ≡ map (λ code. nat_lt c (byte_of slice code)) (slices_codes ((width + 7) / 8) bytes.now) }
+/// A bit a byte: whether it isn't 0.
+fn bits_of_set(bytes: u8x64) -> u64
+    ensures { bits_from_least 64 result ≡ map (λ byte. not (byte == 0)) bytes }
 {
-    if c == 255 {
-        return [0; 8];
-    }
-    not(&bytes_lt(slice_of(width, bytes, slice), c + 1))
+    !bytes.simd_eq(u8x64::splat(0)).to_bitmask()
 }

@@ -2,14 +2,19 @@
 ghost use Rattle.bw_slices.specs.Slices.{slice_packing};
 ghost use Rattle.bw_slices.specs.Kept.{slices_keep_codes};
 
-use crate::above::{byte_at, byte_gt};
+use crate::above::above;
+use crate::any::{is_any_above, is_any_used};
 use crate::chosen::chosen_code;
+use crate::few::sum_of_few;
 use crate::read::{slice_of, slices_in};
 use bw_lanes::{
-    Plane, and, bytes_bit, bytes_eq, bytes_lt, bytes_none, bytes_of_plane, is_zero, not, or, sum_in,
+    Plane, bytes_bit, bytes_eq, bytes_lt, bytes_none, bytes_of_plane, count, not, sum_in,
 };
 use bw_model::Fault;
 use bw_segment::{Layout, bytes_of, push_byte, put_byte};
+
+/// The most lanes whose codes are added one by one, which takes less time than to add the bytes of all lanes.
+const FEW: u32 = 24;
 
 /// Codes kept as byte slices. For each byte of the codes, from the most significant down, there are 512 bytes, byte i being
 /// lane i's.
@@ -36,28 +41,17 @@ impl Layout for Slices {
     }
 
     fn above(width: u32, bytes: &[u8], most: u64) -> Plane {
-        let slices = slices_in(width);
-        if most == u64::MAX >> (64 - 8 * slices) {
-            return [0; 8];
-        }
-        let mut above = [0; 8];
-        let mut equal = [u64::MAX; 8];
-        for place in 0..slices - 1 {
-            if is_zero(&equal) {
-                return above;
-            }
-            let slice = slices - 1 - place;
-            let byte = byte_at(most, slice);
-            above = or(&above, &and(&equal, &byte_gt(width, bytes, slice, byte)));
-            equal = and(&equal, &bytes_eq(slice_of(width, bytes, slice), byte));
-        }
-        if is_zero(&equal) {
-            return above;
-        }
-        or(
-            &above,
-            &and(&equal, &byte_gt(width, bytes, 0, byte_at(most, 0))),
-        )
+        above(bytes, slices_in(width), most)
+    }
+
+    fn any_used(width: u32, bytes: &[u8], lanes: &Plane) -> bool {
+        is_any_used(bytes, slices_in(width), lanes)
+    }
+
+    // The lowest bytes of the number that are 255 change nothing, and nor do those of the codes.
+    fn any_above(width: u32, bytes: &[u8], most: u64) -> bool {
+        let low = most.trailing_ones() as usize / 8;
+        is_any_above(bytes, slices_in(width) - low, most >> (8 * low))
     }
 
     #[inline(always)]
@@ -73,8 +67,11 @@ impl Layout for Slices {
         bytes_eq(slice_of(width, bytes, slice), c)
     }
 
-    /// The sum of the bytes, each slice's 256 times the next one's worth.
+    /// The sum of the bytes, each slice's 256 times the next one's worth. Few codes are added one by one.
     fn sum(width: u32, bytes: &[u8], lanes: &Plane) -> u128 {
+        if count(lanes) <= FEW {
+            return sum_of_few(width, bytes, lanes);
+        }
         let rows = bytes_of_plane(lanes);
         let slices = slices_in(width);
         let mut sum = 0;

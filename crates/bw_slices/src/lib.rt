@@ -18,7 +18,9 @@
 #![tactic(auto)]
 
 mod above;
+mod any;
 mod chosen;
+mod few;
 mod layout;
 mod read;
 

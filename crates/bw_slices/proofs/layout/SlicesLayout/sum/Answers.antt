@@ -1,4 +1,5 @@
-use Rattle.std.proofs.Common.{◌≡◌, ◌∙◌, sym, ap, ap₂, subst, ◌+◌, ◌-◌, ◌*◌, ◌/◌, ◌^◌, ◌≤◌, sum, sum_by, arith}
+use Rattle.std.proofs.Common.{◌≡◌, ◌∙◌, sym, ap, ap₂, subst, ℕ, ◌+◌, ◌-◌, ◌*◌, ◌/◌, ◌^◌, ◌<◌, ◌≤◌, Bool, List, sum, sum_by, arith}
+use Rattle.std.specs.List.{All}
 use Rattle.std.proofs.Math.Pow.{pow_mono}
 use Rattle.std.proofs.lemmas.Nat.{pow-add}
 use Rattle.bw_lanes.specs.Lanes.{lanes_of_words}
@@ -11,6 +12,15 @@ use Rattle.bw_slices.specs.Kept.{length-slices_codes}
 use Rattle.bw_slices.proofs.CodeLemmas.{all_within}
 use Rattle.bw_slices.proofs.SumLemmas.{sum_picked, sum_next, sum_of_high, sum_of_all, sum_small}
 use Rattle.bw_slices.proofs.layout.SlicesLayout.sum.Goals as goal
+
+small_sum : (width : ℕ) (lanes : List Bool) (bytes : List ℕ) → width ≤ 63 → All (λ code. code < 2 ^ width) (slices_codes ((width + 7) / 8) bytes) → sum (picked lanes (slices_codes ((width + 7) / 8) bytes)) ≤ 2 ^ 72
+small_sum width lanes bytes few small =
+    let codes = slices_codes ((width + 7) / 8) bytes in
+    let each = sum_small lanes codes (all_within (2 ^ width) (2 ^ 63) codes (pow_mono {i = width} {j = 63} few) small) in
+    omega (arith, each, ap (λ n. n * 2 ^ 63) (length-slices_codes ((width + 7) / 8) bytes))
+
+pub returns-then-count-le-FEW-clause-bound : goal.returns-then-count-le-FEW-clause-bound
+returns-then-count-le-FEW-clause-bound c = omega (arith, c.sum_of_few.ensures, small_sum c.args.width (lanes_of_words c.args.lanes.now) c.args.bytes.now c.requires.width.1 c.requires.small)
 
 pub loop-place-init : goal.loop-place-init
 loop-place-init c =
@@ -48,5 +58,4 @@ returns c =
     let codes = slices_codes ((c.args.width + 7) / 8) c.args.bytes.now in
     let end : 8 * (c.slices_in-slices.result - c.loop-place.place) ≡ 0 = omega arith in
     let all = c.loop-place.invariant.sum ∙ ap (λ bit. sum_by (λ code. code / 2 ^ bit) (picked lanes codes)) end ∙ sum_of_all (picked lanes codes) in
-    let small = sum_small lanes codes (all_within (2 ^ c.args.width) (2 ^ 63) codes (pow_mono {i = c.args.width} {j = 63} (omega (arith, c.requires.width))) c.requires.small) in
-    record { sum = all; bound = omega (arith, all, small, length-slices_codes ((c.args.width + 7) / 8) c.args.bytes.now) }
+    record { sum = all; bound = omega (arith, all, small_sum c.args.width lanes c.args.bytes.now c.requires.width.1 c.requires.small) }

@@ -1,0 +1,52 @@
+//! Whether a code isn't 0, or is above a number. Of a column there are mostly one to four slices: each of these counts has a call
+//! of its own, in which there is no loop over slices.
+ghost use Rattle.std.specs.Prelude.{◌≡◌, ◌==◌, ◌*◌, ◌^◌, ◌<◌, ◌≤◌, length, nat_lt, not};
+ghost use Rattle.std.specs.List.{list_any};
+ghost use Rattle.bw_lanes.specs.Lanes.{lanes_of_words};
+ghost use Rattle.bw_model.specs.Selection.{picked};
+ghost use Rattle.bw_slices.specs.Slices.{slices_codes};
+
+use crate::above::any_above;
+use bw_lanes::{Plane, bytes_any};
+
+/// Whether a number that so many slices spell is above one of so many bytes.
+pub(crate) fn is_any_above(bytes: &[u8], slices: usize, most: u64) -> bool
+    requires size { 512 * slices ≤ length bytes.now }
+    requires few { slices ≤ 8 }
+    requires most { most < 2 ^ (8 * slices) }
+    ensures { result ≡ list_any (nat_lt most) (slices_codes slices bytes.now) }
+{
+    match slices {
+        0 => false,
+        1 => any_above(bytes, 1, most),
+        2 => any_above(bytes, 2, most),
+        3 => any_above(bytes, 3, most),
+        4 => any_above(bytes, 4, most),
+        _ => any_above(bytes, slices, most),
+    }
+}
+
+/// Whether a number that so many slices spell in some lanes isn't 0.
+pub(crate) fn is_any_used(bytes: &[u8], slices: usize, lanes: &Plane) -> bool
+    requires { 512 * slices ≤ length bytes.now }
+    ensures { result ≡ list_any (λ code. not (code == 0))
+        (picked (lanes_of_words lanes.now) (slices_codes slices bytes.now)) }
+{
+    match slices {
+        1 => any_used(bytes, 1, lanes),
+        2 => any_used(bytes, 2, lanes),
+        3 => any_used(bytes, 3, lanes),
+        4 => any_used(bytes, 4, lanes),
+        _ => any_used(bytes, slices, lanes),
+    }
+}
+
+/// The same.
+#[inline(always)]
+fn any_used(bytes: &[u8], slices: usize, lanes: &Plane) -> bool
+    requires { 512 * slices ≤ length bytes.now }
+    ensures { result ≡ list_any (λ code. not (code == 0))
+        (picked (lanes_of_words lanes.now) (slices_codes slices bytes.now)) }
+{
+    bytes_any(bytes, slices, lanes)
+}

@@ -1,0 +1,43 @@
+//! The sum of the codes in few lanes, one code after the other.
+ghost use Rattle.std.specs.Prelude.{All, ◌≡◌, ◌^◌, ◌+◌, ◌*◌, ◌/◌, ◌<◌, ◌≤◌, drop, length, sum, take};
+ghost use Rattle.bw_lanes.specs.Lanes.{bits_from_least, lanes_of_words};
+ghost use Rattle.bw_model.specs.Selection.{picked};
+ghost use Rattle.bw_slices.specs.Slices.{slices_codes};
+
+use crate::layout::Slices;
+use bw_lanes::Plane;
+use bw_segment::Layout;
+
+/// The sum of the codes in some lanes.
+pub(crate) fn sum_of_few(width: u32, bytes: &[u8], lanes: &Plane) -> u128
+    requires width { (1 ≤ width) × (width ≤ 63) }
+    requires size { length bytes.now ≡ 512 * ((width + 7) / 8) }
+    requires small { All (λ code. code < 2 ^ width) (slices_codes ((width + 7) / 8) bytes.now) }
+    ensures { result ≡ sum (picked (lanes_of_words lanes.now) (slices_codes ((width + 7) / 8) bytes.now)) }
+{
+    let mut sum = 0;
+    for word in 0..8 {
+        sum += sum_of_word(width, bytes, word, lanes[word]);
+    }
+    sum
+}
+
+/// The same of the 64 rows of a word.
+fn sum_of_word(width: u32, bytes: &[u8], word: usize, rows: u64) -> u128
+    requires width { (1 ≤ width) × (width ≤ 63) }
+    requires size { length bytes.now ≡ 512 * ((width + 7) / 8) }
+    requires small { All (λ code. code < 2 ^ width) (slices_codes ((width + 7) / 8) bytes.now) }
+    requires word { word < 8 }
+    ensures sum { result ≡ sum (picked (bits_from_least 64 rows)
+        (take 64 (drop (64 * word) (slices_codes ((width + 7) / 8) bytes.now)))) }
+    ensures bound { result ≤ 2 ^ 69 }
+{
+    let mut sum = 0;
+    let mut left = rows;
+    while left != 0 {
+        let row = left.trailing_zeros();
+        sum += u128::from(Slices::code(width, bytes, 64 * word + row as usize));
+        left &= !(1 << row);
+    }
+    sum
+}
