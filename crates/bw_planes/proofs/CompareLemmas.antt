@@ -107,10 +107,7 @@ byte_bits code width slice count small there is = elim (cases_lt (width - 8 * sl
   | inr eight ↦ let all : count ≡ 8 = omega (arith, is) in ap (λ k. code / 2 ^ (8 * slice) % 2 ^ k) all
 ]
 
--- all bits of such a number are the number, and its negated comparisons
-pub all_bits : (code width : ℕ) → code < 2 ^ width → code / 2 ^ 0 % 2 ^ width ≡ code
-all_bits code width small = let whole : code / 2 ^ 0 ≡ code = omega arith in ap (λ n. n % 2 ^ width) whole ∙ mod-eq_of_lt small
-
+-- negated comparisons
 pub above_or_not : (n most : ℕ) → not (ltb n (most + 1)) ≡ ltb most n
 above_or_not n most = grind (arith, nat_tests)
 
