@@ -23,7 +23,7 @@ impl Code<'_> {
                 self.split_bytes(column, bounds)?;
                 self.has_few_skips = most_instructions(bounds, top, self.split_slice())
                     > self.room();
-                let made = self.within(column, top, bounds, None)?;
+                let made = self.within(column, top, bounds, None, None)?;
                 self.forget_digits();
                 Ok(made)
             }
@@ -43,8 +43,9 @@ impl Code<'_> {
         Ok(same)
     }
 
-    /// A register that is 1, among the lanes of `mask`, where the low bytes of the codes, from this one down, have an odd
-    /// number of bounds above them. What it is in other lanes is left open.
+    /// A register, `out` if there is one, with the lanes turned round that are 1 in `mask` and whose low bytes, from this one
+    /// down, have an odd number of bounds above them. A new register has these lanes among those of `mask`, and in others
+    /// anything.
     #[cycle(within)]
     fn within(
         &mut self,
@@ -52,8 +53,11 @@ impl Code<'_> {
         slice: u8,
         bounds: &[u64],
         mask: Option<u8>,
+        out: Option<u8>,
     ) -> Result<u8, Refusal> {
-        let mut out = self.bytes(column, slice, bounds)?;
+        let here = self.bytes(column, slice, bounds)?;
+        let masked = if out.is_some() { mask } else { None };
+        let mut out = self.added(here, masked, out)?;
         if slice > 0 {
             let mut rest = bounds;
             let mut before = None;
@@ -70,8 +74,7 @@ impl Code<'_> {
         }
     }
 
-    /// The register `out`, or a new one, with the lanes turned round that are 1 in `mask`, have the one byte that some bounds
-    /// have in common, and below it an odd number of these bounds above them.
+    /// The same for the bounds with one byte in common, where the codes have it too. A new register is 0 in other lanes.
     #[cycle(within)]
     fn below(
         &mut self,
@@ -95,14 +98,16 @@ impl Code<'_> {
             self.skip(same)?;
         }
         self.narrow(column, slice - 1, inner, same)?;
-        let found = self.within(column, slice - 1, inner, Some(same))?;
-        self.join_into(Logic::And, same, found)?;
+        let found = self.within(column, slice - 1, inner, Some(same), out)?;
         let out = match out {
-            Some(register) => {
-                self.join_into(Logic::Xor, register, same)?;
-                register
+            Some(_) => {
+                self.release(same);
+                found
             }
-            None => same,
+            None => {
+                self.join_into(Logic::And, same, found)?;
+                same
+            }
         };
         self.meet_from(first);
         Ok(Some(out))
@@ -143,12 +148,12 @@ impl Code<'_> {
             before = match before {
                 Some(last) if last.checked_add(1) == Some(byte) => {
                     let next = self.same_byte(column, slice, last, None, &mut upper)?;
-                    made = self.added(next, made)?;
+                    made = self.added(Some(next), None, made)?;
                     None
                 }
                 Some(last) => {
                     let next = self.byte(Kind::Less, column, slice, last)?;
-                    made = self.added(next, made)?;
+                    made = self.added(Some(next), None, made)?;
                     Some(byte)
                 }
                 None => Some(byte),
@@ -157,14 +162,26 @@ impl Code<'_> {
         match before {
             Some(last) => {
                 let next = self.byte(Kind::Less, column, slice, last)?;
-                self.added(next, made)
+                self.added(Some(next), None, made)
             }
             None => Ok(made),
         }
     }
 
-    /// A register, `out` if there is one, with the lanes turned round that are 1 in another.
-    fn added(&mut self, next: u8, out: Option<u8>) -> Result<Option<u8>, Refusal> {
+    /// A register, `out` if there is one, with the lanes turned round that are 1 in another and in
+    /// `mask`.
+    fn added(
+        &mut self,
+        next: Option<u8>,
+        mask: Option<u8>,
+        out: Option<u8>,
+    ) -> Result<Option<u8>, Refusal> {
+        let Some(next) = next else {
+            return Ok(out);
+        };
+        if let Some(mask) = mask {
+            self.join(Logic::And, next, next, mask)?;
+        }
         let Some(out) = out else {
             return Ok(Some(next));
         };
