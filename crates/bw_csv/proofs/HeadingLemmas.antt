@@ -34,7 +34,7 @@ goes-next text rest c inside next on e s =
 pub drop_at : (text : List ℕ) (i : ℕ) → i < length text → drop i text ≡ get_or text i 0 ∷ drop (i + 1) text
 drop_at text i h = rw (add-one) (drop-cons text i 0 h)
 
--- what is to come behind the byte that ends it
+-- what is to come after the byte that ends it
 behind_return : (inside : Inside) (rest : List ℕ) → is_end (step default_config (state_of inside) 13).1 ≡ true
     → records_in (step default_config (state_of inside) 13).0 (Some rest) ≡ records_in st.StartRecord (Some (13 ∷ rest))
 behind_return Before rest e = absurd (cc e)

@@ -44,7 +44,7 @@ state_of Bare = st.InField
 state_of Quoted = st.InQuoted
 state_of Closed = st.AfterQuote
 
--- A text's first record has a row of these values, and behind the record this is left of the text.
+-- A text's first record has a row of these values, and after the record this is left of the text.
 pub record HasRow (number : ℕ) (columns : List Column) (text rest : List ℕ) (values : List Value) : Type 0 where
   pub fields : List (List ℕ)
   pub first : records_in st.StartRecord (Some text) ≡ fields ∷ records_in st.StartRecord (Some rest)

@@ -9,7 +9,7 @@ ghost use Rattle.bw_csv.specs.Records.{records_in};
 use crate::marks::{behind, ends_line};
 
 /// Where a byte of a record stands: before the record, at the front of a field, in one without quotation marks, within
-/// quotation marks, or behind a quotation mark that may be the last one.
+/// quotation marks, or after a quotation mark that may be the last one.
 #[derive(Clone, Copy)]
 pub(crate) enum Inside {
     Before,
@@ -47,7 +47,7 @@ fn ends_record(inside: Inside, c: u8) -> bool
     }
 }
 
-/// Where the byte behind one stands that doesn't end the record.
+/// Where the byte after one stands that doesn't end the record.
 fn inside_behind(inside: Inside, c: u8) -> Inside
     requires { is_end (step default_config (state_of inside) c).1 ≡ false }
     ensures { state_of result ≡ (step default_config (state_of inside) c).0 }

@@ -85,7 +85,7 @@ fn other_at(column: &Column, text: &[u8], number: u32) -> Option<Found>
 }
 
 /// The number that digits at the front of a text spell, at most 17, after a minus sign or none, where another byte is
-/// behind them.
+/// after them.
 #[inline(always)]
 fn spelled_at(text: &[u8]) -> Option<Spelled>
     ensures within { IfSome result (λ spelled. spelled.len < length text.now) }
@@ -103,7 +103,7 @@ fn spelled_at(text: &[u8]) -> Option<Spelled>
     })
 }
 
-/// The digits at the front of a text, one at least and 17 at most, where another byte is behind them.
+/// The digits at the front of a text, one at least and 17 at most, where another byte comes after them.
 #[inline(always)]
 fn digits_at(text: &[u8]) -> Option<Digits>
     ensures within { IfSome result (λ digits. digits.count < length text.now) }

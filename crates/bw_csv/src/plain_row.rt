@@ -11,7 +11,7 @@ use crate::plain_field::value_at;
 use bw_model::{Column, MAX_ROWS, Row};
 
 /// Puts the row of the next record of a text, which has this number, into `row`, and answers what is left of the text
-/// behind the record, a line's end or nothing; nothing where the record isn't plain or has a fault, or there is none.
+/// after the record, a line's end or nothing; nothing where the record isn't plain or has a fault, or there is none.
 #[inline(always)]
 pub(crate) fn plain_row<'a>(
     columns: &[Column],

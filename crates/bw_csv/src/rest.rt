@@ -28,7 +28,7 @@ pub(crate) struct Rest<'a> {
 }
 
 impl<'a> Rest<'a> {
-    /// The records of a text behind the first one, which `records` has read.
+    /// The records of a text after the first one, which `records` has read.
     pub(crate) fn new(alloc: Global, text: &'a [u8], records: Records<'a>) -> Self
         requires { (heading : List (List ℕ)) × (records_of text.now ≡ heading ∷ coming records) }
         ensures readable { IsReadable result }

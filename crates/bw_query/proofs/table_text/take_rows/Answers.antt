@@ -61,16 +61,16 @@ columns_of : (first reader : TableReader) (segment : AnySegment) → SameTable f
     → (any_meaning segment).columns ≡ (schema_in first).columns.items
 columns_of first reader segment same is = is.columns ∙ ap (λ (schema : Schema). schema.columns.items) same.schema
 
-pub take_either-requires-clause-scan : goal.take_either-requires-clause-scan
-take_either-requires-clause-scan g c =
+pub take_either-taken-requires-clause-scan : goal.take_either-taken-requires-clause-scan
+take_either-taken-requires-clause-scan g c =
     let so_far = c.loop-segment.invariant in
     let segment = rw c.in-Some.is at c.in_ok-segment.ensures.segment in
     let under = subst (λ (columns : List Column). IsFor columns (asked_by c.args.answer.now).cond c.args.scan.now)
     (sym (columns_of c.args.reader.now c.loop-segment.reader c.in-Some.segment so_far.same segment.0)) c.requires.scan in
     subst (λ (query : Query). IsFor (any_meaning c.in-Some.segment).columns query.cond c.args.scan.now) (sym so_far.asked) under
 
-pub take_either-requires-clause-width : goal.take_either-requires-clause-width
-take_either-requires-clause-width g c =
+pub take_either-taken-requires-clause-width : goal.take_either-taken-requires-clause-width
+take_either-taken-requires-clause-width g c =
     let so_far = c.loop-segment.invariant in
     let segment = rw c.in-Some.is at c.in_ok-segment.ensures.segment in
     so_far.width ∙ ap (λ (columns : List Column). length columns)

@@ -19,13 +19,13 @@ loop-word-preserved c =
     let more = sum_more word lanes codes c.told-lanes (codes_long c.args.width c.args.bytes.now) (omega arith) in
     elim c.if-lanes-word-ne0.branch [
       | then-lanes-word-ne0 w ↦ record {
-          sum = w.sum-is ∙ ap₂ ◌+◌ c.loop-word.invariant.sum w.sum_in_word-sum.ensures.sum ∙ sym more;
-          small = omega (arith, w.sum-is, c.loop-word.invariant.small, w.sum_in_word-sum.ensures.bound);
-        }
+        sum = w.sum-is ∙ ap₂ ◌+◌ c.loop-word.invariant.sum w.sum_in_word-sum.ensures.sum ∙ sym more;
+        small = omega (arith, w.sum-is, c.loop-word.invariant.small, w.sum_in_word-sum.ensures.bound);
+      }
       | else-lanes-word-ne0 w ↦ record {
-          sum = omega (arith, w.sum-is, c.loop-word.invariant.sum, more, nothing_added rows (codes_in_word word codes) w.if-lanes-word-ne0.false);
-          small = omega (arith, w.sum-is, c.loop-word.invariant.small);
-        }
+        sum = omega (arith, w.sum-is, c.loop-word.invariant.sum, more, nothing_added rows (codes_in_word word codes) w.if-lanes-word-ne0.false);
+        small = omega (arith, w.sum-is, c.loop-word.invariant.small);
+      }
     ]
 
 pub returns : goal.returns
