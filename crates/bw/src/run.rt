@@ -1,5 +1,6 @@
 //! Runs the command that the command line asks for, and gives the exit status.
-ghost use Rattle.std.specs.Prelude.{◌≡◌};
+ghost use Rattle.std.specs.Prelude.{◌≡◌, IfOk};
+ghost use Rattle.bw_device.specs.ReadAhead.{read_failures};
 
 use crate::calls::{answer, check, direct, dump, infer, info, load, plan};
 use crate::out_file::{OutFile, is_same_file};
@@ -147,7 +148,7 @@ fn run_query<'a>(
     table_path: &'a str,
     sql: &str,
 ) -> Result<Served, Ended<'a>> {
-    let table = open_ahead(rt, table_path)?;
+    let table = open(rt, table_path)?;
     let program = program_given(rt, program)?;
     let served = answer_from(rt, table_path, table, sql, program.as_deref())?;
     if stats {
@@ -171,10 +172,11 @@ fn program_given<'a>(
 fn answer_from<'a>(
     rt: &HostRuntime,
     path: &'a str,
-    mut table: ReadAhead<File>,
+    table: File,
     sql: &str,
     program: Option<&[u8]>,
 ) -> Result<Served, Ended<'a>> {
+    let mut table = ahead(rt, table)?;
     let mut out = ToWrite::new(rt.stdout());
     let done = answer(rt.alloc(), &mut table, sql, program, &mut out);
     or_ended(done, &[(path, table.failures())])
@@ -198,14 +200,14 @@ fn run_plan<'a>(rt: &HostRuntime, schema_path: &'a str, sql: &str) -> Result<(),
 
 /// Runs `bw info`.
 fn run_info<'a>(rt: &HostRuntime, table_path: &'a str) -> Result<(), Ended<'a>> {
-    let mut table = open_ahead(rt, table_path)?;
+    let mut table = ahead(rt, open(rt, table_path)?)?;
     let done = info(rt.alloc(), &mut table, &mut ToWrite::new(rt.stdout()));
     or_ended(done, &[(table_path, table.failures())])
 }
 
 /// Runs `bw dump`.
 fn run_dump<'a>(rt: &HostRuntime, table_path: &'a str) -> Result<(), Ended<'a>> {
-    let mut table = open_ahead(rt, table_path)?;
+    let mut table = ahead(rt, open(rt, table_path)?)?;
     let done = dump(rt.alloc(), &mut table, &mut ToWrite::new(rt.stdout()));
     or_ended(done, &[(table_path, table.failures())])
 }
@@ -273,7 +275,11 @@ fn open<'a>(rt: &HostRuntime, path: &'a str) -> Result<File, Ended<'a>> {
 }
 
 /// A table file, which the system is asked for in large pieces.
-fn open_ahead<'a>(rt: &HostRuntime, path: &'a str) -> Result<ReadAhead<File>, Ended<'a>> {
-    let file = open(rt, path)?;
-    or_ended(ReadAhead::new(rt.alloc(), file, PIECE), &[])
+fn ahead<'a>(rt: &HostRuntime, file: File) -> Result<ReadAhead<File>, Ended<'a>>
+    ensures { IfOk result (λ source. read_failures source ≡ 0) }
+{
+    match ReadAhead::new(rt.alloc(), file, PIECE) {
+        Ok(source) => Ok(source),
+        Err(fault) => Err(Ended::of(fault, &[])),
+    }
 }
