@@ -32,11 +32,11 @@ table() {
         srand(7)
         columns = split(spans, span, " ")
         for (i = 1; i <= columns; i++) { split(span[i], ends, ","); low[i] = ends[1]; size[i] = ends[2] - ends[1] + 1 }
-        for (i = 1; i <= columns; i++) printf "c%d%s", i, i < columns ? "," : "\n"
+        for (i = 1; i <= columns; i++) printf("c%d%s", i, (i < columns) ? "," : "\n")
         for (row = 0; row < count; row++)
             for (i = 1; i <= columns; i++)
-                printf "%s%s", columns > 1 && rand() < 0.03 ? "" : sprintf("%.0f", low[i] + int(rand() * size[i])),
-                    i < columns ? "," : "\n"
+                printf("%s%s", (columns > 1 && rand() < 0.03) ? "" : sprintf("%.0f", low[i] + int(rand() * size[i])),
+                    (i < columns) ? "," : "\n")
     }'
 }
 
