@@ -112,7 +112,7 @@ fn time_segments<R: Print + Eprint + Clock>(
     let builds = calls / 64;
     for call in 0..builds {
         if let Ok(segment) = PlaneSegment::build_shared(alloc, &planes, &rows) {
-            seen ^= byte_of(&segment.bytes, call);
+            seen ^= byte_of(segment.bytes(), call);
         }
     }
     tell(rt, "build planes", builds, start, seen)?;
@@ -120,7 +120,7 @@ fn time_segments<R: Print + Eprint + Clock>(
     let start = Instant::now(rt)?;
     for call in 0..builds {
         if let Ok(segment) = SliceSegment::build_shared(alloc, &slices, &rows) {
-            seen ^= byte_of(&segment.bytes, call);
+            seen ^= byte_of(segment.bytes(), call);
         }
     }
     tell(rt, "build slices", builds, start, seen)

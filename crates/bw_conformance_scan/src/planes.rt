@@ -17,8 +17,8 @@ fn planes_stand_in_order(rt: HostRuntime) -> Result<(), Fail> {
     let rows = rows_of(rt.alloc(), &TABLE)?;
     assert!(rt; is_group(&schema, &rows));
     let segment = PlaneSegment::build(rt.alloc(), &schema, &rows)?;
-    assert_eq!(rt; segment.bytes.len(), 64 * 14);
-    for (plane, first) in segment.bytes.chunks(64).zip(&FIRST_BYTES) {
+    assert_eq!(rt; segment.bytes().len(), 64 * 14);
+    for (plane, first) in segment.bytes().chunks(64).zip(&FIRST_BYTES) {
         assert_eq!(rt; plane.first().copied(), Some(*first));
         assert!(rt; plane[1..].iter().all(|byte| *byte == 0));
     }
@@ -137,6 +137,5 @@ fn segments_are_appended(rt: HostRuntime) -> Result<(), Fail> {
     let kept = columns_of(rt.alloc(), &shape.schema, &rows)?;
     PlaneSegment::append(rt.alloc(), &mut bytes, &shape, &kept)?;
     assert_eq!(rt; &bytes[1..], segment.bytes());
-    assert_eq!(rt; segment.into_bytes().len(), bytes.len() - 1);
     Ok(())
 }

@@ -12,17 +12,12 @@ fn slices_stand_in_order(rt: HostRuntime) -> Result<(), Fail> {
     let rows = rows_of(rt.alloc(), &TABLE)?;
     assert!(rt; is_group(&schema, &rows));
     let segment = SliceSegment::build(rt.alloc(), &schema, &rows)?;
-    assert_eq!(rt; segment.bytes.len(), 512 + 64 + 512);
-    assert_eq!(rt;
-        &segment.bytes[..5],
-        [0x00, 0xFF, 0x07, 0x07, 0x08].as_slice()
-    );
-    assert_eq!(rt; segment.bytes[512], 0x0C);
-    assert_eq!(rt;
-        &segment.bytes[576..581],
-        [0x00, 0x14, 0x00, 0x00, 0x0A].as_slice()
-    );
-    assert_eq!(rt; segment.bytes.iter().filter(|byte| **byte != 0).count(), 7);
+    let bytes = segment.bytes();
+    assert!(rt; bytes.len() == 512 + 64 + 512);
+    assert_eq!(rt; &bytes[..5], [0x00, 0xFF, 0x07, 0x07, 0x08].as_slice());
+    assert_eq!(rt; bytes[512], 0x0C);
+    assert_eq!(rt; &bytes[576..581], [0x00, 0x14, 0x00, 0x00, 0x0A].as_slice());
+    assert_eq!(rt; bytes.iter().filter(|byte| **byte != 0).count(), 7);
     Ok(())
 }
 
@@ -142,6 +137,5 @@ fn segments_are_appended(rt: HostRuntime) -> Result<(), Fail> {
     let kept = columns_of(rt.alloc(), &shape.schema, &rows)?;
     SliceSegment::append(rt.alloc(), &mut bytes, &shape, &kept)?;
     assert_eq!(rt; &bytes[1..], segment.bytes());
-    assert_eq!(rt; segment.into_bytes().len(), bytes.len() - 1);
     Ok(())
 }
