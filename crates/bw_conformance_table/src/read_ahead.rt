@@ -82,7 +82,7 @@ fn first_values(alloc: Global, file: &[u8], piece: usize) -> Result<Vec<Value>, 
     }
     let mut values = Vec::new(alloc);
     for segment in &held {
-        if !segment.schema().columns.is_empty() {
+        if segment.rows_in() > 0 && !segment.schema().columns.is_empty() {
             values.push(segment.value(0, 0))?;
         }
     }
