@@ -274,11 +274,16 @@ fn open<'a>(rt: &HostRuntime, path: &'a str) -> Result<File, Ended<'a>> {
     }
 }
 
-/// A table file, which the system is asked for in large pieces.
+/// A table file, which the system is asked for in large pieces, or at once where it's smaller: memory that isn't needed needn't be
+/// cleared.
 fn ahead<'a>(rt: &HostRuntime, file: File) -> Result<ReadAhead<File>, Ended<'a>>
     ensures { IfOk result (λ source. read_failures source ≡ 0) }
 {
-    match ReadAhead::new(rt.alloc(), file, PIECE) {
+    let piece = match file.metadata() {
+        Ok(found) if 0 < found.len() && found.len() < PIECE as u64 => found.len() as usize,
+        _ => PIECE,
+    };
+    match ReadAhead::new(rt.alloc(), file, piece) {
         Ok(source) => Ok(source),
         Err(fault) => Err(Ended::of(fault, &[])),
     }

@@ -1,3 +1,4 @@
 pub mod KeptBytes
+pub mod PieceBytes
 pub mod SinkLemmas
 pub mod TakenBytes

@@ -1,13 +1,20 @@
 //! A source over any reader of std that reads ahead.
-ghost use Rattle.std.specs.Prelude.{◌<◌, ◌≤◌, vec_len};
+ghost use Rattle.std.specs.Prelude.{◌≡◌, ◌<◌, ◌≤◌, drop, length, vec_len};
+ghost use Rattle.std.specs.Io.{ReadsAtMost};
+ghost use Rattle.std.specs.Io.KnownBytes.{ReadConsumes};
+ghost use Rattle.bw_device.specs.declared.read_ahead.TheConstants.{FRONT};
 
 use crate::failed::Failed;
 use crate::shared::SharedBytes;
 use crate::source::Source;
 use bw_model::Fault;
 use std::alloc::Global;
-use std::io::Read;
+use std::io::{Error, Read};
 use std::rc::Rc;
+
+/// How many bytes of the memory stay unused before a piece. A system's allocator gives as much memory as a piece takes from 16
+/// bytes after a multiple of 64 on, and a system copies a file fastest to such a multiple.
+const FRONT: usize = 48;
 
 /// A reader of std as a source, which is asked for a piece at a time. What is left of a piece can be shared. Each error of the
 /// reader, that of an interrupted call too, counts as a failure.
@@ -18,7 +25,7 @@ pub struct ReadAhead<R> {
     start: usize,
     end: usize,
     failures: u64,
-    ghost some: { 0 < vec_len memory.value },
+    ghost some: { FRONT < vec_len memory.value },
     ghost ordered: { start ≤ end },
     ghost within: { end ≤ vec_len memory.value },
 }
@@ -28,7 +35,7 @@ impl<R: Drop> ReadAhead<R> {
     ghost use Rattle.bw_model.specs.Fault.{no_memory};
     ghost use Rattle.bw_device.specs.ReadAhead.{kept, read_failures, reader_of};
 
-    /// A source that asks a reader for so many bytes at a time.
+    /// A source that asks a reader for so many bytes at a time, one at least. Refuses as 801 alone.
     pub fn new(alloc: Global, inner: R, piece: usize) -> Result<Self, Fault>
         requires { 0 < piece }
         ensures reader { IfOk result (λ source. reader_of source ≡ inner) }
@@ -36,14 +43,15 @@ impl<R: Drop> ReadAhead<R> {
         ensures empty { IfOk result (λ source. kept source ≡ []) }
         ensures only_memory { IsOkUnless result no_memory }
     {
-        let mut bytes = Vec::with_capacity(alloc, piece)?;
-        bytes.resize(piece, 0)?;
+        let size = piece.saturating_add(FRONT);
+        let mut bytes = Vec::with_capacity(alloc, size)?;
+        bytes.resize(size, 0)?;
         let memory = Rc::new(alloc, bytes)?;
         Ok(ReadAhead {
             inner,
             memory,
-            start: 0,
-            end: 0,
+            start: FRONT,
+            end: FRONT,
             failures: 0,
         })
     }
@@ -69,11 +77,11 @@ impl<R: Read> ReadAhead<R> {
         let Some(memory) = Rc::get_mut(&mut self.memory) else {
             return Ok(false);
         };
-        self.start = 0;
-        self.end = 0;
-        match self.inner.read(memory) {
+        self.start = FRONT;
+        self.end = FRONT;
+        match read_piece(&mut self.inner, memory) {
             Ok(count) => {
-                self.end = count;
+                self.end = FRONT + count;
                 Ok(true)
             }
             Err(_) => {
@@ -151,4 +159,14 @@ impl<R: Read> Source for ReadAhead<R> {
     fn failures(&self) -> u64 {
         self.failures
     }
+}
+
+/// Reads into memory, after its front.
+fn read_piece<R: Read>(inner: &mut R, memory: &mut [u8]) -> Result<usize, Error>
+    requires { FRONT ≤ length memory.old }
+    ensures bound { ReadsAtMost result (drop FRONT memory.new) }
+    ensures bytes { ReadConsumes (R.remaining inner.old) (R.remaining inner.new) result (drop FRONT memory.new) }
+    ensures long { length memory.new ≡ length memory.old }
+{
+    inner.read(&mut memory[FRONT..])
 }

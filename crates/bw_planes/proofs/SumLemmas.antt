@@ -38,20 +38,20 @@ drop_lanes (suc k) (byte ∷ bytes) =
     drop_lanes k bytes ∙ sym (drop-append-add bits (lanes_of_bytes bytes) (8 * k)) ∙ ap (λ n. drop n (bits ++ lanes_of_bytes bytes)) next
 
 -- the lanes of a word of a plane are the bits of its codes
-pub word_of_codes : (width bit word : ℕ) (bytes : List ℕ) → length bytes ≡ 64 * width → bit < width → word < 8
-    → lanes_of_bytes (take 8 (drop (64 * (width - 1 - bit) + 8 * word) bytes)) ≡ map (λ code. has_bit code bit) (codes_in_word word (planes_codes width bytes))
-word_of_codes width bit word bytes long there lt =
-    let plane = width - 1 - bit in
+pub word_of_codes : (width plane word : ℕ) (bytes : List ℕ) → length bytes ≡ 64 * width → plane < width → word < 8
+    → lanes_of_bytes (take 8 (drop (64 * plane + 8 * word) bytes)) ≡ map (λ code. has_bit code (width - 1 - plane)) (codes_in_word word (planes_codes width bytes))
+word_of_codes width plane word bytes long there lt =
+    let bit = width - 1 - plane in
     let behind = drop (64 * plane) bytes in
     let codes = planes_codes width bytes in
-    let same : plane ≡ width - suc bit = omega arith in
+    let same : plane ≡ width - suc bit = omega (arith, there) in
     let all : 8 * word + (64 - 8 * word) ≡ 64 = omega arith in
     let place : 8 * (8 * word) ≡ 64 * word = omega arith in
     let within : take 8 (drop (8 * word) behind) ≡ take 8 (drop (8 * word) (take 64 behind)) =
     sym (take-take 8 (64 - 8 * word) (drop (8 * word) behind) (omega arith)) ∙ ap (take 8) (sym (drop-take (8 * word) (64 - 8 * word) behind) ∙ ap (λ n. drop (8 * word) (take n behind)) all) in
     ap (λ l. lanes_of_bytes (take 8 l)) (sym (drop-drop (8 * word) (64 * plane) bytes)) ∙ ap lanes_of_bytes within
     ∙ take_lanes 8 (drop (8 * word) (take 64 behind)) ∙ ap (take 64) (drop_lanes (8 * word) (take 64 behind) ∙ ap (λ n. drop n (plane_lanes bytes plane)) place)
-    ∙ ap (λ l. take 64 (drop (64 * word) l)) (ap (plane_lanes bytes) same ∙ plane_of_codes width bit bytes long there)
+    ∙ ap (λ l. take 64 (drop (64 * word) l)) (ap (plane_lanes bytes) same ∙ plane_of_codes width bit bytes long (omega (arith, there)))
     ∙ ap (take 64) (drop-map (λ code. has_bit code bit) (64 * word) codes) ∙ take-map (λ code. has_bit code bit) 64 (drop (64 * word) codes)
 
 -- the number that some bits of a code are, and one more below them

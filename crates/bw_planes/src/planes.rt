@@ -35,8 +35,8 @@ impl Layout for Planes {
 
     fn used(width: u32, bytes: &[u8]) -> Plane {
         let mut used = [0; 8];
-        for bit in 0..width {
-            used = or(&used, &Planes::bit(width, bytes, bit));
+        for bit in 0..width as usize {
+            used = or(&used, &plane_of(width, bytes, bit));
         }
         used
     }

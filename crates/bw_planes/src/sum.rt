@@ -1,6 +1,6 @@
 //! Sums of codes, 64 rows at a time. The bits of these rows stand in one word of each plane, and of rows of which none counts
 //! nothing is read.
-ghost use Rattle.std.specs.Prelude.{◌≡◌, ◌+◌, ◌*◌, ◌/◌, ◌%◌, ◌^◌, ◌<◌, ◌≤◌, ◌&&◌, length, take, map, sum, sum_by, count_by};
+ghost use Rattle.std.specs.Prelude.{◌≡◌, ◌+◌, ◌-◌, ◌*◌, ◌/◌, ◌%◌, ◌^◌, ◌<◌, ◌≤◌, ◌&&◌, length, take, map, sum, sum_by, count_by};
 ghost use lib.Lanes.{zip2};
 ghost use Rattle.bw_lanes.specs.Lanes.{bits_from_least, lanes_of_bytes};
 ghost use Rattle.bw_model.specs.Code.{has_bit};
@@ -37,25 +37,26 @@ fn sum_of_bits(width: u32, bytes: &[u8], word: usize, rows: u64, low: u32, count
         (picked (bits_from_least 64 rows) (codes_in_word word (planes_codes width bytes.now))) }
     ensures bound { result + 64 ≤ 64 * 2 ^ count }
 {
+    let top = (width - low - count) as usize;
     let mut sum = 0;
-    for place in 0..count {
-        let bit = low + count - 1 - place;
-        sum = 2 * sum + u64::from(ones_in(rows, word_of(width, bytes, word, bit)));
+    for place in 0..count as usize {
+        sum = 2 * sum + u64::from(ones_in(rows, word_of(width, bytes, word, top + place)));
     }
     sum
 }
 
-/// A word of the plane of a bit.
+/// A word of a plane, of which plane 0 is that of the highest bit. It's reckoned in whole words, so that a loop over planes
+/// moves from one to the next.
 #[inline(always)]
-fn word_of(width: u32, bytes: &[u8], word: usize, bit: u32) -> u64
+fn word_of(width: u32, bytes: &[u8], word: usize, plane: usize) -> u64
     requires width { width ≤ 63 }
     requires size { length bytes.now ≡ 64 * width }
     requires word { word < 8 }
-    requires bit { bit < width }
+    requires plane { plane < width }
     ensures { bits_from_least 64 result
-        ≡ map (λ code. has_bit code bit) (codes_in_word word (planes_codes width bytes.now)) }
+        ≡ map (λ code. has_bit code (width - 1 - plane)) (codes_in_word word (planes_codes width bytes.now)) }
 {
-    first_word(&bytes[64 * (width - 1 - bit) as usize + 8 * word..])
+    first_word(&bytes[64 * plane + 8 * word..])
 }
 
 /// The word of the first 8 bytes.

@@ -25,7 +25,7 @@ impl<L: Layout> PackedSegment<L> {
     {
         let nulls = shape.nulls_in(col, block);
         let codes = shape.codes_in(col, block);
-        let width = shape.schema.width(col);
+        let width = shape.width(col);
         let span = shape.span(col);
         if rows == 512 && are_good::<L>(&nulls, width, codes, span) {
             return None;

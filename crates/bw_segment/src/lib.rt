@@ -31,6 +31,7 @@ mod lanes;
 mod layout;
 mod packed;
 mod packing;
+mod place;
 mod segment;
 mod shape;
 mod values;

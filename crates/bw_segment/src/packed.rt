@@ -122,7 +122,7 @@ impl<L: Layout> PackedSegment<L> {
         ensures size { result ≡ block_size L.packing shape.now.schema.columns.items col }
         ensures bound { result ≤ 4160 }
     {
-        shape.null_size(col) + L::size(shape.schema.width(col))
+        shape.null_size(col) + L::size(shape.width(col))
     }
 
     /// How many bytes a segment takes.
@@ -167,7 +167,7 @@ impl<L: Layout> PackedSegment<L> {
         ensures small { All (λ code. code < 2 ^ result.0) (L.packing.codes result.0 result.1.now) }
     {
         let shape: &Shape = &self.shape;
-        let width = shape.schema.width(col);
+        let width = shape.width(col);
         let end = shape.start::<L>(col + 1);
         (width, &self.bytes.as_slice()[end - L::size(width)..end])
     }

@@ -1,4 +1,4 @@
-use Rattle.std.proofs.Common.{◌≡◌, ◌∙◌, sym, ap, ap₂, subst, suc, ◌+◌, ◌-◌, ◌*◌, ◌/◌, ◌%◌, ◌^◌, ◌≤◌, ◌&&◌, sum_by, count_by, arith}
+use Rattle.std.proofs.Common.{◌≡◌, ◌∙◌, sym, ap, ap₂, subst, suc, ◌+◌, ◌-◌, ◌*◌, ◌/◌, ◌%◌, ◌^◌, ◌≤◌, ◌&&◌, map, sum_by, count_by, arith}
 use lib.Lanes.{zip2}
 use Rattle.std.proofs.lemmas.Grind.{pow_more}
 use Rattle.bw_lanes.specs.Lanes.{bits_from_least}
@@ -23,7 +23,8 @@ loop-place-preserved c =
     let bit = c.args.low + c.args.count - 1 - place in
     let above : c.args.low + c.args.count - place ≡ suc bit = omega (arith, c.loop-place-test.true) in
     let next : bit ≡ c.args.low + c.args.count - (place + 1) = omega arith in
-    let ones = c.ones_in.ensures.ones ∙ ap (λ plane. count_by (λ lane. lane) (zip2 (λ a b. a && b) rows plane)) c.word_of.ensures ∙ count_both (λ code. has_bit code bit) rows codes in
+    let there : c.args.width - 1 - (c.args.width - c.args.low - c.args.count + place) ≡ bit = omega (arith, c.loop-place-test.true, c.requires.bits) in
+    let ones = c.ones_in.ensures.ones ∙ ap (λ plane. count_by (λ lane. lane) (zip2 (λ a b. a && b) rows plane)) (c.word_of.ensures ∙ ap (λ n. map (λ code. has_bit code n) codes) there) ∙ count_both (λ code. has_bit code bit) rows codes in
     record {
       sum = ap₂ (λ s n. 2 * s + n) (c.loop-place.invariant.sum ∙ ap (λ k. sum_by (λ code. code / 2 ^ k % 2 ^ place) (picked rows codes)) above) (c.from.ensures ∙ ones)
           ∙ sym (numbers_more bit place (picked rows codes)) ∙ ap (λ k. sum_by (λ code. code / 2 ^ k % 2 ^ (place + 1)) (picked rows codes)) next;

@@ -15,7 +15,7 @@ loop-bit-init c =
 
 pub loop-bit-preserved : goal.loop-bit-preserved
 loop-bit-preserved c =
-    c.or-used.ensures ∙ used_next (planes_codes c.args.width c.args.bytes.now) c.loop-bit.bit (lanes_of_words c.loop-bit.used) (lanes_of_words c.bit.result) c.loop-bit.invariant c.bit.ensures
+    c.or-used.ensures ∙ used_next (planes_codes c.args.width c.args.bytes.now) c.loop-bit.bit (lanes_of_words c.loop-bit.used) (lanes_of_words c.plane_of.result) c.loop-bit.invariant c.plane_of.ensures
 
 pub returns : goal.returns
 returns c =

@@ -1,0 +1,50 @@
+//! Where the blocks of a table's columns begin.
+ghost use Rattle.std.specs.Prelude.{◌≤◌, length};
+ghost use Rattle.bw_segment.specs.Packing.{bytes_before};
+ghost use Rattle.bw_segment.specs.Packed.{IsPlaced};
+
+use crate::layout::Layout;
+use crate::shape::Shape;
+use bw_model::{Fault, Schema};
+use std::alloc::Global;
+
+impl Shape {
+    ghost use Rattle.std.specs.Prelude.{◌≡◌, IfOk, IsOkUnless};
+    ghost use Rattle.bw_model.specs.Fault.{no_memory};
+
+    /// The shape of a table whose schema is an equal one, in a layout.
+    pub fn of<L: Layout>(alloc: Global, schema: &Schema) -> Result<Self, Fault>
+        ensures name { IfOk result (λ shape. shape.schema.name ≡ schema.now.name) }
+        ensures columns { IfOk result (λ shape.
+            shape.schema.columns.items ≡ schema.now.columns.items) }
+        ensures placed { IfOk result (IsPlaced L.packing) }
+        ensures only_memory { IsOkUnless result no_memory }
+    {
+        let copied = schema.copy(alloc)?;
+        let mut starts = Vec::with_capacity(alloc, copied.columns.len() + 1)?;
+        let mut widths = Vec::with_capacity(alloc, copied.columns.len())?;
+        let mut end = 0;
+        for col in 0..copied.columns.len() {
+            let width = copied.width(col);
+            starts.push(end)?;
+            widths.push(width)?;
+            end += 64 * u32::from(copied.columns[col].nullable) + L::size(width) as u32;
+        }
+        starts.push(end)?;
+        Ok(Shape {
+            schema: copied,
+            starts,
+            widths,
+        })
+    }
+
+    /// The first byte of a column's block in a segment of a layout. For the number of columns, it is the number of bytes.
+    #[inline(always)]
+    pub(crate) fn start<L: Layout>(&self, col: usize) -> usize
+        requires placed { IsPlaced L.packing self.now }
+        requires column { col ≤ length self.now.schema.columns.items }
+        ensures { result ≡ bytes_before L.packing self.now.schema.columns.items col }
+    {
+        self.starts[col] as usize
+    }
+}
