@@ -10,6 +10,7 @@ use crate::plane::Plane;
 use std::simd::prelude::*;
 
 /// The rows whose byte is below c. Byte i is row i's.
+#[inline(always)]
 pub fn bytes_lt(bytes: &[u8; LANES], c: u8) -> Plane
     ensures { lanes_of_words result ≡ map (λ byte. nat_lt byte c) bytes.now }
 {
@@ -21,6 +22,7 @@ pub fn bytes_lt(bytes: &[u8; LANES], c: u8) -> Plane
 }
 
 /// The rows whose byte is c. Byte i is row i's.
+#[inline(always)]
 pub fn bytes_eq(bytes: &[u8; LANES], c: u8) -> Plane
     ensures { lanes_of_words result ≡ map (λ byte. byte == c) bytes.now }
 {

@@ -12,6 +12,7 @@ use bw_lanes::{Plane, and, not, or};
 const ONES: Plane = [u64::MAX; 8];
 
 /// The lanes in which the number that so many bits of the code are, from `low` upwards, isn't below c.
+#[inline(always)]
 pub(crate) fn at_least(width: u32, bytes: &[u8], low: u32, count: u32, c: u64) -> Plane
     requires width { (1 ≤ width) × (width ≤ 63) }
     requires size { length bytes.now ≡ 64 * width }
@@ -48,6 +49,7 @@ fn low_at_least(width: u32, bytes: &[u8], low: u32, count: u32, c: u64) -> Plane
 }
 
 /// The lanes in which that number is c.
+#[inline(always)]
 pub(crate) fn eq(width: u32, bytes: &[u8], low: u32, count: u32, c: u8) -> Plane
     requires width { (1 ≤ width) × (width ≤ 63) }
     requires size { length bytes.now ≡ 64 * width }

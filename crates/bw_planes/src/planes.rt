@@ -60,11 +60,14 @@ impl Layout for Planes {
         plane_of(width, bytes, bit as usize)
     }
 
+    // Compiled into the loop of a run, as `byte_eq` is: a plane that a call leaves in memory would be cleared for each step.
+    #[inline(always)]
     fn byte_lt(width: u32, bytes: &[u8], slice: usize, c: u8) -> Plane {
         let low = 8 * slice as u32;
         not(&at_least(width, bytes, low, (width - low).min(8), u64::from(c)))
     }
 
+    #[inline(always)]
     fn byte_eq(width: u32, bytes: &[u8], slice: usize, c: u8) -> Plane {
         let low = 8 * slice as u32;
         eq(width, bytes, low, (width - low).min(8), c)

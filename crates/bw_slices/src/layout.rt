@@ -59,10 +59,12 @@ impl Layout for Slices {
         bytes_bit(slice_of(width, bytes, bit as usize / 8), bit % 8)
     }
 
+    #[inline(always)]
     fn byte_lt(width: u32, bytes: &[u8], slice: usize, c: u8) -> Plane {
         bytes_lt(slice_of(width, bytes, slice), c)
     }
 
+    #[inline(always)]
     fn byte_eq(width: u32, bytes: &[u8], slice: usize, c: u8) -> Plane {
         bytes_eq(slice_of(width, bytes, slice), c)
     }
