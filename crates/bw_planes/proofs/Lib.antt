@@ -1,5 +1,6 @@
 pub mod ChoiceLemmas
 pub mod CodeLemmas
 pub mod CompareLemmas
+pub mod NearLemmas
 pub mod SumLemmas
 pub mod TransposeLemmas

@@ -1,5 +1,6 @@
 //! Codes kept as planes, and what they answer.
-ghost use Rattle.std.specs.Prelude.{◌≡◌, ◌*◌, ◌^◌, ◌<◌, ◌≤◌, length, map};
+ghost use Rattle.std.specs.Prelude.{◌≡◌, ◌*◌, ◌^◌, ◌<◌, ◌≤◌, false, length, map, nat_lt, true};
+ghost use Rattle.std.specs.List.{list_any};
 ghost use Rattle.bw_lanes.specs.Lanes.{lanes_of_words};
 ghost use Rattle.bw_model.specs.Code.{has_bit};
 ghost use Rattle.bw_model.specs.Stored.{byte_of};
@@ -52,7 +53,7 @@ impl Layout for Planes {
     }
 
     fn any_above(width: u32, bytes: &[u8], most: u64) -> bool {
-        !is_zero(&Planes::above(width, bytes, most))
+        !none_is_near(width, bytes, most) && !is_zero(&Planes::above(width, bytes, most))
     }
 
     #[inline(always)]
@@ -138,6 +139,24 @@ impl Layout for Planes {
     }
 
     ghost keeps = { planes_keep_codes };
+}
+
+/// So many of the highest digits tell in nearly all segments that no code is above a number: of 512 codes that are spread over
+/// as many as there may be, one in sixteen times one has the same such digits as the greatest.
+const HIGHEST: u32 = 14;
+
+/// Whether the codes' highest digits show that none is above a number. Where few digits tell in any case, they don't.
+#[inline(always)]
+fn none_is_near(width: u32, bytes: &[u8], most: u64) -> bool
+    requires width { (1 ≤ width) × (width ≤ 63) }
+    requires size { length bytes.now ≡ 64 * width }
+    ensures { result ≡ true → list_any (nat_lt most) (planes_codes width bytes.now) ≡ false }
+{
+    if most.trailing_ones() + HIGHEST >= width {
+        return false;
+    }
+    let low = width - HIGHEST;
+    is_zero(&at_least(width, bytes, low, HIGHEST, most >> low))
 }
 
 /// The plane of a bit, whose place is reckoned in whole words, so that a loop over bits moves from plane to plane.
