@@ -20,7 +20,7 @@ impl SharedBytes {
     ghost use Rattle.bw_model.specs.Fault.{no_memory};
     ghost use Rattle.bw_device.specs.Shared.{bytes_in};
 
-    /// All of some bytes.
+    /// All of some bytes. Refuses as 801 alone.
     pub fn new(alloc: Global, bytes: Vec<u8>) -> Result<Self, Fault>
         ensures bytes { IfOk result (λ shared. bytes_in shared ≡ bytes.items) }
         ensures only_memory { IsOkUnless result no_memory }

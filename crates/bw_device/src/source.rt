@@ -32,7 +32,7 @@ pub trait Source {
         ensures front { IfSome result (λ shared. bytes_in shared ≡ take count (kept self.now)) }
         ensures enough { IfSome result (λ _. count ≤ length (kept self.now)) };
 
-    /// Takes the next bytes, so many of those that it keeps.
+    /// Takes the next bytes, so many of those that it keeps: that it keeps as many is the caller's condition.
     fn pass(&mut self, count: usize)
         requires { count ≤ length (kept self.old) }
         ensures bytes { Consumes (to_come self.old) (to_come self.new) (take count (kept self.old)) }

@@ -19,12 +19,6 @@ module _ (bytes kept : List ℕ) (start size : ℕ) (within : start + size ≤ l
       let all : length bytes - start ≡ size + left = omega (arith, within) in
       sym (drop-drop size start bytes) ∙ ap (drop size) (next ∙ ap (λ (n : ℕ). take n kept) all) ∙ drop-take size left kept
 
--- what was read, seen in another way that is the same
-pub reads_seen : {A B : Type 0} (view other : A → B) (reading : Reading B) (old new : State) (result : Result A Fault) → ((x : A) → view x ≡ other x)
-    → Reads view reading old new result → Reads other reading old new result
-reads_seen view other reading old new (Ok x) same reads = rw (← same x) reads
-reads_seen view other reading old new (Err fault) same reads = reads
-
 -- bytes up to the end of a part are those before it and the part
 pub with_part : (old new : List ℕ) (start size end : ℕ) → end ≡ start + size → take start new ≡ take start old
     → take end new ≡ take start old ++ slice_range new start (start + size)

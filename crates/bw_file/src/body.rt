@@ -14,6 +14,7 @@ use crate::segment_bytes::SegmentBytes;
 use crate::segments::{AnySegment, block_size, judge, segment_size};
 use crate::take::are_bytes;
 use bw_device::{Failed, Source};
+use bw_lanes::LANES;
 use bw_model::{Fault, code};
 use bw_segment::Shape;
 use std::alloc::Global;
@@ -187,7 +188,7 @@ fn has_padding(layout: Layout, shape: &Shape, col: usize, rows: u32, at: usize, 
             if at < nulls {
                 plane_has_padding(rows, at, byte)
             } else {
-                rows as usize <= (at - nulls) % 512 && byte != 0
+                rows as usize <= (at - nulls) % LANES && byte != 0
             }
         }
     }

@@ -12,13 +12,11 @@ ghost use Rattle.bw_file.specs.FileText.{are_bounds, AreRows, file_text, front_t
 use crate::fields::{MAGIC, are_bounds};
 use crate::layout::Layout;
 use crate::segments::{append, shape_of};
+use bw_lanes::LANES;
 use bw_model::{Column, Fault, Name, Row, RowTaker, Schema};
 use bw_segment::{ColumnCodes, Shape, clear_rows, keep_row, no_rows};
 use byteorder::{ByteOrder, LittleEndian};
 use std::alloc::Global;
-
-/// How many rows a segment has at most.
-const GROUP: usize = 512;
 
 /// Where the number of rows stands in a file.
 const ROW_COUNT_AT: usize = 12;
@@ -86,7 +84,7 @@ impl Encoder {
             × (encoder_schema self.new ≡ encoder_schema self.old) }
         ensures only_memory { IsOkUnless result no_memory }
     {
-        if self.filled == GROUP {
+        if self.filled == LANES {
             self.flush()?;
         }
         self.keep(row);

@@ -9,7 +9,7 @@ ghost use Rattle.bw_file.specs.Blocks.{form_of, block_size, block_fault, segment
 
 use crate::layout::Layout;
 use bw_device::SharedBytes;
-use bw_lanes::Plane;
+use bw_lanes::{LANES, Plane};
 use bw_model::{Fault, Schema, Value};
 use bw_planes::{PlaneSegment, Planes};
 use bw_segment::{ColumnCodes, Segment, Shape};
@@ -104,7 +104,7 @@ impl Segment for AnySegment {
     }
 
     #[tactic(auto, unfolding(crate::specs::AnySegment::any_meaning))]
-    fn codes(&self, col: usize, codes: &mut [u64; 512]) {
+    fn codes(&self, col: usize, codes: &mut [u64; LANES]) {
         match self {
             AnySegment::Planes(segment) => segment.codes(col, codes),
             AnySegment::Slices(segment) => segment.codes(col, codes),

@@ -12,6 +12,7 @@ use crate::layout::Layout;
 use crate::phase::Phase;
 use crate::segments::{AnySegment, segment_size, shape_of};
 use bw_device::Source;
+use bw_lanes::LANES;
 use bw_model::{Fault, Schema};
 use bw_segment::{Segment, Shape};
 use std::alloc::Global;
@@ -142,7 +143,7 @@ impl TableReader {
             (state (S.to_come source.new) (bytes_taken self.new) (S.failures source.new))
             self.old self.new result }
     {
-        let rows = (self.rows - self.given).min(512);
+        let rows = (self.rows - self.given).min(LANES as u32);
         let mut offset = self.offset;
         let answer = read_segment(
             self.alloc,

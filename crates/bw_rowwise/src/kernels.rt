@@ -24,7 +24,7 @@ pub fn compared_in_lanes(op: Op, xs: &Values, ys: &Values) -> Truths
         ≡ compared op (slice_index_or xs.now lane None) (slice_index_or ys.now lane None) }
 {
     let mut truths = [Truth::Unknown; LANES];
-    for lane in 0..512 {
+    for lane in 0..LANES {
         truths[lane] = compared(op, xs[lane], ys[lane]);
     }
     truths
@@ -36,7 +36,7 @@ pub fn among_in_lanes(numbers: &Numbers, xs: &Values) -> Truths
         ≡ among_numbers (slice_index_or xs.now lane None) numbers.now.sorted.items }
 {
     let mut truths = [Truth::Unknown; LANES];
-    for lane in 0..512 {
+    for lane in 0..LANES {
         truths[lane] = numbers.among(xs[lane]);
     }
     truths
@@ -48,7 +48,7 @@ pub fn nulls_in_lanes(xs: &Values) -> Truths
         ≡ truth_from (is_null (slice_index_or xs.now lane None)) }
 {
     let mut truths = [Truth::Unknown; LANES];
-    for lane in 0..512 {
+    for lane in 0..LANES {
         truths[lane] = Truth::of(xs[lane].is_none());
     }
     truths
@@ -60,7 +60,7 @@ pub fn both_in_lanes(a: &Truths, b: &Truths) -> Truths
         ≡ least (slice_index_or a.now lane No) (slice_index_or b.now lane No) }
 {
     let mut truths = [Truth::Unknown; LANES];
-    for lane in 0..512 {
+    for lane in 0..LANES {
         truths[lane] = both(a[lane], b[lane]);
     }
     truths
@@ -72,7 +72,7 @@ pub fn either_in_lanes(a: &Truths, b: &Truths) -> Truths
         ≡ greatest (slice_index_or a.now lane No) (slice_index_or b.now lane No) }
 {
     let mut truths = [Truth::Unknown; LANES];
-    for lane in 0..512 {
+    for lane in 0..LANES {
         truths[lane] = either(a[lane], b[lane]);
     }
     truths
@@ -84,7 +84,7 @@ pub fn opposite_in_lanes(a: &Truths) -> Truths
         ≡ negation (slice_index_or a.now lane No) }
 {
     let mut truths = [Truth::Unknown; LANES];
-    for lane in 0..512 {
+    for lane in 0..LANES {
         truths[lane] = opposite(a[lane]);
     }
     truths
@@ -96,7 +96,7 @@ pub fn tested_in_lanes(a: &Truths, wanted: Truth) -> Truths
         ≡ truth_from (is_truth (slice_index_or a.now lane No) wanted) }
 {
     let mut truths = [Truth::Unknown; LANES];
-    for lane in 0..512 {
+    for lane in 0..LANES {
         truths[lane] = Truth::of(a[lane] == wanted);
     }
     truths

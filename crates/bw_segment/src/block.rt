@@ -7,7 +7,7 @@ ghost use Rattle.bw_segment.specs.BlockFault.{lanes_fault, TellsCodes};
 ghost use Rattle.bw_segment.specs.Packing.{null_size, block_nulls};
 
 use crate::shape::Shape;
-use bw_lanes::{Plane, and, bytes_bit, is_zero, lane, load, mask, not, or, to_bytes};
+use bw_lanes::{LANES, Plane, and, bytes_bit, is_zero, lane, load, mask, not, or, to_bytes};
 use bw_model::{Fault, code};
 
 impl Shape {
@@ -48,7 +48,7 @@ impl Shape {
         &self,
         bytes: &mut Vec<u8>,
         col: usize,
-        nulls: &[u8; 512],
+        nulls: &[u8; LANES],
     ) -> Result<(), Fault>
         requires { col < length self.now.schema.columns.items }
         ensures added { OnOk result ((rows : List (List Value)) → nulls.now ≡ stored_nulls rows col
@@ -131,7 +131,7 @@ fn is_padding_clear(rows: u32, nulls: &Plane, used: &Plane) -> bool
         × ((slice_index_or (lanes_of_words nulls.now) row false
         || slice_index_or (lanes_of_words used.now) row false) ≡ true) }
 {
-    if rows == 512 {
+    if rows as usize == LANES {
         return true;
     }
     is_zero(&and(&or(nulls, used), &not(&mask(rows))))

@@ -3,25 +3,27 @@ ghost use Rattle.std.specs.Prelude.{◌≡◌, ◌<◌, ◌≤◌, ◌+◌, ◌*
 ghost use lib.Lanes.{zip2};
 ghost use Rattle.bw_model.specs.Stored.{byte_of};
 
+use bw_lanes::LANES;
+
 /// A byte of each code, of which byte 0 is the least.
-pub fn bytes_of(codes: &[u64; 512], slice: usize) -> [u8; 512]
+pub fn bytes_of(codes: &[u64; LANES], slice: usize) -> [u8; LANES]
     requires { slice < 8 }
     ensures { result ≡ map (byte_of slice) codes.now }
 {
-    let mut bytes = [0; 512];
-    for lane in 0..512 {
+    let mut bytes = [0; LANES];
+    for lane in 0..LANES {
         bytes[lane] = (codes[lane] >> (8 * slice) & 0xFF) as u8;
     }
     bytes
 }
 
 /// The lowest bytes of each code, so many: for each byte those of all codes, of which byte 0 is the least.
-pub fn slices_of(codes: &[u64; 512], count: usize) -> [[u8; 512]; 8]
+pub fn slices_of(codes: &[u64; LANES], count: usize) -> [[u8; LANES]; 8]
     requires { count ≤ 8 }
     ensures { (slice : ℕ) → slice < count
         → slice_index_or result slice [] ≡ map (byte_of slice) codes.now }
 {
-    let mut slices = [[0; 512]; 8];
+    let mut slices = [[0; LANES]; 8];
     for slice in 0..count {
         slices[slice] = bytes_of(codes, slice);
     }
@@ -29,19 +31,19 @@ pub fn slices_of(codes: &[u64; 512], count: usize) -> [[u8; 512]; 8]
 }
 
 /// Makes each byte the code of its lane.
-pub fn put_byte(codes: &mut [u64; 512], bytes: &[u8; 512])
+pub fn put_byte(codes: &mut [u64; LANES], bytes: &[u8; LANES])
     ensures { codes.new ≡ bytes.now }
 {
-    for lane in 0..512 {
+    for lane in 0..LANES {
         codes[lane] = u64::from(bytes[lane]);
     }
 }
 
 /// Shifts one more byte into each code: a code becomes 256 times itself plus the byte, modulo 2^64.
-pub fn push_byte(codes: &mut [u64; 512], bytes: &[u8; 512])
+pub fn push_byte(codes: &mut [u64; LANES], bytes: &[u8; LANES])
     ensures { codes.new ≡ zip2 (λ code byte. (256 * code + byte) % 2 ^ 64) codes.old bytes.now }
 {
-    for lane in 0..512 {
+    for lane in 0..LANES {
         codes[lane] = with_byte(codes[lane], bytes[lane]);
     }
 }

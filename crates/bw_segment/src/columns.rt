@@ -7,6 +7,7 @@ ghost use Rattle.bw_model.specs.Row.{Value, values_of};
 ghost use Rattle.bw_segment.specs.Columns.{KeepRows};
 ghost use Rattle.bw_segment.specs.Meaning.{meaning_of, IsGroup};
 
+use bw_lanes::LANES;
 use bw_model::{Fault, Row, Schema};
 use std::alloc::Global;
 
@@ -14,8 +15,8 @@ use std::alloc::Global;
 /// else 0.
 #[derive(Drop)]
 pub struct ColumnCodes {
-    pub codes: [u64; 512],
-    pub nulls: [u8; 512],
+    pub codes: [u64; LANES],
+    pub nulls: [u8; LANES],
 }
 
 impl ColumnCodes {
@@ -27,8 +28,8 @@ impl ColumnCodes {
         ensures nulls { result.nulls ≡ replicate 512 0 }
     {
         ColumnCodes {
-            codes: [0; 512],
-            nulls: [0; 512],
+            codes: [0; LANES],
+            nulls: [0; LANES],
         }
     }
 

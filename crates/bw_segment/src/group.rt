@@ -2,6 +2,7 @@
 ghost use Rattle.std.specs.Prelude.{◌≡◌, true, false};
 ghost use Rattle.bw_segment.specs.Meaning.{meaning_of, IsGroup};
 
+use bw_lanes::LANES;
 use bw_model::{Row, Schema};
 
 /// Whether rows are those of one group: 1 to 512, each of which the schema admits.
@@ -13,7 +14,7 @@ pub fn is_group(schema: &Schema, rows: &[Row]) -> bool
     if count == 0 {
         return false;
     }
-    if count > 512 {
+    if count > LANES {
         return false;
     }
     for row in rows {

@@ -9,7 +9,7 @@ use crate::block::fault_of_lanes;
 use crate::layout::Layout;
 use crate::packed::PackedSegment;
 use crate::shape::Shape;
-use bw_lanes::{Plane, is_zero};
+use bw_lanes::{LANES, Plane, is_zero};
 
 impl<L: Layout> PackedSegment<L> {
     /// The first fault of a column's block of a segment of so many rows, by its number: 308 where a bit of a
@@ -27,7 +27,7 @@ impl<L: Layout> PackedSegment<L> {
         let codes = shape.codes_in(col, block);
         let width = shape.width(col);
         let span = shape.span(col);
-        if rows == 512 && are_good::<L>(&nulls, width, codes, span) {
+        if rows as usize == LANES && are_good::<L>(&nulls, width, codes, span) {
             return None;
         }
         let used = used::<L>(rows, &nulls, width, codes);
@@ -55,7 +55,7 @@ fn used<L: Layout>(rows: u32, nulls: &Plane, width: u32, codes: &[u8]) -> Plane
     ensures { TellsCodes rows (lanes_of_words nulls.now) (L.packing.codes width codes.now)
         (lanes_of_words result) }
 {
-    if rows == 512 && is_zero(nulls) {
+    if rows as usize == LANES && is_zero(nulls) {
         return [0; 8];
     }
     L::used(width, codes)

@@ -8,7 +8,7 @@ ghost use Rattle.bw_model.specs.Selection.{picked};
 ghost use Rattle.bw_model.specs.Stored.{byte_of};
 ghost use Rattle.bw_segment.specs.Packing.{Packing, IsPacking};
 
-use bw_lanes::Plane;
+use bw_lanes::{LANES, Plane};
 use bw_model::Fault;
 
 /// How the codes of 512 lanes are kept as bytes. Each method but `size` and `push_codes` is given the bytes of such codes, of
@@ -23,7 +23,7 @@ pub trait Layout {
         ensures bound { result ≤ 4096 };
 
     /// Adds the bytes of codes. Where memory is refused a part may have been added.
-    fn push_codes(bytes: &mut Vec<u8>, width: u32, codes: &[u64; 512]) -> Result<(), Fault>
+    fn push_codes(bytes: &mut Vec<u8>, width: u32, codes: &[u64; LANES]) -> Result<(), Fault>
         requires { (1 ≤ width) × (width ≤ 63) }
         ensures added { OnOk result (bytes.new.items
             ≡ bytes.old.items ++ packing.text width codes.now) }
@@ -116,7 +116,7 @@ pub trait Layout {
         ensures { result ≡ slice_index (packing.codes width bytes.now) lane };
 
     /// The code of each lane.
-    fn unpack(width: u32, bytes: &[u8], codes: &mut [u64; 512])
+    fn unpack(width: u32, bytes: &[u8], codes: &mut [u64; LANES])
         requires width { (1 ≤ width) × (width ≤ 63) }
         requires size { length bytes.now ≡ packing.size width }
         ensures { codes.new ≡ packing.codes width bytes.now };

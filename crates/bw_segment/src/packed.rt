@@ -10,7 +10,7 @@ use crate::layout::Layout;
 use crate::segment::Segment;
 use crate::shape::Shape;
 use bw_device::SharedBytes;
-use bw_lanes::{Plane, lane};
+use bw_lanes::{LANES, Plane, lane};
 use bw_model::{Schema, Value};
 use std::marker::PhantomData;
 use std::rc::Rc;
@@ -76,7 +76,7 @@ impl<L: Layout> Segment for PackedSegment<L> {
         L::greatest(width, codes, rows)
     }
 
-    fn codes(&self, col: usize, codes: &mut [u64; 512]) {
+    fn codes(&self, col: usize, codes: &mut [u64; LANES]) {
         let (width, kept) = self.kept(col);
         L::unpack(width, kept, codes);
     }

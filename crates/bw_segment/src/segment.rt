@@ -9,7 +9,7 @@ ghost use Rattle.bw_model.specs.Variable.{bit_variable, null_variable, variables
 ghost use Rattle.bw_segment.specs.Meaning.{Meaning, IsGroup, variable_lanes, byte_lanes, code_lanes, null_lanes};
 ghost use Rattle.bw_segment.specs.Picked.{bit_lanes, codes_in};
 
-use bw_lanes::Plane;
+use bw_lanes::{LANES, Plane};
 use bw_model::{Schema, Value};
 
 /// At least 1 and at most 512 rows of a table, kept by columns. The methods take no memory and refuse nothing.
@@ -77,7 +77,7 @@ pub trait Segment {
 
     /// The codes of a column in the 512 lanes, as they are stored: that of row i in lane i, and 0 where the row is null and
     /// past the last row.
-    fn codes(&self, col: usize, codes: &mut [u64; 512])
+    fn codes(&self, col: usize, codes: &mut [u64; LANES])
         requires { col < length (meaning self.now).columns }
         ensures { codes.new ≡ code_lanes (meaning self.now) col };
 

@@ -6,16 +6,16 @@ ghost use Rattle.bw_model.specs.Row.{value_in};
 ghost use Rattle.bw_model.specs.Truth.{is_null};
 
 use crate::segment::Segment;
-use bw_lanes::{Plane, bytes_of_plane, is_zero, mask, not, or};
+use bw_lanes::{LANES, Plane, bytes_of_plane, is_zero, mask, not, or};
 use bw_model::{Column, Value};
 
 /// The values of a column in the 512 lanes: that of row i in lane i, and null past the last row.
-pub fn values_in_lanes<S: Segment>(segment: &S, col: usize, values: &mut [Value; 512])
+pub fn values_in_lanes<S: Segment>(segment: &S, col: usize, values: &mut [Value; LANES])
     requires { col < length (S.meaning segment.now).columns }
     ensures { (lane : ℕ) → lane < 512 → slice_index_or values.new lane None
         ≡ value_in (slice_index_or (S.meaning segment.now).rows lane []) col }
 {
-    let mut codes = [0; 512];
+    let mut codes = [0; LANES];
     segment.codes(col, &mut codes);
     let column = &segment.schema().columns[col];
     let none = no_values(segment, col);
@@ -38,26 +38,26 @@ fn no_values<S: Segment>(segment: &S, col: usize) -> Plane
 }
 
 /// Puts the value of each lane's code in the lane.
-fn put_all(column: &Column, codes: &[u64; 512], values: &mut [Value; 512])
+fn put_all(column: &Column, codes: &[u64; LANES], values: &mut [Value; LANES])
     requires { All (λ code. code ≤ span_of column.now) codes.now }
     ensures { (lane : ℕ) → lane < 512 → slice_index_or values.new lane None
         ≡ Some (value_of_code column.now (slice_index codes.now lane)) }
 {
     let (lo, hi) = (column.lo, column.hi);
-    for lane in 0..512 {
+    for lane in 0..LANES {
         values[lane] = Some(value_of(lo, hi, codes[lane]));
     }
 }
 
 /// The same in the lanes where a byte in `nulls` is 0, and null in the others.
-fn put_values(column: &Column, codes: &[u64; 512], nulls: &[u8; 512], values: &mut [Value; 512])
+fn put_values(column: &Column, codes: &[u64; LANES], nulls: &[u8; LANES], values: &mut [Value; LANES])
     requires { All (λ code. code ≤ span_of column.now) codes.now }
     ensures { (lane : ℕ) → lane < 512 → slice_index_or values.new lane None
         ≡ (if slice_index nulls.now lane == 0
         then Some (value_of_code column.now (slice_index codes.now lane)) else None) }
 {
     let (lo, hi) = (column.lo, column.hi);
-    for lane in 0..512 {
+    for lane in 0..LANES {
         values[lane] = value_or_null(value_of(lo, hi, codes[lane]), nulls[lane]);
     }
 }

@@ -4,7 +4,7 @@ use Rattle.bw_segment.proofs.FaultLemmas.{tells_all, tells_nothing}
 use Rattle.bw_segment.proofs.judge.used.Goals as goal
 
 pub returns-then-is_zero : goal.returns-then-is_zero
-returns-then-is_zero g c = tells_nothing c.args.rows (lanes_of_words c.args.nulls.now) _ (g.L.Layout.packing.codes c.args.width c.args.codes.now) c.if-rows-eq512.true (sym c.is_zero.ensures ∙ c.if-is_zero.true)
+returns-then-is_zero g c = tells_nothing c.args.rows (lanes_of_words c.args.nulls.now) _ (g.L.Layout.packing.codes c.args.width c.args.codes.now) c.if-rows-eq-LANES.true (sym c.is_zero.ensures ∙ c.if-is_zero.true)
 
 pub returns : goal.returns
 returns g c =

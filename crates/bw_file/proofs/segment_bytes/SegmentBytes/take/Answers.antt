@@ -6,7 +6,7 @@ use Rattle.bw_file.specs.Reading.{Reads, Took, state, field}
 use Rattle.bw_file.specs.SegmentBytes.{bytes_held, AreNext}
 use Rattle.bw_file.specs.declared.segment_bytes.SegmentBytes.{SegmentBytes}
 use Rattle.bw_file.proofs.ReadingLemmas.{field_taken}
-use Rattle.bw_file.proofs.SegmentBytesLemmas.{next_kept, next_left, reads_seen}
+use Rattle.bw_file.proofs.SegmentBytesLemmas.{next_kept, next_left}
 use Rattle.bw_file.proofs.segment_bytes.SegmentBytes.take.Goals as goal
 
 pub returns-in-Shared-clause-reads : goal.returns-in-Shared-clause-reads

@@ -12,7 +12,7 @@ pub returns-then-are_good : goal.returns-then-are_good
 unfolding block_fault block_codes
 returns-then-are_good g c =
     sym (c.are_good.ensures c.if-are_good.true)
-    ∙ (λ i. lanes_fault (c.span-span.ensures.span i) (sym c.if-rows-eq512.true i) (c.nulls_in-nulls.ensures i) (g.L.Layout.packing.codes (c.width-width.ensures.width i) (c.codes_in-codes.ensures i)))
+    ∙ (λ i. lanes_fault (c.span-span.ensures.span i) (sym c.if-rows-eq-LANES.true i) (c.nulls_in-nulls.ensures i) (g.L.Layout.packing.codes (c.width-width.ensures.width i) (c.codes_in-codes.ensures i)))
 
 pub above-above-requires-clause-most : goal.above-above-requires-clause-most
 above-above-requires-clause-most g c = let columns = c.args.shape.now.schema.columns.items in omega (arith, c.span-span.ensures.span, ap (λ w. 2 ^ w) c.width-width.ensures.width, span_fits columns c.args.col c.requires.column)
