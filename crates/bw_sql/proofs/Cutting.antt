@@ -11,7 +11,7 @@ use Rattle.bw_sql.specs.Piece.{Piece, Gap, Token, IsDelimiter, IsLongest, IsLong
 use Rattle.bw_sql.specs.Token.{Lexeme, Compare, Punct}
 use Rattle.bw_sql.proofs.Cuts.{shrinks}
 use Rattle.bw_sql.proofs.Pieces.{Split, split, blank_longest, word_longest, digits_longest, comment_longest, delimiter_longest, no_piece}
-use Rattle.bw_sql.proofs.Runs.{bool_cases}
+use Rattle.bw_sql.proofs.Cases.{bool_cases}
 use Rattle.bw_sql.proofs.Delimiters.{NoLong, no_long, no_long_at_end, long_longest, short_longest, none_begins}
 
 -- the delimiter that one byte is, and that two are

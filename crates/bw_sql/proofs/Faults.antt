@@ -1,6 +1,6 @@
 -- The fault of a text.
-use Rattle.std.proofs.Common.{◌≡◌, ℕ, ◌-◌, ◌<◌, ◌≤◌, ◌⊎◌, inl, inr, true, if◌then◌else◌, ◌==◌, List, [], ◌∷◌, length, Option, Some, None, Result, Ok, Err, slice_get, refl, sym, ◌∙◌, ap, subst, arith}
-use Rattle.std.proofs.lemmas.List.{append-nil, length-map}
+use Rattle.std.proofs.Common.{◌≡◌, ℕ, ◌-◌, ◌<◌, ◌≤◌, ◌⊎◌, inl, inr, if◌then◌else◌, ◌==◌, List, ◌∷◌, length, Option, Some, None, Result, Ok, Err, slice_get, refl, sym, ◌∙◌, ap, subst, arith}
+use Rattle.std.proofs.lemmas.List.{length-map}
 use Rattle.std.proofs.lemmas.Bool.{cases_lt}
 use Rattle.std.proofs.lemmas.Option.{slice_get_cases, slice_get_past, slice_get_within}
 use Rattle.bw_model.specs.declared.fault.Fault.{Fault}
@@ -11,34 +11,19 @@ use Rattle.bw_sql.specs.declared.reader.Refusal.{Refusal}
 use Rattle.bw_sql.specs.declared.reader.Refusal.TheVariants.{Syntax, UnknownTable, UnknownColumn, Literal, MixedItems, Nesting}
 use Rattle.bw_sql.specs.Asked.{Asked, asked}
 use Rattle.bw_sql.specs.Cut.{IsCut, Spot}
-use Rattle.bw_sql.specs.Demand.{is_met}
 use Rattle.bw_sql.specs.Frontier.{Stands, IsFirst, asked_for, at_token, at_sign, at_end}
-use Rattle.bw_sql.specs.Grammar.{StatementIs}
 use Rattle.bw_sql.specs.Limits.{longest_statement}
-use Rattle.bw_sql.specs.Reading.{Halt, ◌>>=◌, statement_at}
+use Rattle.bw_sql.specs.Reading.{Halt, statement_at}
 use Rattle.bw_sql.specs.Refusal.{code_of}
 use Rattle.bw_sql.specs.Judged.{Answers, IsRead, fault_at, judged, spot_from}
 use Rattle.bw_sql.specs.Statement.{IsFault, IsRefusal, SpellsOrFails, Parses, Spells, too_long, refused, token_refused, end_refused, byte_refused, tokens_of}
 use Rattle.bw_sql.specs.Token.{Lexeme}
 use Rattle.bw_sql.proofs.Cutting.{cut_of_text}
 use Rattle.bw_sql.proofs.Frontiers.{FirstFault, first_fault, end_least, beyond}
-use Rattle.bw_sql.proofs.Machine.{Symbol, AStatement, step, run, all_may_end, Halted}
 use Rattle.bw_sql.proofs.OneCut.{one_cut_of}
-use Rattle.bw_sql.proofs.Query.{not_refused, read_spelled}
+use Rattle.bw_sql.proofs.Query.{accepted, not_refused, read_spelled}
 use Rattle.bw_sql.proofs.Stops.{asked_for_weaker, path_weaker}
-use Rattle.bw_sql.proofs.Runs.{bool_cases, statement_runs}
-use Rattle.bw_sql.proofs.Viable.{Path, here, there, path_spelled}
-
--- the machine reads all tokens of a statement
-run_whole : (schema : Schema) (stack : List Symbol) (tokens : List Lexeme) → run schema stack tokens ≡ Ok tt → (last : List Symbol) × Path (is_met schema) stack tokens last × (all_may_end last ≡ true)
-unfolding run
-run_whole schema stack [] e = bool_cases (all_may_end stack) (λ m. (stack, here, m)) (λ u. let f = rw u at e in cc)
-run_whole schema stack (t ∷ tokens) e = go (step (is_met schema) stack t) refl (λ next f. run_whole schema next tokens f)
-  where
-    go : (r : Result (List Symbol) Halted) → step (is_met schema) stack t ≡ r → ((next : List Symbol) → run schema next tokens ≡ Ok tt → (last : List Symbol) × Path (is_met schema) next tokens last × (all_may_end last ≡ true)) →
-        (last : List Symbol) × Path (is_met schema) stack (t ∷ tokens) last × (all_may_end last ≡ true)
-    go (Ok next) f onward = let p = onward next (rw f at e) in (p.0, there f p.1, p.2)
-    go (Err halted) f onward = let g = rw f at e in cc
+use Rattle.bw_sql.proofs.Viable.{path_spelled}
 
 -- after all tokens no fault but 402 stands
 only_syntax : (schema : Schema) (tokens : List Lexeme) (why : Refusal) (place : ℕ) → Stands schema tokens why place → length tokens ≤ place → why ≡ Syntax
@@ -54,7 +39,7 @@ module _ (schema : Schema) (text : List ℕ) (tokens : List Spot) where
   -- all tokens are read, and a byte begins no piece
   read_all : (q : Asked) → statement_at schema (tokens_of tokens) ≡ Ok q → (why : Refusal) (place : ℕ) → IsFirst schema (tokens_of tokens) why place → length tokens ≤ place
   read_all q e why place f =
-      let p = run_whole schema (AStatement ∷ []) (tokens_of tokens) (statement_runs schema (tokens_of tokens) ∙ ap (λ r. r >>= λ q. Ok tt) e) in
+      let p = accepted schema (tokens_of tokens) q e in
       omega (arith, length-map tokens (λ spot. spot.token), at_or_behind _ _ _ (end_least schema (tokens_of tokens) p.0 p.1 why place f.stands))
 
   refused_at_token : (stop : Option ℕ) (why : Refusal) (place : ℕ) (spot : Spot) → IsCut 0 text tokens stop → IsFirst schema (tokens_of tokens) why place → slice_get tokens place ≡ Some spot →
@@ -142,9 +127,9 @@ module _ (schema : Schema) (text : List ℕ) (tokens : List Spot) where
   no_fault_at_end : (q : Asked) (place : ℕ) → statement_at schema (tokens_of tokens) ≡ Ok q → Stands schema (tokens_of tokens) Syntax place → length tokens ≤ place → ⊥
   no_fault_at_end q place e (at_token before behind t f v unless) h = absurd (omega (arith, beyond (tokens_of tokens) before behind t f, length-map tokens (λ spot. spot.token)))
   no_fault_at_end q place e (at_end v unless) h =
-      let p = run_whole schema (AStatement ∷ []) (tokens_of tokens) (statement_runs schema (tokens_of tokens) ∙ ap (λ r. r >>= λ q. Ok tt) e) in
+      let p = accepted schema (tokens_of tokens) q e in
       let asked = path_spelled schema (asked_for schema Syntax) (asked_for_weaker schema Syntax) (tokens_of tokens) p.0 (path_weaker schema (asked_for schema Syntax) (asked_for_weaker schema Syntax) p.1) p.2 in
-      unless asked.0 (subst (λ ts. StatementIs schema (asked_for schema Syntax) ts asked.0) (append-nil (tokens_of tokens)) asked.1)
+      unless asked.0 asked.1
 
   spot_there : (halt : Halt) (f : FirstFault schema (tokens_of tokens) halt) → spot_from halt.left tokens ≡ slice_get tokens f.place
   spot_there halt f = let index : length tokens - halt.left ≡ f.place = omega (arith, f.left, length-map tokens (λ spot. spot.token)) in ap (slice_get tokens) index

@@ -1,8 +1,8 @@
 pub mod Cuts
+pub mod Cases
 pub mod Cutting
 pub mod Faults
 pub mod Frontiers
-pub mod Lengths
 pub mod Levels
 pub mod Machine
 pub mod OneCut
@@ -13,7 +13,7 @@ pub mod Repeats
 pub mod Delimiters
 pub mod Runs
 pub mod SameNames
-pub mod Sound
+pub mod SameWord
 pub mod Spelled
 pub mod Stops
 pub mod Viable

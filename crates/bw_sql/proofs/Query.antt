@@ -1,20 +1,45 @@
 -- From what the tokens are read as to what they spell.
-use Rattle.std.proofs.Common.{◌≡◌, ℕ, ◌≤◌, Bool, true, false, List, length, Option, Some, None, Result, Ok, Err, IfErr, refl, sym, ◌∙◌, ap, subst}
+use Rattle.std.proofs.Common.{◌≡◌, ℕ, ◌≤◌, Bool, true, false, List, [], ◌∷◌, length, Option, Some, None, Result, Ok, Err, IfErr, refl, sym, ◌∙◌, ap, subst}
 use Rattle.bw_model.specs.declared.fault.Fault.{Fault}
 use Rattle.bw_model.specs.declared.query.Query.{Query}
 use Rattle.bw_model.specs.declared.schema.Schema.{Schema}
 use Rattle.bw_model.specs.Fault.{is_memory}
 use Rattle.bw_sql.specs.Asked.{Asked}
 use Rattle.bw_sql.specs.Cut.{IsCut, Spot}
+use Rattle.bw_sql.specs.Demand.{is_met}
 use Rattle.bw_sql.specs.Grammar.{IsQuery}
 use Rattle.bw_sql.specs.Limits.{longest_statement}
-use Rattle.bw_sql.specs.Reading.{Halt, statement_at}
+use Rattle.bw_sql.specs.Reading.{Halt, ◌>>=◌, statement_at}
 use Rattle.bw_sql.specs.Judged.{Answers, IsRead, judged}
 use Rattle.bw_sql.specs.Statement.{Spells, tokens_of}
 use Rattle.bw_sql.specs.Token.{Lexeme}
 use Rattle.bw_sql.proofs.OneCut.{one_cut_of}
-use Rattle.bw_sql.proofs.Sound.{query_spelled}
+use Rattle.bw_sql.proofs.Machine.{Symbol, AStatement, all_may_end}
+use Rattle.bw_sql.proofs.Runs.{statement_runs}
 use Rattle.bw_sql.proofs.Spelled.{query_read}
+use Rattle.bw_sql.proofs.Stops.{Ran, whole, ends, stops, ran}
+use Rattle.bw_sql.proofs.Viable.{Path, path_spelled}
+
+-- the machine reads all tokens of what is read
+pub accepted : (schema : Schema) (tokens : List Lexeme) (q : Asked) → statement_at schema tokens ≡ Ok q →
+    (last : List Symbol) × Path (is_met schema) (AStatement ∷ []) tokens last × (all_may_end last ≡ true)
+accepted schema tokens q e =
+    go (ran schema false (AStatement ∷ []) tokens) (statement_runs schema tokens ∙ ap (λ r. r >>= λ q. Ok tt) e)
+  where
+    go : {r : Result (Unit {0}) Halt} → Ran schema false (AStatement ∷ []) tokens r → r ≡ Ok tt →
+        (last : List Symbol) × Path (is_met schema) (AStatement ∷ []) tokens last × (all_may_end last ≡ true)
+    go (whole last p m) f = (last, p, m)
+    go (ends last p) f = cc
+    go (stops before behind t last why g p h) f = cc
+
+-- what is read is spelled by the grammar, with all demands met
+pub query_spelled : (schema : Schema) (tokens : List Lexeme) (q : Asked) → statement_at schema tokens ≡ Ok q → IsQuery schema tokens q
+query_spelled schema tokens q e =
+    let p = accepted schema tokens q e in
+    let other = path_spelled schema (is_met schema) (λ d m. m) tokens p.0 p.1 p.2 in
+    let both : ◌≡◌ {A = Result Asked Halt} (Ok other.0) (Ok q) = sym (query_read schema tokens other.0 other.1) ∙ e in
+    let same : other.0 ≡ q = cc in
+    subst (λ q. IsQuery schema tokens q) same other.1
 
 pub same_query : (schema : Schema) (tokens : List Lexeme) (query other : Asked) → IsQuery schema tokens query → IsQuery schema tokens other → query ≡ other
 same_query schema tokens query other a b = let both : ◌≡◌ {A = Result Asked Halt} (Ok query) (Ok other) = sym (query_read schema tokens query a) ∙ query_read schema tokens other b in cc

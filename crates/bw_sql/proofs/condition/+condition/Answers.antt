@@ -4,8 +4,9 @@ use Rattle.std.proofs.lemmas.List.{map-append}
 use Rattle.std.proofs.lemmas.Result.{err_from_is_err_and}
 use Rattle.bw_sql.specs.declared.reader.Refusal.TheVariants.{Nesting}
 use Rattle.bw_model.specs.CondTree.{tree_of}
-use Rattle.bw_sql.specs.Reading.{after_keyword, more_parts_in, nested, part_in, with_front, word_of}
+use Rattle.bw_sql.specs.Reading.{after_keyword, more_parts_in, nested, part_in, with_front}
 use Rattle.bw_sql.specs.Token.{lexemes}
+use Rattle.bw_sql.specs.Words.{word_of}
 use Rattle.bw_sql.proofs.Levels.{factor_at_0, factor_deeper, primary_at_0, primary_deeper}
 use Rattle.bw_sql.proofs.Repeats.{Repeats, ends, halts, steps, halts_too, length-lexemes}
 use Rattle.bw_sql.proofs.condition.+condition.Goals as goal

@@ -1,0 +1,56 @@
+-- A reserved word and a mark are known by their spelling.
+use Rattle.std.proofs.Common.{◌≡◌, ℕ, Bool, true, false, List, [], ◌∷◌, Option, Some, None, if◌then◌else◌, refl, sym, ◌∙◌, ap}
+use Rattle.std.proofs.lemmas.Slice.Eq.{bytes_eq-Decides}
+use Rattle.std.specs.Prelude.{find}
+use Rattle.std.specs.Str.{bytes_eq}
+use Rattle.bw_model.specs.declared.keyword.Keyword.{Keyword}
+use Rattle.bw_model.specs.declared.keyword.Keyword.TheVariants as word
+use Rattle.bw_model.specs.Keyword.{keyword_of, spelling}
+use Rattle.bw_model.specs.Text.{same_text}
+use Rattle.bw_sql.specs.declared.token.Mark.{Mark}
+use Rattle.bw_sql.specs.declared.token.Mark.TheVariants as mark
+use Rattle.bw_sql.specs.Piece.{mark_spelling}
+use Rattle.bw_sql.specs.Reading.{same_keyword, same_mark, after_keyword, after_mark}
+use Rattle.bw_sql.specs.Token.{Lexeme, Reserved, Punct}
+
+spelled_word : (w : Keyword) → keyword_of (spelling w) ≡ Some w
+unfolding keyword_of same_text
+spelled_word word.And = refl
+spelled_word _ = refl
+
+mark_of : List ℕ → Option Mark
+mark_of text = find (λ m. bytes_eq (mark_spelling m) text)
+    (mark.Open ∷ mark.Close ∷ mark.Comma ∷ mark.Star ∷ mark.Semicolon ∷ mark.Plus ∷ mark.Minus ∷ [])
+
+spelled_mark : (m : Mark) → mark_of (mark_spelling m) ≡ Some m
+unfolding mark_of
+spelled_mark mark.Open = refl
+spelled_mark _ = refl
+
+pub word_same : (v w : Keyword) → same_keyword v w ≡ true → v ≡ w
+word_same v w e =
+    let both : Some v ≡ Some w = sym (spelled_word v) ∙ ap keyword_of ((bytes_eq-Decides (spelling v) (spelling w)).0 e)
+    ∙ spelled_word w in cc
+
+mark_same : (m n : Mark) → same_mark m n ≡ true → m ≡ n
+mark_same m n e =
+    let both : Some m ≡ Some n = sym (spelled_mark m)
+    ∙ ap mark_of ((bytes_eq-Decides (mark_spelling m) (mark_spelling n)).0 e) ∙ spelled_mark n in cc
+
+some_if : {A : Type 0} (b : Bool) (x y : A) → (if b then Some x else None) ≡ Some y → (b ≡ true) × (x ≡ y)
+some_if true x y e = (refl, cc)
+some_if false x y e = cc
+
+pub word_is : (w : Keyword) (tokens next : List Lexeme) → after_keyword w tokens ≡ Some next → tokens ≡ Reserved w ∷ next
+unfolding after_keyword
+word_is w (Reserved found ∷ tokens) next e =
+    let same = some_if (same_keyword found w) tokens next e in
+    rw (word_same found w same.0, same.1) refl
+word_is w _ next e = cc
+
+pub mark_is : (m : Mark) (tokens next : List Lexeme) → after_mark m tokens ≡ Some next → tokens ≡ Punct m ∷ next
+unfolding after_mark
+mark_is m (Punct found ∷ tokens) next e =
+    let same = some_if (same_mark found m) tokens next e in
+    rw (mark_same found m same.0, same.1) refl
+mark_is m _ next e = cc
