@@ -1,5 +1,5 @@
 -- Every text is cut: a piece begins it, or none.
-use Rattle.std.proofs.Common.{◌==◌, ◌≡◌, ℕ, zero, suc, ◌+◌, ◌≤◌, Bool, true, false, List, [], ◌∷◌, length, take, drop, Option, Some, None, refl, sym, subst, arith}
+use Rattle.std.proofs.Common.{◌==◌, ◌≡◌, ℕ, zero, suc, ◌+◌, ◌≤◌, Bool, true, false, List, [], ◌∷◌, length, take, drop, Option, Some, None, refl, sym, ◌∙◌, subst, arith}
 use Rattle.std.specs.List.{prefix_len}
 use Rattle.std.specs.Char.{is_ascii_digit}
 use Rattle.std.proofs.lemmas.Bool.{eqb-true}
@@ -11,63 +11,27 @@ use Rattle.bw_sql.specs.Piece.{Piece, Gap, Token, IsDelimiter, IsLongest, IsLong
 use Rattle.bw_sql.specs.Token.{Lexeme, Compare, Punct}
 use Rattle.bw_sql.proofs.Cuts.{shrinks}
 use Rattle.bw_sql.proofs.Pieces.{Split, split, blank_longest, word_longest, digits_longest, comment_longest, delimiter_longest, no_piece}
-use Rattle.bw_sql.proofs.Cases.{bool_cases}
-use Rattle.bw_sql.proofs.Delimiters.{NoLong, no_long, no_long_at_end, long_longest, short_longest, none_begins}
-
--- the delimiter that one byte is, and that two are
-record Found (bytes : List ℕ) : Type 0 where
-  t : Lexeme
-  is : IsDelimiter bytes t
-
-one_byte : (c n : ℕ) (t : Lexeme) → (c == n) ≡ true → IsDelimiter (n ∷ []) t → Found (c ∷ [])
-one_byte c n t e is = record { t = t; is = subst (λ x. IsDelimiter (x ∷ []) t) (sym (eqb-true c n e)) is }
-
-two_bytes : (c d n m : ℕ) (t : Lexeme) → (c == n) ≡ true → (d == m) ≡ true → IsDelimiter (n ∷ m ∷ []) t → Found (c ∷ d ∷ [])
-two_bytes c d n m t e f is = record {
-  t = t;
-  is = subst (λ x. IsDelimiter (x ∷ d ∷ []) t) (sym (eqb-true c n e)) (subst (λ y. IsDelimiter (n ∷ y ∷ []) t) (sym (eqb-true d m f)) is);
-}
-
-short_is : (c : ℕ) → is_short_delimiter c ≡ true → Found (c ∷ [])
-short_is c h =
-    bool_cases (c == 40) (λ e. one_byte c 40 (Punct Open) e refl) (λ e40.
-    bool_cases (c == 41) (λ e. one_byte c 41 (Punct Close) e refl) (λ e41.
-    bool_cases (c == 42) (λ e. one_byte c 42 (Punct Star) e refl) (λ e42.
-    bool_cases (c == 43) (λ e. one_byte c 43 (Punct Plus) e refl) (λ e43.
-    bool_cases (c == 44) (λ e. one_byte c 44 (Punct Comma) e refl) (λ e44.
-    bool_cases (c == 45) (λ e. one_byte c 45 (Punct Minus) e refl) (λ e45.
-    bool_cases (c == 59) (λ e. one_byte c 59 (Punct Semicolon) e refl) (λ e59.
-    bool_cases (c == 60) (λ e. one_byte c 60 (Compare Lt) e refl) (λ e60.
-    bool_cases (c == 61) (λ e. one_byte c 61 (Compare Eq) e refl) (λ e61.
-    bool_cases (c == 62) (λ e. one_byte c 62 (Compare Gt) e refl) (λ e62.
-    let none : false ≡ true = rw (e40, e41, e42, e43, e44, e45, e59, e60, e61, e62) at h in cc))))))))))
-
-long_is : (c d : ℕ) → is_long_delimiter c d ≡ true → Found (c ∷ d ∷ [])
-long_is c d h =
-    bool_cases (c == 60) (λ e.
-    bool_cases (d == 61) (λ f. two_bytes c d 60 61 (Compare Le) e f refl) (λ d61.
-    bool_cases (d == 62) (λ f. two_bytes c d 60 62 (Compare Ne) e f refl) (λ d62.
-    let is : c ≡ 60 = eqb-true c 60 e in let none : false ≡ true = rw (is, d61, d62) at h in cc))) (λ e60.
-    bool_cases (c == 62) (λ e.
-    bool_cases (d == 61) (λ f. two_bytes c d 62 61 (Compare Ge) e f refl) (λ d61.
-    let none : false ≡ true = rw (e60, e, d61) at h in cc)) (λ e62.
-    let none : false ≡ true = rw (e60, e62) at h in cc))
+use Rattle.bw_sql.proofs.Cases.{bool_cases, option_cases}
+use Rattle.bw_sql.proofs.Delimiters.{NoLong, delimiter_of, found, known, no_long_at_end, long_longest, short_longest, none_begins}
 
 -- the longest delimiter that begins a text, or none
 data Begins (text : List ℕ) : Type 0 where
   no_delimiter : BeginsNoDelimiter text → Begins text
   a_delimiter : (after : List ℕ) (t : Lexeme) → IsLongestDelimiter text after t → Begins text
 
+-- where some bytes aren't found they are none
+unfound : (bytes : List ℕ) → delimiter_of bytes ≡ None → (t : Lexeme) → IsDelimiter bytes t → ⊥
+unfound bytes e t is = let f : Some t ≡ None = sym (known t bytes is).of ∙ e in cc
+
 begins_short : (c : ℕ) (rest : List ℕ) → NoLong c rest → Begins (c ∷ rest)
-begins_short c rest none = bool_cases (is_short_delimiter c)
-    (λ e. let found = short_is c e in a_delimiter rest found.t (short_longest (c ∷ rest) c rest found.t refl none found.is))
-    (λ e. no_delimiter (none_begins (c ∷ rest) c rest refl none e))
+begins_short c rest none = option_cases (delimiter_of (c ∷ [])) (λ e. no_delimiter (none_begins c rest none (unfound (c ∷ []) e)))
+    (λ t e. a_delimiter rest t (short_longest (c ∷ rest) c rest t refl none (found t (c ∷ []) e)))
 
 begins : (c : ℕ) (rest : List ℕ) → Begins (c ∷ rest)
 begins c [] = begins_short c [] (no_long_at_end c [] refl)
-begins c (d ∷ after) = bool_cases (is_long_delimiter c d)
-    (λ e. let found = long_is c d e in a_delimiter after found.t (long_longest (c ∷ d ∷ after) c (d ∷ after) d after found.t refl refl found.is))
-    (λ e. begins_short c (d ∷ after) (no_long c (d ∷ after) d after refl e))
+begins c (d ∷ after) = option_cases (delimiter_of (c ∷ d ∷ []))
+    (λ e. begins_short c (d ∷ after) (λ x more t g is. let same : d ≡ x = cc in unfound (c ∷ d ∷ []) e t (rw same is)))
+    (λ t e. a_delimiter after t (long_longest (c ∷ d ∷ after) c (d ∷ after) d after t refl refl (found t (c ∷ d ∷ []) e)))
 
 -- the longest piece that begins a text, or none
 data Begun (text : List ℕ) : Type 0 where

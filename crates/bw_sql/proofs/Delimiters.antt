@@ -1,86 +1,113 @@
--- Delimiters, which are comparisons and marks: how long they are, and which is the longest.
-use Rattle.std.proofs.Common.{◌≡◌, ℕ, suc, ◌≤◌, true, false, List, [], ◌∷◌, ◌++◌, length, refl, sym, ◌∙◌, ap, subst, arith}
-use Rattle.std.proofs.lemmas.Bool.{both_ways}
+-- Delimiters, which are comparisons and marks: which bytes they are, and which is the longest.
+use Rattle.std.proofs.Common.{◌≡◌, ◌||◌, ◌==◌, ◌&&◌, ℕ, suc, ◌≤◌, Bool, true, false, if◌then◌else◌, List, [], ◌∷◌, ◌++◌, length, Option, Some, None, refl, sym, ◌∙◌, ap, subst, arith}
+use Rattle.std.specs.Char.{is_ascii_digit}
+use Rattle.std.specs.List.{list_all}
+use Rattle.std.specs.Prelude.{find}
+use Rattle.std.specs.Str.{bytes_eq}
+use Rattle.std.proofs.lemmas.Bool.{and_parts}
+use Rattle.std.proofs.lemmas.Slice.Eq.{bytes_eq-Decides}
+use Rattle.bw_model.specs.declared.cond.Op.{Op}
 use Rattle.bw_model.specs.declared.cond.Op.TheVariants.{Eq, Ne, Lt, Gt, Le, Ge}
+use Rattle.bw_model.specs.Number.{are_digits}
+use Rattle.bw_model.specs.Text.{begins_word, is_word}
+use Rattle.bw_sql.specs.declared.token.Mark.{Mark}
 use Rattle.bw_sql.specs.declared.token.Mark.TheVariants.{Open, Close, Comma, Star, Semicolon, Plus, Minus}
-use Rattle.bw_sql.specs.Piece.{IsDelimiter, IsLongestDelimiter, BeginsNoDelimiter, is_short_delimiter, is_long_delimiter}
-use Rattle.bw_sql.specs.Token.{Lexeme, Name, Digits, Reserved, Compare, Punct}
+use Rattle.bw_sql.specs.Piece.{IsDelimiter, IsLongestDelimiter, BeginsNoDelimiter, begins_comment, comparison_spelling, is_blank, is_short_delimiter, is_long_delimiter, mark_spelling}
+use Rattle.bw_sql.specs.Token.{Lexeme, Compare, Punct}
+use Rattle.bw_sql.proofs.Cases.{bool_cases}
 
--- a delimiter of one byte
-is_short : (t : Lexeme) (c : ℕ) → IsDelimiter (c ∷ []) t → is_short_delimiter c ≡ true
-is_short (Name text) c h = absurd h
-is_short (Digits text) c h = absurd h
-is_short (Reserved w) c h = absurd h
-is_short (Compare Eq) c h = let e : c ≡ 61 = cc in rw e refl
-is_short (Compare Ne) c h = cc
-is_short (Compare Lt) c h = let e : c ≡ 60 = cc in rw e refl
-is_short (Compare Gt) c h = let e : c ≡ 62 = cc in rw e refl
-is_short (Compare Le) c h = cc
-is_short (Compare Ge) c h = cc
-is_short (Punct Open) c h = let e : c ≡ 40 = cc in rw e refl
-is_short (Punct Close) c h = let e : c ≡ 41 = cc in rw e refl
-is_short (Punct Comma) c h = let e : c ≡ 44 = cc in rw e refl
-is_short (Punct Star) c h = let e : c ≡ 42 = cc in rw e refl
-is_short (Punct Semicolon) c h = let e : c ≡ 59 = cc in rw e refl
-is_short (Punct Plus) c h = let e : c ≡ 43 = cc in rw e refl
-is_short (Punct Minus) c h = let e : c ≡ 45 = cc in rw e refl
+abbrev delimiters : List Lexeme
+delimiters = Compare Eq ∷ Compare Ne ∷ Compare Lt ∷ Compare Gt ∷ Compare Le ∷ Compare Ge ∷ Punct Open ∷ Punct Close
+    ∷ Punct Comma ∷ Punct Star ∷ Punct Semicolon ∷ Punct Plus ∷ Punct Minus ∷ []
 
--- a delimiter of more bytes has two
-pub record Long (c d : ℕ) (more : List ℕ) : Type 0 where
-  pub is_long : is_long_delimiter c d ≡ true
-  pub ends : more ≡ []
+abbrev spelling : Lexeme → List ℕ
+spelling (Compare op) = comparison_spelling op
+spelling (Punct mark) = mark_spelling mark
+spelling _ = []
 
-pub is_long : (t : Lexeme) (c d : ℕ) (more : List ℕ) → IsDelimiter (c ∷ d ∷ more) t → Long c d more
-is_long (Name text) c d more h = absurd h
-is_long (Digits text) c d more h = absurd h
-is_long (Reserved w) c d more h = absurd h
-is_long (Compare Eq) c d more h = cc
-is_long (Compare Ne) c d more h = let e : c ≡ 60 = cc in let f : d ≡ 62 = cc in record { is_long = rw (e, f) refl; ends = cc }
-is_long (Compare Lt) c d more h = cc
-is_long (Compare Gt) c d more h = cc
-is_long (Compare Le) c d more h = let e : c ≡ 60 = cc in let f : d ≡ 61 = cc in record { is_long = rw (e, f) refl; ends = cc }
-is_long (Compare Ge) c d more h = let e : c ≡ 62 = cc in let f : d ≡ 61 = cc in record { is_long = rw (e, f) refl; ends = cc }
-is_long (Punct Open) c d more h = cc
-is_long (Punct Close) c d more h = cc
-is_long (Punct Comma) c d more h = cc
-is_long (Punct Star) c d more h = cc
-is_long (Punct Semicolon) c d more h = cc
-is_long (Punct Plus) c d more h = cc
-is_long (Punct Minus) c d more h = cc
+-- the delimiter that bytes are
+pub delimiter_of : List ℕ → Option Lexeme
+delimiter_of bytes = find (λ t. bytes_eq (spelling t) bytes) delimiters
 
-pub no_empty_delimiter : (t : Lexeme) → IsDelimiter [] t → ⊥
-no_empty_delimiter (Name text) h = absurd h
-no_empty_delimiter (Digits text) h = absurd h
-no_empty_delimiter (Reserved w) h = absurd h
-no_empty_delimiter (Compare Eq) h = cc
-no_empty_delimiter (Compare Ne) h = cc
-no_empty_delimiter (Compare Lt) h = cc
-no_empty_delimiter (Compare Gt) h = cc
-no_empty_delimiter (Compare Le) h = cc
-no_empty_delimiter (Compare Ge) h = cc
-no_empty_delimiter (Punct Open) h = cc
-no_empty_delimiter (Punct Close) h = cc
-no_empty_delimiter (Punct Comma) h = cc
-no_empty_delimiter (Punct Star) h = cc
-no_empty_delimiter (Punct Semicolon) h = cc
-no_empty_delimiter (Punct Plus) h = cc
-no_empty_delimiter (Punct Minus) h = cc
+abbrev pub is_delimiter : List ℕ → Bool
+is_delimiter [] = false
+is_delimiter (c ∷ []) = is_short_delimiter c
+is_delimiter (c ∷ d ∷ []) = is_long_delimiter c d
+is_delimiter _ = false
+
+-- blanks and comments
+abbrev pub is_gap : List ℕ → Bool
+is_gap [] = false
+is_gap (c ∷ []) = is_blank c
+is_gap (c ∷ d ∷ inside) = begins_comment (c ∷ d ∷ inside)
+
+-- whether a byte begins a piece of another kind
+abbrev pub is_other : List ℕ → Bool
+is_other [] = true
+is_other (c ∷ tail) = is_blank c || (begins_word c || is_ascii_digit c)
+
+-- the bytes of a delimiter are those of no other, nor of another piece
+pub record Known (bytes : List ℕ) (t : Lexeme) : Type 0 where
+  pub of : delimiter_of bytes ≡ Some t
+  pub is : is_delimiter bytes ≡ true
+  pub no_word : is_word bytes ≡ false
+  pub no_digits : are_digits bytes ≡ false
+  pub no_gap : is_gap bytes ≡ false
+  pub no_other : is_other bytes ≡ false
+
+comparison_known : (op : Op) → Known (comparison_spelling op) (Compare op)
+unfolding delimiter_of
+comparison_known Eq = record { of = refl; is = refl; no_word = refl; no_digits = refl; no_gap = refl; no_other = refl }
+comparison_known _ = record { of = refl; is = refl; no_word = refl; no_digits = refl; no_gap = refl; no_other = refl }
+
+pub mark_known : (mark : Mark) → Known (mark_spelling mark) (Punct mark)
+unfolding delimiter_of
+mark_known Open = record { of = refl; is = refl; no_word = refl; no_digits = refl; no_gap = refl; no_other = refl }
+mark_known _ = record { of = refl; is = refl; no_word = refl; no_digits = refl; no_gap = refl; no_other = refl }
+
+pub known : (t : Lexeme) (bytes : List ℕ) → IsDelimiter bytes t → Known bytes t
+known (Compare op) bytes h = subst (λ b. Known b (Compare op)) (sym h) (comparison_known op)
+known (Punct mark) bytes h = subst (λ b. Known b (Punct mark)) (sym h) (mark_known mark)
+known _ bytes h = absurd h
+
+-- what is found passes, and is one of the list
+found_in : (p q : Lexeme → Bool) (xs : List Lexeme) (x : Lexeme) → find p xs ≡ Some x → list_all q xs ≡ true →
+    (p x ≡ true) × (q x ≡ true)
+found_in p q [] x e h = cc
+found_in p q (y ∷ ys) x e h =
+    let all = and_parts (q y) (list_all q ys) h in
+    bool_cases (p y) (λ b. let f = rw b at e in let same : y ≡ x = cc in subst (λ x. (p x ≡ true) × (q x ≡ true)) same (b, all.0))
+    (λ b. found_in p q ys x (rw b at e) all.1)
+
+abbrev is_one : Lexeme → Bool
+is_one (Compare op) = true
+is_one (Punct mark) = true
+is_one _ = false
+
+pub found : (t : Lexeme) (bytes : List ℕ) → delimiter_of bytes ≡ Some t → IsDelimiter bytes t
+unfolding delimiter_of
+found t bytes e = go t (found_in (λ t. bytes_eq (spelling t) bytes) is_one delimiters t e refl) where
+  go : (t : Lexeme) → (bytes_eq (spelling t) bytes ≡ true) × (is_one t ≡ true) → IsDelimiter bytes t
+  go (Compare op) h = sym ((bytes_eq-Decides (comparison_spelling op) bytes).0 h.0)
+  go (Punct mark) h = sym ((bytes_eq-Decides (mark_spelling mark) bytes).0 h.0)
+  go _ h = let f = h.1 in cc
 
 -- no delimiter of two bytes begins with a byte and what follows it
 abbrev pub NoLong : ℕ → List ℕ → Type 0
-NoLong c rest = (d : ℕ) (after : List ℕ) → rest ≡ d ∷ after → is_long_delimiter c d ≡ false
+NoLong c rest = (d : ℕ) (after : List ℕ) (t : Lexeme) → rest ≡ d ∷ after → IsDelimiter (c ∷ d ∷ []) t → ⊥
 
 pub no_long : (c : ℕ) (rest : List ℕ) (d : ℕ) (after : List ℕ) → rest ≡ d ∷ after → is_long_delimiter c d ≡ false → NoLong c rest
-no_long c rest d after e h x more g = let same : d ≡ x = let f : d ∷ after ≡ x ∷ more = sym e ∙ g in cc in subst (λ y. is_long_delimiter c y ≡ false) same h
+no_long c rest d after e h x more t g is =
+    let f : d ∷ after ≡ x ∷ more = sym e ∙ g in let same : x ≡ d = cc in
+    let both : true ≡ false = sym (known t (c ∷ x ∷ []) is).is ∙ (rw same h) in cc
 
 pub no_long_at_end : (c : ℕ) (rest : List ℕ) → length rest ≡ 0 → NoLong c rest
-no_long_at_end c rest e x more g = let f : length rest ≡ suc (length more) = ap length g in absurd (omega arith)
+no_long_at_end c rest e x more t g is = let f : length rest ≡ suc (length more) = ap length g in absurd (omega arith)
 
 -- how long a delimiter is that begins the text, and which
 at_most_two : (t : Lexeme) (bytes : List ℕ) → IsDelimiter bytes t → length bytes ≤ 2
-at_most_two t [] h = omega arith
-at_most_two t (c ∷ []) h = omega arith
-at_most_two t (c ∷ d ∷ more) h = let none : more ≡ [] = (is_long t c d more h).ends in rw none (omega arith)
+at_most_two t (c ∷ d ∷ x ∷ more) h = let f = (known t (c ∷ d ∷ x ∷ more) h).is in cc
+at_most_two t _ h = omega arith
 
 pub long_longest : (text : List ℕ) (c : ℕ) (rest : List ℕ) (d : ℕ) (after : List ℕ) (t : Lexeme) → text ≡ c ∷ rest → rest ≡ d ∷ after →
     IsDelimiter (c ∷ d ∷ []) t → IsLongestDelimiter text after t
@@ -93,12 +120,12 @@ long_longest text c rest d after t e f h = record {
 
 at_most_one : (c : ℕ) (rest : List ℕ) → NoLong c rest → (other after : List ℕ) (any : Lexeme) → c ∷ rest ≡ other ++ after → IsDelimiter other any →
     length other ≤ 1
-at_most_one c rest none [] after any g is = omega arith
-at_most_one c rest none (x ∷ []) after any g is = omega arith
-at_most_one c rest none (x ∷ d ∷ more) after any g is =
+at_most_one c rest none (x ∷ d ∷ []) after any g is =
     let same : x ≡ c = cc in
-    let behind : rest ≡ d ∷ (more ++ after) = cc in
-    absurd (both_ways (is_long_delimiter c d) (none d (more ++ after) behind) (subst (λ y. is_long_delimiter y d ≡ true) same (is_long any x d more is).is_long))
+    let behind : rest ≡ d ∷ after = cc in
+    absurd (none d after any behind (subst (λ y. IsDelimiter (y ∷ d ∷ []) any) same is))
+at_most_one c rest none (x ∷ d ∷ y ∷ more) after any g is = let f = (known any (x ∷ d ∷ y ∷ more) is).is in cc
+at_most_one c rest none _ after any g is = omega arith
 
 pub short_longest : (text : List ℕ) (c : ℕ) (rest : List ℕ) (t : Lexeme) → text ≡ c ∷ rest → NoLong c rest → IsDelimiter (c ∷ []) t →
     IsLongestDelimiter text rest t
@@ -109,11 +136,8 @@ short_longest text c rest t e none h = record {
   longest = λ other after any g is. at_most_one c rest none other after any (sym e ∙ g) is;
 }
 
-pub none_begins : (text : List ℕ) (c : ℕ) (rest : List ℕ) → text ≡ c ∷ rest → NoLong c rest → is_short_delimiter c ≡ false → BeginsNoDelimiter text
-none_begins text c rest e none short [] after t g is = no_empty_delimiter t is
-none_begins text c rest e none short (x ∷ []) after t g is =
-    let same : x ≡ c = let f : c ∷ rest ≡ x ∷ after = sym e ∙ g in cc in
-    both_ways (is_short_delimiter c) short (subst (λ y. is_short_delimiter y ≡ true) same (is_short t x is))
-none_begins text c rest e none short (x ∷ d ∷ more) after t g is =
-    let most = at_most_one c rest none (x ∷ d ∷ more) after t (sym e ∙ g) is in
-    omega arith
+pub none_begins : (c : ℕ) (rest : List ℕ) → NoLong c rest → ((t : Lexeme) → IsDelimiter (c ∷ []) t → ⊥) → BeginsNoDelimiter (c ∷ rest)
+none_begins c rest none short [] after t g is = let f = (known t [] is).is in cc
+none_begins c rest none short (x ∷ []) after t g is = let same : x ≡ c = cc in short t (subst (λ y. IsDelimiter (y ∷ []) t) same is)
+none_begins c rest none short (x ∷ d ∷ more) after t g is =
+    let most = at_most_one c rest none (x ∷ d ∷ more) after t g is in omega arith

@@ -1,15 +1,17 @@
 -- A text is cut in one way.
-use Rattle.std.proofs.Common.{◌&&◌, ◌≡◌, ℕ, ◌+◌, ◌*◌, ◌==◌, true, if◌then◌else◌, List, [], ◌∷◌, ◌++◌, length, Option, Some, None, refl, sym, ◌∙◌, ap, subst, arith}
-use Rattle.std.proofs.lemmas.Bool.{both_ways, and_parts}
+use Rattle.std.proofs.Common.{◌≡◌, ℕ, ◌+◌, true, false, if◌then◌else◌, List, [], ◌∷◌, ◌++◌, length, Option, Some, None, refl, sym, ◌∙◌, ap, subst, arith}
+use Rattle.std.proofs.lemmas.Bool.{and_parts}
+use Rattle.std.proofs.lemmas.Bool.Decides.{nat_tests}
 use Rattle.std.specs.List.{list_all}
 use Rattle.std.specs.Char.{is_ascii_digit}
-use Rattle.bw_model.specs.declared.cond.Op.TheVariants.{Eq, Ne, Lt, Gt, Le, Ge}
-use Rattle.bw_model.specs.Text.{begins_word, goes_on_in_word}
-use Rattle.bw_sql.specs.declared.token.Mark.TheVariants.{Open, Close, Comma, Star, Semicolon, Plus, Minus}
+use Rattle.std.specs.Option.{option_map}
+use Rattle.bw_model.specs.Number.{are_digits}
+use Rattle.bw_model.specs.Text.{begins_word, is_word}
 use Rattle.bw_sql.specs.Cut.{IsCut, Spot, ended, stopped, gap, token}
 use Rattle.bw_sql.specs.Piece.{Piece, Gap, Token, IsPiece, IsDelimiter, IsLongest, is_blank}
-use Rattle.bw_sql.specs.Token.{Lexeme, Name, Digits, Reserved, Compare, Punct}
-use Rattle.bw_sql.proofs.Pieces.{blank_no_word, blank_no_digit, word_no_digit, no_other, other_parts, dash_delimiter, no_empty_piece}
+use Rattle.bw_sql.specs.Token.{Lexeme, Name, Digits, Reserved, Compare, Punct, word_lexeme}
+use Rattle.bw_sql.proofs.Delimiters.{delimiter_of, is_gap, known}
+use Rattle.bw_sql.proofs.Pieces.{no_empty_piece}
 
 -- two fronts of a text that are as long are the same
 record Fronts (front other rest after : List ℕ) : Type 0 where
@@ -26,95 +28,37 @@ same_front (c ∷ front) (d ∷ other) rest after e h =
     let same = same_front front other rest after tails (omega arith) in
     record { fronts = (rw (heads, same.fronts) refl); rests = same.rests }
 
--- the comparison or mark that is delimiter_of by so many bytes
-key_of : List ℕ → ℕ
-key_of [] = 0
-key_of (c ∷ []) = c
-key_of (c ∷ d ∷ more) = c * 256 + d
+-- the piece that bytes are
+piece_of : List ℕ → Option Piece
+piece_of bytes =
+    if is_word bytes then Some (Token (word_lexeme bytes)) else (if are_digits bytes then Some (Token (Digits bytes))
+    else (if is_gap bytes then Some Gap else option_map Token (delimiter_of bytes)))
 
-delimiter_of : ℕ → Lexeme
-delimiter_of n = if n == 61 then Compare Eq else (if n == 15422 then Compare Ne else (if n == 60 then Compare Lt else (if n == 62 then Compare Gt else (if n == 15421 then Compare Le else (if n == 15933 then Compare Ge else (if n == 40 then Punct Open else (if n == 41 then Punct Close else (if n == 44 then Punct Comma else (if n == 42 then Punct Star else (if n == 59 then Punct Semicolon else (if n == 43 then Punct Plus else (Punct Minus))))))))))))
+blank_only : (c : ℕ) → is_blank c ≡ true → (begins_word c ≡ false) × (is_ascii_digit c ≡ false)
+blank_only c b = (grind (arith, nat_tests), grind (arith, nat_tests))
 
-of_its_key : (t : Lexeme) (bytes : List ℕ) → IsDelimiter bytes t → delimiter_of (key_of bytes) ≡ t
-unfolding key_of delimiter_of
-of_its_key (Name text) bytes h = absurd h
-of_its_key (Digits text) bytes h = absurd h
-of_its_key (Reserved w) bytes h = absurd h
-of_its_key (Compare Eq) bytes h = ap (λ b. delimiter_of (key_of b)) h
-of_its_key (Compare Ne) bytes h = ap (λ b. delimiter_of (key_of b)) h
-of_its_key (Compare Lt) bytes h = ap (λ b. delimiter_of (key_of b)) h
-of_its_key (Compare Gt) bytes h = ap (λ b. delimiter_of (key_of b)) h
-of_its_key (Compare Le) bytes h = ap (λ b. delimiter_of (key_of b)) h
-of_its_key (Compare Ge) bytes h = ap (λ b. delimiter_of (key_of b)) h
-of_its_key (Punct Open) bytes h = ap (λ b. delimiter_of (key_of b)) h
-of_its_key (Punct Close) bytes h = ap (λ b. delimiter_of (key_of b)) h
-of_its_key (Punct Comma) bytes h = ap (λ b. delimiter_of (key_of b)) h
-of_its_key (Punct Star) bytes h = ap (λ b. delimiter_of (key_of b)) h
-of_its_key (Punct Semicolon) bytes h = ap (λ b. delimiter_of (key_of b)) h
-of_its_key (Punct Plus) bytes h = ap (λ b. delimiter_of (key_of b)) h
-of_its_key (Punct Minus) bytes h = ap (λ b. delimiter_of (key_of b)) h
+digit_only : (c : ℕ) → is_ascii_digit c ≡ true → begins_word c ≡ false
+digit_only c d = grind (arith, nat_tests)
 
-same_delimiter : (t u : Lexeme) (bytes : List ℕ) → IsDelimiter bytes t → IsDelimiter bytes u → t ≡ u
-same_delimiter t u bytes h g = sym (of_its_key t bytes h) ∙ of_its_key u bytes g
+delimiter_is : (t : Lexeme) (bytes : List ℕ) → IsDelimiter bytes t → piece_of bytes ≡ Some (Token t)
+unfolding piece_of
+delimiter_is t bytes h = let k = known t bytes h in rw (k.no_word, k.no_digits, k.no_gap, k.of) refl
 
--- the first byte of a word, and of digits
-word_first : (c : ℕ) (tail : List ℕ) → (begins_word c && list_all goes_on_in_word tail) ≡ true → begins_word c ≡ true
-word_first c tail h = (and_parts (begins_word c) (list_all goes_on_in_word tail) h).0
-
-digit_first : (c : ℕ) (tail : List ℕ) → (is_ascii_digit c && list_all is_ascii_digit tail) ≡ true → is_ascii_digit c ≡ true
-digit_first c tail h = (and_parts (is_ascii_digit c) (list_all is_ascii_digit tail) h).0
-
-word_no_delimiter : (t : Lexeme) (c : ℕ) (tail : List ℕ) → begins_word c ≡ true → IsDelimiter (c ∷ tail) t → ⊥
-word_no_delimiter t c tail w h = both_ways (begins_word c) (other_parts c (no_other t c tail h)).1 w
-
-digit_no_delimiter : (t : Lexeme) (c : ℕ) (tail : List ℕ) → is_ascii_digit c ≡ true → IsDelimiter (c ∷ tail) t → ⊥
-digit_no_delimiter t c tail d h = both_ways (is_ascii_digit c) (other_parts c (no_other t c tail h)).2 d
-
-one_token : (t u : Lexeme) (c : ℕ) (tail : List ℕ) → IsPiece (c ∷ tail) (Token t) → IsPiece (c ∷ tail) (Token u) → t ≡ u
-one_token (Name x) (Name y) c tail h g = ap Name (sym h.0 ∙ g.0)
-one_token (Name x) (Reserved w) c tail h g = let f : None ≡ Some w = sym h.2 ∙ g.1 in cc
-one_token (Name x) (Digits y) c tail h g = absurd (word_no_digit c (word_first c tail h.1) (digit_first c tail g.1))
-one_token (Name x) (Compare other) c tail h g = absurd (word_no_delimiter (Compare other) c tail (word_first c tail h.1) g)
-one_token (Name x) (Punct n) c tail h g = absurd (word_no_delimiter (Punct n) c tail (word_first c tail h.1) g)
-one_token (Reserved v) (Name y) c tail h g = let f : Some v ≡ None = sym h.1 ∙ g.2 in cc
-one_token (Reserved v) (Reserved w) c tail h g = let f : Some v ≡ Some w = sym h.1 ∙ g.1 in cc
-one_token (Reserved v) (Digits y) c tail h g = absurd (word_no_digit c (word_first c tail h.0) (digit_first c tail g.1))
-one_token (Reserved v) (Compare other) c tail h g = absurd (word_no_delimiter (Compare other) c tail (word_first c tail h.0) g)
-one_token (Reserved v) (Punct n) c tail h g = absurd (word_no_delimiter (Punct n) c tail (word_first c tail h.0) g)
-one_token (Digits x) (Name y) c tail h g = absurd (word_no_digit c (word_first c tail g.1) (digit_first c tail h.1))
-one_token (Digits x) (Reserved w) c tail h g = absurd (word_no_digit c (word_first c tail g.0) (digit_first c tail h.1))
-one_token (Digits x) (Digits y) c tail h g = ap Digits (sym h.0 ∙ g.0)
-one_token (Digits x) (Compare other) c tail h g = absurd (digit_no_delimiter (Compare other) c tail (digit_first c tail h.1) g)
-one_token (Digits x) (Punct n) c tail h g = absurd (digit_no_delimiter (Punct n) c tail (digit_first c tail h.1) g)
-one_token (Compare op) (Name y) c tail h g = absurd (word_no_delimiter (Compare op) c tail (word_first c tail g.1) h)
-one_token (Compare op) (Reserved w) c tail h g = absurd (word_no_delimiter (Compare op) c tail (word_first c tail g.0) h)
-one_token (Compare op) (Digits y) c tail h g = absurd (digit_no_delimiter (Compare op) c tail (digit_first c tail g.1) h)
-one_token (Compare op) (Compare other) c tail h g = same_delimiter (Compare op) (Compare other) (c ∷ tail) h g
-one_token (Compare op) (Punct n) c tail h g = same_delimiter (Compare op) (Punct n) (c ∷ tail) h g
-one_token (Punct m) (Name y) c tail h g = absurd (word_no_delimiter (Punct m) c tail (word_first c tail g.1) h)
-one_token (Punct m) (Reserved w) c tail h g = absurd (word_no_delimiter (Punct m) c tail (word_first c tail g.0) h)
-one_token (Punct m) (Digits y) c tail h g = absurd (digit_no_delimiter (Punct m) c tail (digit_first c tail g.1) h)
-one_token (Punct m) (Compare other) c tail h g = same_delimiter (Punct m) (Compare other) (c ∷ tail) h g
-one_token (Punct m) (Punct n) c tail h g = same_delimiter (Punct m) (Punct n) (c ∷ tail) h g
-
-gap_no_token : (t : Lexeme) (c : ℕ) (tail : List ℕ) → IsPiece (c ∷ tail) Gap → IsPiece (c ∷ tail) (Token t) → ⊥
-gap_no_token (Name x) c [] h g = blank_no_word c h (word_first c [] g.1)
-gap_no_token (Name x) c (d ∷ inside) h g = let e : begins_word 45 ≡ true = rw h.0 at (word_first c (d ∷ inside) g.1) in cc
-gap_no_token (Reserved v) c [] h g = blank_no_word c h (word_first c [] g.0)
-gap_no_token (Reserved v) c (d ∷ inside) h g = let e : begins_word 45 ≡ true = rw h.0 at (word_first c (d ∷ inside) g.0) in cc
-gap_no_token (Digits x) c [] h g = blank_no_digit c h (digit_first c [] g.1)
-gap_no_token (Digits x) c (d ∷ inside) h g = let e : is_ascii_digit 45 ≡ true = rw h.0 at (digit_first c (d ∷ inside) g.1) in cc
-gap_no_token (Compare op) c [] h g = both_ways (is_blank c) (other_parts c (no_other (Compare op) c [] g)).0 h
-gap_no_token (Compare op) c (d ∷ inside) h g = let e : d ∷ inside ≡ [] = dash_delimiter (Compare op) c (d ∷ inside) h.0 g in cc
-gap_no_token (Punct m) c [] h g = both_ways (is_blank c) (other_parts c (no_other (Punct m) c [] g)).0 h
-gap_no_token (Punct m) c (d ∷ inside) h g = let e : d ∷ inside ≡ [] = dash_delimiter (Punct m) c (d ∷ inside) h.0 g in cc
+of_its_bytes : (bytes : List ℕ) (p : Piece) → IsPiece bytes p → piece_of bytes ≡ Some p
+unfolding piece_of
+of_its_bytes bytes (Token (Name text)) h = rw (h.1, h.2, h.0) refl
+of_its_bytes bytes (Token (Reserved w)) h = rw (h.0, h.1) refl
+of_its_bytes [] (Token (Digits text)) h = cc
+of_its_bytes (c ∷ tail) (Token (Digits text)) h =
+    let d = and_parts (is_ascii_digit c) (list_all is_ascii_digit tail) h.1 in rw (digit_only c d.0, h.1, h.0) refl
+of_its_bytes bytes (Token (Compare op)) h = delimiter_is (Compare op) bytes h
+of_its_bytes bytes (Token (Punct mark)) h = delimiter_is (Punct mark) bytes h
+of_its_bytes [] Gap h = absurd h
+of_its_bytes (c ∷ []) Gap h = rw ((blank_only c h).0, (blank_only c h).1, h) refl
+of_its_bytes (c ∷ d ∷ inside) Gap h = rw (h.0, h.1) refl
 
 one_piece : (bytes : List ℕ) (p q : Piece) → IsPiece bytes p → IsPiece bytes q → p ≡ q
-one_piece [] p q h g = absurd (no_empty_piece p h)
-one_piece (c ∷ tail) Gap Gap h g = refl
-one_piece (c ∷ tail) Gap (Token t) h g = absurd (gap_no_token t c tail h g)
-one_piece (c ∷ tail) (Token t) Gap h g = absurd (gap_no_token t c tail g h)
-one_piece (c ∷ tail) (Token t) (Token u) h g = ap Token (one_token t u c tail h g)
+one_piece bytes p q h g = let both : Some p ≡ Some q = sym (of_its_bytes bytes p h) ∙ of_its_bytes bytes q g in cc
 
 -- the longest piece is one
 pub record Pieces (p q : Piece) (front other rest after : List ℕ) : Type 0 where

@@ -14,7 +14,7 @@ use Rattle.bw_model.specs.Text.{begins_word, goes_on_in_word, is_word}
 use Rattle.bw_sql.specs.declared.token.Mark.TheVariants.{Open, Close, Comma, Star, Semicolon, Plus, Minus}
 use Rattle.bw_sql.specs.Piece.{Piece, Gap, Token, IsPiece, IsDelimiter, IsLongest, IsLongestDelimiter, BeginsNoPiece, BeginsNoDelimiter, is_blank, is_in_comment, is_long_delimiter, begins_comment}
 use Rattle.bw_sql.specs.Token.{Lexeme, Name, Digits, Reserved, Compare, Punct, word_lexeme, lexeme_or_name}
-use Rattle.bw_sql.proofs.Delimiters.{is_long, no_empty_delimiter}
+use Rattle.bw_sql.proofs.Delimiters.{known}
 
 -- all of what passes from the front on passes
 pub all_run : (p : ℕ → Bool) (xs : List ℕ) → list_all p (take_while p xs) ≡ true
@@ -57,8 +57,8 @@ no_empty_piece Gap h = h
 no_empty_piece (Token (Name text)) h = cc
 no_empty_piece (Token (Reserved w)) h = cc
 no_empty_piece (Token (Digits text)) h = cc
-no_empty_piece (Token (Compare op)) h = no_empty_delimiter (Compare op) h
-no_empty_piece (Token (Punct mark)) h = no_empty_delimiter (Punct mark) h
+no_empty_piece (Token (Compare op)) h = let none = (known (Compare op) [] h).is in cc
+no_empty_piece (Token (Punct mark)) h = let none = (known (Punct mark) [] h).is in cc
 
 -- what a front of a text is
 pub record Front (c : ℕ) (rest front after : List ℕ) : Type 0 where
@@ -97,35 +97,13 @@ blank_no_digit c b d = grind (arith, nat_tests)
 pub word_no_digit : (c : ℕ) → begins_word c ≡ true → is_ascii_digit c ≡ true → ⊥
 word_no_digit c w d = grind (arith, nat_tests)
 
--- the bytes with which comparisons and marks begin are of no other kind
-pub is_other : ℕ → Bool
-is_other c = is_blank c || begins_word c || is_ascii_digit c
-
-pub no_other : (t : Lexeme) (c : ℕ) (tail : List ℕ) → IsDelimiter (c ∷ tail) t → is_other c ≡ false
-unfolding is_other
-no_other (Name text) c tail h = absurd h
-no_other (Digits text) c tail h = absurd h
-no_other (Reserved w) c tail h = absurd h
-no_other (Compare Eq) c tail h = let e : c ≡ 61 = cc in rw e refl
-no_other (Compare Ne) c tail h = let e : c ≡ 60 = cc in rw e refl
-no_other (Compare Lt) c tail h = let e : c ≡ 60 = cc in rw e refl
-no_other (Compare Gt) c tail h = let e : c ≡ 62 = cc in rw e refl
-no_other (Compare Le) c tail h = let e : c ≡ 60 = cc in rw e refl
-no_other (Compare Ge) c tail h = let e : c ≡ 62 = cc in rw e refl
-no_other (Punct Open) c tail h = let e : c ≡ 40 = cc in rw e refl
-no_other (Punct Close) c tail h = let e : c ≡ 41 = cc in rw e refl
-no_other (Punct Comma) c tail h = let e : c ≡ 44 = cc in rw e refl
-no_other (Punct Star) c tail h = let e : c ≡ 42 = cc in rw e refl
-no_other (Punct Semicolon) c tail h = let e : c ≡ 59 = cc in rw e refl
-no_other (Punct Plus) c tail h = let e : c ≡ 43 = cc in rw e refl
-no_other (Punct Minus) c tail h = let e : c ≡ 45 = cc in rw e refl
-
-pub other_parts : (c : ℕ) → is_other c ≡ false → (is_blank c ≡ false) × (begins_word c ≡ false) × (is_ascii_digit c ≡ false)
-unfolding is_other
-other_parts c h =
-    let last = or_parts (is_blank c || begins_word c) (is_ascii_digit c) h in
-    let first = or_parts (is_blank c) (begins_word c) last.0 in
-    (first.0, first.1, last.1)
+-- a byte that begins a delimiter is of no other kind
+pub no_others : (t : Lexeme) (c : ℕ) (tail : List ℕ) → IsDelimiter (c ∷ tail) t →
+    (is_blank c ≡ false) × (begins_word c ≡ false) × (is_ascii_digit c ≡ false)
+no_others t c tail h =
+    let first = or_parts (is_blank c) (begins_word c || is_ascii_digit c) (known t (c ∷ tail) h).no_other in
+    let rest = or_parts (begins_word c) (is_ascii_digit c) first.1 in
+    (first.0, rest.0, rest.1)
 
 -- what the pieces that begin with a byte of each kind are
 blank_tail : (c : ℕ) (tail : List ℕ) → is_blank c ≡ true → Kind c tail → length tail ≤ 0
@@ -133,26 +111,27 @@ blank_tail c [] b (blank h) = omega arith
 blank_tail c (d ∷ inside) b (comment e f h) = absurd (let g : is_blank 45 ≡ true = rw e at b in cc)
 blank_tail c tail b (word w h) = absurd (blank_no_word c b w)
 blank_tail c tail b (digits d h) = absurd (blank_no_digit c b d)
-blank_tail c tail b (delimiter t h) = absurd (both_ways (is_blank c) (other_parts c (no_other t c tail h)).0 b)
+blank_tail c tail b (delimiter t h) = absurd (both_ways (is_blank c) (no_others t c tail h).0 b)
 
 word_goes : (c : ℕ) → begins_word c ≡ true → (tail : List ℕ) → Kind c tail → list_all goes_on_in_word tail ≡ true
 word_goes c w [] (blank h) = refl
 word_goes c w (d ∷ inside) (comment e f h) = absurd (let g : begins_word 45 ≡ true = rw e at w in cc)
 word_goes c w tail (word v h) = h
 word_goes c w tail (digits d h) = absurd (word_no_digit c w d)
-word_goes c w tail (delimiter t h) = absurd (both_ways (begins_word c) (other_parts c (no_other t c tail h)).1 w)
+word_goes c w tail (delimiter t h) = absurd (both_ways (begins_word c) (no_others t c tail h).1 w)
 
 digits_go : (c : ℕ) → is_ascii_digit c ≡ true → (tail : List ℕ) → Kind c tail → list_all is_ascii_digit tail ≡ true
 digits_go c d [] (blank h) = refl
 digits_go c d (x ∷ inside) (comment e f h) = absurd (let g : is_ascii_digit 45 ≡ true = rw e at d in cc)
 digits_go c d tail (word w h) = absurd (word_no_digit c w d)
 digits_go c d tail (digits v h) = h
-digits_go c d tail (delimiter t h) = absurd (both_ways (is_ascii_digit c) (other_parts c (no_other t c tail h)).2 d)
+digits_go c d tail (delimiter t h) = absurd (both_ways (is_ascii_digit c) (no_others t c tail h).2 d)
 
 -- what goes on after a dash
 pub dash_delimiter : (t : Lexeme) (c : ℕ) (tail : List ℕ) → c ≡ 45 → IsDelimiter (c ∷ tail) t → tail ≡ []
 dash_delimiter t c [] is h = refl
-dash_delimiter t c (d ∷ more) is h = let none : is_long_delimiter 45 d ≡ true = rw is at (is_long t c d more h).is_long in cc
+dash_delimiter t c (d ∷ []) is h = let none : is_long_delimiter 45 d ≡ true = rw is at (known t (c ∷ d ∷ []) h).is in cc
+dash_delimiter t c (d ∷ x ∷ more) is h = let none = (known t (c ∷ d ∷ x ∷ more) h).is in cc
 
 comment_goes : (c : ℕ) → c ≡ 45 → (tail : List ℕ) → Kind c tail → list_all is_in_comment tail ≡ true
 comment_goes c is [] (blank h) = refl

@@ -12,20 +12,12 @@ use Rattle.bw_sql.specs.declared.token.Mark.TheVariants as mark
 use Rattle.bw_sql.specs.Piece.{mark_spelling}
 use Rattle.bw_sql.specs.Reading.{same_keyword, same_mark, after_keyword, after_mark}
 use Rattle.bw_sql.specs.Token.{Lexeme, Reserved, Punct}
+use Rattle.bw_sql.proofs.Delimiters.{delimiter_of, mark_known}
 
 spelled_word : (w : Keyword) → keyword_of (spelling w) ≡ Some w
 unfolding keyword_of same_text
 spelled_word word.And = refl
 spelled_word _ = refl
-
-mark_of : List ℕ → Option Mark
-mark_of text = find (λ m. bytes_eq (mark_spelling m) text)
-    (mark.Open ∷ mark.Close ∷ mark.Comma ∷ mark.Star ∷ mark.Semicolon ∷ mark.Plus ∷ mark.Minus ∷ [])
-
-spelled_mark : (m : Mark) → mark_of (mark_spelling m) ≡ Some m
-unfolding mark_of
-spelled_mark mark.Open = refl
-spelled_mark _ = refl
 
 pub word_same : (v w : Keyword) → same_keyword v w ≡ true → v ≡ w
 word_same v w e =
@@ -34,8 +26,8 @@ word_same v w e =
 
 mark_same : (m n : Mark) → same_mark m n ≡ true → m ≡ n
 mark_same m n e =
-    let both : Some m ≡ Some n = sym (spelled_mark m)
-    ∙ ap mark_of ((bytes_eq-Decides (mark_spelling m) (mark_spelling n)).0 e) ∙ spelled_mark n in cc
+    let both : Some (Punct m) ≡ Some (Punct n) = sym (mark_known m).of
+    ∙ ap delimiter_of ((bytes_eq-Decides (mark_spelling m) (mark_spelling n)).0 e) ∙ (mark_known n).of in cc
 
 some_if : {A : Type 0} (b : Bool) (x y : A) → (if b then Some x else None) ≡ Some y → (b ≡ true) × (x ≡ y)
 some_if true x y e = (refl, cc)
