@@ -3,7 +3,7 @@ use Rattle.std.proofs.Common.{append_assoc, refl, ◌≡◌, ℕ, ◌+◌, ◌-�
 use Rattle.std.proofs.lemmas.List.{length-append, map-append}
 use Rattle.bw_sql.specs.declared.token.Placed.{Placed}
 use Rattle.bw_sql.specs.Piece.{Piece, Gap, Token, IsPiece, IsLongest}
-use Rattle.bw_sql.proofs.Pieces.{no_empty_piece}
+use Rattle.bw_sql.proofs.Pieces.{piece_run}
 use Rattle.bw_sql.specs.Cut.{IsCut, Spot, spot, spots, ended, gap, token}
 use Rattle.bw_sql.specs.Token.{Lexeme}
 
@@ -27,7 +27,7 @@ token_step n rest after tokens stop t h longest cut =
 
 -- a piece has a byte or more
 some_front : (front : List ℕ) (piece : Piece) → IsPiece front piece → 0 < length front
-some_front [] piece h = absurd (no_empty_piece piece h)
+some_front [] piece h = let none = piece_run [] piece h in cc
 some_front (c ∷ front) piece h = omega arith
 
 pub shrinks : (rest after : List ℕ) (piece : Piece) → IsLongest rest after piece → length after < length rest

@@ -1,5 +1,5 @@
 -- Delimiters, which are comparisons and marks: which bytes they are, and which is the longest.
-use Rattle.std.proofs.Common.{◌≡◌, ◌||◌, ◌==◌, ◌&&◌, ℕ, suc, ◌≤◌, Bool, true, false, if◌then◌else◌, List, [], ◌∷◌, ◌++◌, length, Option, Some, None, refl, sym, ◌∙◌, ap, subst, arith}
+use Rattle.std.proofs.Common.{◌≡◌, ℕ, suc, ◌≤◌, Bool, true, false, if◌then◌else◌, List, [], ◌∷◌, ◌++◌, length, Option, Some, None, refl, sym, ◌∙◌, ap, subst, arith}
 use Rattle.std.specs.Char.{is_ascii_digit}
 use Rattle.std.specs.List.{list_all}
 use Rattle.std.specs.Prelude.{find}
@@ -9,10 +9,10 @@ use Rattle.std.proofs.lemmas.Slice.Eq.{bytes_eq-Decides}
 use Rattle.bw_model.specs.declared.cond.Op.{Op}
 use Rattle.bw_model.specs.declared.cond.Op.TheVariants.{Eq, Ne, Lt, Gt, Le, Ge}
 use Rattle.bw_model.specs.Number.{are_digits}
-use Rattle.bw_model.specs.Text.{begins_word, is_word}
+use Rattle.bw_model.specs.Text.{begins_word, goes_on_in_word, is_word}
 use Rattle.bw_sql.specs.declared.token.Mark.{Mark}
 use Rattle.bw_sql.specs.declared.token.Mark.TheVariants.{Open, Close, Comma, Star, Semicolon, Plus, Minus}
-use Rattle.bw_sql.specs.Piece.{IsDelimiter, IsLongestDelimiter, BeginsNoDelimiter, begins_comment, comparison_spelling, is_blank, is_short_delimiter, is_long_delimiter, mark_spelling}
+use Rattle.bw_sql.specs.Piece.{IsDelimiter, IsLongestDelimiter, BeginsNoDelimiter, begins_comment, comparison_spelling, is_blank, is_in_comment, is_short_delimiter, is_long_delimiter, mark_spelling}
 use Rattle.bw_sql.specs.Token.{Lexeme, Compare, Punct}
 use Rattle.bw_sql.proofs.Cases.{bool_cases}
 
@@ -41,10 +41,15 @@ is_gap [] = false
 is_gap (c ∷ []) = is_blank c
 is_gap (c ∷ d ∷ inside) = begins_comment (c ∷ d ∷ inside)
 
--- whether a byte begins a piece of another kind
-abbrev pub is_other : List ℕ → Bool
-is_other [] = true
-is_other (c ∷ tail) = is_blank c || (begins_word c || is_ascii_digit c)
+-- what may follow a first byte in a piece
+abbrev pub follows : ℕ → ℕ → Bool
+follows c =
+    if is_blank c then (λ d. false) else (if begins_word c then goes_on_in_word else (if is_ascii_digit c then is_ascii_digit
+    else is_in_comment))
+
+abbrev pub is_run : List ℕ → Bool
+is_run [] = false
+is_run (c ∷ tail) = list_all (follows c) tail
 
 -- the bytes of a delimiter are those of no other, nor of another piece
 pub record Known (bytes : List ℕ) (t : Lexeme) : Type 0 where
@@ -53,17 +58,17 @@ pub record Known (bytes : List ℕ) (t : Lexeme) : Type 0 where
   pub no_word : is_word bytes ≡ false
   pub no_digits : are_digits bytes ≡ false
   pub no_gap : is_gap bytes ≡ false
-  pub no_other : is_other bytes ≡ false
+  pub run : is_run bytes ≡ true
 
 comparison_known : (op : Op) → Known (comparison_spelling op) (Compare op)
 unfolding delimiter_of
-comparison_known Eq = record { of = refl; is = refl; no_word = refl; no_digits = refl; no_gap = refl; no_other = refl }
-comparison_known _ = record { of = refl; is = refl; no_word = refl; no_digits = refl; no_gap = refl; no_other = refl }
+comparison_known Eq = record { of = refl; is = refl; no_word = refl; no_digits = refl; no_gap = refl; run = refl }
+comparison_known _ = record { of = refl; is = refl; no_word = refl; no_digits = refl; no_gap = refl; run = refl }
 
 pub mark_known : (mark : Mark) → Known (mark_spelling mark) (Punct mark)
 unfolding delimiter_of
-mark_known Open = record { of = refl; is = refl; no_word = refl; no_digits = refl; no_gap = refl; no_other = refl }
-mark_known _ = record { of = refl; is = refl; no_word = refl; no_digits = refl; no_gap = refl; no_other = refl }
+mark_known Open = record { of = refl; is = refl; no_word = refl; no_digits = refl; no_gap = refl; run = refl }
+mark_known _ = record { of = refl; is = refl; no_word = refl; no_digits = refl; no_gap = refl; run = refl }
 
 pub known : (t : Lexeme) (bytes : List ℕ) → IsDelimiter bytes t → Known bytes t
 known (Compare op) bytes h = subst (λ b. Known b (Compare op)) (sym h) (comparison_known op)

@@ -11,7 +11,7 @@ use Rattle.bw_sql.specs.Cut.{IsCut, Spot, ended, stopped, gap, token}
 use Rattle.bw_sql.specs.Piece.{Piece, Gap, Token, IsPiece, IsDelimiter, IsLongest, is_blank}
 use Rattle.bw_sql.specs.Token.{Lexeme, Name, Digits, Reserved, Compare, Punct, word_lexeme}
 use Rattle.bw_sql.proofs.Delimiters.{delimiter_of, is_gap, known}
-use Rattle.bw_sql.proofs.Pieces.{no_empty_piece}
+use Rattle.bw_sql.proofs.Pieces.{digit_only, piece_run}
 
 -- two fronts of a text that are as long are the same
 record Fronts (front other rest after : List ℕ) : Type 0 where
@@ -37,9 +37,6 @@ piece_of bytes =
 blank_only : (c : ℕ) → is_blank c ≡ true → (begins_word c ≡ false) × (is_ascii_digit c ≡ false)
 blank_only c b = (grind (arith, nat_tests), grind (arith, nat_tests))
 
-digit_only : (c : ℕ) → is_ascii_digit c ≡ true → begins_word c ≡ false
-digit_only c d = grind (arith, nat_tests)
-
 delimiter_is : (t : Lexeme) (bytes : List ℕ) → IsDelimiter bytes t → piece_of bytes ≡ Some (Token t)
 unfolding piece_of
 delimiter_is t bytes h = let k = known t bytes h in rw (k.no_word, k.no_digits, k.no_gap, k.of) refl
@@ -50,7 +47,7 @@ of_its_bytes bytes (Token (Name text)) h = rw (h.1, h.2, h.0) refl
 of_its_bytes bytes (Token (Reserved w)) h = rw (h.0, h.1) refl
 of_its_bytes [] (Token (Digits text)) h = cc
 of_its_bytes (c ∷ tail) (Token (Digits text)) h =
-    let d = and_parts (is_ascii_digit c) (list_all is_ascii_digit tail) h.1 in rw (digit_only c d.0, h.1, h.0) refl
+    let d = and_parts (is_ascii_digit c) (list_all is_ascii_digit tail) h.1 in rw ((digit_only c d.0).1, h.1, h.0) refl
 of_its_bytes bytes (Token (Compare op)) h = delimiter_is (Compare op) bytes h
 of_its_bytes bytes (Token (Punct mark)) h = delimiter_is (Punct mark) bytes h
 of_its_bytes [] Gap h = absurd h
@@ -81,7 +78,7 @@ pub record Same (tokens others : List Spot) (stop other : Option ℕ) : Type 0 w
 no_longest : (text rest : List ℕ) (p : Piece) → text ≡ [] → IsLongest text rest p → ⊥
 no_longest text rest p e a = no_front a.front rest p (sym e ∙ a.cut) a.is where
   no_front : (front rest : List ℕ) (p : Piece) → [] ≡ front ++ rest → IsPiece front p → ⊥
-  no_front [] rest p e h = no_empty_piece p h
+  no_front [] rest p e h = let none = piece_run [] p h in cc
   no_front (c ∷ front) rest p e h = cc
 
 moved : (at n m : ℕ) (rest after : List ℕ) (tokens : List Spot) (stop : Option ℕ) → n ≡ m → rest ≡ after → IsCut (at + m) after tokens stop → IsCut (at + n) rest tokens stop
