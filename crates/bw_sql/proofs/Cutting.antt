@@ -1,14 +1,11 @@
 -- Every text is cut: a piece begins it, or none.
-use Rattle.std.proofs.Common.{◌==◌, ◌≡◌, ℕ, zero, suc, ◌+◌, ◌≤◌, Bool, true, false, List, [], ◌∷◌, length, take, drop, Option, Some, None, refl, sym, ◌∙◌, subst, arith}
+use Rattle.std.proofs.Common.{◌≡◌, ℕ, zero, suc, ◌+◌, ◌≤◌, Bool, false, List, [], ◌∷◌, length, take, drop, Option, Some, None, refl, sym, ◌∙◌, arith}
 use Rattle.std.specs.List.{prefix_len}
 use Rattle.std.specs.Char.{is_ascii_digit}
-use Rattle.std.proofs.lemmas.Bool.{eqb-true}
-use Rattle.bw_model.specs.declared.cond.Op.TheVariants.{Eq, Ne, Lt, Gt, Le, Ge}
 use Rattle.bw_model.specs.Text.{begins_word, goes_on_in_word}
-use Rattle.bw_sql.specs.declared.token.Mark.TheVariants.{Open, Close, Comma, Star, Semicolon, Plus, Minus}
 use Rattle.bw_sql.specs.Cut.{IsCut, Spot, ended, stopped, gap, token}
-use Rattle.bw_sql.specs.Piece.{Piece, Gap, Token, IsDelimiter, IsLongest, IsLongestDelimiter, BeginsNoPiece, BeginsNoDelimiter, is_blank, is_in_comment, begins_comment, is_short_delimiter, is_long_delimiter}
-use Rattle.bw_sql.specs.Token.{Lexeme, Compare, Punct}
+use Rattle.bw_sql.specs.Piece.{Piece, Gap, Token, IsDelimiter, IsLongest, IsLongestDelimiter, BeginsNoPiece, BeginsNoDelimiter, is_blank, is_in_comment, begins_comment}
+use Rattle.bw_sql.specs.Token.{Lexeme}
 use Rattle.bw_sql.proofs.Cuts.{shrinks}
 use Rattle.bw_sql.proofs.Pieces.{Split, split, blank_longest, word_longest, digits_longest, comment_longest, delimiter_longest, no_piece}
 use Rattle.bw_sql.proofs.Cases.{bool_cases, option_cases}

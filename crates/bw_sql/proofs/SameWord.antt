@@ -1,14 +1,11 @@
 -- A reserved word and a mark are known by their spelling.
-use Rattle.std.proofs.Common.{◌≡◌, ℕ, Bool, true, false, List, [], ◌∷◌, Option, Some, None, if◌then◌else◌, refl, sym, ◌∙◌, ap}
+use Rattle.std.proofs.Common.{◌≡◌, Bool, true, false, List, ◌∷◌, Some, None, if◌then◌else◌, refl, sym, ◌∙◌, ap}
 use Rattle.std.proofs.lemmas.Slice.Eq.{bytes_eq-Decides}
-use Rattle.std.specs.Prelude.{find}
-use Rattle.std.specs.Str.{bytes_eq}
 use Rattle.bw_model.specs.declared.keyword.Keyword.{Keyword}
 use Rattle.bw_model.specs.declared.keyword.Keyword.TheVariants as word
 use Rattle.bw_model.specs.Keyword.{keyword_of, spelling}
 use Rattle.bw_model.specs.Text.{same_text}
 use Rattle.bw_sql.specs.declared.token.Mark.{Mark}
-use Rattle.bw_sql.specs.declared.token.Mark.TheVariants as mark
 use Rattle.bw_sql.specs.Piece.{mark_spelling}
 use Rattle.bw_sql.specs.Reading.{same_keyword, same_mark, after_keyword, after_mark}
 use Rattle.bw_sql.specs.Token.{Lexeme, Reserved, Punct}

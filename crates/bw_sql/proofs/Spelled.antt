@@ -18,7 +18,7 @@ use Rattle.bw_sql.specs.Asked.{Asked}
 use Rattle.bw_model.specs.CondTree.{CondTree}
 use Rattle.bw_model.specs.Column.{column_named}
 use Rattle.bw_sql.specs.Demand.{Demand, IsTable, IsColumn, Fits, OfOneKind, Depth, column_number, column_or_first, is_met, meets, refusal, signed}
-use Rattle.bw_sql.specs.Grammar.{TruthIs, OperandIs, MoreOperands, RangeIs, PredicateIs, JoinedIs, MoreParts, PartIs, FactorIs, TestIs, PrimaryIs, ItemIs, MoreItems, ItemsAre, SelectionIs, EndIs, StatementIs, IsQuery, true_word, false_word, unknown_word, null, column, unsigned, plus, minus, last_operand, next_operand, between, among, comparison, range, not_range, is_null, is_not_null, parts, last_part, next_part, factor, term, test, not_test, primary, is, is_not, predicate, bracket, plain, count_all, aggregate, last_item, next_item, star, items, all_rows, rows_where, bare, semicolon, statement}
+use Rattle.bw_sql.specs.Grammar.{TruthIs, OperandIs, MoreOperands, RangeIs, PredicateIs, JoinedIs, MoreParts, PartIs, FactorIs, TestIs, PrimaryIs, ItemIs, MoreItems, ItemsAre, SelectionIs, EndIs, StatementIs, IsQuery, true_word, null, column, unsigned, plus, minus, last_operand, next_operand, between, among, comparison, range, not_range, is_null, is_not_null, parts, last_part, next_part, factor, term, test, not_test, primary, is, is_not, predicate, bracket, plain, count_all, aggregate, last_item, next_item, star, items, all_rows, rows_where, bare, semicolon, statement}
 use Rattle.bw_sql.specs.Limits.{deepest_nesting}
 use Rattle.bw_sql.specs.Reading.{Halt, ◌>>=◌, refuse, wanted, begins_with_name, after_keyword, after_mark, keyword_at, mark_at, name_at, digits_at, sign_at, literal_at, column_at, table_at, operand_at, repeated, range_or_list_at, null_test_at, after_comparison, predicate_at, truth_value_at, truth_test_at, primary_in, test_in, factor_in, part_in, term_in, condition_in, joined_in, nested, selection_at, table_expression_at, end_at, after_aggregate, aggregated_at, item_at, of_one_kind, next_item_at, items_at, statement_at}
 use Rattle.bw_sql.specs.Token.{Lexeme, Name, Reserved}
@@ -69,14 +69,12 @@ aggregate_comes _ next = refl
 truth_value_read : {tokens rest : List Lexeme} {t : Truth} → TruthIs tokens rest t → truth_value_at tokens ≡ Ok (t, rest)
 unfolding truth_value_at after_keyword
 truth_value_read true_word = refl
-truth_value_read false_word = refl
-truth_value_read unknown_word = refl
+truth_value_read _ = refl
 
 truth_no_not : {tokens rest : List Lexeme} {t : Truth} → TruthIs tokens rest t → after_keyword word.Not tokens ≡ None
 unfolding after_keyword
 truth_no_not true_word = refl
-truth_no_not false_word = refl
-truth_no_not unknown_word = refl
+truth_no_not _ = refl
 
 module _ (schema : Schema) (met : Demand → Bool) where
   abbrev columns : List Column
@@ -146,10 +144,7 @@ module _ (schema : Schema) (met : Demand → Bool) where
   operand_begins : {tokens rest : List Lexeme} {x : Operand} → OperandIs columns met tokens rest x → (after_mark mark.Open tokens ≡ None) × (after_keyword word.Not tokens ≡ None)
   unfolding after_mark after_keyword
   operand_begins null = (refl, refl)
-  operand_begins (column m) = (refl, refl)
-  operand_begins (unsigned m) = (refl, refl)
-  operand_begins (plus m) = (refl, refl)
-  operand_begins (minus m) = (refl, refl)
+  operand_begins _ = (refl, refl)
 
   predicate_begins : {tokens rest : List Lexeme} {c : CondTree} → PredicateIs columns met tokens rest c → (after_mark mark.Open tokens ≡ None) × (after_keyword word.Not tokens ≡ None)
   predicate_begins (comparison x y) = operand_begins x
@@ -260,8 +255,7 @@ module _ (schema : Schema) (met : Demand → Bool) where
   item_begins : {kind : Bool} {tokens rest : List Lexeme} {item : Item} → ItemIs columns met kind tokens rest item → (after_mark mark.Star tokens ≡ None) × (begins_with_name tokens ≡ kind)
   unfolding after_mark
   item_begins (plain m) = (refl, refl)
-  item_begins count_all = (refl, refl)
-  item_begins (aggregate of m) = (refl, refl)
+  item_begins _ = (refl, refl)
 
   list_read : {tokens rest : List Lexeme} {xs : List Item} → ItemsAre columns met tokens rest xs → after_mark mark.Comma rest ≡ None → Outcome schema met (items_at schema tokens) (xs, rest)
   unfolding items_at after_mark
@@ -272,7 +266,7 @@ module _ (schema : Schema) (met : Demand → Bool) where
   end_ends : {last : List Lexeme} → EndIs last → (after_keyword word.Where last ≡ None) × JoinedEnds connective.Or last
   unfolding after_keyword
   end_ends bare = (refl, ((refl, refl), refl))
-  end_ends semicolon = (refl, ((refl, refl), refl))
+  end_ends _ = (refl, ((refl, refl), refl))
 
   end_read : {last : List Lexeme} → EndIs last → end_at last ≡ Ok tt
   unfolding end_at after_mark

@@ -21,35 +21,33 @@ use Rattle.bw_sql.specs.declared.condition.Connective.TheVariants as connective
 use Rattle.bw_sql.specs.declared.items.Aggregate.TheVariants as kind
 use Rattle.bw_sql.specs.Asked.{Asked, asked}
 use Rattle.bw_sql.specs.Demand.{IsColumn, OfOneKind, column_number, column_or_first, is_met, meets}
-use Rattle.bw_sql.specs.Grammar.{OperandIs, MoreOperands, RangeIs, PredicateIs, JoinedIs, MoreParts, PartIs, FactorIs, TestIs, PrimaryIs, ItemIs, MoreItems, ItemsAre, SelectionIs, IsQuery, joined, null, column, unsigned, plus, minus, last_operand, next_operand, between, among, comparison, range, not_range, is_null, is_not_null, parts, last_part, next_part, factor, term, test, not_test, primary, is, is_not, predicate, bracket, plain, count_all, aggregate, last_item, next_item, star, items, all_rows, rows_where, statement}
+use Rattle.bw_sql.specs.Grammar.{OperandIs, MoreOperands, RangeIs, PredicateIs, JoinedIs, MoreParts, PartIs, FactorIs, TestIs, PrimaryIs, ItemIs, MoreItems, ItemsAre, SelectionIs, IsQuery, joined, null, column, last_operand, next_operand, between, among, comparison, range, not_range, is_null, is_not_null, parts, last_part, next_part, factor, term, test, not_test, primary, is, is_not, predicate, bracket, plain, count_all, aggregate, last_item, next_item, star, items, all_rows, rows_where, statement}
 use Rattle.bw_sql.specs.Items.{AreOfOneKind, is_of_kind, are_of_kind}
 use Rattle.bw_sql.specs.Statement.{Parses, tokens_of}
 use Rattle.bw_sql.specs.Token.{Lexeme}
 use Rattle.bw_sql.specs.Words.{join_of}
 
 -- a tree names the first so many columns alone, and is whole
-record Good (columns : ℕ) (c : CondTree) : Type 0 where
-  within : tree_within columns c ≡ true
-  whole : is_whole_tree c ≡ true
+abbrev Good : ℕ → CondTree → Type 0
+Good columns c = (tree_within columns c ≡ true) × (is_whole_tree c ≡ true)
 
-record AreGood (columns : ℕ) (cs : List CondTree) : Type 0 where
-  within : trees_within columns (trees_of cs) ≡ true
-  whole : are_whole_trees (trees_of cs) ≡ true
+abbrev AreGood : ℕ → List CondTree → Type 0
+AreGood columns cs = (trees_within columns (trees_of cs) ≡ true) × (are_whole_trees (trees_of cs) ≡ true)
 
-more_good : {columns : ℕ} (c : CondTree) (cs : List CondTree) → Good columns c → AreGood columns cs → AreGood columns (c ∷ cs)
-more_good c cs g gs = record { within = and_from _ _ g.within gs.within; whole = and_from _ _ g.whole gs.whole }
+more_good : (columns : ℕ) (c : CondTree) (cs : List CondTree) → Good columns c → AreGood columns cs → AreGood columns (c ∷ cs)
+more_good columns c cs g gs = (and_from _ _ g.0 gs.0, and_from _ _ g.1 gs.1)
 
-several_good : {columns : ℕ} (c d : CondTree) (ds : List CondTree) → Good columns c → AreGood columns (d ∷ ds) →
+several_good : (columns : ℕ) (c d : CondTree) (ds : List CondTree) → Good columns c → AreGood columns (d ∷ ds) →
     Good columns (And (trees_of (c ∷ d ∷ ds)))
-several_good c d ds g gs =
-    let all = more_good c (d ∷ ds) g gs in
-    record { within = all.within; whole = and_from _ _ (le-leb 2 (count_of (trees_of (c ∷ d ∷ ds))) (omega arith)) all.whole }
+several_good columns c d ds g gs =
+    let all = more_good columns c (d ∷ ds) g gs in
+    (all.0, and_from _ _ (le-leb 2 (count_of (trees_of (c ∷ d ∷ ds))) (omega arith)) all.1)
 
-joined_good : {columns : ℕ} (by : Connective) (c : CondTree) (cs : List CondTree) → Good columns c → AreGood columns cs →
+joined_good : (columns : ℕ) (by : Connective) (c : CondTree) (cs : List CondTree) → Good columns c → AreGood columns cs →
     Good columns (joined (join_of by) c cs)
-joined_good by c [] g gs = g
-joined_good connective.And c (d ∷ ds) g gs = several_good c d ds g gs
-joined_good connective.Or c (d ∷ ds) g gs = let all = several_good c d ds g gs in record { within = all.within; whole = all.whole }
+joined_good columns by c [] g gs = g
+joined_good columns connective.And c (d ∷ ds) g gs = several_good columns c d ds g gs
+joined_good columns _ c (d ∷ ds) g gs = several_good columns c d ds g gs
 
 -- every column is a column of the schema
 every_within : (columns a n : ℕ) → a + n ≤ columns → list_all (item_within columns) (map Plain (range_with_len a n)) ≡ true
@@ -94,34 +92,32 @@ module _ (schema : Schema) where
   operand_within : {tokens rest : List Lexeme} {x : Operand} → OperandIs cs (is_met schema) tokens rest x → is_within n x ≡ true
   operand_within null = refl
   operand_within (column m) = column_within _ m
-  operand_within (unsigned m) = refl
-  operand_within (plus m) = refl
-  operand_within (minus m) = refl
+  operand_within _ = refl
 
   operands_within : {tokens rest : List Lexeme} {xs : List Operand} → MoreOperands cs (is_met schema) tokens rest xs → list_all (is_within n) xs ≡ true
   operands_within last_operand = refl
   operands_within (next_operand x xs) = and_from _ _ (operand_within x) (operands_within xs)
 
   range_good : {tokens rest : List Lexeme} {x : Operand} {c : CondTree} → is_within n x ≡ true → RangeIs cs (is_met schema) x tokens rest c → Good n c
-  range_good h (between y z) = record { within = rw (h, operand_within y, operand_within z) refl; whole = refl }
-  range_good h (among y ys) = record { within = rw (h, operand_within y, operands_within ys) refl; whole = le-leb 1 _ (omega arith) }
+  range_good h (between y z) = (rw (h, operand_within y, operand_within z) refl, refl)
+  range_good h (among y ys) = (rw (h, operand_within y, operands_within ys) refl, le-leb 1 _ (omega arith))
 
   predicate_good : {tokens rest : List Lexeme} {c : CondTree} → PredicateIs cs (is_met schema) tokens rest c → Good n c
-  predicate_good (comparison x y) = record { within = rw (operand_within x, operand_within y) refl; whole = refl }
+  predicate_good (comparison x y) = (rw (operand_within x, operand_within y) refl, refl)
   predicate_good (range x y) = range_good (operand_within x) y
-  predicate_good (not_range x y) = let g = range_good (operand_within x) y in record { within = g.within; whole = g.whole }
-  predicate_good (is_null x) = record { within = operand_within x; whole = refl }
-  predicate_good (is_not_null x) = record { within = operand_within x; whole = refl }
+  predicate_good (not_range x y) = range_good (operand_within x) y
+  predicate_good (is_null x) = (operand_within x, refl)
+  predicate_good (is_not_null x) = (operand_within x, refl)
 
   mutual
     parts_good : {by : Connective} {depth : ℕ} {tokens rest : List Lexeme} {c : CondTree} →
         JoinedIs cs (is_met schema) by depth tokens rest c → Good n c
-    parts_good (parts {by = by} {c = c} {cs = more} p ps) = joined_good by c more (part_good p) (more_parts_good ps)
+    parts_good (parts {by = by} {c = c} {cs = more} p ps) = joined_good n by c more (part_good p) (more_parts_good ps)
 
     more_parts_good : {by : Connective} {depth : ℕ} {tokens rest : List Lexeme} {more : List CondTree} →
         MoreParts cs (is_met schema) by depth tokens rest more → AreGood n more
-    more_parts_good last_part = record { within = refl; whole = refl }
-    more_parts_good (next_part {c = c} {cs = more} p ps) = more_good c more (part_good p) (more_parts_good ps)
+    more_parts_good last_part = (refl, refl)
+    more_parts_good (next_part {c = c} {cs = more} p ps) = more_good n c more (part_good p) (more_parts_good ps)
 
     part_good : {by : Connective} {depth : ℕ} {tokens rest : List Lexeme} {c : CondTree} →
         PartIs cs (is_met schema) by depth tokens rest c → Good n c
@@ -130,19 +126,19 @@ module _ (schema : Schema) where
 
     factor_good : {depth : ℕ} {tokens rest : List Lexeme} {c : CondTree} → FactorIs cs (is_met schema) depth tokens rest c → Good n c
     factor_good (test p) = test_good p
-    factor_good (not_test m p) = let g = test_good p in record { within = g.within; whole = g.whole }
+    factor_good (not_test m p) = test_good p
 
     test_good : {depth : ℕ} {tokens rest : List Lexeme} {c : CondTree} → TestIs cs (is_met schema) depth tokens rest c → Good n c
     test_good (primary p) = primary_good p
-    test_good (is p t) = let g = primary_good p in record { within = g.within; whole = g.whole }
-    test_good (is_not p t) = let g = primary_good p in record { within = g.within; whole = g.whole }
+    test_good (is p t) = primary_good p
+    test_good (is_not p t) = primary_good p
 
     primary_good : {depth : ℕ} {tokens rest : List Lexeme} {c : CondTree} → PrimaryIs cs (is_met schema) depth tokens rest c → Good n c
     primary_good (predicate p) = predicate_good p
     primary_good (bracket m p) = parts_good p
 
   selection_good : {tokens rest : List Lexeme} {c : CondTree} → SelectionIs cs (is_met schema) tokens rest c → Good n c
-  selection_good all_rows = record { within = refl; whole = refl }
+  selection_good all_rows = (refl, refl)
   selection_good (rows_where p) = parts_good p
 
   item_good : {kind : Bool} {tokens rest : List Lexeme} {item : Item} → ItemIs cs (is_met schema) kind tokens rest item → (item_within n item ≡ true) × (is_of_kind kind item ≡ true)
@@ -178,7 +174,7 @@ query_good schema tokens query (statement list m selection end) =
     let xs = items_good schema list in
     let c = selection_good schema selection in
     let columns : length schema.columns.items ≡ vec_len schema.columns = omega (arith, schema.columns.ok.0) in
-    subst (λ k. GoodQuery k query) columns (record { within = c.within; whole = c.whole; items = xs.1.1.within; some = xs.0; kinds = (xs.1.0, xs.1.1.kinds) })
+    subst (λ k. GoodQuery k query) columns (record { within = c.0; whole = c.1; items = xs.1.1.within; some = xs.0; kinds = (xs.1.0, xs.1.1.kinds) })
 
 -- so it is with the query that a text is read as
 pub if_good : (schema : Schema) (text : List ℕ) (result : Result Query Fault) (P : Query → Type 0) → Parses schema text result →

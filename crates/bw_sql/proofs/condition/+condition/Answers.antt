@@ -1,40 +1,31 @@
 -- Brackets and NOT read one level deeper; each part goes after those before it.
-use Rattle.std.proofs.Common.{◌<◌, [], ◌∷◌, length, map, Err, refl, sym, ◌∙◌, ap, subst, arith}
+use Rattle.std.proofs.Common.{[], ◌∷◌, map, Err, refl, sym, ◌∙◌, ap, arith}
 use Rattle.std.proofs.lemmas.List.{map-append}
 use Rattle.std.proofs.lemmas.Result.{err_from_is_err_and}
 use Rattle.bw_sql.specs.declared.reader.Refusal.TheVariants.{Nesting}
 use Rattle.bw_model.specs.CondTree.{tree_of}
-use Rattle.bw_sql.specs.Reading.{after_keyword, more_parts_in, nested, part_in, with_front}
 use Rattle.bw_sql.specs.Token.{lexemes}
-use Rattle.bw_sql.specs.Words.{word_of}
 use Rattle.bw_sql.proofs.Levels.{factor_at_0, factor_deeper, primary_at_0, primary_deeper}
-use Rattle.bw_sql.proofs.Repeats.{Repeats, ends, halts, steps, halts_too, length-lexemes}
+use Rattle.bw_sql.proofs.Repeats.{ends, halts, steps, halts_too, length-lexemes}
 use Rattle.bw_sql.proofs.condition.+condition.Goals as goal
 
 pub more_parts-returns-in_err-another-clause-read : goal.more_parts-returns-in_err-another-clause-read
 more_parts-returns-in_err-another-clause-read t c =
     let p = err_from_is_err_and c.from_residual.result c.from_residual.ensures.1 in
-    let some : 0 < length c.loop-next.left.tokens.now = omega (arith, c.in-Some.ensures.shorter) in
-    let same_word = ap (λ w. after_keyword w (lexemes c.loop-next.left.tokens.now)) (sym c.keyword.ensures) in
-    rw (p.1, p.2) (halts_too c.in_err-another.field-0.0 _ _ c.in_err-another.ensures.read
-    (λ halt e. halts (after_keyword (word_of c.args.connective)) (part_in c.args.schema.now (nested c.args.schema.now c.args.levels) c.args.connective) _ _ _ _ _ halt c.loop-next.invariant.read (same_word ∙ sym c.in-Some.ensures.is) e some))
+    rw (p.1, p.2) (halts c.loop-next.invariant.read c.in_err-another.field-0.0 (rw c.keyword.ensures at (sym c.in-Some.ensures.is))
+    c.in_err-another.ensures.read (omega (arith, c.in-Some.ensures.shorter)))
 
 pub more_parts-loop-next-preserved : goal.more_parts-loop-next-preserved
-more_parts-loop-next-preserved t c =
-    let some : length c.in_ok-another.after.now < length c.loop-next.left.tokens.now = omega (arith, c.in-Some.ensures.shorter, c.in_ok-another.ensures.shorter) in
-    let same_word = ap (λ w. after_keyword w (lexemes c.loop-next.left.tokens.now)) (sym c.keyword.ensures) in
-    record {
-      shorter = omega (arith, c.in-Some.ensures.shorter, c.in_ok-another.ensures.shorter);
-      read = subst (λ parts. Repeats (after_keyword (word_of c.args.connective)) (part_in c.args.schema.now (nested c.args.schema.now c.args.levels) c.args.connective) parts (length c.in_ok-another.after.now) (lexemes c.in_ok-another.after.now)
-          (with_front (map tree_of c.args.parts.items) (more_parts_in c.args.schema.now (nested c.args.schema.now c.args.levels) c.args.connective (lexemes c.args.tokens.now))))
-          (sym (ap (map tree_of) c.in_ok-push.ensures.items ∙ map-append tree_of c.loop-next.parts.items (c.in_ok-another.another ∷ [])))
-          (steps (after_keyword (word_of c.args.connective)) (part_in c.args.schema.now (nested c.args.schema.now c.args.levels) c.args.connective) _ _ _ _ _ _ (tree_of c.in_ok-another.another) c.loop-next.invariant.read (same_word ∙ sym c.in-Some.ensures.is) c.in_ok-another.ensures.read _ some);
-    }
+more_parts-loop-next-preserved t c = record {
+  shorter = omega (arith, c.in-Some.ensures.shorter, c.in_ok-another.ensures.shorter);
+  read = steps c.loop-next.invariant.read (rw c.keyword.ensures at (sym c.in-Some.ensures.is)) c.in_ok-another.ensures.read
+      (ap (map tree_of) c.in_ok-push.ensures.items ∙ map-append tree_of c.loop-next.parts.items (c.in_ok-another.another ∷ []))
+      (omega (arith, c.in-Some.ensures.shorter, c.in_ok-another.ensures.shorter));
+}
 
 pub more_parts-returns-clause-read : goal.more_parts-returns-clause-read
 more_parts-returns-clause-read t c =
-    let same_word = ap (λ w. after_keyword w (lexemes c.loop-next.left.tokens.now)) (sym c.keyword.ensures) in
-    ends (after_keyword (word_of c.args.connective)) (part_in c.args.schema.now (nested c.args.schema.now c.args.levels) c.args.connective) _ _ _ _ c.loop-next.invariant.read (same_word ∙ sym c.in_default.ensures.is)
+    ends c.loop-next.invariant.read (rw c.keyword.ensures at (sym c.in_default.ensures.is))
 
 pub factor-returns-then-levels-eq0-clause-read : goal.factor-returns-then-levels-eq0-clause-read
 factor-returns-then-levels-eq0-clause-read t c =
