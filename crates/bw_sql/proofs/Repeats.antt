@@ -19,11 +19,6 @@ pub record Repeats {A : Type 0} (after : List Lexeme → Option (List Lexeme)) (
   pub enough : left ≤ fuel
   pub same : whole ≡ with_front front (repeated fuel after one tokens)
 
-pub begins : {A : Type 0} (after : List Lexeme → Option (List Lexeme)) (one : List Lexeme → Result (A × List Lexeme) Halt)
-    (front : List A) (tokens : List Placed) → Repeats after one front (length tokens) (lexemes tokens)
-    (with_front front (repeated (length (lexemes tokens)) after one (lexemes tokens)))
-begins after one front tokens = record { fuel = length (lexemes tokens); enough = omega (arith, length-lexemes tokens); same = refl }
-
 fronts : {A : Type 0} (front : List A) (x : A) (read : Result (List A × List Lexeme) Halt) →
     with_front front (with_front (x ∷ []) read) ≡ with_front (front ++ x ∷ []) read
 fronts front x (Ok xs) = ap (λ all. Ok (all, xs.1)) (sym (append_assoc front (x ∷ []) xs.0))
