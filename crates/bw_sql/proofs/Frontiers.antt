@@ -1,5 +1,5 @@
 -- What reading refuses is the first fault.
-use Rattle.std.proofs.Common.{◌≡◌, ℕ, suc, ◌+◌, ◌<◌, ◌≤◌, Bool, true, false, nat_lt, ◌==◌, ◌⊎◌, inl, inr, List, [], ◌∷◌, ◌++◌, length, Result, Ok, Err, refl, sym, ◌∙◌, ap, subst, arith, append_assoc, length-append}
+use Rattle.std.proofs.Common.{◌≡◌, ℕ, suc, ◌+◌, ◌<◌, ◌≤◌, Bool, true, false, nat_lt, ◌==◌, inl, inr, List, [], ◌∷◌, ◌++◌, length, Result, Ok, Err, refl, sym, ◌∙◌, ap, subst, arith, append_assoc, length-append}
 use Rattle.std.proofs.lemmas.Bool.{ltb-true, ltb-false}
 use Rattle.std.proofs.lemmas.List.{append-nil}
 use Rattle.std.proofs.lemmas.Bool.Decides.{nat_tests}
@@ -46,7 +46,7 @@ path_push : {met : Demand → Bool} {stack last next : List Symbol} {tokens : Li
 path_push t here e = there e here
 path_push t (there d p) e = there d (path_push t p e)
 
-pub beyond : (tokens before behind : List Lexeme) (t : Lexeme) → tokens ≡ before ++ t ∷ behind → length before < length tokens
+beyond : (tokens before behind : List Lexeme) (t : Lexeme) → tokens ≡ before ++ t ∷ behind → length before < length tokens
 beyond tokens before behind t e = omega (arith, ap length e, length-append before (t ∷ behind))
 
 equal : (a : ℕ) → (a == a) ≡ true
@@ -86,19 +86,19 @@ module _ (schema : Schema) where
 
 -- where the tokens end, and no statement does
 module _ (schema : Schema) (tokens : List Lexeme) (last : List Symbol) (p : Path (is_met schema) (AStatement ∷ []) tokens last) where
-  pub end_least : (other : Refusal) (at : ℕ) → Stands schema tokens other at →
-      (length tokens < at) ⊎ ((length tokens ≡ at) × (code_of Syntax ≤ code_of other))
-  end_least other at (at_token before behind t e v unless) =
+  pub only_at_end : (other : Refusal) (at : ℕ) → Stands schema tokens other at → (at ≡ length tokens) × (other ≡ Syntax) ×
+      ((query : Asked) → StatementIs schema.columns.items (asked_for schema Syntax) tokens query → ⊥)
+  only_at_end other at (at_token before behind t e v unless) =
       absurd (unless (begun schema other (before ++ t ∷ []) behind tokens last p (e ∙ sym (append_assoc before (t ∷ []) behind))))
-  end_least other at (at_sign before behind t digits s e v unless) = absurd (unless (begun schema Literal
+  only_at_end other at (at_sign before behind t digits s e v unless) = absurd (unless (begun schema Literal
       (before ++ t ∷ Digits digits ∷ []) behind tokens last p (e ∙ sym (append_assoc before (t ∷ Digits digits ∷ []) behind))))
-  end_least other at (at_end v unless) = inr (refl, omega arith)
+  only_at_end other at (at_end v unless) = (refl, refl, unless)
 
   end_first : statement_at schema tokens ≡ Err (record { why = Syntax; left = 0 }) → IsFirst schema tokens Syntax (length tokens)
   end_first e = record {
     stands = at_end (begun schema Syntax tokens [] tokens last p (sym (append-nil tokens)))
         (λ q s. refused_unspelled schema (record { why = Syntax; left = 0 }) tokens q e s);
-    first = end_least;
+    first = λ other at s. let only = only_at_end other at s in inr (sym only.0, rw only.1 (omega arith));
   }
 
 -- the machine stops at a token
@@ -199,6 +199,7 @@ pub record FirstFault (schema : Schema) (tokens : List Lexeme) (halt : Halt) : T
   pub place : ℕ
   pub first : IsFirst schema tokens halt.why place
   pub left : place + halt.left ≡ length tokens
+  pub last : length tokens ≤ place → halt.why ≡ Syntax
 
 module _ (schema : Schema) (tokens before behind : List Lexeme) (t : Lexeme) (last : List Symbol)
     (e : tokens ≡ before ++ t ∷ behind) (p : Path (is_met schema) (AStatement ∷ []) before last) where
@@ -209,6 +210,7 @@ module _ (schema : Schema) (tokens before behind : List Lexeme) (t : Lexeme) (la
     place = length before;
     first = token_first schema tokens before behind t last why e p stop alone;
     left = omega (arith, ap length e, length-append before (t ∷ behind));
+    last = λ h. absurd (omega (arith, beyond tokens before behind t e));
   }
 
   -- after a sign digits are refused as a literal
@@ -230,6 +232,7 @@ module _ (schema : Schema) (tokens before behind : List Lexeme) (t : Lexeme) (la
         place = length u.0;
         first = sign_first schema tokens before behind t last Literal e p stop digits is u.0 u.1 u.3 u.2 refl;
         left = omega (arith, ap length e, length-append before (t ∷ behind), ap length u.2, length-append u.0 (u.1 ∷ []));
+        last = λ h. absurd (omega (arith, beyond tokens before behind t e, ap length u.2, length-append u.0 (u.1 ∷ [])));
       }
     where
       some : (ts : List Lexeme) → after_sign false ts ≡ true → (front : List Lexeme) × (u : Lexeme) × (ts ≡ front ++ u ∷ []) × (is_sign u ≡ true)
@@ -256,6 +259,6 @@ module _ (schema : Schema) (tokens : List Lexeme) where
     go : {r : Result (Unit {0}) Halt} → Ran schema false (AStatement ∷ []) tokens r → r ≡ Err halt → FirstFault schema tokens halt
     go (whole last p m) f = cc
     go (ends last p) f = same (λ h. statement_at schema tokens ≡ Err h → FirstFault schema tokens h) _
-        (λ e. record { place = length tokens; first = end_first schema tokens last p e; left = omega arith }) f e
+        (λ e. record { place = length tokens; first = end_first schema tokens last p e; left = omega arith; last = λ h. refl }) f e
     go (stops before behind t last why g p stop) f = same (FirstFault schema tokens) _
         (stop_first schema tokens before behind t last g p (after_sign false before) refl why stop) f

@@ -1,14 +1,11 @@
 pub mod Cuts
 pub mod Cases
 pub mod Cutting
-pub mod Faults
 pub mod Frontiers
 pub mod Levels
 pub mod Machine
 pub mod OneCut
 pub mod Pieces
-pub mod Query
-pub mod Readers
 pub mod Repeats
 pub mod Delimiters
 pub mod Runs
@@ -16,5 +13,6 @@ pub mod SameNames
 pub mod SameWord
 pub mod Spelled
 pub mod Stops
+pub mod Texts
 pub mod Viable
 pub mod Within

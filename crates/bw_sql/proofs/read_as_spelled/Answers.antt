@@ -1,5 +1,5 @@
 -- Reading and spelling, both ways.
-use Rattle.bw_sql.proofs.Query.{query_spelled}
+use Rattle.bw_sql.proofs.Texts.{query_spelled}
 use Rattle.bw_sql.proofs.Spelled.{query_read}
 use Rattle.bw_sql.proofs.read_as_spelled.Goals as goal
 
