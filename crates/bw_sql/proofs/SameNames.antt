@@ -9,17 +9,18 @@ use Rattle.bw_sql.specs.Grammar.{StatementIs}
 use Rattle.bw_sql.specs.Statement.{Spells, tokens_of}
 use Rattle.bw_model.proofs.SameColumns.{columns_same}
 
--- so of every schema of the same shape
-pub spells_too : (s t : Schema) (text : List ℕ) (query : Asked) → schema_shape s ≡ schema_shape t → Spells s text query → Spells t text query
+pub columns_too : (s t : Schema) → schema_shape s ≡ schema_shape t → s.columns.items ≡ t.columns.items
+columns_too s t same = columns_same s.columns.items t.columns.items (ap (λ (h : SchemaShape). h.columns) same)
+
+pub spells_too : (s t : Schema) (text : List ℕ) (query : Asked) → schema_shape s ≡ schema_shape t → Spells s text query →
+    Spells t text query
 spells_too s t text query same spells =
     let tokens = tokens_of spells.tokens in
-    let columns : s.columns.items ≡ t.columns.items =
-    columns_same s.columns.items t.columns.items (ap (λ (h : SchemaShape). h.columns) same) in
     record {
       short = spells.short;
       tokens = spells.tokens;
       cut = spells.cut;
       spelled = subst (λ (name : List ℕ). StatementIs t.columns.items (λ d. meets name t.columns.items d) tokens query)
           (ap (λ (h : SchemaShape). h.name) same)
-          (subst (λ (cs : List Column). StatementIs cs (λ d. meets s.name cs d) tokens query) columns spells.spelled);
+          (subst (λ (cs : List Column). StatementIs cs (λ d. meets s.name cs d) tokens query) (columns_too s t same) spells.spelled);
     }

@@ -19,34 +19,6 @@ use Rattle.bw_sql.proofs.Cases.{bool_cases}
 use Rattle.bw_sql.proofs.Machine.{Symbol, AWord, AnArgument, PartTail, SignedDigits, Choice, Ask, Pass, Stop, decide, ask, chosen, step, left_at, proceed, run, all_may_end}
 use Rattle.bw_sql.proofs.Viable.{Path, here, there}
 
--- what asks for less goes as far
-module _ (schema : Schema) (met : Demand → Bool) (weaker : (d : Demand) → is_met schema d ≡ true → met d ≡ true) where
-  ask_weaker : (demands : List Demand) (stack last : List Symbol) → ask (is_met schema) demands stack ≡ Ok last →
-      ask met demands stack ≡ Ok last
-  ask_weaker [] stack last e = e
-  ask_weaker (d ∷ demands) stack last e = bool_cases (is_met schema d)
-      (λ m. rw (weaker d m) (ask_weaker demands stack last (rw m at e))) (λ u. let f = rw u at e in cc)
-
-  chosen_weaker : (c : Choice) (stack last : List Symbol) (r s : Result (List Symbol) Refusal) → (r ≡ Ok last → s ≡ Ok last) →
-      chosen (is_met schema) c stack r ≡ Ok last → chosen met c stack s ≡ Ok last
-  chosen_weaker (Ask demands symbols) stack last r s k e = ask_weaker demands (symbols ++ stack) last e
-  chosen_weaker Pass stack last r s k e = k e
-  chosen_weaker Stop stack last r s k e = e
-
-  step_weaker : (stack : List Symbol) (t : Lexeme) (last : List Symbol) → step (is_met schema) stack t ≡ Ok last →
-      step met stack t ≡ Ok last
-  unfolding step
-  step_weaker [] t last e = e
-  step_weaker (s ∷ stack) t last e = chosen_weaker (decide s t) stack last _ _ (step_weaker stack t last) e
-
-  pub path_weaker : {stack last : List Symbol} {tokens : List Lexeme} → Path (is_met schema) stack tokens last →
-      Path met stack tokens last
-  path_weaker here = here
-  path_weaker (there {stack = stack} {next = next} {t = t} e p) = there (step_weaker stack t next e) (path_weaker p)
-
-pub asked_for_weaker : (schema : Schema) (why : Refusal) (d : Demand) → is_met schema d ≡ true → asked_for schema why d ≡ true
-asked_for_weaker schema why d m = rw m (or-true (not (code_of (refusal d) == code_of why)))
-
 -- Demands are asked in the order of their numbers, at a sign nothing is asked and digits are to come, and a literal is
 -- refused at its digits.
 abbrev rising : ℕ → List Demand → Bool
@@ -80,6 +52,45 @@ decide_orderly (AnArgument aggregate.Count) (Punct mark.Star) = refl
 decide_orderly _ (Punct mark.Plus) = refl
 decide_orderly _ (Reserved word.Not) = refl
 decide_orderly _ _ = refl
+
+-- what a stack makes of a token, whatever is met: nothing, or what a symbol on it asks
+data Decided (stack : List Symbol) (t : Lexeme) : Type 0 where
+  none : ((met : Demand → Bool) → step met stack t ≡ Err Syntax) → Decided stack t
+  asks : (demands : List Demand) (symbols below : List Symbol) → is_orderly t (Ask demands symbols) ≡ true →
+      ((met : Demand → Bool) → step met stack t ≡ ask met demands (symbols ++ below)) → Decided stack t
+
+decided : (stack : List Symbol) (t : Lexeme) → Decided stack t
+unfolding step
+decided [] t = none (λ met. refl)
+decided (s ∷ stack) t = go (decide s t) refl (decide_orderly s t) (decided stack t) where
+  go : (c : Choice) → decide s t ≡ c → is_orderly t (decide s t) ≡ true → Decided stack t → Decided (s ∷ stack) t
+  go (Ask demands symbols) e o below = asks demands symbols stack (rw e at o) (λ met. rw e refl)
+  go Pass e o (none f) = none (λ met. rw e (f met))
+  go Pass e o (asks demands symbols below g f) = asks demands symbols below g (λ met. rw e (f met))
+  go Stop e o below = none (λ met. rw e refl)
+
+-- what asks for less goes as far
+module _ (schema : Schema) (met : Demand → Bool) (weaker : (d : Demand) → is_met schema d ≡ true → met d ≡ true) where
+  ask_weaker : (demands : List Demand) (stack last : List Symbol) → ask (is_met schema) demands stack ≡ Ok last →
+      ask met demands stack ≡ Ok last
+  ask_weaker [] stack last e = e
+  ask_weaker (d ∷ demands) stack last e = bool_cases (is_met schema d)
+      (λ m. rw (weaker d m) (ask_weaker demands stack last (rw m at e))) (λ u. let f = rw u at e in cc)
+
+  step_weaker : (stack : List Symbol) (t : Lexeme) (last : List Symbol) → step (is_met schema) stack t ≡ Ok last →
+      step met stack t ≡ Ok last
+  step_weaker stack t last e = elim (decided stack t) [
+    | none f ↦ (let g = sym (f (is_met schema)) ∙ e in cc)
+    | asks demands symbols below o f ↦ f met ∙ ask_weaker demands (symbols ++ below) last (sym (f (is_met schema)) ∙ e)
+  ]
+
+  pub path_weaker : {stack last : List Symbol} {tokens : List Lexeme} → Path (is_met schema) stack tokens last →
+      Path met stack tokens last
+  path_weaker here = here
+  path_weaker (there {stack = stack} {next = next} {t = t} e p) = there (step_weaker stack t next e) (path_weaker p)
+
+pub asked_for_weaker : (schema : Schema) (why : Refusal) (d : Demand) → is_met schema d ≡ true → asked_for schema why d ≡ true
+asked_for_weaker schema why d m = rw m (or-true (not (code_of (refusal d) == code_of why)))
 
 least_code : (other : Refusal) → 402 ≤ code_of other
 least_code Syntax = omega arith
@@ -115,19 +126,13 @@ module _ (schema : Schema) (other why : Refusal) (low : code_of other < code_of 
   none_lower e = let same : why ≡ Syntax = cc in
       let lower : code_of other < 402 = subst (λ w. code_of other < code_of w) same low in absurd (omega (arith, least_code other))
 
-  chosen_lower : (t : Lexeme) (c : Choice) (stack : List Symbol) (r s : Result (List Symbol) Refusal) → is_orderly t c ≡ true →
-      (r ≡ Err why → (next : List Symbol) × (s ≡ Ok next)) → chosen (is_met schema) c stack r ≡ Err why →
-      (next : List Symbol) × (chosen (asked_for schema other) c stack s ≡ Ok next)
-  chosen_lower t (Ask demands symbols) stack r s o k e =
-      (symbols ++ stack, ask_lower 402 demands (symbols ++ stack) (and_parts (rising 402 demands) _ o).0 e)
-  chosen_lower t Pass stack r s o k e = k e
-  chosen_lower t Stop stack r s o k e = none_lower e
-
   pub step_lower : (stack : List Symbol) (t : Lexeme) → step (is_met schema) stack t ≡ Err why →
       (next : List Symbol) × (step (asked_for schema other) stack t ≡ Ok next)
-  unfolding step
-  step_lower [] t e = none_lower e
-  step_lower (s ∷ stack) t e = chosen_lower t (decide s t) stack _ _ (decide_orderly s t) (step_lower stack t) e
+  step_lower stack t e = elim (decided stack t) [
+    | none f ↦ none_lower (sym (f (is_met schema)) ∙ e)
+    | asks demands symbols below o f ↦ (symbols ++ below, f (asked_for schema other) ∙ ask_lower 402 demands (symbols ++ below)
+    (and_parts (rising 402 demands) _ o).0 (sym (f (is_met schema)) ∙ e))
+  ]
 
 -- what is refused is a sign, for the grammar, or digits, or no literal
 module _ (schema : Schema) (t : Lexeme) (why : Refusal) where
@@ -144,20 +149,19 @@ module _ (schema : Schema) (t : Lexeme) (why : Refusal) where
   asked_fits (d ∷ demands) stack e l =
       bool_cases (is_met schema d) (λ m. asked_fits demands stack (rw m at e) l) (λ u. let f = rw (u, l) at e in cc)
 
-  chosen_refuses : (c : Choice) (stack : List Symbol) (r : Result (List Symbol) Refusal) → is_orderly t c ≡ true →
-      (r ≡ Err why → Refuses) → chosen (is_met schema) c stack r ≡ Err why → Refuses
-  chosen_refuses (Ask [] symbols) stack r o k e = cc
-  chosen_refuses (Ask (d ∷ demands) symbols) stack r o k e =
+  asked_refuses : (demands : List Demand) (symbols below : List Symbol) → is_orderly t (Ask demands symbols) ≡ true →
+      ask (is_met schema) demands (symbols ++ below) ≡ Err why → Refuses
+  asked_refuses [] symbols below o e = cc
+  asked_refuses (d ∷ demands) symbols below o e =
       let p = and_parts (rising 402 (d ∷ demands)) _ o in
       let q = and_parts (if asks_fits (d ∷ demands) then is_digits t else true) _ p.1 in
-      (λ s. let f = rw s at q.1 in cc, λ l. rw (asked_fits (d ∷ demands) (symbols ++ stack) e l) at q.0)
-  chosen_refuses Pass stack r o k e = k e
-  chosen_refuses Stop stack r o k e = for_syntax e
+      (λ s. let f = rw s at q.1 in cc, λ l. rw (asked_fits (d ∷ demands) (symbols ++ below) e l) at q.0)
 
   pub step_refuses : (stack : List Symbol) → step (is_met schema) stack t ≡ Err why → Refuses
-  unfolding step
-  step_refuses [] e = for_syntax e
-  step_refuses (s ∷ stack) e = chosen_refuses (decide s t) stack _ (decide_orderly s t) (step_refuses stack) e
+  step_refuses stack e = elim (decided stack t) [
+    | none f ↦ for_syntax (sym (f (is_met schema)) ∙ e)
+    | asks demands symbols below o f ↦ asked_refuses demands symbols below o (sym (f (is_met schema)) ∙ e)
+  ]
 
 -- after a sign digits are to come, and are refused as a literal
 abbrev begins_signed : List Symbol → Bool
@@ -171,21 +175,13 @@ module _ (schema : Schema) where
       let same : SignedDigits is_negative ∷ (symbols ++ stack) ≡ next = cc in subst (λ n. begins_signed n ≡ true) same refl
   signed_ask _ _ stack next g e = cc
 
-  chosen_sign : (t : Lexeme) (c : Choice) (stack next : List Symbol) (r : Result (List Symbol) Refusal) → is_sign t ≡ true →
-      is_orderly t c ≡ true → (r ≡ Ok next → begins_signed next ≡ true) → chosen (is_met schema) c stack r ≡ Ok next →
-      begins_signed next ≡ true
-  chosen_sign t (Ask demands symbols) stack next r s o k e =
-      let p = and_parts (if asks_fits demands then is_digits t else true) _ (and_parts (rising 402 demands) _ o).1 in
-      signed_ask demands symbols stack next (rw s at p.1) e
-  chosen_sign t Pass stack next r s o k e = k e
-  chosen_sign t Stop stack next r s o k e = cc
-
   step_sign : (stack next : List Symbol) (t : Lexeme) → is_sign t ≡ true → step (is_met schema) stack t ≡ Ok next →
       begins_signed next ≡ true
-  unfolding step
-  step_sign [] next t s e = cc
-  step_sign (x ∷ stack) next t s e =
-      chosen_sign t (decide x t) stack next _ s (decide_orderly x t) (step_sign stack next t s) e
+  step_sign stack next t s e = elim (decided stack t) [
+    | none f ↦ (let g = sym (f (is_met schema)) ∙ e in cc)
+    | asks demands symbols below o f ↦ signed_ask demands symbols below next (rw s at (and_parts
+    (if asks_fits demands then is_digits t else true) _ (and_parts (rising 402 demands) _ o).1).1) (sym (f (is_met schema)) ∙ e)
+  ]
 
   signed_stop : (stack : List Symbol) (digits : List ℕ) (why : Refusal) → begins_signed stack ≡ true →
       step (is_met schema) stack (Digits digits) ≡ Err why → why ≡ Literal
