@@ -1,6 +1,6 @@
 -- A machine of symbols of the grammar. A stack of symbols says what is to come; the uppermost symbol decides on
 -- one token: it takes the token and gives way to other symbols, passes it on, or stops.
-use Rattle.std.proofs.Common.{ℕ, suc, Bool, true, false, if◌then◌else◌, ◌&&◌, List, [], ◌∷◌, ◌++◌, length, Result, Ok, Err}
+use Rattle.std.proofs.Common.{ℕ, suc, Bool, true, false, if◌then◌else◌, ◌&&◌, List, [], ◌∷◌, ◌++◌, length, Option, Some, None, Result, Ok, Err}
 use Rattle.bw_model.specs.declared.keyword.Keyword.{Keyword}
 use Rattle.bw_model.specs.declared.keyword.Keyword.TheVariants as word
 use Rattle.bw_model.specs.declared.schema.Schema.{Schema}
@@ -17,8 +17,8 @@ use Rattle.bw_sql.specs.Reading.{Halt, same_keyword}
 use Rattle.bw_sql.specs.Token.{Lexeme, Name, Digits, Reserved, Compare, Punct}
 
 -- What is to come: a word, a bracket, an operand, the digits after a sign, what follows the first operand of a
--- predicate, its NOT or its IS, further operands; a factor or a primary inside of so many brackets and NOTs, what
--- may follow a primary, its IS, a truth value, further parts that a connective joins; the items, further items, an item
+-- predicate, its NOT or its IS, further operands or items; a factor or a primary inside of so many brackets and NOTs, what
+-- may follow a primary, its IS, a truth value, further parts that a connective joins; the items, an item
 -- after a first one of a kind, what stands in brackets; a table, a selection, the end, a statement.
 pub data Symbol : Type 0 where
   AWord : Keyword → Symbol
@@ -30,7 +30,7 @@ pub data Symbol : Type 0 where
   RangeTail : Symbol
   NullTail : Symbol
   NotNullTail : Symbol
-  OperandTail : Symbol
+  CommaTail : Option Bool → Symbol
   AFactor : ℕ → Symbol
   APrimary : ℕ → Symbol
   TestTail : ℕ → Symbol
@@ -38,7 +38,6 @@ pub data Symbol : Type 0 where
   NotTruthTail : ℕ → Symbol
   PartTail : Connective → ℕ → Symbol
   ItemList : Symbol
-  ItemTail : Bool → Symbol
   AnItem : Bool → Symbol
   AnArgument : Aggregate → Symbol
   ATable : Symbol
@@ -54,6 +53,11 @@ pub data Choice : Type 0 where
 
 abbrev pub Take : List Symbol → Choice
 Take symbols = Ask [] symbols
+
+-- an operand, or an item after a first one of a kind
+abbrev pub one_of : Option Bool → Symbol
+one_of None = AnOperand
+one_of (Some first) = AnItem first
 
 -- a factor, or a term, and then what stands after it
 abbrev pub a_part : Connective → ℕ → List Symbol → List Symbol
@@ -80,7 +84,7 @@ primary_choice depth behind t = operand_choice (PredicateTail ∷ behind) t
 -- a range after BETWEEN, or a list after IN
 abbrev pub range_choice : Lexeme → Choice
 range_choice (Reserved word.Between) = Take (AnOperand ∷ AWord word.And ∷ AnOperand ∷ [])
-range_choice (Reserved word.In) = Take (Opening ∷ AnOperand ∷ OperandTail ∷ Closing ∷ [])
+range_choice (Reserved word.In) = Take (Opening ∷ AnOperand ∷ CommaTail None ∷ Closing ∷ [])
 range_choice _ = Stop
 
 abbrev pub truth_choice : Lexeme → Choice
@@ -114,8 +118,8 @@ decide RangeTail t = range_choice t
 decide NullTail (Reserved word.Null) = Take []
 decide NullTail (Reserved word.Not) = Take (NotNullTail ∷ [])
 decide NotNullTail (Reserved word.Null) = Take []
-decide OperandTail (Punct mark.Comma) = Take (AnOperand ∷ OperandTail ∷ [])
-decide OperandTail t = Pass
+decide (CommaTail of) (Punct mark.Comma) = Take (one_of of ∷ CommaTail of ∷ [])
+decide (CommaTail of) t = Pass
 decide (AFactor depth) (Reserved word.Not) = Ask (Depth (suc depth) ∷ []) (APrimary (suc depth) ∷ TestTail (suc depth) ∷ [])
 decide (AFactor depth) t = primary_choice depth (TestTail depth ∷ []) t
 decide (APrimary depth) t = primary_choice depth [] t
@@ -128,10 +132,8 @@ decide (PartTail connective.And depth) (Reserved word.And) = Take (a_part connec
 decide (PartTail connective.Or depth) (Reserved word.Or) = Take (a_part connective.Or depth (PartTail connective.Or depth ∷ []))
 decide (PartTail by depth) t = Pass
 decide ItemList (Punct mark.Star) = Take []
-decide ItemList (Name text) = Ask (IsColumn text ∷ []) (ItemTail true ∷ [])
-decide ItemList t = aggregate_choice [] (ItemTail false ∷ []) t
-decide (ItemTail first) (Punct mark.Comma) = Take (AnItem first ∷ ItemTail first ∷ [])
-decide (ItemTail first) t = Pass
+decide ItemList (Name text) = Ask (IsColumn text ∷ []) (CommaTail (Some true) ∷ [])
+decide ItemList t = aggregate_choice [] (CommaTail (Some false) ∷ []) t
 decide (AnItem first) (Name text) = Ask (IsColumn text ∷ OfOneKind first true ∷ []) []
 decide (AnItem first) t = aggregate_choice (OfOneKind first false ∷ []) [] t
 decide (AnArgument aggregate.Count) (Punct mark.Star) = Take []
@@ -145,10 +147,9 @@ decide _ _ = Stop
 
 -- the symbols that may be passed at the end
 unfoldable pub may_end : Symbol → Bool
-may_end OperandTail = true
+may_end (CommaTail of) = true
 may_end (TestTail depth) = true
 may_end (PartTail by depth) = true
-may_end (ItemTail first) = true
 may_end ASelection = true
 may_end AnEnd = true
 may_end _ = false

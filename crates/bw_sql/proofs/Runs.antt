@@ -27,18 +27,16 @@ use Rattle.bw_sql.specs.Token.{Lexeme, Name, Digits, Reserved, Compare, Punct}
 use Rattle.bw_sql.specs.Words.{word_of, join_of}
 use Rattle.bw_sql.proofs.Cases.{bool_cases, option_cases}
 use Rattle.bw_sql.proofs.SameWord.{mark_is, word_is}
-use Rattle.bw_sql.proofs.Machine.{Symbol, Choice, AWord, Opening, Closing, AnOperand, PredicateTail, RangeTail, OperandTail, APrimary, TestTail, PartTail, ItemList, ItemTail, AnItem, AnArgument, ATable, ASelection, AnEnd, AStatement, a_part, of_aggregate, in_brackets, operand_choice, primary_choice, decide, may_end, all_may_end, ask, chosen, step, proceed, run}
+use Rattle.bw_sql.proofs.Machine.{Symbol, Choice, AWord, Opening, Closing, AnOperand, PredicateTail, RangeTail, CommaTail, APrimary, TestTail, PartTail, ItemList, AnItem, AnArgument, ATable, ASelection, AnEnd, AStatement, a_part, one_of, of_aggregate, in_brackets, operand_choice, primary_choice, decide, may_end, all_may_end, ask, chosen, step, proceed, run}
 
 assoc : {A B C : Type 0} (m : Result A Halt) (f : A → Result B Halt) (g : B → Result C Halt) → ((m >>= f) >>= g) ≡ (m >>= λ x. f x >>= g)
 assoc (Ok x) f g = refl
 assoc (Err halt) f g = refl
 
-same : {A B : Type 0} (m : Result A Halt) (f g : A → Result B Halt) → ((x : A) → m ≡ Ok x → f x ≡ g x) → (m >>= f) ≡ (m >>= g)
-same (Ok x) f g h = h x refl
-same (Err halt) f g h = refl
-
-chain : {A B C : Type 0} (m : Result A Halt) (f : A → Result B Halt) (h : A → Result C Halt) (g : B → Result C Halt) → ((x : A) → m ≡ Ok x → h x ≡ (f x >>= g)) → (m >>= h) ≡ ((m >>= f) >>= g)
-chain m f h g k = same m h (λ x. f x >>= g) k ∙ sym (assoc m f g)
+chain : {A B C : Type 0} (m : Result A Halt) (f : A → Result B Halt) (h : A → Result C Halt) (g : B → Result C Halt) →
+    ((x : A) → m ≡ Ok x → h x ≡ (f x >>= g)) → (m >>= h) ≡ ((m >>= f) >>= g)
+chain (Ok x) f h g k = k x refl
+chain (Err halt) f h g k = refl
 
 module _ (schema : Schema) where
   -- reading is what the machine does with some symbols above a stack
@@ -158,24 +156,22 @@ module _ (schema : Schema) (tail : Symbol) (ones : List Symbol → List Symbol) 
   joined_runs stack tokens = laws.one_runs (tail ∷ stack) tokens ∙ chain (one tokens) _ _ _ (λ c f. joined_tail c.0 stack c.1)
 
 module _ (schema : Schema) where
-  operand_laws : TailLaws schema OperandTail (λ stack. AnOperand ∷ stack) (after_mark mark.Comma) (operand_at schema)
+  comma_laws : {A : Type 0} (of : Option Bool) (one : List Lexeme → Result (A × List Lexeme) Halt) →
+      Runs schema (λ stack. one_of of ∷ stack) one →
+      TailLaws schema (CommaTail of) (λ stack. one_of of ∷ stack) (after_mark mark.Comma) one
   unfolding run step decide all_may_end may_end after_mark
-  operand_laws = record {
-    one_runs = operand_runs schema;
+  comma_laws of one runs = record {
+    one_runs = runs;
     ends = ends;
     token = Punct mark.Comma;
     comes = mark_is mark.Comma;
-    goes_on = goes_on;
+    goes_on = λ stack next. refl;
   }
     where
       ends : (stack : List Symbol) (tokens : List Lexeme) → after_mark mark.Comma tokens ≡ None →
-          run schema false (OperandTail ∷ stack) tokens ≡ run schema false stack tokens
+          run schema false (CommaTail of ∷ stack) tokens ≡ run schema false stack tokens
       ends stack (Punct mark.Comma ∷ tokens) e = cc
       ends stack _ e = refl
-
-      goes_on : (stack : List Symbol) (next : List Lexeme) →
-          run schema false (OperandTail ∷ stack) (Punct mark.Comma ∷ next) ≡ run schema false (AnOperand ∷ OperandTail ∷ stack) next
-      goes_on stack next = refl
 
   between_runs : (x : Operand) → Runs schema (λ stack. AnOperand ∷ AWord word.And ∷ AnOperand ∷ stack) (range_at schema x)
   between_runs x stack tokens = operand_runs schema _ tokens
@@ -183,12 +179,12 @@ module _ (schema : Schema) where
       ∙ chain (keyword_at word.And y.1) _ _ _ (λ rest f. operand_runs schema _ rest
       ∙ chain (operand_at schema rest) _ _ _ (λ z g. refl)))
 
-  operands_run : Runs schema (λ stack. AnOperand ∷ OperandTail ∷ stack) (operands_at schema)
+  operands_run : Runs schema (λ stack. AnOperand ∷ CommaTail None ∷ stack) (operands_at schema)
   operands_run stack tokens = operand_runs schema _ tokens
-      ∙ chain (operand_at schema tokens) _ _ _ (λ y e. tail_runs schema OperandTail _ _ _ operand_laws (length y.1) stack y.1 (omega arith)
+      ∙ chain (operand_at schema tokens) _ _ _ (λ y e. tail_runs schema (CommaTail None) _ _ _ (comma_laws None _ (operand_runs schema)) (length y.1) stack y.1 (omega arith)
       ∙ chain (repeated (length y.1) (after_mark mark.Comma) (operand_at schema) y.1) _ _ _ (λ ys f. refl))
 
-  list_in_runs : (x : Operand) → Runs schema (λ stack. Opening ∷ AnOperand ∷ OperandTail ∷ Closing ∷ stack)
+  list_in_runs : (x : Operand) → Runs schema (λ stack. Opening ∷ AnOperand ∷ CommaTail None ∷ Closing ∷ stack)
       (λ tokens. list_at schema x (Reserved word.In ∷ tokens))
   unfolding keyword_at after_keyword
   list_in_runs x stack tokens = opening_runs schema _ tokens
@@ -373,34 +369,14 @@ module _ (schema : Schema) where
   next_item_runs false stack (Reserved word.Max ∷ tokens) = aggregate_runs aggregate.Max stack tokens
   next_item_runs false stack _ = refl
 
-  item_laws : (first : Bool) → TailLaws schema (ItemTail first) (λ stack. AnItem first ∷ stack) (after_mark mark.Comma)
-      (next_item_at schema first)
-  unfolding run step decide all_may_end may_end after_mark
-  item_laws first = record {
-    one_runs = next_item_runs first;
-    ends = ends;
-    token = Punct mark.Comma;
-    comes = mark_is mark.Comma;
-    goes_on = goes_on;
-  }
-    where
-      ends : (stack : List Symbol) (tokens : List Lexeme) → after_mark mark.Comma tokens ≡ None →
-          run schema false (ItemTail first ∷ stack) tokens ≡ run schema false stack tokens
-      ends stack (Punct mark.Comma ∷ tokens) e = cc
-      ends stack _ e = refl
-
-      goes_on : (stack : List Symbol) (next : List Lexeme) →
-          run schema false (ItemTail first ∷ stack) (Punct mark.Comma ∷ next) ≡ run schema false (AnItem first ∷ ItemTail first ∷ stack) next
-      goes_on stack next = refl
-
-  more_items_run : (x : Item) (kind : Bool) → Runs schema (λ stack. ItemTail kind ∷ stack)
+  more_items_run : (x : Item) (kind : Bool) → Runs schema (λ stack. CommaTail (Some kind) ∷ stack)
       (λ tokens. with_front (x ∷ []) (more_items schema kind tokens))
-  more_items_run x kind stack tokens = tail_runs schema (ItemTail kind) _ _ _ (item_laws kind) (length tokens) stack tokens (omega arith)
+  more_items_run x kind stack tokens = tail_runs schema (CommaTail (Some kind)) _ _ _ (comma_laws schema (Some kind) _ (next_item_runs kind)) (length tokens) stack tokens (omega arith)
       ∙ chain (more_items schema kind tokens) _ _ _ (λ xs e. refl)
 
-  first_aggregate : (kind : Aggregate) → Runs schema (λ stack. of_aggregate kind (ItemTail false ∷ stack))
+  first_aggregate : (kind : Aggregate) → Runs schema (λ stack. of_aggregate kind (CommaTail (Some false) ∷ stack))
       (λ tokens. argument_at schema kind tokens >>= λ x. with_front (x.0 ∷ []) (more_items schema false x.1))
-  first_aggregate kind stack tokens = aggregate_runs kind (ItemTail false ∷ stack) tokens
+  first_aggregate kind stack tokens = aggregate_runs kind (CommaTail (Some false) ∷ stack) tokens
       ∙ chain (argument_at schema kind tokens) _ _ _ (λ x e. more_items_run x.0 false stack x.1)
 
   list_runs : Runs schema (λ stack. ItemList ∷ stack) (items_at schema)

@@ -1,5 +1,5 @@
 -- What the machine has read can be completed to a statement.
-use Rattle.std.proofs.Common.{◌≡◌, ℕ, suc, ◌≤◌, Bool, true, false, List, [], ◌∷◌, ◌++◌, length, is_some, if◌then◌else◌, Result, Ok, refl, sym, subst, arith}
+use Rattle.std.proofs.Common.{◌≡◌, ℕ, suc, ◌≤◌, Bool, true, false, List, [], ◌∷◌, ◌++◌, length, is_some, Option, Some, None, if◌then◌else◌, Result, Ok, refl, sym, subst, arith}
 use Rattle.std.proofs.lemmas.Bool.{and_parts, lt-ltb}
 use Rattle.std.proofs.lemmas.List.{append-nil}
 use Rattle.std.specs.List.{position}
@@ -35,7 +35,7 @@ use Rattle.bw_sql.specs.Token.{Lexeme, Name, Digits, Reserved, Compare, Punct}
 use Rattle.bw_sql.specs.Words.{aggregate_word}
 use Rattle.bw_sql.proofs.SameWord.{word_same}
 use Rattle.bw_sql.proofs.Cases.{bool_cases}
-use Rattle.bw_sql.proofs.Machine.{Symbol, AWord, Opening, Closing, AnOperand, SignedDigits, PredicateTail, RangeTail, NullTail, NotNullTail, OperandTail, AFactor, APrimary, TestTail, TruthTail, NotTruthTail, PartTail, ItemList, ItemTail, AnItem, AnArgument, ATable, ASelection, AnEnd, AStatement, Choice, Ask, Take, Pass, Stop, operand_choice, primary_choice, range_choice, truth_choice, aggregate_choice, decide, may_end, all_may_end, ask, chosen, step}
+use Rattle.bw_sql.proofs.Machine.{Symbol, AWord, Opening, Closing, AnOperand, SignedDigits, PredicateTail, RangeTail, NullTail, NotNullTail, CommaTail, AFactor, APrimary, TestTail, TruthTail, NotTruthTail, PartTail, ItemList, AnItem, AnArgument, ATable, ASelection, AnEnd, AStatement, Choice, Ask, Take, Pass, Stop, operand_choice, primary_choice, range_choice, truth_choice, aggregate_choice, decide, may_end, all_may_end, ask, chosen, step}
 
 -- a token, and the rest
 pub data IsToken (t : Lexeme) : List Lexeme → List Lexeme → Type 0 where
@@ -58,7 +58,7 @@ module _ (columns : List Column) (met : Demand → Bool) where
   Means NotNullTail tokens rest = (before : List Lexeme) (x : Operand) →
       OperandIs columns met before (Reserved word.Is ∷ Reserved word.Not ∷ tokens) x →
       (c : CondTree) × PredicateIs columns met before rest c
-  Means OperandTail tokens rest = (xs : List Operand) × MoreOperands columns met tokens rest xs
+  Means (CommaTail None) tokens rest = (xs : List Operand) × MoreOperands columns met tokens rest xs
   Means (AFactor depth) tokens rest = (c : CondTree) × FactorIs columns met depth tokens rest c
   Means (APrimary depth) tokens rest = (c : CondTree) × PrimaryIs columns met depth tokens rest c
   Means (TestTail depth) tokens rest = (before : List Lexeme) (c : CondTree) → PrimaryIs columns met depth before tokens c →
@@ -70,7 +70,7 @@ module _ (columns : List Column) (met : Demand → Bool) where
       (d : CondTree) × TestIs columns met depth before rest d
   Means (PartTail by depth) tokens rest = (cs : List CondTree) × MoreParts columns met by depth tokens rest cs
   Means ItemList tokens rest = (xs : List Item) × ItemsAre columns met tokens rest xs
-  Means (ItemTail first) tokens rest = (xs : List Item) × MoreItems columns met first tokens rest xs
+  Means (CommaTail (Some first)) tokens rest = (xs : List Item) × MoreItems columns met first tokens rest xs
   Means (AnItem first) tokens rest =
       (kind : Bool) × (item : Item) × (met (OfOneKind first kind) ≡ true) × ItemIs columns met kind tokens rest item
   Means (AnArgument kind) tokens rest = (after : List Lexeme) → IsToken (Punct mark.Close) rest after →
@@ -167,7 +167,7 @@ module _ (columns : List Column) (met : Demand → Bool) where
   between_fair x more a b rest y here_is z = (Between x y.0 z.0, between y.1 z.1)
 
   in_fair : (x : Operand) (more a b d rest : List Lexeme) → IsToken (Punct mark.Open) more a → Means AnOperand a b →
-      Means OperandTail b d → IsToken (Punct mark.Close) d rest →
+      Means (CommaTail None) b d → IsToken (Punct mark.Close) d rest →
       (c : CondTree) × RangeIs columns met x (Reserved word.In ∷ more) rest c
   in_fair x more a b d rest here_is y ys here_is = (Among x (y.0 ∷ ys.0), among y.1 ys.1)
 
@@ -210,8 +210,8 @@ module _ (columns : List Column) (met : Demand → Bool) where
   fair NullTail (Reserved word.Null) = λ m more before x o. (IsNull x, is_null o)
   fair NullTail (Reserved word.Not) = λ m more rest q. q
   fair NotNullTail (Reserved word.Null) = λ m more before x o. (Not (IsNull x), is_not_null o)
-  fair OperandTail (Punct mark.Comma) = λ m more a x b xs. (x.0 ∷ xs.0, next_operand x.1 xs.1)
-  fair OperandTail t = λ tokens. ([], last_operand)
+  fair (CommaTail None) (Punct mark.Comma) = λ m more a x b xs. (x.0 ∷ xs.0, next_operand x.1 xs.1)
+  fair (CommaTail None) t = λ tokens. ([], last_operand)
   fair (AFactor depth) (Reserved word.Not) = λ m more a c rest q. let d = q more c.0 c.1 in (Not d.0, not_test m.0 d.1)
   fair (AFactor depth) t = primary_fair (AFactor depth) depth (TestTail depth ∷ []) t
       (λ more middle c p rest q. let d = q (t ∷ more) c p in (d.0, test d.1))
@@ -227,9 +227,9 @@ module _ (columns : List Column) (met : Demand → Bool) where
   fair (PartTail by depth) t = λ tokens. ([], last_part)
   fair ItemList (Punct mark.Star) = λ m more. (every_column columns, star)
   fair ItemList (Name text) = λ m more rest xs. (_, items (plain m.0) xs.1)
-  fair ItemList t = aggregates_fair ItemList [] (ItemTail false ∷ []) t (λ m more middle item p rest xs. (_, items p xs.1))
-  fair (ItemTail first) (Punct mark.Comma) = λ m more a x b xs. (_, next_item x.2 x.3 xs.1)
-  fair (ItemTail first) t = λ tokens. ([], last_item)
+  fair ItemList t = aggregates_fair ItemList [] (CommaTail (Some false) ∷ []) t (λ m more middle item p rest xs. (_, items p xs.1))
+  fair (CommaTail (Some first)) (Punct mark.Comma) = λ m more a x b xs. (_, next_item x.2 x.3 xs.1)
+  fair (CommaTail (Some first)) t = λ tokens. ([], last_item)
   fair (AnItem first) (Name text) = λ m more. (true, _, m.1.0, plain m.0)
   fair (AnItem first) t = aggregates_fair (AnItem first) (OfOneKind first false ∷ []) [] t
       (λ m more middle item p. (false, item, m.0, p))
@@ -323,7 +323,7 @@ module _ (schema : Schema) (met : Demand → Bool) (weaker : (d : Demand) → is
   )
   complete NullTail rest = (Reserved word.Null ∷ rest, λ before x o. (IsNull x, is_null o))
   complete NotNullTail rest = (Reserved word.Null ∷ rest, λ before x o. (Not (IsNull x), is_not_null o))
-  complete OperandTail rest = (rest, ([], last_operand))
+  complete (CommaTail None) rest = (rest, ([], last_operand))
   complete (AFactor depth) rest =
       (Reserved word.Null ∷ Reserved word.Is ∷ Reserved word.Null ∷ rest, (IsNull Null, test (primary (predicate (is_null null)))))
   complete (APrimary depth) rest =
@@ -333,7 +333,7 @@ module _ (schema : Schema) (met : Demand → Bool) (weaker : (d : Demand) → is
   complete (NotTruthTail depth) rest = (Reserved word.True ∷ rest, λ before c p. (Not (Test c Yes), is_not p true_word))
   complete (PartTail by depth) rest = (rest, ([], last_part))
   complete ItemList rest = (Punct mark.Star ∷ rest, (every_column columns, star))
-  complete (ItemTail first) rest = (rest, ([], last_item))
+  complete (CommaTail (Some first)) rest = (rest, ([], last_item))
   complete (AnItem true) rest = (Name some_column.0 ∷ rest, (true, _, kind_met true, plain some_column.1))
   complete (AnItem false) rest = (
     Reserved word.Count ∷ Punct mark.Open ∷ Punct mark.Star ∷ Punct mark.Close ∷ rest,
@@ -364,10 +364,10 @@ module _ (schema : Schema) (met : Demand → Bool) (weaker : (d : Demand) → is
   -- a stack that may end stands for no token more
   ended : (s : Symbol) → may_end s ≡ true → Means columns met s [] []
   unfolding may_end
-  ended OperandTail e = ([], last_operand)
+  ended (CommaTail None) e = ([], last_operand)
   ended (TestTail depth) e = λ before c p. (c, primary p)
   ended (PartTail by depth) e = ([], last_part)
-  ended (ItemTail first) e = ([], last_item)
+  ended (CommaTail (Some first)) e = ([], last_item)
   ended ASelection e = (Always, all_rows)
   ended AnEnd e = λ e. bare
   ended _ e = cc
