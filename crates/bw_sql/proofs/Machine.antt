@@ -33,9 +33,9 @@ pub data Symbol : Type 0 where
   CommaTail : Option Bool → Symbol
   AFactor : ℕ → Symbol
   APrimary : ℕ → Symbol
-  TestTail : ℕ → Symbol
-  TruthTail : ℕ → Symbol
-  NotTruthTail : ℕ → Symbol
+  TestTail : Symbol
+  TruthTail : Symbol
+  NotTruthTail : Symbol
   PartTail : Connective → ℕ → Symbol
   ItemList : Symbol
   AnItem : Bool → Symbol
@@ -120,14 +120,14 @@ decide NullTail (Reserved word.Not) = Take (NotNullTail ∷ [])
 decide NotNullTail (Reserved word.Null) = Take []
 decide (CommaTail of) (Punct mark.Comma) = Take (one_of of ∷ CommaTail of ∷ [])
 decide (CommaTail of) t = Pass
-decide (AFactor depth) (Reserved word.Not) = Ask (Depth (suc depth) ∷ []) (APrimary (suc depth) ∷ TestTail (suc depth) ∷ [])
-decide (AFactor depth) t = primary_choice depth (TestTail depth ∷ []) t
+decide (AFactor depth) (Reserved word.Not) = Ask (Depth (suc depth) ∷ []) (APrimary (suc depth) ∷ TestTail ∷ [])
+decide (AFactor depth) t = primary_choice depth (TestTail ∷ []) t
 decide (APrimary depth) t = primary_choice depth [] t
-decide (TestTail depth) (Reserved word.Is) = Take (TruthTail depth ∷ [])
-decide (TestTail depth) t = Pass
-decide (TruthTail depth) (Reserved word.Not) = Take (NotTruthTail depth ∷ [])
-decide (TruthTail depth) t = truth_choice t
-decide (NotTruthTail depth) t = truth_choice t
+decide TestTail (Reserved word.Is) = Take (TruthTail ∷ [])
+decide TestTail t = Pass
+decide TruthTail (Reserved word.Not) = Take (NotTruthTail ∷ [])
+decide TruthTail t = truth_choice t
+decide NotTruthTail t = truth_choice t
 decide (PartTail connective.And depth) (Reserved word.And) = Take (a_part connective.And depth (PartTail connective.And depth ∷ []))
 decide (PartTail connective.Or depth) (Reserved word.Or) = Take (a_part connective.Or depth (PartTail connective.Or depth ∷ []))
 decide (PartTail by depth) t = Pass
@@ -148,7 +148,7 @@ decide _ _ = Stop
 -- the symbols that may be passed at the end
 unfoldable pub may_end : Symbol → Bool
 may_end (CommaTail of) = true
-may_end (TestTail depth) = true
+may_end TestTail = true
 may_end (PartTail by depth) = true
 may_end ASelection = true
 may_end AnEnd = true

@@ -209,11 +209,11 @@ module _ (schema : Schema) where
   predicate_tail x stack (Reserved word.In ∷ tokens) = list_in_runs x stack tokens
   predicate_tail x stack _ = refl
 
-  test_tail : (depth : ℕ) (c : CondTree) → Runs schema (λ stack. TestTail depth ∷ stack) (truth_test_at c)
+  test_tail : (c : CondTree) → Runs schema (λ stack. TestTail ∷ stack) (truth_test_at c)
   unfolding run step decide all_may_end may_end truth_test_at after_keyword truth_value_at
-  test_tail depth c stack (Reserved word.Is ∷ Reserved word.Not ∷ Reserved word.True ∷ tokens) = refl
-  test_tail depth c stack (Reserved word.Is ∷ Reserved word.True ∷ tokens) = refl
-  test_tail depth c stack _ = refl
+  test_tail c stack (Reserved word.Is ∷ Reserved word.Not ∷ Reserved word.True ∷ tokens) = refl
+  test_tail c stack (Reserved word.Is ∷ Reserved word.True ∷ tokens) = refl
+  test_tail c stack _ = refl
 
 pub too_deep : (depth : ℕ) → 0 + depth ≡ deepest_nesting → nat_le (suc depth) deepest_nesting ≡ false
 too_deep depth e = grind (arith, nat_tests)
@@ -228,7 +228,7 @@ record LevelRuns (schema : Schema) (depth : ℕ) (inner : Nested) : Type 0 where
       (λ s. run schema false s next) ≡
       (inner.enclosed (Punct mark.Open ∷ next) next >>= λ c. run schema false (behind ++ stack) c.1)
   negated_runs : (stack : List Symbol) (next : List Lexeme) →
-      proceed false (ask (is_met schema) (Depth (suc depth) ∷ []) (APrimary (suc depth) ∷ TestTail (suc depth) ∷ stack)) (length next)
+      proceed false (ask (is_met schema) (Depth (suc depth) ∷ []) (APrimary (suc depth) ∷ TestTail ∷ stack)) (length next)
       (λ s. run schema false s next) ≡
       (inner.negated (Reserved word.Not ∷ next) next >>= λ c. run schema false stack c.1)
 
@@ -239,19 +239,19 @@ module _ (schema : Schema) (n depth : ℕ) (level : LevelRuns schema depth (nest
   primary_chosen behind stack passed t tokens = operand_chosen schema (PredicateTail ∷ behind) stack passed t tokens
       ∙ chain (operand_at schema (t ∷ tokens)) _ _ _ (λ x e. predicate_tail schema x.0 (behind ++ stack) x.1)
 
-  test_runs : Runs schema (λ stack. APrimary depth ∷ TestTail depth ∷ stack) (test_in schema (nested schema n))
+  test_runs : Runs schema (λ stack. APrimary depth ∷ TestTail ∷ stack) (test_in schema (nested schema n))
   unfolding run step decide all_may_end may_end test_in primary_in after_mark predicate_at operand_at after_keyword literal_at digits_at sign_at
   test_runs stack [] = refl
-  test_runs stack (t ∷ tokens) = primary_chosen [] (TestTail depth ∷ stack) (step (is_met schema) (TestTail depth ∷ stack) t) t tokens
-      ∙ chain (primary_in schema (nested schema n) (t ∷ tokens)) _ _ _ (λ c e. test_tail schema depth c.0 stack c.1)
+  test_runs stack (t ∷ tokens) = primary_chosen [] (TestTail ∷ stack) (step (is_met schema) (TestTail ∷ stack) t) t tokens
+      ∙ chain (primary_in schema (nested schema n) (t ∷ tokens)) _ _ _ (λ c e. test_tail schema c.0 stack c.1)
 
   test_chosen : (stack : List Symbol) (passed : Result (List Symbol) Refusal) (t : Lexeme) (tokens : List Lexeme) →
-      proceed false (chosen (is_met schema) (primary_choice depth (TestTail depth ∷ []) t) stack passed) (length tokens)
+      proceed false (chosen (is_met schema) (primary_choice depth (TestTail ∷ []) t) stack passed) (length tokens)
       (λ next. run schema (is_sign t) next tokens) ≡
       (test_in schema (nested schema n) (t ∷ tokens) >>= λ c. run schema false stack c.1)
   unfolding test_in
-  test_chosen stack passed t tokens = primary_chosen (TestTail depth ∷ []) stack passed t tokens
-      ∙ chain (primary_in schema (nested schema n) (t ∷ tokens)) _ _ _ (λ c e. test_tail schema depth c.0 stack c.1)
+  test_chosen stack passed t tokens = primary_chosen (TestTail ∷ []) stack passed t tokens
+      ∙ chain (primary_in schema (nested schema n) (t ∷ tokens)) _ _ _ (λ c e. test_tail schema c.0 stack c.1)
 
   test_empty : test_in schema (nested schema n) [] ≡ refuse Syntax []
   unfolding test_in primary_in after_mark predicate_at operand_at after_keyword literal_at digits_at sign_at

@@ -18,9 +18,9 @@ use Rattle.bw_sql.specs.Asked.{Asked}
 use Rattle.bw_model.specs.CondTree.{CondTree}
 use Rattle.bw_model.specs.Column.{column_named}
 use Rattle.bw_sql.specs.Demand.{Demand, IsTable, IsColumn, Fits, OfOneKind, Depth, column_number, column_or_first, is_met, meets, refusal, signed}
-use Rattle.bw_sql.specs.Grammar.{TruthIs, OperandIs, MoreOperands, RangeIs, PredicateIs, JoinedIs, MoreParts, PartIs, FactorIs, TestIs, PrimaryIs, ItemIs, MoreItems, ItemsAre, SelectionIs, EndIs, StatementIs, IsQuery, true_word, null, column, unsigned, plus, minus, last_operand, next_operand, between, among, comparison, range, not_range, is_null, is_not_null, parts, last_part, next_part, factor, term, test, not_test, primary, is, is_not, predicate, bracket, plain, count_all, aggregate, last_item, next_item, star, items, all_rows, rows_where, bare, semicolon, statement}
+use Rattle.bw_sql.specs.Grammar.{TruthIs, OperandIs, MoreOperands, RangeIs, ComparedIs, JoinedIs, MoreParts, PartIs, FactorIs, TestIs, PrimaryIs, ItemIs, MoreItems, ItemsAre, SelectionIs, EndIs, StatementIs, IsQuery, true_word, null, column, unsigned, plus, minus, last_operand, next_operand, between, among, compared, comparison, range, not_range, is_null, is_not_null, parts, last_part, next_part, factor, term, test, not_test, tested, untested, is, is_not, predicate, bracket, plain, count_all, aggregate, last_item, next_item, star, items, all_rows, rows_where, bare, semicolon, statement}
 use Rattle.bw_sql.specs.Limits.{deepest_nesting}
-use Rattle.bw_sql.specs.Reading.{Halt, ◌>>=◌, refuse, wanted, begins_with_name, after_keyword, after_mark, keyword_at, mark_at, name_at, digits_at, sign_at, literal_at, column_at, table_at, operand_at, repeated, range_or_list_at, null_test_at, after_comparison, predicate_at, truth_value_at, truth_test_at, primary_in, test_in, factor_in, part_in, term_in, condition_in, joined_in, nested, selection_at, table_expression_at, end_at, after_aggregate, aggregated_at, item_at, of_one_kind, next_item_at, items_at, statement_at}
+use Rattle.bw_sql.specs.Reading.{Halt, ◌>>=◌, refuse, wanted, begins_with_name, after_keyword, after_mark, keyword_at, mark_at, name_at, digits_at, sign_at, literal_at, column_at, table_at, operand_at, repeated, range_or_list_at, null_test_at, after_comparison, behind_comparison, predicate_at, truth_value_at, truth_test_at, primary_in, test_in, factor_in, part_in, term_in, condition_in, joined_in, nested, selection_at, table_expression_at, end_at, after_aggregate, aggregated_at, item_at, of_one_kind, next_item_at, items_at, statement_at}
 use Rattle.bw_sql.specs.Token.{Lexeme, Name, Reserved}
 use Rattle.bw_sql.specs.Words.{word_of, aggregate_word, of_column}
 use Rattle.bw_sql.proofs.Runs.{too_deep, operand_takes, item_takes, part_takes}
@@ -131,14 +131,15 @@ module _ (schema : Schema) (met : Demand → Bool) where
   range_read (between y z) = and_then _ (operand_read y) (and_then _ (operand_read z) (reads refl))
   range_read (among {others = others} y ys) = and_then _ (and_then _ (operand_read y) (and_then _ (operands_read ys (length others) (omega arith) refl) (reads refl))) (reads refl)
 
-  predicate_read : {tokens rest : List Lexeme} {c : CondTree} → PredicateIs columns met tokens rest c → Outcome schema met (predicate_at schema tokens) (c, rest)
-  unfolding predicate_at after_comparison after_keyword null_test_at keyword_at
-  predicate_read (comparison x y) = and_then _ (operand_read x) (and_then _ (operand_read y) (reads refl))
-  predicate_read (range x (between y z)) = and_then _ (operand_read x) (range_read (between y z))
-  predicate_read (range x (among y ys)) = and_then _ (operand_read x) (range_read (among y ys))
-  predicate_read (not_range x y) = and_then _ (operand_read x) (and_then _ (range_read y) (reads refl))
-  predicate_read (is_null x) = and_then _ (operand_read x) (reads refl)
-  predicate_read (is_not_null x) = and_then _ (operand_read x) (reads refl)
+  compared_read : {tokens rest : List Lexeme} {x : Operand} {c : CondTree} → ComparedIs columns met x tokens rest c →
+      Outcome schema met (behind_comparison schema x (after_comparison tokens) tokens) (c, rest)
+  unfolding after_comparison after_keyword null_test_at keyword_at
+  compared_read (comparison y) = and_then _ (operand_read y) (reads refl)
+  compared_read (range (between y z)) = range_read (between y z)
+  compared_read (range (among y ys)) = range_read (among y ys)
+  compared_read (not_range y) = and_then _ (range_read y) (reads refl)
+  compared_read is_null = reads refl
+  compared_read is_not_null = reads refl
 
   -- an operand begins with no bracket and no NOT
   operand_begins : {tokens rest : List Lexeme} {x : Operand} → OperandIs columns met tokens rest x → (after_mark mark.Open tokens ≡ None) × (after_keyword word.Not tokens ≡ None)
@@ -146,22 +147,10 @@ module _ (schema : Schema) (met : Demand → Bool) where
   operand_begins null = (refl, refl)
   operand_begins _ = (refl, refl)
 
-  predicate_begins : {tokens rest : List Lexeme} {c : CondTree} → PredicateIs columns met tokens rest c → (after_mark mark.Open tokens ≡ None) × (after_keyword word.Not tokens ≡ None)
-  predicate_begins (comparison x y) = operand_begins x
-  predicate_begins (range x y) = operand_begins x
-  predicate_begins (not_range x y) = operand_begins x
-  predicate_begins (is_null x) = operand_begins x
-  predicate_begins (is_not_null x) = operand_begins x
-
   primary_begins : {depth : ℕ} {tokens rest : List Lexeme} {c : CondTree} → PrimaryIs columns met depth tokens rest c → after_keyword word.Not tokens ≡ None
   unfolding after_keyword
-  primary_begins (predicate c) = (predicate_begins c).1
+  primary_begins (predicate (compared x c)) = (operand_begins x).1
   primary_begins (bracket m c) = refl
-
-  test_begins : {depth : ℕ} {tokens rest : List Lexeme} {c : CondTree} → TestIs columns met depth tokens rest c → after_keyword word.Not tokens ≡ None
-  test_begins (primary c) = primary_begins c
-  test_begins (is c t) = primary_begins c
-  test_begins (is_not c t) = primary_begins c
 
   -- what may follow a part
   parts_begin : {by : Connective} {depth : ℕ} {tokens rest : List Lexeme} {cs : List CondTree} →
@@ -170,7 +159,7 @@ module _ (schema : Schema) (met : Demand → Bool) where
   parts_begin (next_part {by = by} {tokens = next} c cs) e = word_ends by next
 
   mutual
-    unfolding joined_in part_in condition_in term_in factor_in test_in primary_in truth_test_at repeated after_keyword after_mark mark_at nested meets
+    unfolding joined_in part_in condition_in term_in factor_in test_in primary_in truth_test_at repeated after_keyword after_mark mark_at nested meets predicate_at
 
     joined_read : {by : Connective} {depth : ℕ} {tokens rest : List Lexeme} {c : CondTree} →
         JoinedIs columns met by depth tokens rest c → (n : ℕ) → n + depth ≡ deepest_nesting → JoinedEnds by rest →
@@ -199,19 +188,19 @@ module _ (schema : Schema) (met : Demand → Bool) where
 
     factor_read : {depth : ℕ} {tokens rest : List Lexeme} {c : CondTree} → FactorIs columns met depth tokens rest c → (n : ℕ) → n + depth ≡ deepest_nesting → after_keyword word.Is rest ≡ None →
         Outcome schema met (factor_in schema (nested schema n) tokens) (c, rest)
-    factor_read (test c) n h e = rw (test_begins c) (test_read c n h e)
+    factor_read (test (tested c t)) n h e = rw (primary_begins c) (test_read (tested c t) n h e)
     factor_read (not_test {depth = depth} {tokens = tokens} m c) zero h e = excused (Depth (suc depth)) (suc (length tokens)) m (too_deep depth h) refl
     factor_read (not_test {depth = depth} m c) (suc n) h e = let deeper : n + suc depth ≡ deepest_nesting = omega arith in and_then _ (test_read c n deeper e) (reads refl)
 
     test_read : {depth : ℕ} {tokens rest : List Lexeme} {c : CondTree} → TestIs columns met depth tokens rest c → (n : ℕ) → n + depth ≡ deepest_nesting → after_keyword word.Is rest ≡ None →
         Outcome schema met (test_in schema (nested schema n) tokens) (c, rest)
-    test_read (primary c) n h e = and_then _ (primary_read c n h) (rw e (reads refl))
-    test_read (is c t) n h e = and_then _ (primary_read c n h) (rw (truth_no_not t, truth_value_read t) (reads refl))
-    test_read (is_not c t) n h e = and_then _ (primary_read c n h) (rw (truth_value_read t) (reads refl))
+    test_read (tested c untested) n h e = and_then _ (primary_read c n h) (rw e (reads refl))
+    test_read (tested c (is t)) n h e = and_then _ (primary_read c n h) (rw (truth_no_not t, truth_value_read t) (reads refl))
+    test_read (tested c (is_not t)) n h e = and_then _ (primary_read c n h) (rw (truth_value_read t) (reads refl))
 
     primary_read : {depth : ℕ} {tokens rest : List Lexeme} {c : CondTree} → PrimaryIs columns met depth tokens rest c → (n : ℕ) → n + depth ≡ deepest_nesting →
         Outcome schema met (primary_in schema (nested schema n) tokens) (c, rest)
-    primary_read (predicate c) n h = rw (predicate_begins c).0 (predicate_read c)
+    primary_read (predicate (compared x c)) n h = rw (operand_begins x).0 (and_then _ (operand_read x) (compared_read c))
     primary_read (bracket {depth = depth} {tokens = tokens} m c) zero h = excused (Depth (suc depth)) (suc (length tokens)) m (too_deep depth h) refl
     primary_read (bracket {depth = depth} m c) (suc n) h = let deeper : n + suc depth ≡ deepest_nesting = omega arith in
         and_then _ (joined_read c n deeper ((refl, refl), refl)) (reads refl)

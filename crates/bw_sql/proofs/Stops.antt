@@ -16,7 +16,7 @@ use Rattle.bw_sql.specs.Reading.{Halt, same_keyword}
 use Rattle.bw_sql.specs.Refusal.{code_of}
 use Rattle.bw_sql.specs.Token.{Lexeme, Digits, Reserved, Punct}
 use Rattle.bw_sql.proofs.Cases.{bool_cases}
-use Rattle.bw_sql.proofs.Machine.{Symbol, AWord, AnArgument, PartTail, SignedDigits, Choice, Ask, Pass, Stop, decide, ask, chosen, step, left_at, proceed, run, all_may_end}
+use Rattle.bw_sql.proofs.Machine.{Symbol, AWord, AnArgument, PartTail, SignedDigits, Choice, Ask, Pass, Stop, decide, ask, step, left_at, proceed, run, all_may_end}
 use Rattle.bw_sql.proofs.Viable.{Path, here, there}
 
 -- Demands are asked in the order of their numbers, at a sign nothing is asked and digits are to come, and a literal is
@@ -130,8 +130,11 @@ module _ (schema : Schema) (other why : Refusal) (low : code_of other < code_of 
       (next : List Symbol) × (step (asked_for schema other) stack t ≡ Ok next)
   step_lower stack t e = elim (decided stack t) [
     | none f ↦ none_lower (sym (f (is_met schema)) ∙ e)
-    | asks demands symbols below o f ↦ (symbols ++ below, f (asked_for schema other) ∙ ask_lower 402 demands (symbols ++ below)
-    (and_parts (rising 402 demands) _ o).0 (sym (f (is_met schema)) ∙ e))
+    | asks demands symbols below o f ↦ (
+      symbols ++ below,
+      f (asked_for schema other) ∙ ask_lower 402 demands (symbols ++ below)
+          (and_parts (rising 402 demands) _ o).0 (sym (f (is_met schema)) ∙ e),
+    )
   ]
 
 -- what is refused is a sign, for the grammar, or digits, or no literal
@@ -180,7 +183,7 @@ module _ (schema : Schema) where
   step_sign stack next t s e = elim (decided stack t) [
     | none f ↦ (let g = sym (f (is_met schema)) ∙ e in cc)
     | asks demands symbols below o f ↦ signed_ask demands symbols below next (rw s at (and_parts
-    (if asks_fits demands then is_digits t else true) _ (and_parts (rising 402 demands) _ o).1).1) (sym (f (is_met schema)) ∙ e)
+        (if asks_fits demands then is_digits t else true) _ (and_parts (rising 402 demands) _ o).1).1) (sym (f (is_met schema)) ∙ e)
   ]
 
   signed_stop : (stack : List Symbol) (digits : List ℕ) (why : Refusal) → begins_signed stack ≡ true →

@@ -1,5 +1,5 @@
 -- What the machine has read can be completed to a statement.
-use Rattle.std.proofs.Common.{◌≡◌, ℕ, suc, ◌≤◌, Bool, true, false, List, [], ◌∷◌, ◌++◌, length, is_some, Option, Some, None, if◌then◌else◌, Result, Ok, refl, sym, subst, arith}
+use Rattle.std.proofs.Common.{◌≡◌, ℕ, suc, ◌≤◌, Bool, true, false, List, [], ◌∷◌, ◌++◌, length, is_some, Some, None, if◌then◌else◌, Result, Ok, refl, sym, subst, arith}
 use Rattle.std.proofs.lemmas.Bool.{and_parts, lt-ltb}
 use Rattle.std.proofs.lemmas.List.{append-nil}
 use Rattle.std.specs.List.{position}
@@ -29,7 +29,7 @@ use Rattle.bw_model.specs.CondTree.{CondTree, Always, Cmp, Between, IsNull, Test
 use Rattle.bw_model.specs.Column.{column_named}
 use Rattle.bw_sql.specs.Demand.{Demand, IsTable, IsColumn, Fits, OfOneKind, Depth, every_column, is_met, meets, signed}
 use Rattle.bw_sql.specs.Frontier.{Viable}
-use Rattle.bw_sql.specs.Grammar.{TruthIs, OperandIs, MoreOperands, RangeIs, PredicateIs, JoinedIs, MoreParts, FactorIs, TestIs, PrimaryIs, ItemIs, MoreItems, ItemsAre, SelectionIs, EndIs, StatementIs, true_word, false_word, unknown_word, null, column, unsigned, plus, minus, last_operand, next_operand, between, among, comparison, range, not_range, is_null, is_not_null, parts, last_part, next_part, factor, term, test, not_test, primary, is, is_not, predicate, bracket, plain, count_all, aggregate, last_item, next_item, star, items, all_rows, rows_where, bare, semicolon, statement}
+use Rattle.bw_sql.specs.Grammar.{TruthIs, OperandIs, MoreOperands, RangeIs, ComparedIs, TestedIs, JoinedIs, MoreParts, FactorIs, PrimaryIs, ItemIs, MoreItems, ItemsAre, SelectionIs, EndIs, StatementIs, true_word, false_word, unknown_word, null, column, unsigned, plus, minus, last_operand, next_operand, between, among, compared, comparison, range, not_range, is_null, is_not_null, parts, last_part, next_part, factor, term, test, not_test, tested, untested, is, is_not, predicate, bracket, plain, count_all, aggregate, last_item, next_item, star, items, all_rows, rows_where, bare, semicolon, statement}
 use Rattle.bw_sql.specs.Reading.{same_keyword}
 use Rattle.bw_sql.specs.Token.{Lexeme, Name, Digits, Reserved, Compare, Punct}
 use Rattle.bw_sql.specs.Words.{aggregate_word}
@@ -50,24 +50,18 @@ module _ (columns : List Column) (met : Demand → Bool) where
   Means AnOperand tokens rest = (x : Operand) × OperandIs columns met tokens rest x
   Means (SignedDigits is_negative) tokens rest =
       (digits : List ℕ) × (met (Fits is_negative digits) ≡ true) × IsToken (Digits digits) tokens rest
-  Means PredicateTail tokens rest = (before : List Lexeme) (x : Operand) → OperandIs columns met before tokens x →
-      (c : CondTree) × PredicateIs columns met before rest c
+  Means PredicateTail tokens rest = (x : Operand) → (c : CondTree) × ComparedIs columns met x tokens rest c
   Means RangeTail tokens rest = (x : Operand) → (c : CondTree) × RangeIs columns met x tokens rest c
-  Means NullTail tokens rest = (before : List Lexeme) (x : Operand) →
-      OperandIs columns met before (Reserved word.Is ∷ tokens) x → (c : CondTree) × PredicateIs columns met before rest c
-  Means NotNullTail tokens rest = (before : List Lexeme) (x : Operand) →
-      OperandIs columns met before (Reserved word.Is ∷ Reserved word.Not ∷ tokens) x →
-      (c : CondTree) × PredicateIs columns met before rest c
+  Means NullTail tokens rest = (x : Operand) → (c : CondTree) × ComparedIs columns met x (Reserved word.Is ∷ tokens) rest c
+  Means NotNullTail tokens rest =
+      (x : Operand) → (c : CondTree) × ComparedIs columns met x (Reserved word.Is ∷ Reserved word.Not ∷ tokens) rest c
   Means (CommaTail None) tokens rest = (xs : List Operand) × MoreOperands columns met tokens rest xs
   Means (AFactor depth) tokens rest = (c : CondTree) × FactorIs columns met depth tokens rest c
   Means (APrimary depth) tokens rest = (c : CondTree) × PrimaryIs columns met depth tokens rest c
-  Means (TestTail depth) tokens rest = (before : List Lexeme) (c : CondTree) → PrimaryIs columns met depth before tokens c →
-      (d : CondTree) × TestIs columns met depth before rest d
-  Means (TruthTail depth) tokens rest = (before : List Lexeme) (c : CondTree) →
-      PrimaryIs columns met depth before (Reserved word.Is ∷ tokens) c → (d : CondTree) × TestIs columns met depth before rest d
-  Means (NotTruthTail depth) tokens rest = (before : List Lexeme) (c : CondTree) →
-      PrimaryIs columns met depth before (Reserved word.Is ∷ Reserved word.Not ∷ tokens) c →
-      (d : CondTree) × TestIs columns met depth before rest d
+  Means TestTail tokens rest = (c : CondTree) → (d : CondTree) × TestedIs c tokens rest d
+  Means TruthTail tokens rest = (c : CondTree) → (d : CondTree) × TestedIs c (Reserved word.Is ∷ tokens) rest d
+  Means NotTruthTail tokens rest =
+      (c : CondTree) → (d : CondTree) × TestedIs c (Reserved word.Is ∷ Reserved word.Not ∷ tokens) rest d
   Means (PartTail by depth) tokens rest = (cs : List CondTree) × MoreParts columns met by depth tokens rest cs
   Means ItemList tokens rest = (xs : List Item) × ItemsAre columns met tokens rest xs
   Means (CommaTail (Some first)) tokens rest = (xs : List Item) × MoreItems columns met first tokens rest xs
@@ -135,7 +129,7 @@ module _ (columns : List Column) (met : Demand → Bool) where
   primary_fair s depth behind (Punct mark.Open) k = λ m more a f b fs d ts e close. k more e _
       (bracket_fair depth more d e _ m.0 (parts (term (parts (factor f.1) fs.1)) ts.1) close)
   primary_fair s depth behind t k =
-      operand_fair s (PredicateTail ∷ behind) t (λ more middle x o rest q. let p = q (t ∷ more) x o in k more rest p.0 (predicate p.1))
+      operand_fair s (PredicateTail ∷ behind) t (λ more middle x o rest q. let p = q x in k more rest p.0 (predicate (compared o p.1)))
 
   aggregate_fair : (kind : Aggregate) (more a b rest : List Lexeme) → IsToken (Punct mark.Open) more a →
       Means (AnArgument kind) a b → IsToken (Punct mark.Close) b rest →
@@ -202,25 +196,25 @@ module _ (columns : List Column) (met : Demand → Bool) where
   fair Closing (Punct mark.Close) = λ m more. here_is
   fair AnOperand t = operand_fair AnOperand [] t (λ more middle x o. (x, o))
   fair (SignedDigits is_negative) (Digits digits) = λ m more. (digits, m.0, here_is)
-  fair PredicateTail (Compare op) = λ m more rest y before x o. (Cmp op x y.0, comparison o y.1)
+  fair PredicateTail (Compare op) = λ m more rest y x. (Cmp op x y.0, comparison y.1)
   fair PredicateTail (Reserved word.Is) = λ m more rest q. q
-  fair PredicateTail (Reserved word.Not) = λ m more rest q before x o. let p = q x in (Not p.0, not_range o p.1)
-  fair PredicateTail t = range_fair PredicateTail t (λ more rest q before x o. let p = q x in (p.0, range o p.1))
+  fair PredicateTail (Reserved word.Not) = λ m more rest q x. let p = q x in (Not p.0, not_range p.1)
+  fair PredicateTail t = range_fair PredicateTail t (λ more rest q x. let p = q x in (p.0, range p.1))
   fair RangeTail t = range_fair RangeTail t (λ more rest q. q)
-  fair NullTail (Reserved word.Null) = λ m more before x o. (IsNull x, is_null o)
+  fair NullTail (Reserved word.Null) = λ m more x. (IsNull x, is_null)
   fair NullTail (Reserved word.Not) = λ m more rest q. q
-  fair NotNullTail (Reserved word.Null) = λ m more before x o. (Not (IsNull x), is_not_null o)
+  fair NotNullTail (Reserved word.Null) = λ m more x. (Not (IsNull x), is_not_null)
   fair (CommaTail None) (Punct mark.Comma) = λ m more a x b xs. (x.0 ∷ xs.0, next_operand x.1 xs.1)
   fair (CommaTail None) t = λ tokens. ([], last_operand)
-  fair (AFactor depth) (Reserved word.Not) = λ m more a c rest q. let d = q more c.0 c.1 in (Not d.0, not_test m.0 d.1)
-  fair (AFactor depth) t = primary_fair (AFactor depth) depth (TestTail depth ∷ []) t
-      (λ more middle c p rest q. let d = q (t ∷ more) c p in (d.0, test d.1))
+  fair (AFactor depth) (Reserved word.Not) = λ m more a c rest q. let d = q c.0 in (Not d.0, not_test m.0 (tested c.1 d.1))
+  fair (AFactor depth) t = primary_fair (AFactor depth) depth (TestTail ∷ []) t
+      (λ more middle c p rest q. let d = q c in (d.0, test (tested p d.1)))
   fair (APrimary depth) t = primary_fair (APrimary depth) depth [] t (λ more middle c p. (c, p))
-  fair (TestTail depth) (Reserved word.Is) = λ m more rest q. q
-  fair (TestTail depth) t = λ tokens before c p. (c, primary p)
-  fair (TruthTail depth) (Reserved word.Not) = λ m more rest q. q
-  fair (TruthTail depth) t = truth_fair (TruthTail depth) t (λ more v q before c p. (Test c v, is p q))
-  fair (NotTruthTail depth) t = truth_fair (NotTruthTail depth) t (λ more v q before c p. (Not (Test c v), is_not p q))
+  fair TestTail (Reserved word.Is) = λ m more rest q. q
+  fair TestTail t = λ tokens c. (c, untested)
+  fair TruthTail (Reserved word.Not) = λ m more rest q. q
+  fair TruthTail t = truth_fair TruthTail t (λ more v q c. (Test c v, is q))
+  fair NotTruthTail t = truth_fair NotTruthTail t (λ more v q c. (Not (Test c v), is_not q))
   fair (PartTail connective.And depth) (Reserved word.And) = λ m more a c b cs. (c.0 ∷ cs.0, next_part (factor c.1) cs.1)
   fair (PartTail connective.Or depth) (Reserved word.Or) = λ m more a c b cs d ds.
       (_, next_part (term (parts (factor c.1) cs.1)) ds.1)
@@ -316,21 +310,21 @@ module _ (schema : Schema) (met : Demand → Bool) (weaker : (d : Demand) → is
   complete Closing rest = (Punct mark.Close ∷ rest, here_is)
   complete AnOperand rest = (Reserved word.Null ∷ rest, (Null, null))
   complete (SignedDigits is_negative) rest = (Digits (48 ∷ []) ∷ rest, (48 ∷ [], zero_fits is_negative, here_is))
-  complete PredicateTail rest = (Reserved word.Is ∷ Reserved word.Null ∷ rest, λ before x o. (IsNull x, is_null o))
+  complete PredicateTail rest = (Reserved word.Is ∷ Reserved word.Null ∷ rest, λ x. (IsNull x, is_null))
   complete RangeTail rest = (
     Reserved word.In ∷ Punct mark.Open ∷ Reserved word.Null ∷ Punct mark.Close ∷ rest,
     λ x. (Among x (Null ∷ []), among null last_operand),
   )
-  complete NullTail rest = (Reserved word.Null ∷ rest, λ before x o. (IsNull x, is_null o))
-  complete NotNullTail rest = (Reserved word.Null ∷ rest, λ before x o. (Not (IsNull x), is_not_null o))
+  complete NullTail rest = (Reserved word.Null ∷ rest, λ x. (IsNull x, is_null))
+  complete NotNullTail rest = (Reserved word.Null ∷ rest, λ x. (Not (IsNull x), is_not_null))
   complete (CommaTail None) rest = (rest, ([], last_operand))
   complete (AFactor depth) rest =
-      (Reserved word.Null ∷ Reserved word.Is ∷ Reserved word.Null ∷ rest, (IsNull Null, test (primary (predicate (is_null null)))))
+      (Reserved word.Null ∷ Reserved word.Is ∷ Reserved word.Null ∷ rest, (IsNull Null, test (tested (predicate (compared null is_null)) untested)))
   complete (APrimary depth) rest =
-      (Reserved word.Null ∷ Reserved word.Is ∷ Reserved word.Null ∷ rest, (IsNull Null, predicate (is_null null)))
-  complete (TestTail depth) rest = (rest, λ before c p. (c, primary p))
-  complete (TruthTail depth) rest = (Reserved word.True ∷ rest, λ before c p. (Test c Yes, is p true_word))
-  complete (NotTruthTail depth) rest = (Reserved word.True ∷ rest, λ before c p. (Not (Test c Yes), is_not p true_word))
+      (Reserved word.Null ∷ Reserved word.Is ∷ Reserved word.Null ∷ rest, (IsNull Null, predicate (compared null is_null)))
+  complete TestTail rest = (rest, λ c. (c, untested))
+  complete TruthTail rest = (Reserved word.True ∷ rest, λ c. (Test c Yes, is true_word))
+  complete NotTruthTail rest = (Reserved word.True ∷ rest, λ c. (Not (Test c Yes), is_not true_word))
   complete (PartTail by depth) rest = (rest, ([], last_part))
   complete ItemList rest = (Punct mark.Star ∷ rest, (every_column columns, star))
   complete (CommaTail (Some first)) rest = (rest, ([], last_item))
@@ -365,7 +359,7 @@ module _ (schema : Schema) (met : Demand → Bool) (weaker : (d : Demand) → is
   ended : (s : Symbol) → may_end s ≡ true → Means columns met s [] []
   unfolding may_end
   ended (CommaTail None) e = ([], last_operand)
-  ended (TestTail depth) e = λ before c p. (c, primary p)
+  ended TestTail e = λ c. (c, untested)
   ended (PartTail by depth) e = ([], last_part)
   ended (CommaTail (Some first)) e = ([], last_item)
   ended ASelection e = (Always, all_rows)

@@ -21,7 +21,7 @@ use Rattle.bw_sql.specs.declared.condition.Connective.TheVariants as connective
 use Rattle.bw_sql.specs.declared.items.Aggregate.TheVariants as kind
 use Rattle.bw_sql.specs.Asked.{Asked, asked}
 use Rattle.bw_sql.specs.Demand.{IsColumn, OfOneKind, column_number, column_or_first, is_met, meets}
-use Rattle.bw_sql.specs.Grammar.{OperandIs, MoreOperands, RangeIs, PredicateIs, JoinedIs, MoreParts, PartIs, FactorIs, TestIs, PrimaryIs, ItemIs, MoreItems, ItemsAre, SelectionIs, IsQuery, joined, null, column, last_operand, next_operand, between, among, comparison, range, not_range, is_null, is_not_null, parts, last_part, next_part, factor, term, test, not_test, primary, is, is_not, predicate, bracket, plain, count_all, aggregate, last_item, next_item, star, items, all_rows, rows_where, statement}
+use Rattle.bw_sql.specs.Grammar.{OperandIs, MoreOperands, RangeIs, ComparedIs, JoinedIs, MoreParts, PartIs, FactorIs, TestIs, PrimaryIs, ItemIs, MoreItems, ItemsAre, SelectionIs, IsQuery, joined, null, column, last_operand, next_operand, between, among, compared, comparison, range, not_range, is_null, is_not_null, parts, last_part, next_part, factor, term, test, not_test, tested, untested, is, is_not, predicate, bracket, plain, count_all, aggregate, last_item, next_item, star, items, all_rows, rows_where, statement}
 use Rattle.bw_sql.specs.Items.{AreOfOneKind, is_of_kind, are_of_kind}
 use Rattle.bw_sql.specs.Statement.{Parses, tokens_of}
 use Rattle.bw_sql.specs.Token.{Lexeme}
@@ -102,12 +102,13 @@ module _ (schema : Schema) where
   range_good h (between y z) = (rw (h, operand_within y, operand_within z) refl, refl)
   range_good h (among y ys) = (rw (h, operand_within y, operands_within ys) refl, le-leb 1 _ (omega arith))
 
-  predicate_good : {tokens rest : List Lexeme} {c : CondTree} → PredicateIs cs (is_met schema) tokens rest c → Good n c
-  predicate_good (comparison x y) = (rw (operand_within x, operand_within y) refl, refl)
-  predicate_good (range x y) = range_good (operand_within x) y
-  predicate_good (not_range x y) = range_good (operand_within x) y
-  predicate_good (is_null x) = (operand_within x, refl)
-  predicate_good (is_not_null x) = (operand_within x, refl)
+  compared_good : {tokens rest : List Lexeme} {x : Operand} {c : CondTree} → is_within n x ≡ true →
+      ComparedIs cs (is_met schema) x tokens rest c → Good n c
+  compared_good h (comparison y) = (rw (h, operand_within y) refl, refl)
+  compared_good h (range y) = range_good h y
+  compared_good h (not_range y) = range_good h y
+  compared_good h is_null = (h, refl)
+  compared_good h is_not_null = (h, refl)
 
   mutual
     parts_good : {by : Connective} {depth : ℕ} {tokens rest : List Lexeme} {c : CondTree} →
@@ -129,12 +130,12 @@ module _ (schema : Schema) where
     factor_good (not_test m p) = test_good p
 
     test_good : {depth : ℕ} {tokens rest : List Lexeme} {c : CondTree} → TestIs cs (is_met schema) depth tokens rest c → Good n c
-    test_good (primary p) = primary_good p
-    test_good (is p t) = primary_good p
-    test_good (is_not p t) = primary_good p
+    test_good (tested p untested) = primary_good p
+    test_good (tested p (is t)) = primary_good p
+    test_good (tested p (is_not t)) = primary_good p
 
     primary_good : {depth : ℕ} {tokens rest : List Lexeme} {c : CondTree} → PrimaryIs cs (is_met schema) depth tokens rest c → Good n c
-    primary_good (predicate p) = predicate_good p
+    primary_good (predicate (compared x p)) = compared_good (operand_within x) p
     primary_good (bracket m p) = parts_good p
 
   selection_good : {tokens rest : List Lexeme} {c : CondTree} → SelectionIs cs (is_met schema) tokens rest c → Good n c

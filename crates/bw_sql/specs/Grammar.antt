@@ -62,23 +62,31 @@ pub data RangeIs (columns : List Column) (met : Demand → Bool) (x : Operand) :
       OperandIs columns met first others y → MoreOperands columns met others (Punct mark.Close ∷ rest) ys →
       RangeIs columns met x (Reserved word.In ∷ Punct mark.Open ∷ first) rest (Among x (y ∷ ys))
 
--- predicate = operand compare operand | operand [ NOT ] BETWEEN .. | operand [ NOT ] IN .. | operand IS [ NOT ] NULL
+-- what follows an operand x: compare operand | [ NOT ] BETWEEN .. | [ NOT ] IN .. | IS [ NOT ] NULL
+pub data ComparedIs (columns : List Column) (met : Demand → Bool) (x : Operand) : List Lexeme → List Lexeme → CondTree
+    → Type 0 where
+  comparison : {tokens rest : List Lexeme} {y : Operand} {op : Op} → OperandIs columns met tokens rest y →
+      ComparedIs columns met x (Compare op ∷ tokens) rest (Cmp op x y)
+  range : {tokens rest : List Lexeme} {c : CondTree} → RangeIs columns met x tokens rest c →
+      ComparedIs columns met x tokens rest c
+  not_range : {tokens rest : List Lexeme} {c : CondTree} → RangeIs columns met x tokens rest c →
+      ComparedIs columns met x (Reserved word.Not ∷ tokens) rest (Not c)
+  is_null : {rest : List Lexeme} → ComparedIs columns met x (Reserved word.Is ∷ Reserved word.Null ∷ rest) rest (IsNull x)
+  is_not_null : {rest : List Lexeme} →
+      ComparedIs columns met x (Reserved word.Is ∷ Reserved word.Not ∷ Reserved word.Null ∷ rest) rest (Not (IsNull x))
+
+-- predicate = an operand, and what follows it
 pub data PredicateIs (columns : List Column) (met : Demand → Bool) : List Lexeme → List Lexeme → CondTree → Type 0 where
-  comparison : {tokens other rest : List Lexeme} {x y : Operand} {op : Op} →
-      OperandIs columns met tokens (Compare op ∷ other) x → OperandIs columns met other rest y →
-      PredicateIs columns met tokens rest (Cmp op x y)
-  range : {tokens bounds rest : List Lexeme} {x : Operand} {c : CondTree} →
-      OperandIs columns met tokens bounds x → RangeIs columns met x bounds rest c →
-      PredicateIs columns met tokens rest c
-  not_range : {tokens bounds rest : List Lexeme} {x : Operand} {c : CondTree} →
-      OperandIs columns met tokens (Reserved word.Not ∷ bounds) x → RangeIs columns met x bounds rest c →
-      PredicateIs columns met tokens rest (Not c)
-  is_null : {tokens rest : List Lexeme} {x : Operand} →
-      OperandIs columns met tokens (Reserved word.Is ∷ Reserved word.Null ∷ rest) x →
-      PredicateIs columns met tokens rest (IsNull x)
-  is_not_null : {tokens rest : List Lexeme} {x : Operand} →
-      OperandIs columns met tokens (Reserved word.Is ∷ Reserved word.Not ∷ Reserved word.Null ∷ rest) x →
-      PredicateIs columns met tokens rest (Not (IsNull x))
+  compared : {tokens others rest : List Lexeme} {x : Operand} {c : CondTree} → OperandIs columns met tokens others x →
+      ComparedIs columns met x others rest c → PredicateIs columns met tokens rest c
+
+-- what follows a primary c: [ IS [ NOT ] ( TRUE | FALSE | UNKNOWN ) ]
+pub data TestedIs (c : CondTree) : List Lexeme → List Lexeme → CondTree → Type 0 where
+  untested : {rest : List Lexeme} → TestedIs c rest rest c
+  is : {tokens rest : List Lexeme} {t : Truth} → TruthIs tokens rest t →
+      TestedIs c (Reserved word.Is ∷ tokens) rest (Test c t)
+  is_not : {tokens rest : List Lexeme} {t : Truth} → TruthIs tokens rest t →
+      TestedIs c (Reserved word.Is ∷ Reserved word.Not ∷ tokens) rest (Not (Test c t))
 
 -- Conditions, inside of so many brackets and NOTs.
 mutual
@@ -113,16 +121,10 @@ mutual
         TestIs columns met (suc depth) tokens rest c → FactorIs columns met depth (Reserved word.Not ∷ tokens) rest
         (Not c)
 
-  -- test = primary [ IS [ NOT ] ( TRUE | FALSE | UNKNOWN ) ]
+  -- test = a primary, and what follows it
   pub data TestIs (columns : List Column) (met : Demand → Bool) : ℕ → List Lexeme → List Lexeme → CondTree → Type 0 where
-    primary : {depth : ℕ} {tokens rest : List Lexeme} {c : CondTree} →
-        PrimaryIs columns met depth tokens rest c → TestIs columns met depth tokens rest c
-    is : {depth : ℕ} {tokens value rest : List Lexeme} {c : CondTree} {t : Truth} →
-        PrimaryIs columns met depth tokens (Reserved word.Is ∷ value) c → TruthIs value rest t →
-        TestIs columns met depth tokens rest (Test c t)
-    is_not : {depth : ℕ} {tokens value rest : List Lexeme} {c : CondTree} {t : Truth} →
-        PrimaryIs columns met depth tokens (Reserved word.Is ∷ Reserved word.Not ∷ value) c → TruthIs value rest t →
-        TestIs columns met depth tokens rest (Not (Test c t))
+    tested : {depth : ℕ} {tokens others rest : List Lexeme} {c d : CondTree} →
+        PrimaryIs columns met depth tokens others c → TestedIs c others rest d → TestIs columns met depth tokens rest d
 
   -- primary = ( cond ) | predicate
   pub data PrimaryIs (columns : List Column) (met : Demand → Bool) : ℕ → List Lexeme → List Lexeme → CondTree → Type 0 where
