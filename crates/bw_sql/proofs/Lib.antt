@@ -1,10 +1,8 @@
 pub mod Cuts
 pub mod Cases
-pub mod Cutting
 pub mod Frontiers
 pub mod Levels
 pub mod Machine
-pub mod OneCut
 pub mod Pieces
 pub mod Repeats
 pub mod Delimiters

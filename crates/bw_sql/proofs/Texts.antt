@@ -26,10 +26,9 @@ use Rattle.bw_sql.specs.Refusal.{code_of}
 use Rattle.bw_sql.specs.Statement.{IsFault, IsRefusal, SpellsOrFails, Parses, Spells, too_long, refused, token_refused, end_refused, byte_refused, tokens_of}
 use Rattle.bw_sql.specs.Token.{Lexeme, lexeme, lexemes}
 use Rattle.bw_sql.proofs.Cases.{bool_cases}
-use Rattle.bw_sql.proofs.Cutting.{cut_of_text}
 use Rattle.bw_sql.proofs.Frontiers.{FirstFault, first_fault, only_at_end}
 use Rattle.bw_sql.proofs.Machine.{Symbol, AStatement, all_may_end}
-use Rattle.bw_sql.proofs.OneCut.{one_cut_of}
+use Rattle.bw_sql.proofs.Cuts.{cut_of_text, one_cut_of}
 use Rattle.bw_sql.proofs.Runs.{statement_runs}
 use Rattle.bw_sql.proofs.Spelled.{query_read}
 use Rattle.bw_sql.proofs.Stops.{asked_for_weaker, path_weaker, Ran, whole, ends, stops, ran}
@@ -84,7 +83,7 @@ refused_so schema text items stop cut OutOfMemory fault read is m = absurd (let 
 read_same : (schema : Schema) (text : List ℕ) (a b : Result Asked Fault) → IsRead schema text a → IsRead schema text b → a ≡ b
 read_same schema text a b r s =
     let same = one_cut_of 0 text r.tokens s.tokens r.stop s.stop r.cut s.cut in
-    r.is ∙ (rw (same.tokens_same, same.stops_same) (sym s.is))
+    r.is ∙ (rw (same.0, same.1) (sym s.is))
 
 spelled_read : (schema : Schema) (text : List ℕ) (query : Asked) → Spells schema text query → IsRead schema text (Ok query)
 spelled_read schema text query s = record {

@@ -100,7 +100,7 @@ fn read(alloc: Global, schema: &Schema, text: &[u8]) -> Result<Query, Fault>
 }
 
 /// A text is cut into tokens in one way.
-#[tactic(auto, using(crate::proofs::OneCut::one_cut_of))]
+#[tactic(auto, using(crate::proofs::Cuts::one_cut_of))]
 pub fn one_cut()
     ensures { (at : ℕ) (text : List ℕ) (tokens others : List Spot) (stop other : Option ℕ)
         → IsCut at text tokens stop → IsCut at text others other
