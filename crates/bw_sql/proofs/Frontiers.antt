@@ -1,23 +1,275 @@
--- What reading refuses is the first fault.
-use Rattle.std.proofs.Common.{◌≡◌, ℕ, suc, ◌+◌, ◌<◌, ◌≤◌, Bool, true, false, nat_lt, ◌==◌, inl, inr, List, [], ◌∷◌, ◌++◌, length, Result, Ok, Err, refl, sym, ◌∙◌, ap, subst, arith, append_assoc, length-append}
-use Rattle.std.proofs.lemmas.Bool.{ltb-true, ltb-false}
-use Rattle.std.proofs.lemmas.List.{append-nil}
+-- Where the machine stops, and that this is the first fault.
+use Rattle.std.proofs.Common.{◌≡◌, ℕ, ◌<◌, ◌≤◌, Bool, true, false, if◌then◌else◌, not, ◌&&◌, ◌==◌, nat_le, List, [], ◌∷◌, ◌++◌, length, Result, Ok, Err, refl, sym, ◌∙◌, ap, subst, arith, suc, ◌+◌, nat_lt, inl, inr, append_assoc, length-append}
+use Rattle.std.proofs.lemmas.Bool.{and_parts, leb-true, ltb-true, ltb-false}
 use Rattle.std.proofs.lemmas.Bool.Decides.{nat_tests}
+use Rattle.std.proofs.Math.Bool.{or-true}
+use Rattle.bw_model.specs.declared.keyword.Keyword.TheVariants as word
 use Rattle.bw_model.specs.declared.schema.Schema.{Schema}
+use Rattle.bw_sql.specs.declared.condition.Connective.TheVariants as connective
+use Rattle.bw_sql.specs.declared.items.Aggregate.TheVariants as aggregate
 use Rattle.bw_sql.specs.declared.reader.Refusal.{Refusal}
 use Rattle.bw_sql.specs.declared.reader.Refusal.TheVariants.{Syntax, Literal}
-use Rattle.bw_sql.specs.Asked.{Asked}
-use Rattle.bw_sql.specs.Demand.{Demand, is_met, refusal}
-use Rattle.bw_sql.specs.Frontier.{Begins, Stands, IsFirst, asked_for, is_sign, at_token, at_sign, at_end}
-use Rattle.bw_sql.specs.Grammar.{StatementIs}
-use Rattle.bw_sql.specs.Reading.{Halt, ◌>>=◌, statement_at}
+use Rattle.bw_sql.specs.declared.token.Mark.TheVariants as mark
+use Rattle.bw_sql.specs.Demand.{Demand, Fits, is_met, refusal}
+use Rattle.bw_sql.specs.Frontier.{asked_for, is_sign, Begins, Stands, IsFirst, at_token, at_sign, at_end}
+use Rattle.bw_sql.specs.Reading.{Halt, same_keyword, ◌>>=◌, statement_at}
 use Rattle.bw_sql.specs.Refusal.{code_of}
-use Rattle.bw_sql.specs.Token.{Lexeme, Digits}
-use Rattle.bw_sql.proofs.Machine.{Symbol, AStatement, left_at, step, run}
+use Rattle.bw_sql.specs.Token.{Lexeme, Digits, Reserved, Punct}
+use Rattle.bw_sql.proofs.Cases.{bool_cases}
+use Rattle.bw_sql.proofs.Machine.{Symbol, AWord, AnArgument, PartTail, SignedDigits, Choice, Ask, Pass, Stop, decide, ask, step, left_at, proceed, run, all_may_end, AStatement}
+use Rattle.bw_sql.proofs.Viable.{Path, here, there, path_viable}
+use Rattle.std.proofs.lemmas.List.{append-nil}
+use Rattle.bw_sql.specs.Asked.{Asked}
+use Rattle.bw_sql.specs.Grammar.{StatementIs}
 use Rattle.bw_sql.proofs.Runs.{statement_runs}
 use Rattle.bw_sql.proofs.Spelled.{Outcome, reads, excused, statement_read}
-use Rattle.bw_sql.proofs.Stops.{path_weaker, asked_for_weaker, is_digits, step_lower, step_refuses, path_split, digits_stop, after_sign, sign_last, last_sign, run_path, run_stop, Ran, whole, ends, stops, ran}
-use Rattle.bw_sql.proofs.Viable.{Path, here, there, path_viable}
+
+-- Demands are asked in the order of their numbers, at a sign nothing is asked and digits are to come, and a literal is
+-- refused at its digits.
+abbrev rising : ℕ → List Demand → Bool
+rising low [] = true
+rising low (d ∷ demands) = nat_le low (code_of (refusal d)) && rising (code_of (refusal d)) demands
+
+abbrev pub is_digits : Lexeme → Bool
+is_digits (Digits digits) = true
+is_digits _ = false
+
+abbrev asks_fits : List Demand → Bool
+asks_fits [] = false
+asks_fits (Fits is_negative digits ∷ demands) = true
+asks_fits (_ ∷ demands) = asks_fits demands
+
+abbrev signs : List Demand → List Symbol → Bool
+signs [] (SignedDigits is_negative ∷ below) = true
+signs _ _ = false
+
+abbrev is_orderly : Lexeme → Choice → Bool
+is_orderly t (Ask demands symbols) = rising 402 demands && ((if asks_fits demands then is_digits t else true)
+    && (if is_sign t then signs demands symbols else true))
+is_orderly t Pass = true
+is_orderly t Stop = true
+
+decide_orderly : (s : Symbol) (t : Lexeme) → is_orderly t (decide s t) ≡ true
+unfolding decide
+decide_orderly (AWord w) (Reserved found) = bool_cases (same_keyword found w) (λ e. rw e refl) (λ e. rw e refl)
+decide_orderly (PartTail connective.And depth) (Reserved word.And) = refl
+decide_orderly (AnArgument aggregate.Count) (Punct mark.Star) = refl
+decide_orderly _ (Punct mark.Plus) = refl
+decide_orderly _ (Reserved word.Not) = refl
+decide_orderly _ _ = refl
+
+-- what a stack makes of a token, whatever is met: nothing, or what a symbol on it asks
+data Decided (stack : List Symbol) (t : Lexeme) : Type 0 where
+  none : ((met : Demand → Bool) → step met stack t ≡ Err Syntax) → Decided stack t
+  asks : (demands : List Demand) (symbols below : List Symbol) → is_orderly t (Ask demands symbols) ≡ true →
+      ((met : Demand → Bool) → step met stack t ≡ ask met demands (symbols ++ below)) → Decided stack t
+
+decided : (stack : List Symbol) (t : Lexeme) → Decided stack t
+unfolding step
+decided [] t = none (λ met. refl)
+decided (s ∷ stack) t = go (decide s t) refl (decide_orderly s t) (decided stack t) where
+  go : (c : Choice) → decide s t ≡ c → is_orderly t (decide s t) ≡ true → Decided stack t → Decided (s ∷ stack) t
+  go (Ask demands symbols) e o below = asks demands symbols stack (rw e at o) (λ met. rw e refl)
+  go Pass e o (none f) = none (λ met. rw e (f met))
+  go Pass e o (asks demands symbols below g f) = asks demands symbols below g (λ met. rw e (f met))
+  go Stop e o below = none (λ met. rw e refl)
+
+-- what asks for less goes as far
+module _ (schema : Schema) (met : Demand → Bool) (weaker : (d : Demand) → is_met schema d ≡ true → met d ≡ true) where
+  ask_weaker : (demands : List Demand) (stack last : List Symbol) → ask (is_met schema) demands stack ≡ Ok last →
+      ask met demands stack ≡ Ok last
+  ask_weaker [] stack last e = e
+  ask_weaker (d ∷ demands) stack last e = bool_cases (is_met schema d)
+      (λ m. rw (weaker d m) (ask_weaker demands stack last (rw m at e))) (λ u. let f = rw u at e in cc)
+
+  step_weaker : (stack : List Symbol) (t : Lexeme) (last : List Symbol) → step (is_met schema) stack t ≡ Ok last →
+      step met stack t ≡ Ok last
+  step_weaker stack t last e = elim (decided stack t) [
+    | none f ↦ (let g = sym (f (is_met schema)) ∙ e in cc)
+    | asks demands symbols below o f ↦ f met ∙ ask_weaker demands (symbols ++ below) last (sym (f (is_met schema)) ∙ e)
+  ]
+
+  pub path_weaker : {stack last : List Symbol} {tokens : List Lexeme} → Path (is_met schema) stack tokens last →
+      Path met stack tokens last
+  path_weaker here = here
+  path_weaker (there {stack = stack} {next = next} {t = t} e p) = there (step_weaker stack t next e) (path_weaker p)
+
+pub asked_for_weaker : (schema : Schema) (why : Refusal) (d : Demand) → is_met schema d ≡ true → asked_for schema why d ≡ true
+asked_for_weaker schema why d m = rw m (or-true (not (code_of (refusal d) == code_of why)))
+
+least_code : (other : Refusal) → 402 ≤ code_of other
+least_code Syntax = omega arith
+least_code _ = omega arith
+
+-- under the demands of a lower number the machine goes on
+module _ (schema : Schema) (other why : Refusal) (low : code_of other < code_of why) where
+  -- a demand of a higher number isn't asked
+  spared : (d : Demand) → code_of other < code_of (refusal d) → asked_for schema other d ≡ true
+  spared d h = let unequal : (code_of (refusal d) == code_of other) ≡ false = grind (arith, nat_tests) in rw unequal refl
+
+  all_spared : (n : ℕ) (demands : List Demand) (stack : List Symbol) → code_of other < n → rising n demands ≡ true →
+      ask (asked_for schema other) demands stack ≡ Ok stack
+  all_spared n [] stack h r = refl
+  all_spared n (d ∷ demands) stack h r =
+      let p = and_parts (nat_le n (code_of (refusal d))) (rising (code_of (refusal d)) demands) r in
+      let higher : code_of other < code_of (refusal d) = omega (arith, leb-true n (code_of (refusal d)) p.0) in
+      rw (spared d higher) (all_spared (code_of (refusal d)) demands stack higher p.1)
+
+  ask_lower : (n : ℕ) (demands : List Demand) (stack : List Symbol) → rising n demands ≡ true →
+      ask (is_met schema) demands stack ≡ Err why → ask (asked_for schema other) demands stack ≡ Ok stack
+  ask_lower n [] stack r e = cc
+  ask_lower n (d ∷ demands) stack r e =
+      let p = and_parts (nat_le n (code_of (refusal d))) (rising (code_of (refusal d)) demands) r in
+      bool_cases (is_met schema d)
+      (λ m. rw (asked_for_weaker schema other d m) (ask_lower (code_of (refusal d)) demands stack p.1 (rw m at e)))
+      (λ u. let f : ◌≡◌ {A = Result (List Symbol) Refusal} (Err (refusal d)) (Err why) = rw u at e in
+      let same : why ≡ refusal d = cc in
+      let higher : code_of other < code_of (refusal d) = subst (λ w. code_of other < code_of w) same low in
+      rw (spared d higher) (all_spared (code_of (refusal d)) demands stack higher p.1))
+
+  none_lower : {P : Type 0} → ◌≡◌ {A = Result (List Symbol) Refusal} (Err Syntax) (Err why) → P
+  none_lower e = let same : why ≡ Syntax = cc in
+      let lower : code_of other < 402 = subst (λ w. code_of other < code_of w) same low in absurd (omega (arith, least_code other))
+
+  pub step_lower : (stack : List Symbol) (t : Lexeme) → step (is_met schema) stack t ≡ Err why →
+      (next : List Symbol) × (step (asked_for schema other) stack t ≡ Ok next)
+  step_lower stack t e = elim (decided stack t) [
+    | none f ↦ none_lower (sym (f (is_met schema)) ∙ e)
+    | asks demands symbols below o f ↦ (
+      symbols ++ below,
+      f (asked_for schema other) ∙ ask_lower 402 demands (symbols ++ below)
+          (and_parts (rising 402 demands) _ o).0 (sym (f (is_met schema)) ∙ e),
+    )
+  ]
+
+-- what is refused is a sign, for the grammar, or digits, or no literal
+module _ (schema : Schema) (t : Lexeme) (why : Refusal) where
+  abbrev Refuses : Type 0
+  Refuses = (is_sign t ≡ true → why ≡ Syntax) × (why ≡ Literal → is_digits t ≡ true)
+
+  for_syntax : ◌≡◌ {A = Result (List Symbol) Refusal} (Err Syntax) (Err why) → Refuses
+  for_syntax e = let same : why ≡ Syntax = cc in (λ s. same, λ l. let f : Literal ≡ Syntax = sym l ∙ same in cc)
+
+  asked_fits : (demands : List Demand) (stack : List Symbol) → ask (is_met schema) demands stack ≡ Err why → why ≡ Literal →
+      asks_fits demands ≡ true
+  asked_fits [] stack e l = cc
+  asked_fits (Fits is_negative digits ∷ demands) stack e l = refl
+  asked_fits (d ∷ demands) stack e l =
+      bool_cases (is_met schema d) (λ m. asked_fits demands stack (rw m at e) l) (λ u. let f = rw (u, l) at e in cc)
+
+  asked_refuses : (demands : List Demand) (symbols below : List Symbol) → is_orderly t (Ask demands symbols) ≡ true →
+      ask (is_met schema) demands (symbols ++ below) ≡ Err why → Refuses
+  asked_refuses [] symbols below o e = cc
+  asked_refuses (d ∷ demands) symbols below o e =
+      let p = and_parts (rising 402 (d ∷ demands)) _ o in
+      let q = and_parts (if asks_fits (d ∷ demands) then is_digits t else true) _ p.1 in
+      (λ s. let f = rw s at q.1 in cc, λ l. rw (asked_fits (d ∷ demands) (symbols ++ below) e l) at q.0)
+
+  pub step_refuses : (stack : List Symbol) → step (is_met schema) stack t ≡ Err why → Refuses
+  step_refuses stack e = elim (decided stack t) [
+    | none f ↦ for_syntax (sym (f (is_met schema)) ∙ e)
+    | asks demands symbols below o f ↦ asked_refuses demands symbols below o (sym (f (is_met schema)) ∙ e)
+  ]
+
+-- after a sign digits are to come, and are refused as a literal
+abbrev begins_signed : List Symbol → Bool
+begins_signed (SignedDigits is_negative ∷ below) = true
+begins_signed _ = false
+
+module _ (schema : Schema) where
+  signed_ask : (demands : List Demand) (symbols stack next : List Symbol) → signs demands symbols ≡ true →
+      ask (is_met schema) demands (symbols ++ stack) ≡ Ok next → begins_signed next ≡ true
+  signed_ask [] (SignedDigits is_negative ∷ symbols) stack next g e =
+      let same : SignedDigits is_negative ∷ (symbols ++ stack) ≡ next = cc in subst (λ n. begins_signed n ≡ true) same refl
+  signed_ask _ _ stack next g e = cc
+
+  step_sign : (stack next : List Symbol) (t : Lexeme) → is_sign t ≡ true → step (is_met schema) stack t ≡ Ok next →
+      begins_signed next ≡ true
+  step_sign stack next t s e = elim (decided stack t) [
+    | none f ↦ (let g = sym (f (is_met schema)) ∙ e in cc)
+    | asks demands symbols below o f ↦ signed_ask demands symbols below next (rw s at (and_parts
+        (if asks_fits demands then is_digits t else true) _ (and_parts (rising 402 demands) _ o).1).1) (sym (f (is_met schema)) ∙ e)
+  ]
+
+  signed_stop : (stack : List Symbol) (digits : List ℕ) (why : Refusal) → begins_signed stack ≡ true →
+      step (is_met schema) stack (Digits digits) ≡ Err why → why ≡ Literal
+  unfolding step decide
+  signed_stop (SignedDigits is_negative ∷ below) digits why b e = bool_cases (is_met schema (Fits is_negative digits))
+      (λ m. let f = rw m at e in cc) (λ u. let f = rw u at e in cc)
+  signed_stop _ digits why b e = cc
+
+  -- where a path is cut
+  pub path_split : (stack : List Symbol) (xs ys : List Lexeme) (last : List Symbol) → Path (is_met schema) stack (xs ++ ys) last →
+      (middle : List Symbol) × Path (is_met schema) stack xs middle × Path (is_met schema) middle ys last
+  path_split stack [] ys last p = (stack, here, p)
+  path_split stack (x ∷ xs) ys last (there {next = next} e p) =
+      let q = path_split next xs ys last p in (q.0, there e q.1, q.2)
+
+  -- digits that are refused after a sign are refused as a literal
+  pub digits_stop : (stack : List Symbol) (front : List Lexeme) (u : Lexeme) (last : List Symbol) (digits : List ℕ) (why : Refusal) →
+      Path (is_met schema) stack (front ++ u ∷ []) last → is_sign u ≡ true → step (is_met schema) last (Digits digits) ≡ Err why →
+      why ≡ Literal
+  digits_stop stack front u last digits why p s e = go (path_split stack front (u ∷ []) last p).2 where
+    go : {middle : List Symbol} → Path (is_met schema) middle (u ∷ []) last → why ≡ Literal
+    go (there {stack = middle} d here) = signed_stop last digits why (step_sign middle last u s d) e
+
+-- whether the last token is a sign
+abbrev pub after_sign : Bool → List Lexeme → Bool
+after_sign signed [] = signed
+after_sign signed (t ∷ tokens) = after_sign (is_sign t) tokens
+
+pub sign_last : (signed : Bool) (front : List Lexeme) (u : Lexeme) → after_sign signed (front ++ u ∷ []) ≡ is_sign u
+sign_last signed [] u = refl
+sign_last signed (t ∷ front) u = sign_last (is_sign t) front u
+
+pub last_sign : (t : Lexeme) (tokens : List Lexeme) → after_sign (is_sign t) tokens ≡ true →
+    (front : List Lexeme) × (u : Lexeme) × (t ∷ tokens ≡ front ++ u ∷ []) × (is_sign u ≡ true)
+last_sign t [] e = ([], t, refl, e)
+last_sign t (x ∷ tokens) e = let p = last_sign x tokens e in (t ∷ p.0, p.1, ap (λ ts. t ∷ ts) p.2, p.3)
+
+-- a run along a path, and where it ends
+pub run_path : (schema : Schema) (signed : Bool) {stack last : List Symbol} {before : List Lexeme} →
+    Path (is_met schema) stack before last → (tokens : List Lexeme) →
+    run schema signed stack (before ++ tokens) ≡ run schema (after_sign signed before) last tokens
+unfolding run
+run_path schema signed here tokens = refl
+run_path schema signed (there {t = t} e p) tokens = rw e (run_path schema (is_sign t) p tokens)
+
+pub run_stop : (schema : Schema) (signed : Bool) (last : List Symbol) (t : Lexeme) (why : Refusal) (tokens : List Lexeme) →
+    step (is_met schema) last t ≡ Err why →
+    run schema signed last (t ∷ tokens) ≡ Err (record { why = why; left = left_at why signed (length tokens) })
+unfolding run
+run_stop schema signed last t why tokens e = rw e refl
+
+-- a run takes all tokens, or stops
+pub data Ran (schema : Schema) (signed : Bool) (stack : List Symbol) : List Lexeme → Result (Unit {0}) Halt → Type 0 where
+  whole : {tokens : List Lexeme} (last : List Symbol) → Path (is_met schema) stack tokens last → all_may_end last ≡ true →
+      Ran schema signed stack tokens (Ok tt)
+  ends : {tokens : List Lexeme} (last : List Symbol) → Path (is_met schema) stack tokens last →
+      Ran schema signed stack tokens (Err (record { why = Syntax; left = 0 }))
+  stops : {tokens : List Lexeme} (before behind : List Lexeme) (t : Lexeme) (last : List Symbol) (why : Refusal) →
+      tokens ≡ before ++ t ∷ behind → Path (is_met schema) stack before last → step (is_met schema) last t ≡ Err why →
+      Ran schema signed stack tokens (Err (record { why = why; left = left_at why (after_sign signed before) (length behind) }))
+
+ran_on : (schema : Schema) (signed : Bool) (stack next : List Symbol) (t : Lexeme) {tokens : List Lexeme}
+    {r : Result (Unit {0}) Halt} → step (is_met schema) stack t ≡ Ok next → Ran schema (is_sign t) next tokens r →
+    Ran schema signed stack (t ∷ tokens) r
+ran_on schema signed stack next t e (whole last p m) = whole last (there e p) m
+ran_on schema signed stack next t e (ends last p) = ends last (there e p)
+ran_on schema signed stack next t e (stops before behind u last why f p g) =
+    stops (t ∷ before) behind u last why (ap (λ ts. t ∷ ts) f) (there e p) g
+
+pub ran : (schema : Schema) (signed : Bool) (stack : List Symbol) (tokens : List Lexeme) →
+    Ran schema signed stack tokens (run schema signed stack tokens)
+unfolding run
+ran schema signed stack [] = bool_cases (all_may_end stack) (λ m. rw m (whole stack here m)) (λ u. rw u (ends stack here))
+ran schema signed stack (t ∷ tokens) = go (step (is_met schema) stack t) refl (λ next. ran schema (is_sign t) next tokens)
+  where
+    go : (r : Result (List Symbol) Refusal) → step (is_met schema) stack t ≡ r →
+        ((next : List Symbol) → Ran schema (is_sign t) next tokens (run schema (is_sign t) next tokens)) →
+        Ran schema signed stack (t ∷ tokens) (proceed signed (step (is_met schema) stack t) (length tokens) (λ next. run schema (is_sign t) next tokens))
+    go (Ok next) f onward = rw f (ran_on schema signed stack next t f (onward next))
+    go (Err why) f onward = rw f (stops [] tokens t stack why refl here f)
 
 -- what one list has before a token lies before, at or after what another has
 data Order (before behind : List Lexeme) (t : Lexeme) (front rest : List Lexeme) : Type 0 where
@@ -221,8 +473,8 @@ module _ (schema : Schema) (tokens before behind : List Lexeme) (t : Lexeme) (la
 
   unsigned_alone : after_sign false before ≡ false → (front : List Lexeme) (u : Lexeme) (digits : List ℕ) → is_sign u ≡ true →
       before ≡ front ++ u ∷ [] → t ≡ Digits digits → ⊥
-  unsigned_alone none front u digits s f g =
-      let both : true ≡ false = sym s ∙ sym (sign_last false front u) ∙ ap (after_sign false) (sym f) ∙ none in cc
+  unsigned_alone plain front u digits s f g =
+      let both : true ≡ false = sym s ∙ sym (sign_last false front u) ∙ ap (after_sign false) (sym f) ∙ plain in cc
 
   at_the_sign : after_sign false before ≡ true → step (is_met schema) last t ≡ Err Literal → (digits : List ℕ) → t ≡ Digits digits →
       FirstFault schema tokens (record { why = Literal; left = suc (suc (length behind)) })

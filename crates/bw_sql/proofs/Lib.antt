@@ -1,7 +1,6 @@
 pub mod Cuts
 pub mod Cases
 pub mod Frontiers
-pub mod Levels
 pub mod Machine
 pub mod Pieces
 pub mod Repeats
@@ -10,7 +9,6 @@ pub mod Runs
 pub mod SameNames
 pub mod SameWord
 pub mod Spelled
-pub mod Stops
 pub mod Texts
 pub mod Viable
 pub mod Within

@@ -26,12 +26,11 @@ use Rattle.bw_sql.specs.Refusal.{code_of}
 use Rattle.bw_sql.specs.Statement.{IsFault, IsRefusal, SpellsOrFails, Parses, Spells, too_long, refused, token_refused, end_refused, byte_refused, tokens_of}
 use Rattle.bw_sql.specs.Token.{Lexeme, lexeme, lexemes}
 use Rattle.bw_sql.proofs.Cases.{bool_cases}
-use Rattle.bw_sql.proofs.Frontiers.{FirstFault, first_fault, only_at_end}
+use Rattle.bw_sql.proofs.Frontiers.{FirstFault, first_fault, only_at_end, asked_for_weaker, path_weaker, Ran, whole, ends, stops, ran}
 use Rattle.bw_sql.proofs.Machine.{Symbol, AStatement, all_may_end}
 use Rattle.bw_sql.proofs.Cuts.{cut_of_text, one_cut_of}
 use Rattle.bw_sql.proofs.Runs.{statement_runs}
 use Rattle.bw_sql.proofs.Spelled.{query_read}
-use Rattle.bw_sql.proofs.Stops.{asked_for_weaker, path_weaker, Ran, whole, ends, stops, ran}
 use Rattle.bw_sql.proofs.Viable.{Path, path_spelled}
 
 -- the machine reads all tokens of what is read
