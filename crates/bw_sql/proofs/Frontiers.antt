@@ -379,10 +379,9 @@ module _ (schema : Schema) (tokens before behind : List Lexeme) (t : Lexeme) (la
         t ≡ Digits digits → at ≡ length front → other ≡ Literal → Near other at
 
   least : (other : Refusal) → (Begins schema other (before ++ t ∷ []) → ⊥) → code_of why ≤ code_of other
-  least other unless = go (nat_lt (code_of other) (code_of why)) refl where
-    go : (b : Bool) → nat_lt (code_of other) (code_of why) ≡ b → code_of why ≤ code_of other
-    go true low = absurd (unless (passes other (ltb-true (code_of other) (code_of why) low)))
-    go false high = ltb-false (code_of other) (code_of why) high
+  least other unless = bool_cases (nat_lt (code_of other) (code_of why))
+      (λ low. absurd (unless (passes other (ltb-true (code_of other) (code_of why) low))))
+      (λ high. ltb-false (code_of other) (code_of why) high)
 
   near : (other : Refusal) (at : ℕ) → Stands schema tokens other at → Near other at
   near other at (at_token front rest u f v unless) =

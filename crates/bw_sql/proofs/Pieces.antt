@@ -11,15 +11,13 @@ use Rattle.bw_model.specs.Keyword.{keyword_of}
 use Rattle.bw_model.specs.Text.{begins_word, goes_on_in_word, is_word}
 use Rattle.bw_sql.specs.Piece.{Piece, Gap, Token, IsPiece, IsDelimiter, IsLongest, IsLongestDelimiter, BeginsNoPiece, BeginsNoDelimiter, is_blank, is_in_comment, begins_comment}
 use Rattle.bw_sql.specs.Token.{Lexeme, Name, Digits, Reserved, Compare, Punct, word_lexeme, lexeme_or_name}
+use Rattle.bw_sql.proofs.Cases.{bool_cases, option_cases}
 use Rattle.bw_sql.proofs.Delimiters.{follows, is_run, known}
 
 -- all of what passes from the front on passes
 pub all_run : (p : ℕ → Bool) (xs : List ℕ) → list_all p (take_while p xs) ≡ true
 all_run p [] = refl
-all_run p (x ∷ xs) = rw take_while-cons (by_test (p x) refl (all_run p xs)) where
-  by_test : (b : Bool) → p x ≡ b → list_all p (take_while p xs) ≡ true → list_all p (cond b (x ∷ take_while p xs) []) ≡ true
-  by_test true e h = and_from _ _ e h
-  by_test false e h = refl
+all_run p (x ∷ xs) = rw take_while-cons (bool_cases (p x) (λ e. rw e (and_from _ _ e (all_run p xs))) (λ e. rw e refl))
 
 -- no front that passes is longer
 pub run_most : (p : ℕ → Bool) (xs ys : List ℕ) → list_all p xs ≡ true → length xs ≤ length (take_while p (xs ++ ys))
@@ -94,10 +92,7 @@ split p n text front back is f b = record {
 
 -- a word is the piece that its bytes are
 word_piece : (bytes : List ℕ) → is_word bytes ≡ true → IsPiece bytes (Token (word_lexeme bytes))
-word_piece bytes h = by_word (keyword_of bytes) refl where
-  by_word : (o : Option Keyword) → keyword_of bytes ≡ o → IsPiece bytes (Token (lexeme_or_name bytes o))
-  by_word (Some w) e = (h, e)
-  by_word None e = (refl, h, e)
+word_piece bytes h = option_cases (keyword_of bytes) (λ e. rw e (refl, h, e)) (λ w e. rw e (h, e))
 
 -- the front that passes is the longest piece, where it is one whose bytes may follow the first
 split_longest : (p : ℕ → Bool) (text : List ℕ) (c : ℕ) (rest front back : List ℕ) (piece : Piece) → text ≡ c ∷ rest → p c ≡ true →

@@ -23,6 +23,7 @@ use Rattle.bw_sql.specs.Limits.{deepest_nesting}
 use Rattle.bw_sql.specs.Reading.{Halt, ◌>>=◌, refuse, wanted, begins_with_name, after_keyword, after_mark, keyword_at, mark_at, name_at, digits_at, sign_at, literal_at, column_at, table_at, operand_at, repeated, range_or_list_at, null_test_at, after_comparison, behind_comparison, predicate_at, truth_value_at, truth_test_at, primary_in, test_in, factor_in, part_in, term_in, condition_in, joined_in, nested, selection_at, table_expression_at, end_at, after_aggregate, aggregated_at, item_at, of_one_kind, next_item_at, items_at, statement_at}
 use Rattle.bw_sql.specs.Token.{Lexeme, Name, Reserved}
 use Rattle.bw_sql.specs.Words.{word_of, aggregate_word, of_column}
+use Rattle.bw_sql.proofs.Cases.{bool_cases, option_cases}
 use Rattle.bw_sql.proofs.Runs.{too_deep, operand_takes, item_takes, part_takes}
 
 -- What reading gives: what was spelled, or the refusal for a demand that isn't met and was let pass.
@@ -80,28 +81,28 @@ module _ (schema : Schema) (met : Demand → Bool) where
   abbrev columns : List Column
   columns = schema.columns.items
 
-  pub and_then : {A B : Type 0} {r : Result A Halt} {x : A} {y : B} (f : A → Result B Halt) →
+  and_from : {A B : Type 0} {r : Result A Halt} {x : A} {y : B} (f : A → Result B Halt) →
+      Outcome schema met r x → (r ≡ Ok x → Outcome schema met (f x) y) → Outcome schema met (r >>= f) y
+  and_from f (reads e) o = rw e (o e)
+  and_from f (excused d left m u e) o = excused d left m u (ap (λ r. r >>= f) e)
+
+  and_then : {A B : Type 0} {r : Result A Halt} {x : A} {y : B} (f : A → Result B Halt) →
       Outcome schema met r x → Outcome schema met (f x) y → Outcome schema met (r >>= f) y
-  and_then {y = y} f (reads e) o = subst (λ r. Outcome schema met (r >>= f) y) (sym e) o
-  and_then f (excused d left m u e) o = excused d left m u (ap (λ r. r >>= f) e)
+  and_then f o p = and_from f o (λ e. p)
 
   column_wanted : (text : List ℕ) (tokens : List Lexeme) → met (IsColumn text) ≡ true →
       Outcome schema met (wanted (column_named schema.columns.items text) UnknownColumn tokens) (column_number columns text)
   unfolding meets
-  column_wanted text tokens m = go (column_named schema.columns.items text) refl
-    where
-      go : (o : Option ℕ) → column_named schema.columns.items text ≡ o → Outcome schema met (wanted (column_named schema.columns.items text) UnknownColumn tokens) (column_number columns text)
-      go None e = excused (IsColumn text) (length tokens) m (ap is_some e) (ap (λ o. wanted o UnknownColumn tokens) e)
-      go (Some n) e = reads (ap (λ o. wanted o UnknownColumn tokens) e ∙ ap Ok (sym (ap column_or_first e)))
+  column_wanted text tokens m = option_cases (column_named columns text)
+      (λ e. excused (IsColumn text) (length tokens) m (ap is_some e) (ap (λ o. wanted o UnknownColumn tokens) e))
+      (λ n e. reads (ap (λ o. wanted o UnknownColumn tokens) e ∙ ap Ok (sym (ap column_or_first e))))
 
   number_wanted : (is_negative : Bool) (digits : List ℕ) (tokens : List Lexeme) → met (Fits is_negative digits) ≡ true →
       Outcome schema met (wanted (number_of is_negative digits) Literal tokens) (signed is_negative digits)
   unfolding meets
-  number_wanted is_negative digits tokens m = go (number_of is_negative digits) refl
-    where
-      go : (o : _) → number_of is_negative digits ≡ o → Outcome schema met (wanted (number_of is_negative digits) Literal tokens) (signed is_negative digits)
-      go None e = excused (Fits is_negative digits) (length tokens) m (ap is_some e) (ap (λ o. wanted o Literal tokens) e)
-      go (Some n) e = reads (ap (λ o. wanted o Literal tokens) e ∙ ap Ok (fitting is_negative digits n e))
+  number_wanted is_negative digits tokens m = option_cases (number_of is_negative digits)
+      (λ e. excused (Fits is_negative digits) (length tokens) m (ap is_some e) (ap (λ o. wanted o Literal tokens) e))
+      (λ n e. reads (ap (λ o. wanted o Literal tokens) e ∙ ap Ok (fitting is_negative digits n e)))
 
   operand_read : {tokens rest : List Lexeme} {x : Operand} → OperandIs columns met tokens rest x → Outcome schema met (operand_at schema tokens) (x, rest)
   unfolding operand_at after_keyword after_mark column_at name_at literal_at sign_at digits_at
@@ -110,12 +111,6 @@ module _ (schema : Schema) (met : Demand → Bool) where
   operand_read (unsigned m) = and_then _ (and_then _ (number_wanted false _ _ m) (reads refl)) (reads refl)
   operand_read (plus m) = and_then _ (and_then _ (number_wanted false _ _ m) (reads refl)) (reads refl)
   operand_read (minus m) = and_then _ (and_then _ (number_wanted true _ _ m) (reads refl)) (reads refl)
-
-  -- so too where what follows needs to know what was read
-  and_from : {A B : Type 0} {r : Result A Halt} {x : A} {y : B} (f : A → Result B Halt) →
-      Outcome schema met r x → (r ≡ Ok x → Outcome schema met (f x) y) → Outcome schema met (r >>= f) y
-  and_from f (reads e) o = and_then f (reads e) (o e)
-  and_from f (excused d left m u e) o = excused d left m u (ap (λ r. r >>= f) e)
 
   operands_read : {tokens rest : List Lexeme} {xs : List Operand} → MoreOperands columns met tokens rest xs → (n : ℕ) → length tokens ≤ n → after_mark mark.Comma rest ≡ None →
       Outcome schema met (repeated n (after_mark mark.Comma) (operand_at schema) tokens) (xs, rest)
@@ -269,11 +264,8 @@ module _ (schema : Schema) (met : Demand → Bool) where
 
   table_read : {table : List ℕ} {rest : List Lexeme} → met (IsTable table) ≡ true → Outcome schema met (table_at schema (Name table ∷ rest)) rest
   unfolding table_at name_at meets
-  table_read {table = table} {rest = rest} m = go (same_text schema.name table) refl
-    where
-      go : (b : Bool) → same_text schema.name table ≡ b → Outcome schema met (if same_text schema.name table then Ok rest else refuse UnknownTable (Name table ∷ rest)) rest
-      go true e = rw e (reads refl)
-      go false e = excused (IsTable table) (suc (length rest)) m e (rw e refl)
+  table_read {table = table} {rest = rest} m = bool_cases (same_text schema.name table) (λ e. rw e (reads refl))
+      (λ e. excused (IsTable table) (suc (length rest)) m e (rw e refl))
 
   pub statement_read : {tokens : List Lexeme} {q : Asked} → StatementIs columns met tokens q → Outcome schema met (statement_at schema tokens) q
   unfolding statement_at table_expression_at keyword_at after_keyword after_mark

@@ -26,6 +26,7 @@ use Rattle.bw_sql.specs.Items.{AreOfOneKind, is_of_kind, are_of_kind}
 use Rattle.bw_sql.specs.Statement.{Parses, tokens_of}
 use Rattle.bw_sql.specs.Token.{Lexeme}
 use Rattle.bw_sql.specs.Words.{join_of}
+use Rattle.bw_sql.proofs.Cases.{option_cases}
 
 -- a tree names the first so many columns alone, and is whole
 abbrev Good : ℕ → CondTree → Type 0
@@ -83,11 +84,8 @@ module _ (schema : Schema) where
 
   column_within : (text : List ℕ) → is_met schema (IsColumn text) ≡ true → nat_lt (column_number cs text) n ≡ true
   unfolding meets
-  column_within text m = go (column_named schema.columns.items text) refl
-    where
-      go : (o : Option ℕ) → column_named schema.columns.items text ≡ o → nat_lt (column_number cs text) n ≡ true
-      go None e = let none : false ≡ true = rw e at m in cc
-      go (Some i) e = rw (ap column_or_first e) (named_within schema.columns.items text i e)
+  column_within text m = option_cases (column_named cs text) (λ e. let none : false ≡ true = rw e at m in cc)
+      (λ i e. rw (ap column_or_first e) (named_within cs text i e))
 
   operand_within : {tokens rest : List Lexeme} {x : Operand} → OperandIs cs (is_met schema) tokens rest x → is_within n x ≡ true
   operand_within null = refl
