@@ -18,7 +18,7 @@ use Rattle.bw_sql.specs.Asked.{Asked}
 use Rattle.bw_model.specs.CondTree.{CondTree}
 use Rattle.bw_model.specs.Column.{column_named}
 use Rattle.bw_sql.specs.Demand.{Demand, IsTable, IsColumn, Fits, OfOneKind, Depth, column_number, column_or_first, is_met, meets, refusal, signed}
-use Rattle.bw_sql.specs.Grammar.{TruthIs, OperandIs, MoreOperands, RangeIs, ComparedIs, JoinedIs, MoreParts, PartIs, FactorIs, TestIs, PrimaryIs, ItemIs, MoreItems, ItemsAre, SelectionIs, EndIs, StatementIs, IsQuery, true_word, null, column, unsigned, plus, minus, last_operand, next_operand, between, among, compared, comparison, range, not_range, is_null, is_not_null, parts, last_part, next_part, factor, term, test, not_test, tested, untested, is, is_not, predicate, bracket, plain, count_all, aggregate, last_item, next_item, star, items, all_rows, rows_where, bare, semicolon, statement}
+use Rattle.bw_sql.specs.Grammar.{TruthIs, OperandIs, CommaList, RangeIs, ComparedIs, JoinedIs, MoreParts, PartIs, FactorIs, TestIs, PrimaryIs, ItemIs, NextItemIs, ItemsAre, SelectionIs, EndIs, StatementIs, IsQuery, true_word, null, column, unsigned, plus, minus, no_more, one_more, between, among, compared, comparison, range, not_range, is_null, is_not_null, parts, last_part, next_part, factor, term, test, not_test, tested, untested, is, is_not, predicate, bracket, plain, count_all, aggregate, next_item, star, items, all_rows, rows_where, bare, semicolon, statement}
 use Rattle.bw_sql.specs.Limits.{deepest_nesting}
 use Rattle.bw_sql.specs.Reading.{Halt, ◌>>=◌, refuse, wanted, begins_with_name, after_keyword, after_mark, keyword_at, mark_at, name_at, digits_at, sign_at, literal_at, column_at, table_at, operand_at, repeated, range_or_list_at, null_test_at, after_comparison, behind_comparison, predicate_at, truth_value_at, truth_test_at, primary_in, test_in, factor_in, part_in, term_in, condition_in, joined_in, nested, selection_at, table_expression_at, end_at, after_aggregate, aggregated_at, item_at, of_one_kind, next_item_at, items_at, statement_at}
 use Rattle.bw_sql.specs.Token.{Lexeme, Name, Reserved}
@@ -112,19 +112,23 @@ module _ (schema : Schema) (met : Demand → Bool) where
   operand_read (plus m) = and_then _ (and_then _ (number_wanted false _ _ m) (reads refl)) (reads refl)
   operand_read (minus m) = and_then _ (and_then _ (number_wanted true _ _ m) (reads refl)) (reads refl)
 
-  operands_read : {tokens rest : List Lexeme} {xs : List Operand} → MoreOperands columns met tokens rest xs → (n : ℕ) → length tokens ≤ n → after_mark mark.Comma rest ≡ None →
-      Outcome schema met (repeated n (after_mark mark.Comma) (operand_at schema) tokens) (xs, rest)
+  commas_read : {A : Type 0} {Is : List Lexeme → List Lexeme → A → Type 0} (one : List Lexeme → Result (A × List Lexeme) Halt) →
+      ((tokens rest : List Lexeme) (x : A) → Is tokens rest x → Outcome schema met (one tokens) (x, rest)) →
+      ((tokens rest : List Lexeme) (x : A) → one tokens ≡ Ok (x, rest) → length rest ≤ length tokens) →
+      {tokens rest : List Lexeme} {xs : List A} → CommaList Is tokens rest xs → (n : ℕ) → length tokens ≤ n →
+      after_mark mark.Comma rest ≡ None → Outcome schema met (repeated n (after_mark mark.Comma) one tokens) (xs, rest)
   unfolding repeated after_mark
-  operands_read last_operand zero h e = reads refl
-  operands_read last_operand (suc n) h e = rw e (reads refl)
-  operands_read (next_operand x xs) zero h e = absurd (omega arith)
-  operands_read (next_operand x xs) (suc n) h e =
-      and_from _ (operand_read x) (λ f. and_then _ (operands_read xs n (omega (arith, operand_takes schema _ _ _ f)) e) (reads refl))
+  commas_read one reads_one takes no_more zero h e = reads refl
+  commas_read one reads_one takes no_more (suc n) h e = rw e (reads refl)
+  commas_read one reads_one takes (one_more x xs) zero h e = absurd (omega arith)
+  commas_read one reads_one takes (one_more x xs) (suc n) h e = and_from _ (reads_one _ _ _ x)
+      (λ f. and_then _ (commas_read one reads_one takes xs n (omega (arith, takes _ _ _ f)) e) (reads refl))
 
   range_read : {tokens rest : List Lexeme} {x : Operand} {c : CondTree} → RangeIs columns met x tokens rest c → Outcome schema met (range_or_list_at schema x tokens) (c, rest)
   unfolding range_or_list_at after_keyword after_mark keyword_at mark_at
   range_read (between y z) = and_then _ (operand_read y) (and_then _ (operand_read z) (reads refl))
-  range_read (among {others = others} y ys) = and_then _ (and_then _ (operand_read y) (and_then _ (operands_read ys (length others) (omega arith) refl) (reads refl))) (reads refl)
+  range_read (among {others = others} y ys) = and_then _ (and_then _ (operand_read y) (and_then _ (commas_read _ (λ tokens rest x p. operand_read p)
+      (operand_takes schema) ys (length others) (omega arith) refl) (reads refl))) (reads refl)
 
   compared_read : {tokens rest : List Lexeme} {x : Operand} {c : CondTree} → ComparedIs columns met x tokens rest c →
       Outcome schema met (behind_comparison schema x (after_comparison tokens) tokens) (c, rest)
@@ -221,20 +225,10 @@ module _ (schema : Schema) (met : Demand → Bool) where
   kind_read false m count_all = reads refl
   kind_read false m (aggregate of p) = reads refl
 
-  next_takes : (first : Bool) (tokens rest : List Lexeme) (x : Item) →
-      (of_one_kind schema first tokens >>= λ same. item_at schema tokens) ≡ Ok (x, rest) → length rest ≤ length tokens
+  next_read : (first : Bool) (tokens rest : List Lexeme) (x : Item) → NextItemIs columns met first tokens rest x →
+      Outcome schema met (next_item_at schema first tokens) (x, rest)
   unfolding next_item_at
-  next_takes first tokens rest x e = item_takes schema first tokens rest x e
-
-  items_read : {first : Bool} {tokens rest : List Lexeme} {xs : List Item} → MoreItems columns met first tokens rest xs → (n : ℕ) → length tokens ≤ n → after_mark mark.Comma rest ≡ None →
-      Outcome schema met (repeated n (after_mark mark.Comma) (next_item_at schema first) tokens) (xs, rest)
-  unfolding repeated after_mark next_item_at
-  items_read last_item zero h e = reads refl
-  items_read last_item (suc n) h e = rw e (reads refl)
-  items_read (next_item m x xs) zero h e = absurd (omega arith)
-  items_read (next_item {first = first} m x xs) (suc n) h e =
-      and_from _ (and_then _ (kind_read first m x) (item_read x))
-      (λ f. and_then _ (items_read xs n (omega (arith, next_takes first _ _ _ f)) e) (reads refl))
+  next_read first tokens rest x (next_item m p) = and_then _ (kind_read first m p) (item_read p)
 
   item_begins : {kind : Bool} {tokens rest : List Lexeme} {item : Item} → ItemIs columns met kind tokens rest item → (after_mark mark.Star tokens ≡ None) × (begins_with_name tokens ≡ kind)
   unfolding after_mark
@@ -244,8 +238,8 @@ module _ (schema : Schema) (met : Demand → Bool) where
   list_read : {tokens rest : List Lexeme} {xs : List Item} → ItemsAre columns met tokens rest xs → after_mark mark.Comma rest ≡ None → Outcome schema met (items_at schema tokens) (xs, rest)
   unfolding items_at after_mark
   list_read star e = reads refl
-  list_read (items {others = others} x xs) e =
-      rw ((item_begins x).0, (item_begins x).1) (and_then _ (item_read x) (and_then _ (items_read xs (length others) (omega arith) e) (reads refl)))
+  list_read (items {first = first} {others = others} x xs) e = rw ((item_begins x).0, (item_begins x).1) (and_then _ (item_read x)
+      (and_then _ (commas_read _ (next_read first) (item_takes schema first) xs (length others) (omega arith) e) (reads refl)))
 
   end_ends : {last : List Lexeme} → EndIs last → (after_keyword word.Where last ≡ None) × JoinedEnds connective.Or last
   unfolding after_keyword

@@ -29,7 +29,7 @@ use Rattle.bw_model.specs.CondTree.{CondTree, Always, Cmp, Between, IsNull, Test
 use Rattle.bw_model.specs.Column.{column_named}
 use Rattle.bw_sql.specs.Demand.{Demand, IsTable, IsColumn, Fits, OfOneKind, Depth, every_column, is_met, meets, signed}
 use Rattle.bw_sql.specs.Frontier.{Viable}
-use Rattle.bw_sql.specs.Grammar.{TruthIs, OperandIs, MoreOperands, RangeIs, ComparedIs, TestedIs, JoinedIs, MoreParts, FactorIs, PrimaryIs, ItemIs, MoreItems, ItemsAre, SelectionIs, EndIs, StatementIs, true_word, false_word, unknown_word, null, column, unsigned, plus, minus, last_operand, next_operand, between, among, compared, comparison, range, not_range, is_null, is_not_null, parts, last_part, next_part, factor, term, test, not_test, tested, untested, is, is_not, predicate, bracket, plain, count_all, aggregate, last_item, next_item, star, items, all_rows, rows_where, bare, semicolon, statement}
+use Rattle.bw_sql.specs.Grammar.{TruthIs, OperandIs, CommaList, RangeIs, ComparedIs, TestedIs, JoinedIs, MoreParts, FactorIs, PrimaryIs, ItemIs, NextItemIs, ItemsAre, SelectionIs, EndIs, StatementIs, true_word, false_word, unknown_word, null, column, unsigned, plus, minus, no_more, one_more, between, among, compared, comparison, range, not_range, is_null, is_not_null, parts, last_part, next_part, factor, term, test, not_test, tested, untested, is, is_not, predicate, bracket, plain, count_all, aggregate, next_item, star, items, all_rows, rows_where, bare, semicolon, statement}
 use Rattle.bw_sql.specs.Reading.{same_keyword}
 use Rattle.bw_sql.specs.Token.{Lexeme, Name, Digits, Reserved, Compare, Punct}
 use Rattle.bw_sql.specs.Words.{aggregate_word}
@@ -55,7 +55,7 @@ module _ (columns : List Column) (met : Demand → Bool) where
   Means NullTail tokens rest = (x : Operand) → (c : CondTree) × ComparedIs columns met x (Reserved word.Is ∷ tokens) rest c
   Means NotNullTail tokens rest =
       (x : Operand) → (c : CondTree) × ComparedIs columns met x (Reserved word.Is ∷ Reserved word.Not ∷ tokens) rest c
-  Means (CommaTail None) tokens rest = (xs : List Operand) × MoreOperands columns met tokens rest xs
+  Means (CommaTail None) tokens rest = (xs : List Operand) × CommaList (OperandIs columns met) tokens rest xs
   Means (AFactor depth) tokens rest = (c : CondTree) × FactorIs columns met depth tokens rest c
   Means (APrimary depth) tokens rest = (c : CondTree) × PrimaryIs columns met depth tokens rest c
   Means TestTail tokens rest = (c : CondTree) → (d : CondTree) × TestedIs c tokens rest d
@@ -64,9 +64,8 @@ module _ (columns : List Column) (met : Demand → Bool) where
       (c : CondTree) → (d : CondTree) × TestedIs c (Reserved word.Is ∷ Reserved word.Not ∷ tokens) rest d
   Means (PartTail by depth) tokens rest = (cs : List CondTree) × MoreParts columns met by depth tokens rest cs
   Means ItemList tokens rest = (xs : List Item) × ItemsAre columns met tokens rest xs
-  Means (CommaTail (Some first)) tokens rest = (xs : List Item) × MoreItems columns met first tokens rest xs
-  Means (AnItem first) tokens rest =
-      (kind : Bool) × (item : Item) × (met (OfOneKind first kind) ≡ true) × ItemIs columns met kind tokens rest item
+  Means (CommaTail (Some first)) tokens rest = (xs : List Item) × CommaList (NextItemIs columns met first) tokens rest xs
+  Means (AnItem first) tokens rest = (item : Item) × NextItemIs columns met first tokens rest item
   Means (AnArgument kind) tokens rest = (after : List Lexeme) → IsToken (Punct mark.Close) rest after →
       (item : Item) × ItemIs columns met false (Reserved (aggregate_word kind) ∷ Punct mark.Open ∷ tokens) after item
   Means ATable tokens rest = (text : List ℕ) × (met (IsTable text) ≡ true) × IsToken (Name text) tokens rest
@@ -204,8 +203,8 @@ module _ (columns : List Column) (met : Demand → Bool) where
   fair NullTail (Reserved word.Null) = λ m more x. (IsNull x, is_null)
   fair NullTail (Reserved word.Not) = λ m more rest q. q
   fair NotNullTail (Reserved word.Null) = λ m more x. (Not (IsNull x), is_not_null)
-  fair (CommaTail None) (Punct mark.Comma) = λ m more a x b xs. (x.0 ∷ xs.0, next_operand x.1 xs.1)
-  fair (CommaTail None) t = λ tokens. ([], last_operand)
+  fair (CommaTail None) (Punct mark.Comma) = λ m more a x b xs. (x.0 ∷ xs.0, one_more x.1 xs.1)
+  fair (CommaTail None) t = λ tokens. ([], no_more)
   fair (AFactor depth) (Reserved word.Not) = λ m more a c rest q. let d = q c.0 in (Not d.0, not_test m.0 (tested c.1 d.1))
   fair (AFactor depth) t = primary_fair (AFactor depth) depth (TestTail ∷ []) t
       (λ more middle c p rest q. let d = q c in (d.0, test (tested p d.1)))
@@ -222,11 +221,11 @@ module _ (columns : List Column) (met : Demand → Bool) where
   fair ItemList (Punct mark.Star) = λ m more. (every_column columns, star)
   fair ItemList (Name text) = λ m more rest xs. (_, items (plain m.0) xs.1)
   fair ItemList t = aggregates_fair ItemList [] (CommaTail (Some false) ∷ []) t (λ m more middle item p rest xs. (_, items p xs.1))
-  fair (CommaTail (Some first)) (Punct mark.Comma) = λ m more a x b xs. (_, next_item x.2 x.3 xs.1)
-  fair (CommaTail (Some first)) t = λ tokens. ([], last_item)
-  fair (AnItem first) (Name text) = λ m more. (true, _, m.1.0, plain m.0)
+  fair (CommaTail (Some first)) (Punct mark.Comma) = λ m more a x b xs. (x.0 ∷ xs.0, one_more x.1 xs.1)
+  fair (CommaTail (Some first)) t = λ tokens. ([], no_more)
+  fair (AnItem first) (Name text) = λ m more. (_, next_item m.1.0 (plain m.0))
   fair (AnItem first) t = aggregates_fair (AnItem first) (OfOneKind first false ∷ []) [] t
-      (λ m more middle item p. (false, item, m.0, p))
+      (λ m more middle item p. (item, next_item m.0 p))
   fair (AnArgument aggregate.Count) (Punct mark.Star) = λ m more. rows_fair more
   fair (AnArgument kind) (Name text) = λ m more. counted_fair kind text more m.0
   fair ATable (Name text) = λ m more. (text, m.0, here_is)
@@ -313,11 +312,11 @@ module _ (schema : Schema) (met : Demand → Bool) (weaker : (d : Demand) → is
   complete PredicateTail rest = (Reserved word.Is ∷ Reserved word.Null ∷ rest, λ x. (IsNull x, is_null))
   complete RangeTail rest = (
     Reserved word.In ∷ Punct mark.Open ∷ Reserved word.Null ∷ Punct mark.Close ∷ rest,
-    λ x. (Among x (Null ∷ []), among null last_operand),
+    λ x. (Among x (Null ∷ []), among null no_more),
   )
   complete NullTail rest = (Reserved word.Null ∷ rest, λ x. (IsNull x, is_null))
   complete NotNullTail rest = (Reserved word.Null ∷ rest, λ x. (Not (IsNull x), is_not_null))
-  complete (CommaTail None) rest = (rest, ([], last_operand))
+  complete (CommaTail None) rest = (rest, ([], no_more))
   complete (AFactor depth) rest =
       (Reserved word.Null ∷ Reserved word.Is ∷ Reserved word.Null ∷ rest, (IsNull Null, test (tested (predicate (compared null is_null)) untested)))
   complete (APrimary depth) rest =
@@ -327,11 +326,11 @@ module _ (schema : Schema) (met : Demand → Bool) (weaker : (d : Demand) → is
   complete NotTruthTail rest = (Reserved word.True ∷ rest, λ c. (Not (Test c Yes), is_not true_word))
   complete (PartTail by depth) rest = (rest, ([], last_part))
   complete ItemList rest = (Punct mark.Star ∷ rest, (every_column columns, star))
-  complete (CommaTail (Some first)) rest = (rest, ([], last_item))
-  complete (AnItem true) rest = (Name some_column.0 ∷ rest, (true, _, kind_met true, plain some_column.1))
+  complete (CommaTail (Some first)) rest = (rest, ([], no_more))
+  complete (AnItem true) rest = (Name some_column.0 ∷ rest, (_, next_item (kind_met true) (plain some_column.1)))
   complete (AnItem false) rest = (
     Reserved word.Count ∷ Punct mark.Open ∷ Punct mark.Star ∷ Punct mark.Close ∷ rest,
-    (false, CountAll, kind_met false, count_all),
+    (CountAll, next_item (kind_met false) count_all),
   )
   complete (AnArgument kind) rest = (Name some_column.0 ∷ rest, counted_fair columns met kind some_column.0 rest some_column.1)
   complete ATable rest = (Name schema.name ∷ rest, (schema.name, table_met, here_is))
@@ -358,10 +357,10 @@ module _ (schema : Schema) (met : Demand → Bool) (weaker : (d : Demand) → is
   -- a stack that may end stands for no token more
   ended : (s : Symbol) → may_end s ≡ true → Means columns met s [] []
   unfolding may_end
-  ended (CommaTail None) e = ([], last_operand)
+  ended (CommaTail None) e = ([], no_more)
   ended TestTail e = λ c. (c, untested)
   ended (PartTail by depth) e = ([], last_part)
-  ended (CommaTail (Some first)) e = ([], last_item)
+  ended (CommaTail (Some first)) e = ([], no_more)
   ended ASelection e = (Always, all_rows)
   ended AnEnd e = λ e. bare
   ended _ e = cc

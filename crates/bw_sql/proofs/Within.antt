@@ -21,7 +21,7 @@ use Rattle.bw_sql.specs.declared.condition.Connective.TheVariants as connective
 use Rattle.bw_sql.specs.declared.items.Aggregate.TheVariants as kind
 use Rattle.bw_sql.specs.Asked.{Asked, asked}
 use Rattle.bw_sql.specs.Demand.{IsColumn, OfOneKind, column_number, column_or_first, is_met, meets}
-use Rattle.bw_sql.specs.Grammar.{OperandIs, MoreOperands, RangeIs, ComparedIs, JoinedIs, MoreParts, PartIs, FactorIs, TestIs, PrimaryIs, ItemIs, MoreItems, ItemsAre, SelectionIs, IsQuery, joined, null, column, last_operand, next_operand, between, among, compared, comparison, range, not_range, is_null, is_not_null, parts, last_part, next_part, factor, term, test, not_test, tested, untested, is, is_not, predicate, bracket, plain, count_all, aggregate, last_item, next_item, star, items, all_rows, rows_where, statement}
+use Rattle.bw_sql.specs.Grammar.{OperandIs, CommaList, RangeIs, ComparedIs, JoinedIs, MoreParts, PartIs, FactorIs, TestIs, PrimaryIs, ItemIs, NextItemIs, ItemsAre, SelectionIs, IsQuery, joined, null, column, no_more, one_more, between, among, compared, comparison, range, not_range, is_null, is_not_null, parts, last_part, next_part, factor, term, test, not_test, tested, untested, is, is_not, predicate, bracket, plain, count_all, aggregate, next_item, star, items, all_rows, rows_where, statement}
 use Rattle.bw_sql.specs.Items.{AreOfOneKind, is_of_kind, are_of_kind}
 use Rattle.bw_sql.specs.Statement.{Parses, tokens_of}
 use Rattle.bw_sql.specs.Token.{Lexeme}
@@ -59,11 +59,6 @@ every_plain : (a n : ℕ) → are_of_kind true (map Plain (range_with_len a n)) 
 every_plain a zero = refl
 every_plain a (suc n) = and_from _ _ refl (every_plain (a + 1) n)
 
--- items of one kind
-record GoodItems (columns : ℕ) (kind : Bool) (items : List Item) : Type 0 where
-  within : list_all (item_within columns) items ≡ true
-  kinds : are_of_kind kind items ≡ true
-
 kind_is : (schema : Schema) (first kind : Bool) → is_met schema (OfOneKind first kind) ≡ true → kind ≡ first
 unfolding meets
 kind_is schema true kind m = m
@@ -74,6 +69,12 @@ named_within : (columns : List Column) (text : List ℕ) (i : ℕ) → column_na
 unfolding column_named
 named_within [] text i e = cc
 named_within (c ∷ cs) text i e = lt-ltb i (length (c ∷ cs)) (position-Some (λ (column : Column). same_text column.name text) (c ∷ cs) i c e).0
+
+commas_all : {A : Type 0} {Is : List Lexeme → List Lexeme → A → Type 0} (p : A → Bool) →
+    ((tokens rest : List Lexeme) (x : A) → Is tokens rest x → p x ≡ true) → {tokens rest : List Lexeme} {xs : List A} →
+    CommaList Is tokens rest xs → list_all p xs ≡ true
+commas_all p h no_more = refl
+commas_all p h (one_more x xs) = and_from _ _ (h _ _ _ x) (commas_all p h xs)
 
 module _ (schema : Schema) where
   abbrev cs : List Column
@@ -92,13 +93,9 @@ module _ (schema : Schema) where
   operand_within (column m) = column_within _ m
   operand_within _ = refl
 
-  operands_within : {tokens rest : List Lexeme} {xs : List Operand} → MoreOperands cs (is_met schema) tokens rest xs → list_all (is_within n) xs ≡ true
-  operands_within last_operand = refl
-  operands_within (next_operand x xs) = and_from _ _ (operand_within x) (operands_within xs)
-
   range_good : {tokens rest : List Lexeme} {x : Operand} {c : CondTree} → is_within n x ≡ true → RangeIs cs (is_met schema) x tokens rest c → Good n c
   range_good h (between y z) = (rw (h, operand_within y, operand_within z) refl, refl)
-  range_good h (among y ys) = (rw (h, operand_within y, operands_within ys) refl, le-leb 1 _ (omega arith))
+  range_good h (among y ys) = (rw (h, operand_within y, commas_all (is_within n) (λ tokens rest x p. operand_within p) ys) refl, le-leb 1 _ (omega arith))
 
   compared_good : {tokens rest : List Lexeme} {x : Operand} {c : CondTree} → is_within n x ≡ true →
       ComparedIs cs (is_met schema) x tokens rest c → Good n c
@@ -146,19 +143,21 @@ module _ (schema : Schema) where
   item_good (aggregate kind.Count m) = (column_within _ m, refl)
   item_good (aggregate of m) = (column_within _ m, refl)
 
-  more_items_good : {first : Bool} {tokens rest : List Lexeme} {items : List Item} → MoreItems cs (is_met schema) first tokens rest items → GoodItems n first items
-  more_items_good last_item = record { within = refl; kinds = refl }
-  more_items_good (next_item {first = first} {is_plain = kind} {item = item} m p ps) =
-      let g = item_good p in
-      let gs = more_items_good ps in
-      record { within = and_from _ _ g.0 gs.within; kinds = and_from _ _ (subst (λ k. is_of_kind k item ≡ true) (kind_is schema first kind m) g.1) gs.kinds }
+  next_good : {first : Bool} {tokens rest : List Lexeme} {item : Item} → NextItemIs cs (is_met schema) first tokens rest item →
+      (item_within n item ≡ true) × (is_of_kind first item ≡ true)
+  next_good {first = first} {item = item} (next_item {is_plain = kind} m p) =
+      let g = item_good p in (g.0, subst (λ k. is_of_kind k item ≡ true) (kind_is schema first kind m) g.1)
 
-  items_good : {tokens rest : List Lexeme} {items : List Item} → ItemsAre cs (is_met schema) tokens rest items → (1 ≤ length items) × ((kind : Bool) × GoodItems n kind items)
-  items_good star = (omega (arith, length-map-range_with_len Plain 0 n, schema.inhabited), (true, record { within = every_within n 0 n (omega arith); kinds = every_plain 0 n }))
+  items_good : {tokens rest : List Lexeme} {items : List Item} → ItemsAre cs (is_met schema) tokens rest items →
+      (1 ≤ length items) × (list_all (item_within n) items ≡ true) × AreOfOneKind items
+  items_good star =
+      (omega (arith, length-map-range_with_len Plain 0 n, schema.inhabited), every_within n 0 n (omega arith), (true, every_plain 0 n))
   items_good (items {first = first} p ps) =
-      let g = item_good p in
-      let gs = more_items_good ps in
-      (omega arith, (first, record { within = and_from _ _ g.0 gs.within; kinds = and_from _ _ g.1 gs.kinds }))
+      let g = item_good p in (
+        omega arith,
+        and_from _ _ g.0 (commas_all (item_within n) (λ tokens rest x q. (next_good q).0) ps),
+        (first, and_from _ _ g.1 (commas_all (is_of_kind first) (λ tokens rest x q. (next_good q).1) ps)),
+      )
 
 -- what a query that is spelled names, and of what kinds its items are
 pub record GoodQuery (columns : ℕ) (query : Asked) : Type 0 where
@@ -173,7 +172,7 @@ query_good schema tokens query (statement list m selection end) =
     let xs = items_good schema list in
     let c = selection_good schema selection in
     let columns : length schema.columns.items ≡ vec_len schema.columns = omega (arith, schema.columns.ok.0) in
-    subst (λ k. GoodQuery k query) columns (record { within = c.0; whole = c.1; items = xs.1.1.within; some = xs.0; kinds = (xs.1.0, xs.1.1.kinds) })
+    subst (λ k. GoodQuery k query) columns (record { within = c.0; whole = c.1; items = xs.1; some = xs.0; kinds = xs.2 })
 
 -- so it is with the query that a text is read as
 pub if_good : (schema : Schema) (text : List ℕ) (result : Result Query Fault) (P : Query → Type 0) → Parses schema text result →

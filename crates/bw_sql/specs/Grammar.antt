@@ -45,12 +45,12 @@ pub data OperandIs (columns : List Column) (met : Demand → Bool) : List Lexeme
   minus : {rest : List Lexeme} {digits : List ℕ} → IsTrue (met (Fits true digits)) →
       OperandIs columns met (Punct mark.Minus ∷ Digits digits ∷ rest) rest (Lit (signed true digits))
 
--- { , operand }
-pub data MoreOperands (columns : List Column) (met : Demand → Bool) : List Lexeme → List Lexeme → List Operand → Type 0 where
-  last_operand : {rest : List Lexeme} → MoreOperands columns met rest rest []
-  next_operand : {tokens middle rest : List Lexeme} {x : Operand} {xs : List Operand} →
-      OperandIs columns met tokens middle x → MoreOperands columns met middle rest xs →
-      MoreOperands columns met (Punct mark.Comma ∷ tokens) rest (x ∷ xs)
+-- { , thing }
+pub data CommaList {A : Type 0} (Is : List Lexeme → List Lexeme → A → Type 0) : List Lexeme → List Lexeme → List A
+    → Type 0 where
+  no_more : {rest : List Lexeme} → CommaList Is rest rest []
+  one_more : {tokens others rest : List Lexeme} {x : A} {xs : List A} → Is tokens others x → CommaList Is others rest xs →
+      CommaList Is (Punct mark.Comma ∷ tokens) rest (x ∷ xs)
 
 -- BETWEEN operand AND operand | IN ( operand { , operand } ), said of an operand x
 pub data RangeIs (columns : List Column) (met : Demand → Bool) (x : Operand) : List Lexeme → List Lexeme → CondTree
@@ -59,7 +59,7 @@ pub data RangeIs (columns : List Column) (met : Demand → Bool) (x : Operand) :
       OperandIs columns met low (Reserved word.And ∷ high) y → OperandIs columns met high rest z →
       RangeIs columns met x (Reserved word.Between ∷ low) rest (Between x y z)
   among : {first others rest : List Lexeme} {y : Operand} {ys : List Operand} →
-      OperandIs columns met first others y → MoreOperands columns met others (Punct mark.Close ∷ rest) ys →
+      OperandIs columns met first others y → CommaList (OperandIs columns met) others (Punct mark.Close ∷ rest) ys →
       RangeIs columns met x (Reserved word.In ∷ Punct mark.Open ∷ first) rest (Among x (y ∷ ys))
 
 -- what follows an operand x: compare operand | [ NOT ] BETWEEN .. | [ NOT ] IN .. | IS [ NOT ] NULL
@@ -145,19 +145,17 @@ pub data ItemIs (columns : List Column) (met : Demand → Bool) : Bool → List 
       ItemIs columns met false (Reserved (aggregate_word kind) ∷ Punct mark.Open ∷ Name text ∷ Punct mark.Close ∷ rest)
       rest (of_column kind (column_number columns text))
 
--- { , item }, after a first item that is a plain column or isn't
-pub data MoreItems (columns : List Column) (met : Demand → Bool) : Bool → List Lexeme → List Lexeme → List Item → Type 0 where
-  last_item : {first : Bool} {rest : List Lexeme} → MoreItems columns met first rest rest []
-  next_item : {first is_plain : Bool} {tokens others rest : List Lexeme} {item : Item} {items : List Item} →
-      IsTrue (met (OfOneKind first is_plain)) → ItemIs columns met is_plain tokens others item →
-      MoreItems columns met first others rest items →
-      MoreItems columns met first (Punct mark.Comma ∷ tokens) rest (item ∷ items)
+-- an item after a first one that is a plain column or isn't
+pub data NextItemIs (columns : List Column) (met : Demand → Bool) (first : Bool) : List Lexeme → List Lexeme → Item
+    → Type 0 where
+  next_item : {is_plain : Bool} {tokens rest : List Lexeme} {item : Item} → IsTrue (met (OfOneKind first is_plain)) →
+      ItemIs columns met is_plain tokens rest item → NextItemIs columns met first tokens rest item
 
 -- list = * | item { , item }
 pub data ItemsAre (columns : List Column) (met : Demand → Bool) : List Lexeme → List Lexeme → List Item → Type 0 where
   star : {rest : List Lexeme} → ItemsAre columns met (Punct mark.Star ∷ rest) rest (every_column columns)
   items : {first : Bool} {tokens others rest : List Lexeme} {item : Item} {items : List Item} →
-      ItemIs columns met first tokens others item → MoreItems columns met first others rest items →
+      ItemIs columns met first tokens others item → CommaList (NextItemIs columns met first) others rest items →
       ItemsAre columns met tokens rest (item ∷ items)
 
 -- [ WHERE cond ]
