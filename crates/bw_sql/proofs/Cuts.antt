@@ -36,7 +36,7 @@ pub cut_step : (n : ℕ) (rest after : List ℕ) (tokens : List Spot) (stop : Op
     IsCut (n - length rest) rest (pushed p (n - length rest) tokens) stop
 cut_step n rest after tokens stop p h longest cut =
     let behind : n - length after ≡ (n - length rest) + length longest.front =
-        omega (arith, ap length longest.cut, length-append longest.front after) in
+    omega (arith, ap length longest.cut, length-append longest.front after) in
     cut_on (n - length rest) rest after tokens stop p longest (subst (λ at. IsCut at after tokens stop) behind cut)
 
 -- a piece has a byte or more

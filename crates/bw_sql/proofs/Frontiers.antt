@@ -222,10 +222,16 @@ pub sign_last : (signed : Bool) (front : List Lexeme) (u : Lexeme) → after_sig
 sign_last signed [] u = refl
 sign_last signed (t ∷ front) u = sign_last (is_sign t) front u
 
-pub last_sign : (t : Lexeme) (tokens : List Lexeme) → after_sign (is_sign t) tokens ≡ true →
-    (front : List Lexeme) × (u : Lexeme) × (t ∷ tokens ≡ front ++ u ∷ []) × (is_sign u ≡ true)
-last_sign t [] e = ([], t, refl, e)
-last_sign t (x ∷ tokens) e = let p = last_sign x tokens e in (t ∷ p.0, p.1, ap (λ ts. t ∷ ts) p.2, p.3)
+last_sign : (tokens : List Lexeme) → after_sign false tokens ≡ true →
+    (front : List Lexeme) × (u : Lexeme) × (tokens ≡ front ++ u ∷ []) × (is_sign u ≡ true)
+last_sign [] e = cc
+last_sign (t ∷ []) e = ([], t, refl, e)
+last_sign (t ∷ x ∷ tokens) e = let p = last_sign (x ∷ tokens) e in (t ∷ p.0, p.1, ap (λ ts. t ∷ ts) p.2, p.3)
+
+-- a token that isn't the digits of a literal after a sign
+abbrev Alone : List Lexeme → Lexeme → Type 0
+Alone before t = (front : List Lexeme) (u : Lexeme) (digits : List ℕ) → is_sign u ≡ true → before ≡ front ++ u ∷ [] →
+    t ≡ Digits digits → ⊥
 
 -- a run along a path, and where it ends
 pub run_path : (schema : Schema) (signed : Bool) {stack last : List Symbol} {before : List Lexeme} →
@@ -234,12 +240,6 @@ pub run_path : (schema : Schema) (signed : Bool) {stack last : List Symbol} {bef
 unfolding run
 run_path schema signed here tokens = refl
 run_path schema signed (there {t = t} e p) tokens = rw e (run_path schema (is_sign t) p tokens)
-
-pub run_stop : (schema : Schema) (signed : Bool) (last : List Symbol) (t : Lexeme) (why : Refusal) (tokens : List Lexeme) →
-    step (is_met schema) last t ≡ Err why →
-    run schema signed last (t ∷ tokens) ≡ Err (record { why = why; left = left_at why signed (length tokens) })
-unfolding run
-run_stop schema signed last t why tokens e = rw e refl
 
 -- a run takes all tokens, or stops
 pub data Ran (schema : Schema) (signed : Bool) (stack : List Symbol) : List Lexeme → Result (Unit {0}) Halt → Type 0 where
@@ -358,11 +358,12 @@ module _ (schema : Schema) (tokens before behind : List Lexeme) (t : Lexeme) (la
     (e : tokens ≡ before ++ t ∷ behind) (p : Path (is_met schema) (AStatement ∷ []) before last)
     (stop : step (is_met schema) last t ≡ Err why) where
   stuck : Begins schema why (before ++ t ∷ []) → ⊥
+  unfolding run
   stuck v =
       let all = (before ++ t ∷ []) ++ v.more in
       let halt : Halt = record { why = why; left = left_at why (after_sign false before) (length v.more) } in
       let halts : run schema false (AStatement ∷ []) (before ++ t ∷ v.more) ≡ Err halt =
-      run_path schema false p (t ∷ v.more) ∙ run_stop schema (after_sign false before) last t why v.more stop in
+      run_path schema false p (t ∷ v.more) ∙ (rw stop refl) in
       refused_unspelled schema halt all v.query (reading_halts schema all halt (rw (append_assoc before (t ∷ []) v.more) halts)) v.spelled
 
   passes : (other : Refusal) → code_of other < code_of why → Begins schema other (before ++ t ∷ [])
@@ -415,8 +416,7 @@ module _ (schema : Schema) (tokens before behind : List Lexeme) (t : Lexeme) (la
   near other at (at_end v unless) = behind_it (beyond tokens before behind t e)
 
   -- and it stands there, if the token isn't the digits of a literal after a sign
-  token_first : ((front : List Lexeme) (u : Lexeme) (digits : List ℕ) → is_sign u ≡ true → before ≡ front ++ u ∷ [] →
-      t ≡ Digits digits → ⊥) → IsFirst schema tokens why (length before)
+  token_first : Alone before t → IsFirst schema tokens why (length before)
   token_first alone = record {
     stands = at_token before behind t e (begun schema why before [] before last p (sym (append-nil before))) stuck;
     first = λ other at stands. elim (near other at stands) [
@@ -454,8 +454,7 @@ pub record FirstFault (schema : Schema) (tokens : List Lexeme) (halt : Halt) : T
 
 module _ (schema : Schema) (tokens before behind : List Lexeme) (t : Lexeme) (last : List Symbol)
     (e : tokens ≡ before ++ t ∷ behind) (p : Path (is_met schema) (AStatement ∷ []) before last) where
-  at_the_token : (why : Refusal) → step (is_met schema) last t ≡ Err why → ((front : List Lexeme) (u : Lexeme) (digits : List ℕ) →
-      is_sign u ≡ true → before ≡ front ++ u ∷ [] → t ≡ Digits digits → ⊥) →
+  at_the_token : (why : Refusal) → step (is_met schema) last t ≡ Err why → Alone before t →
       FirstFault schema tokens (record { why = why; left = suc (length behind) })
   at_the_token why stop alone = record {
     place = length before;
@@ -465,30 +464,24 @@ module _ (schema : Schema) (tokens before behind : List Lexeme) (t : Lexeme) (la
   }
 
   -- after a sign digits are refused as a literal
-  literal_alone : (why : Refusal) → step (is_met schema) last t ≡ Err why → (why ≡ Literal → ⊥) → (front : List Lexeme) (u : Lexeme)
-      (digits : List ℕ) → is_sign u ≡ true → before ≡ front ++ u ∷ [] → t ≡ Digits digits → ⊥
+  literal_alone : (why : Refusal) → step (is_met schema) last t ≡ Err why → (why ≡ Literal → ⊥) → Alone before t
   literal_alone why stop never front u digits s f g = never (digits_stop schema (AStatement ∷ []) front u last digits why
       (subst (λ ts. Path (is_met schema) (AStatement ∷ []) ts last) f p) s (rw g at stop))
 
-  unsigned_alone : after_sign false before ≡ false → (front : List Lexeme) (u : Lexeme) (digits : List ℕ) → is_sign u ≡ true →
-      before ≡ front ++ u ∷ [] → t ≡ Digits digits → ⊥
+  unsigned_alone : after_sign false before ≡ false → Alone before t
   unsigned_alone plain front u digits s f g =
       let both : true ≡ false = sym s ∙ sym (sign_last false front u) ∙ ap (after_sign false) (sym f) ∙ plain in cc
 
   at_the_sign : after_sign false before ≡ true → step (is_met schema) last t ≡ Err Literal → (digits : List ℕ) → t ≡ Digits digits →
       FirstFault schema tokens (record { why = Literal; left = suc (suc (length behind)) })
   at_the_sign signed stop digits is =
-      let u = some before signed in
+      let u = last_sign before signed in
       record {
         place = length u.0;
         first = sign_first schema tokens before behind t last Literal e p stop digits is u.0 u.1 u.3 u.2 refl;
         left = omega (arith, ap length e, length-append before (t ∷ behind), ap length u.2, length-append u.0 (u.1 ∷ []));
         last = λ h. absurd (omega (arith, beyond tokens before behind t e, ap length u.2, length-append u.0 (u.1 ∷ [])));
       }
-    where
-      some : (ts : List Lexeme) → after_sign false ts ≡ true → (front : List Lexeme) × (u : Lexeme) × (ts ≡ front ++ u ∷ []) × (is_sign u ≡ true)
-      some [] e = cc
-      some (x ∷ ts) e = last_sign x ts e
 
   stop_first : (signed : Bool) → after_sign false before ≡ signed → (why : Refusal) → step (is_met schema) last t ≡ Err why →
       FirstFault schema tokens (record { why = why; left = left_at why signed (length behind) })

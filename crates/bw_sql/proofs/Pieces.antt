@@ -1,16 +1,15 @@
 -- Which piece of a text is the longest: the first byte tells its kind.
-use Rattle.std.proofs.Common.{◌&&◌, ◌==◌, ◌≡◌, ℕ, suc, ◌≤◌, Bool, true, false, cond, List, [], ◌∷◌, ◌++◌, length, take, drop, refl, sym, ◌∙◌, ap, subst, arith, Option, Some, None}
+use Rattle.std.proofs.Common.{◌==◌, ◌≡◌, ℕ, suc, ◌≤◌, Bool, true, false, List, [], ◌∷◌, ◌++◌, length, take, drop, refl, sym, ◌∙◌, ap, subst, arith}
 use Rattle.std.specs.List.{list_all, prefix_len, take_while}
 use Rattle.std.specs.Char.{is_ascii_digit}
 use Rattle.std.proofs.lemmas.Bool.{both_ways, and_parts, and_from, eqb-true}
 use Rattle.std.proofs.lemmas.Bool.Decides.{nat_tests}
 use Rattle.std.proofs.lemmas.List.{take-append-drop}
 use Rattle.std.proofs.lemmas.List.Sums.{take_while-cons}
-use Rattle.bw_model.specs.declared.keyword.Keyword.{Keyword}
 use Rattle.bw_model.specs.Keyword.{keyword_of}
 use Rattle.bw_model.specs.Text.{begins_word, goes_on_in_word, is_word}
 use Rattle.bw_sql.specs.Piece.{Piece, Gap, Token, IsPiece, IsDelimiter, IsLongest, IsLongestDelimiter, BeginsNoPiece, BeginsNoDelimiter, is_blank, is_in_comment, begins_comment}
-use Rattle.bw_sql.specs.Token.{Lexeme, Name, Digits, Reserved, Compare, Punct, word_lexeme, lexeme_or_name}
+use Rattle.bw_sql.specs.Token.{Lexeme, Name, Digits, Reserved, Compare, Punct, word_lexeme}
 use Rattle.bw_sql.proofs.Cases.{bool_cases, option_cases}
 use Rattle.bw_sql.proofs.Delimiters.{follows, is_run, known}
 
@@ -145,18 +144,14 @@ as_piece bytes _ h = absurd h
 -- a byte of no other kind begins a comment or a delimiter
 module _ (text : List ℕ) (c : ℕ) (rest : List ℕ) (e : text ≡ c ∷ rest) (b : is_blank c ≡ false) (w : begins_word c ≡ false)
     (d : is_ascii_digit c ≡ false) (n : begins_comment text ≡ false) where
-  no_kind : {P : Type 0} (p q : Bool) → p ≡ false → (p && q) ≡ true → P
-  no_kind true q f h = cc
-  no_kind false q f h = cc
-
   delimiter_at : (tail after : List ℕ) (any : Piece) → rest ≡ tail ++ after → IsPiece (c ∷ tail) any →
       (t : Lexeme) × IsDelimiter (c ∷ tail) t
   delimiter_at [] after Gap g h = absurd (both_ways (is_blank c) b h)
   delimiter_at (x ∷ inside) after Gap g h =
       absurd (both_ways (begins_comment (c ∷ rest)) (ap begins_comment (sym e) ∙ n) (rw (g, h.0, h.1) refl))
-  delimiter_at tail after (Token (Name text)) g h = no_kind (begins_word c) (list_all goes_on_in_word tail) w h.1
-  delimiter_at tail after (Token (Reserved v)) g h = no_kind (begins_word c) (list_all goes_on_in_word tail) w h.0
-  delimiter_at tail after (Token (Digits text)) g h = no_kind (is_ascii_digit c) (list_all is_ascii_digit tail) d h.1
+  delimiter_at tail after (Token (Name text)) g h = absurd (both_ways (begins_word c) w (and_parts _ _ h.1).0)
+  delimiter_at tail after (Token (Reserved v)) g h = absurd (both_ways (begins_word c) w (and_parts _ _ h.0).0)
+  delimiter_at tail after (Token (Digits text)) g h = absurd (both_ways (is_ascii_digit c) d (and_parts _ _ h.1).0)
   delimiter_at tail after (Token (Compare op)) g h = (Compare op, h)
   delimiter_at tail after (Token (Punct mark)) g h = (Punct mark, h)
 

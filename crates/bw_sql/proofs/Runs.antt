@@ -22,7 +22,7 @@ use Rattle.bw_model.specs.Column.{column_named}
 use Rattle.bw_sql.specs.Demand.{Depth, is_met, meets}
 use Rattle.bw_sql.specs.Frontier.{is_sign}
 use Rattle.bw_sql.specs.Limits.{deepest_nesting}
-use Rattle.bw_sql.specs.Reading.{Halt, Nested, ◌>>=◌, refuse, more_items, same_keyword, after_keyword, after_mark, keyword_at, mark_at, name_at, digits_at, sign_at, literal_at, column_at, table_at, operand_at, repeated, with_front, operands_at, range_at, list_at, range_or_list_at, null_test_at, after_comparison, behind_comparison, predicate_at, truth_value_at, truth_test_at, primary_in, test_in, factor_in, part_in, joined_in, series_at, series_behind, term_in, condition_in, nested, selection_at, table_expression_at, end_at, after_aggregate, aggregated_at, argument_at, item_at, of_one_kind, next_item_at, items_at, statement_at}
+use Rattle.bw_sql.specs.Reading.{Halt, Nested, ◌>>=◌, more_items, same_keyword, after_keyword, after_mark, keyword_at, mark_at, name_at, digits_at, sign_at, literal_at, column_at, table_at, operand_at, repeated, with_front, operands_at, range_at, list_at, range_or_list_at, null_test_at, after_comparison, behind_comparison, predicate_at, truth_value_at, truth_test_at, primary_in, test_in, factor_in, part_in, joined_in, series_at, series_behind, term_in, condition_in, nested, selection_at, table_expression_at, end_at, after_aggregate, aggregated_at, argument_at, item_at, of_one_kind, next_item_at, items_at, statement_at}
 use Rattle.bw_sql.specs.Token.{Lexeme, Name, Digits, Reserved, Compare, Punct}
 use Rattle.bw_sql.specs.Words.{word_of, join_of}
 use Rattle.bw_sql.proofs.Cases.{bool_cases, option_cases}
@@ -64,12 +64,11 @@ module _ (schema : Schema) where
       go (Err Literal) signed onward e = let same = (same_halt _ _ e).0 in cc
       go (Err why) signed onward e = omega (arith, (same_halt _ _ e).1)
 
-  takes : {A : Type 0} (symbols : List Symbol → List Symbol) (read : List Lexeme → Result (A × List Lexeme) Halt) →
-      Runs symbols read → (tokens : List Lexeme) (x : A) (rest : List Lexeme) → read tokens ≡ Ok (x, rest) →
-      length rest ≤ length tokens
+  pub takes : {A : Type 0} (symbols : List Symbol → List Symbol) (read : List Lexeme → Result (A × List Lexeme) Halt) →
+      Runs symbols read → (tokens rest : List Lexeme) (x : A) → read tokens ≡ Ok (x, rest) → length rest ≤ length tokens
   unfolding run all_may_end step
-  takes symbols read runs tokens x [] e = omega arith
-  takes symbols read runs tokens x (t ∷ rest) e =
+  takes symbols read runs tokens [] x e = omega arith
+  takes symbols read runs tokens (t ∷ rest) x e =
       refused_within false (symbols []) tokens (length rest) (runs [] tokens ∙ ap (λ r. r >>= λ x. run schema false [] x.1) e)
 
   -- a word or a mark that has to come
@@ -110,7 +109,7 @@ module _ (schema : Schema) where
       option_cases (number_of true digits) (λ e. rw e refl) (λ n e. rw e refl)
   operand_chosen behind stack passed _ _ = refl
 
-  operand_runs : Runs (λ stack. AnOperand ∷ stack) (operand_at schema)
+  pub operand_runs : Runs (λ stack. AnOperand ∷ stack) (operand_at schema)
   unfolding run step decide all_may_end may_end operand_at after_keyword literal_at sign_at digits_at after_mark
   operand_runs stack [] = refl
   operand_runs stack (t ∷ tokens) = operand_chosen [] stack (step (is_met schema) stack t) t tokens
@@ -139,7 +138,7 @@ module _ (schema : Schema) {A : Type 0} (tail : Symbol) (ones : List Symbol → 
       ∙ chain (one next) _ _ _ (λ x f. tail_runs n stack x.1 (omega (
         arith,
         ap length (laws.comes tokens next e),
-        takes schema ones one laws.one_runs next x.0 x.1 f,
+        takes schema ones one laws.one_runs next x.1 x.0 f,
       )) ∙ chain (repeated n after one x.1) _ _ _ (λ xs g. refl))))
 
 module _ (schema : Schema) (tail : Symbol) (ones : List Symbol → List Symbol) (w : Keyword)
@@ -222,7 +221,7 @@ not_too_deep : (n depth : ℕ) → suc n + depth ≡ deepest_nesting → nat_le 
 not_too_deep n depth e = grind (arith, nat_tests)
 
 -- what stands one level deeper, after `(` and after NOT
-record LevelRuns (schema : Schema) (depth : ℕ) (inner : Nested) : Type 0 where
+pub record LevelRuns (schema : Schema) (depth : ℕ) (inner : Nested) : Type 0 where
   enclosed_runs : (behind stack : List Symbol) (next : List Lexeme) →
       proceed false (ask (is_met schema) (Depth (suc depth) ∷ []) (in_brackets (suc depth) behind ++ stack)) (length next)
       (λ s. run schema false s next) ≡
@@ -253,13 +252,9 @@ module _ (schema : Schema) (n depth : ℕ) (level : LevelRuns schema depth (nest
   test_chosen stack passed t tokens = primary_chosen (TestTail ∷ []) stack passed t tokens
       ∙ chain (primary_in schema (nested schema n) (t ∷ tokens)) _ _ _ (λ c e. test_tail schema c.0 stack c.1)
 
-  test_empty : test_in schema (nested schema n) [] ≡ refuse Syntax []
-  unfolding test_in primary_in after_mark predicate_at operand_at after_keyword literal_at digits_at sign_at
-  test_empty = refl
-
   factor_runs : Runs schema (a_part connective.And depth) (part_in schema (nested schema n) connective.And)
-  unfolding run step decide all_may_end may_end factor_in after_keyword part_in
-  factor_runs stack [] = rw test_empty refl
+  unfolding run step decide all_may_end may_end factor_in after_keyword part_in test_in primary_in after_mark predicate_at operand_at literal_at digits_at sign_at
+  factor_runs stack [] = refl
   factor_runs stack (Reserved word.Not ∷ tokens) = level.negated_runs stack tokens
   factor_runs stack (t ∷ tokens) = test_chosen stack (step (is_met schema) stack t) t tokens
 
@@ -296,7 +291,7 @@ module _ (schema : Schema) (n depth : ℕ) (level : LevelRuns schema depth (nest
   unfolding joined_in part_in term_in
   term_runs = series_runs connective.And (part_laws connective.And factor_runs)
 
-  part_runs : (by : Connective) → Runs schema (a_part by depth) (part_in schema (nested schema n) by)
+  pub part_runs : (by : Connective) → Runs schema (a_part by depth) (part_in schema (nested schema n) by)
   part_runs connective.And = factor_runs
   part_runs connective.Or = term_runs
 
@@ -304,7 +299,7 @@ module _ (schema : Schema) (n depth : ℕ) (level : LevelRuns schema depth (nest
   unfolding joined_in part_in condition_in
   condition_runs = series_runs connective.Or (part_laws connective.Or term_runs)
 
-level_runs : (schema : Schema) (n depth : ℕ) → n + depth ≡ deepest_nesting → LevelRuns schema depth (nested schema n)
+pub level_runs : (schema : Schema) (n depth : ℕ) → n + depth ≡ deepest_nesting → LevelRuns schema depth (nested schema n)
 unfolding nested meets
 level_runs schema zero depth e = record {
   enclosed_runs = λ behind stack next. rw (too_deep depth e) refl;
@@ -355,7 +350,7 @@ module _ (schema : Schema) where
       ∙ chain (aggregated_at schema kind rest) _ _ _ (λ item f. closing_runs schema stack item.1
       ∙ chain (mark_at mark.Close item.1) _ _ _ (λ rest g. refl)))
 
-  next_item_runs : (first : Bool) → Runs schema (λ stack. AnItem first ∷ stack) (next_item_at schema first)
+  pub next_item_runs : (first : Bool) → Runs schema (λ stack. AnItem first ∷ stack) (next_item_at schema first)
   unfolding run step decide all_may_end may_end meets next_item_at of_one_kind item_at after_aggregate after_keyword column_at name_at
   next_item_runs true stack (Name text ∷ tokens) =
       option_cases (column_named schema.columns.items text) (λ e. rw e refl) (λ n e. rw e refl)
@@ -406,17 +401,3 @@ module _ (schema : Schema) where
       ∙ chain (items_at schema tokens) _ _ _ (λ xs e. expression_runs (AnEnd ∷ []) xs.1
       ∙ chain (table_expression_at schema xs.1) _ _ _ (λ c f. end_runs c.1 ∙ ended (end_at c.1) (record { items = xs.0; cond = c.0 })))
   statement_runs _ = refl
-
--- a reader leaves no more tokens than there were
-pub operand_takes : (schema : Schema) (tokens rest : List Lexeme) (x : Operand) → operand_at schema tokens ≡ Ok (x, rest) →
-    length rest ≤ length tokens
-operand_takes schema tokens rest x e = takes schema _ (operand_at schema) (operand_runs schema) tokens x rest e
-
-pub item_takes : (schema : Schema) (first : Bool) (tokens rest : List Lexeme) (x : Item) → next_item_at schema first tokens ≡ Ok (x, rest) →
-    length rest ≤ length tokens
-item_takes schema first tokens rest x e = takes schema _ (next_item_at schema first) (next_item_runs schema first) tokens x rest e
-
-pub part_takes : (schema : Schema) (by : Connective) (n depth : ℕ) → n + depth ≡ deepest_nesting → (tokens rest : List Lexeme) (c : CondTree) →
-    part_in schema (nested schema n) by tokens ≡ Ok (c, rest) → length rest ≤ length tokens
-part_takes schema by n depth h tokens rest c e =
-    takes schema _ (part_in schema (nested schema n) by) (part_runs schema n depth (level_runs schema n depth h) by) tokens c rest e

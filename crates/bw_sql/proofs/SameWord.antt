@@ -1,5 +1,5 @@
 -- A reserved word and a mark are known by their spelling.
-use Rattle.std.proofs.Common.{◌≡◌, Bool, true, false, List, ◌∷◌, Some, None, if◌then◌else◌, refl, sym, ◌∙◌, ap}
+use Rattle.std.proofs.Common.{◌≡◌, true, List, ◌∷◌, Some, refl, sym, ◌∙◌, ap}
 use Rattle.std.proofs.lemmas.Slice.Eq.{bytes_eq-Decides}
 use Rattle.bw_model.specs.declared.keyword.Keyword.{Keyword}
 use Rattle.bw_model.specs.declared.keyword.Keyword.TheVariants as word
@@ -9,6 +9,7 @@ use Rattle.bw_sql.specs.declared.token.Mark.{Mark}
 use Rattle.bw_sql.specs.Piece.{mark_spelling}
 use Rattle.bw_sql.specs.Reading.{same_keyword, same_mark, after_keyword, after_mark}
 use Rattle.bw_sql.specs.Token.{Lexeme, Reserved, Punct}
+use Rattle.bw_sql.proofs.Cases.{bool_cases}
 use Rattle.bw_sql.proofs.Delimiters.{delimiter_of, mark_known}
 
 spelled_word : (w : Keyword) → keyword_of (spelling w) ≡ Some w
@@ -26,20 +27,14 @@ mark_same m n e =
     let both : Some (Punct m) ≡ Some (Punct n) = sym (mark_known m).of
     ∙ ap delimiter_of ((bytes_eq-Decides (mark_spelling m) (mark_spelling n)).0 e) ∙ (mark_known n).of in cc
 
-some_if : {A : Type 0} (b : Bool) (x y : A) → (if b then Some x else None) ≡ Some y → (b ≡ true) × (x ≡ y)
-some_if true x y e = (refl, cc)
-some_if false x y e = cc
-
 pub word_is : (w : Keyword) (tokens next : List Lexeme) → after_keyword w tokens ≡ Some next → tokens ≡ Reserved w ∷ next
 unfolding after_keyword
-word_is w (Reserved found ∷ tokens) next e =
-    let same = some_if (same_keyword found w) tokens next e in
-    rw (word_same found w same.0, same.1) refl
+word_is w (Reserved found ∷ tokens) next e = bool_cases (same_keyword found w)
+    (λ b. let f = rw b at e in let same : tokens ≡ next = cc in rw (word_same found w b, same) refl) (λ b. let f = rw b at e in cc)
 word_is w _ next e = cc
 
 pub mark_is : (m : Mark) (tokens next : List Lexeme) → after_mark m tokens ≡ Some next → tokens ≡ Punct m ∷ next
 unfolding after_mark
-mark_is m (Punct found ∷ tokens) next e =
-    let same = some_if (same_mark found m) tokens next e in
-    rw (mark_same found m same.0, same.1) refl
+mark_is m (Punct found ∷ tokens) next e = bool_cases (same_mark found m)
+    (λ b. let f = rw b at e in let same : tokens ≡ next = cc in rw (mark_same found m b, same) refl) (λ b. let f = rw b at e in cc)
 mark_is m _ next e = cc

@@ -1,5 +1,5 @@
 -- What the grammar spells is read, unless a demand that isn't met was let pass.
-use Rattle.std.proofs.Common.{◌≡◌, ℕ, ℤ, ◌^◌, nat_le, nat_lt, if◌then◌else◌, zero, suc, ◌+◌, ◌≤◌, Bool, true, false, List, ◌∷◌, length, Option, Some, None, is_some, Result, Ok, Err, refl, sym, ◌∙◌, ap, subst, arith}
+use Rattle.std.proofs.Common.{◌≡◌, ℕ, ℤ, ◌^◌, nat_le, nat_lt, zero, suc, ◌+◌, ◌≤◌, Bool, true, false, List, ◌∷◌, length, Some, None, is_some, Result, Ok, Err, refl, sym, ◌∙◌, ap, arith}
 use Rattle.bw_model.specs.declared.column.Column.{Column}
 use Rattle.bw_model.specs.declared.cond.Operand.{Operand}
 use Rattle.bw_model.specs.declared.cond.Truth.{Truth}
@@ -11,7 +11,7 @@ use Rattle.bw_sql.specs.declared.condition.Connective.{Connective}
 use Rattle.bw_sql.specs.declared.condition.Connective.TheVariants as connective
 use Rattle.bw_sql.specs.declared.items.Aggregate.{Aggregate}
 use Rattle.bw_sql.specs.declared.items.Aggregate.TheVariants as kind
-use Rattle.bw_sql.specs.declared.reader.Refusal.TheVariants.{UnknownTable, UnknownColumn, Literal}
+use Rattle.bw_sql.specs.declared.reader.Refusal.TheVariants.{UnknownColumn, Literal}
 use Rattle.bw_sql.specs.declared.token.Mark.TheVariants as mark
 use Rattle.bw_model.specs.Text.{same_text}
 use Rattle.bw_sql.specs.Asked.{Asked}
@@ -20,11 +20,11 @@ use Rattle.bw_model.specs.Column.{column_named}
 use Rattle.bw_sql.specs.Demand.{Demand, IsTable, IsColumn, Fits, OfOneKind, Depth, column_number, column_or_first, is_met, meets, refusal, signed}
 use Rattle.bw_sql.specs.Grammar.{TruthIs, OperandIs, CommaList, RangeIs, ComparedIs, JoinedIs, MoreParts, PartIs, FactorIs, TestIs, PrimaryIs, ItemIs, NextItemIs, ItemsAre, SelectionIs, EndIs, StatementIs, IsQuery, true_word, null, column, unsigned, plus, minus, no_more, one_more, between, among, compared, comparison, range, not_range, is_null, is_not_null, parts, last_part, next_part, factor, term, test, not_test, tested, untested, is, is_not, predicate, bracket, plain, count_all, aggregate, next_item, star, items, all_rows, rows_where, bare, semicolon, statement}
 use Rattle.bw_sql.specs.Limits.{deepest_nesting}
-use Rattle.bw_sql.specs.Reading.{Halt, ◌>>=◌, refuse, wanted, begins_with_name, after_keyword, after_mark, keyword_at, mark_at, name_at, digits_at, sign_at, literal_at, column_at, table_at, operand_at, repeated, range_or_list_at, null_test_at, after_comparison, behind_comparison, predicate_at, truth_value_at, truth_test_at, primary_in, test_in, factor_in, part_in, term_in, condition_in, joined_in, nested, selection_at, table_expression_at, end_at, after_aggregate, aggregated_at, item_at, of_one_kind, next_item_at, items_at, statement_at}
+use Rattle.bw_sql.specs.Reading.{Halt, ◌>>=◌, wanted, begins_with_name, after_keyword, after_mark, keyword_at, mark_at, name_at, digits_at, sign_at, literal_at, column_at, table_at, operand_at, repeated, range_or_list_at, null_test_at, after_comparison, behind_comparison, predicate_at, truth_value_at, truth_test_at, primary_in, test_in, factor_in, part_in, term_in, condition_in, joined_in, nested, selection_at, table_expression_at, end_at, after_aggregate, aggregated_at, item_at, of_one_kind, next_item_at, items_at, statement_at}
 use Rattle.bw_sql.specs.Token.{Lexeme, Name, Reserved}
 use Rattle.bw_sql.specs.Words.{word_of, aggregate_word, of_column}
 use Rattle.bw_sql.proofs.Cases.{bool_cases, option_cases}
-use Rattle.bw_sql.proofs.Runs.{too_deep, operand_takes, item_takes, part_takes}
+use Rattle.bw_sql.proofs.Runs.{level_runs, next_item_runs, operand_runs, part_runs, takes, too_deep}
 
 -- What reading gives: what was spelled, or the refusal for a demand that isn't met and was let pass.
 pub data Outcome (schema : Schema) (met : Demand → Bool) {A : Type 0} (reading : Result A Halt) (x : A) : Type 0 where
@@ -32,15 +32,13 @@ pub data Outcome (schema : Schema) (met : Demand → Bool) {A : Type 0} (reading
   excused : (demand : Demand) (left : ℕ) → met demand ≡ true → is_met schema demand ≡ false →
       reading ≡ Err (record { why = refusal demand; left = left }) → Outcome schema met reading x
 
-some_or_none : {A : Type 0} (b : Bool) (x y : A) → (if b then Some x else None) ≡ Some y → y ≡ x
-some_or_none true x y e = cc
-some_or_none false x y e = cc
-
 -- the number of digits that fit is the one that they spell
 pub fitting : (is_negative : Bool) (digits : List ℕ) (n : ℤ) → number_of is_negative digits ≡ Some n → n ≡ signed is_negative digits
 unfolding number_of
-fitting true digits n e = some_or_none (nat_le (digits_value digits) (2 ^ 63)) (signed true digits) n e
-fitting false digits n e = some_or_none (nat_lt (digits_value digits) (2 ^ 63)) (signed false digits) n e
+fitting true digits n e =
+    bool_cases (nat_le (digits_value digits) (2 ^ 63)) (λ b. let f = rw b at e in cc) (λ b. let f = rw b at e in cc)
+fitting false digits n e =
+    bool_cases (nat_lt (digits_value digits) (2 ^ 63)) (λ b. let f = rw b at e in cc) (λ b. let f = rw b at e in cc)
 
 -- After a test no IS comes, after a term no AND, and after a condition no OR.
 abbrev PartEnds : Connective → List Lexeme → Type 0
@@ -128,7 +126,7 @@ module _ (schema : Schema) (met : Demand → Bool) where
   unfolding range_or_list_at after_keyword after_mark keyword_at mark_at
   range_read (between y z) = and_then _ (operand_read y) (and_then _ (operand_read z) (reads refl))
   range_read (among {others = others} y ys) = and_then _ (and_then _ (operand_read y) (and_then _ (commas_read _ (λ tokens rest x p. operand_read p)
-      (operand_takes schema) ys (length others) (omega arith) refl) (reads refl))) (reads refl)
+      (takes schema _ (operand_at schema) (operand_runs schema)) ys (length others) (omega arith) refl) (reads refl))) (reads refl)
 
   compared_read : {tokens rest : List Lexeme} {x : Operand} {c : CondTree} → ComparedIs columns met x tokens rest c →
       Outcome schema met (behind_comparison schema x (after_comparison tokens) tokens) (c, rest)
@@ -177,7 +175,11 @@ module _ (schema : Schema) (met : Demand → Bool) where
     parts_read (next_part c cs) n h zero l e = absurd (omega arith)
     parts_read (next_part {by = by} {depth = depth} {tokens = next} c cs) n h (suc fuel) l e = rw (word_comes by next)
         (and_from _ (part_read c n h (parts_begin cs e.0)) (λ f. and_then _ (parts_read cs n h fuel
-        (omega (arith, part_takes schema by n depth h _ _ _ f)) e) (reads refl)))
+        (omega (
+          arith,
+          takes schema _ (part_in schema (nested schema n) by)
+              (part_runs schema n depth (level_runs schema n depth h) by) _ _ _ f,
+        )) e) (reads refl)))
 
     part_read : {by : Connective} {depth : ℕ} {tokens rest : List Lexeme} {c : CondTree} →
         PartIs columns met by depth tokens rest c → (n : ℕ) → n + depth ≡ deepest_nesting → PartEnds by rest →
@@ -239,7 +241,7 @@ module _ (schema : Schema) (met : Demand → Bool) where
   unfolding items_at after_mark
   list_read star e = reads refl
   list_read (items {first = first} {others = others} x xs) e = rw ((item_begins x).0, (item_begins x).1) (and_then _ (item_read x)
-      (and_then _ (commas_read _ (next_read first) (item_takes schema first) xs (length others) (omega arith) e) (reads refl)))
+      (and_then _ (commas_read _ (next_read first) (takes schema _ (next_item_at schema first) (next_item_runs schema first)) xs (length others) (omega arith) e) (reads refl)))
 
   end_ends : {last : List Lexeme} → EndIs last → (after_keyword word.Where last ≡ None) × JoinedEnds connective.Or last
   unfolding after_keyword
