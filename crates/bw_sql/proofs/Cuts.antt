@@ -55,10 +55,9 @@ spots_push xs ys placed tokens e = rw (e, map-append, append_assoc) refl
 -- two fronts of a text that are as long are the same
 same_front : (front other rest after : List ℕ) → front ++ rest ≡ other ++ after → length front ≡ length other →
     (front ≡ other) × (rest ≡ after)
-same_front front other rest after e h = (
-  sym (take-append_seam front rest) ∙ (rw (h, e) (take-append_seam other after)),
-  sym (drop-append_seam front rest) ∙ (rw (h, e) (drop-append_seam other after)),
-)
+same_front front other rest after e h =
+    let fronts : front ≡ other = sym (take-append_seam front rest) ∙ (rw (h, e) (take-append_seam other after)) in
+    (fronts, sym (drop-append_seam front rest) ∙ (rw (h, e) (drop-append_seam other after)))
 
 -- the piece that bytes are
 piece_of : List ℕ → Option Piece

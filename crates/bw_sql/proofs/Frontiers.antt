@@ -135,11 +135,8 @@ module _ (schema : Schema) (other why : Refusal) (low : code_of other < code_of 
       (next : List Symbol) × (step (asked_for schema other) stack t ≡ Ok next)
   step_lower stack t e = elim (decided stack t) [
     | none f ↦ none_lower (sym (f (is_met schema)) ∙ e)
-    | asks demands symbols below o f ↦ (
-      symbols ++ below,
-      f (asked_for schema other) ∙ ask_lower 402 demands (symbols ++ below)
-          (and_parts (rising 402 demands) _ o).0 (sym (f (is_met schema)) ∙ e),
-    )
+    | asks demands symbols below o f ↦ let next = symbols ++ below in let rises = and_parts (rising 402 demands) _ o in
+        (next, f (asked_for schema other) ∙ ask_lower 402 demands next rises.0 (sym (f (is_met schema)) ∙ e))
   ]
 
 -- what is refused is a sign, for the grammar, or digits, or no literal

@@ -135,11 +135,9 @@ module _ (schema : Schema) {A : Type 0} (tail : Symbol) (ones : List Symbol → 
   tail_runs (suc n) stack tokens h = option_cases (after tokens) (λ e. rw e (laws.ends stack tokens e))
       (λ next e. rw e (ap (run schema false (tail ∷ stack)) (laws.comes tokens next e) ∙ laws.goes_on stack next
       ∙ laws.one_runs (tail ∷ stack) next
-      ∙ chain (one next) _ _ _ (λ x f. tail_runs n stack x.1 (omega (
-        arith,
-        ap length (laws.comes tokens next e),
-        takes schema ones one laws.one_runs next x.1 x.0 f,
-      )) ∙ chain (repeated n after one x.1) _ _ _ (λ xs g. refl))))
+      ∙ chain (one next) _ _ _ (λ x f. let less = takes schema ones one laws.one_runs next x.1 x.0 f in
+      tail_runs n stack x.1 (omega (arith, ap length (laws.comes tokens next e), less))
+      ∙ chain (repeated n after one x.1) _ _ _ (λ xs g. refl))))
 
 module _ (schema : Schema) (tail : Symbol) (ones : List Symbol → List Symbol) (w : Keyword)
     (one : List Lexeme → Result (CondTree × List Lexeme) Halt) (laws : TailLaws schema tail ones (after_keyword w) one)

@@ -173,13 +173,11 @@ module _ (schema : Schema) (met : Demand → Bool) where
     parts_read last_part n h zero l e = reads refl
     parts_read last_part n h (suc fuel) l e = rw e.1 (reads refl)
     parts_read (next_part c cs) n h zero l e = absurd (omega arith)
-    parts_read (next_part {by = by} {depth = depth} {tokens = next} c cs) n h (suc fuel) l e = rw (word_comes by next)
-        (and_from _ (part_read c n h (parts_begin cs e.0)) (λ f. and_then _ (parts_read cs n h fuel
-        (omega (
-          arith,
-          takes schema _ (part_in schema (nested schema n) by)
-              (part_runs schema n depth (level_runs schema n depth h) by) _ _ _ f,
-        )) e) (reads refl)))
+    parts_read (next_part {by = by} {depth = depth} {tokens = next} c cs) n h (suc fuel) l e =
+        let runs = part_runs schema n depth (level_runs schema n depth h) by in
+        rw (word_comes by next) (and_from _ (part_read c n h (parts_begin cs e.0)) (λ f.
+        let less = takes schema _ (part_in schema (nested schema n) by) runs _ _ _ f in
+        and_then _ (parts_read cs n h fuel (omega (arith, less)) e) (reads refl)))
 
     part_read : {by : Connective} {depth : ℕ} {tokens rest : List Lexeme} {c : CondTree} →
         PartIs columns met by depth tokens rest c → (n : ℕ) → n + depth ≡ deepest_nesting → PartEnds by rest →

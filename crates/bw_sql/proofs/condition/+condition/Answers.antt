@@ -47,12 +47,8 @@ factor-returns-in_err-cond-clause-read t c =
 pub factor-returns-clause-read : goal.factor-returns-clause-read
 unfolding factor_in nested
 factor-returns-clause-read t c =
-    rw (
-      ← c.in-Some.ensures.is,
-      nested_deeper c.args.schema.now c.args.levels (omega arith),
-      c.in_ok-cond.ensures.read,
-      c.in_ok-negation.ensures,
-    ) refl
+    let deeper = nested_deeper c.args.schema.now c.args.levels (omega arith) in
+    rw (← c.in-Some.ensures.is, deeper, c.in_ok-cond.ensures.read, c.in_ok-negation.ensures) refl
 
 pub primary-returns-then-levels-eq0-clause-read : goal.primary-returns-then-levels-eq0-clause-read
 unfolding primary_in nested
@@ -77,9 +73,5 @@ primary-returns-in_err-rest-clause-read t c =
 pub primary-returns-clause-read : goal.primary-returns-clause-read
 unfolding primary_in nested
 primary-returns-clause-read t c =
-    rw (
-      ← c.in-Some.ensures.is,
-      nested_deeper c.args.schema.now c.args.levels (omega arith),
-      c.in_ok-cond.ensures.read,
-      c.in_ok-rest.ensures.read,
-    ) refl
+    let deeper = nested_deeper c.args.schema.now c.args.levels (omega arith) in
+    rw (← c.in-Some.ensures.is, deeper, c.in_ok-cond.ensures.read, c.in_ok-rest.ensures.read) refl
