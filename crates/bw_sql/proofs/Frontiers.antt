@@ -490,16 +490,19 @@ module _ (schema : Schema) (tokens before behind : List Lexeme) (t : Lexeme) (la
   stop_first false s why stop = at_the_token why stop (unsigned_alone s)
   stop_first true s why stop = at_the_token why stop (literal_alone why stop (λ l. cc))
 
-module _ (schema : Schema) (tokens : List Lexeme) where
-  -- what is refused is the first fault
-  pub first_fault : (halt : Halt) → statement_at schema tokens ≡ Err halt → FirstFault schema tokens halt
-  first_fault halt e = go (ran schema false (AStatement ∷ []) tokens) (statement_runs schema tokens ∙ ap (λ r. r >>= λ q. Ok tt) e) where
-    same : (P : Halt → Type 0) (a : Halt) → P a → ◌≡◌ {A = Result (Unit {0}) Halt} (Err a) (Err halt) → P halt
-    same P a x f = let g : a ≡ halt = cc in subst P g x
+-- how a statement's tokens are read
+pub ran_so : (schema : Schema) (tokens : List Lexeme) (r : Result Asked Halt) → statement_at schema tokens ≡ r →
+    Ran schema false (AStatement ∷ []) tokens (r >>= λ q. Ok tt)
+ran_so schema tokens r e = subst (Ran schema false (AStatement ∷ []) tokens)
+    (statement_runs schema tokens ∙ ap (λ r. r >>= λ q. Ok tt) e) (ran schema false (AStatement ∷ []) tokens)
 
-    go : {r : Result (Unit {0}) Halt} → Ran schema false (AStatement ∷ []) tokens r → r ≡ Err halt → FirstFault schema tokens halt
-    go (whole last p m) f = cc
-    go (ends last p) f = same (λ h. statement_at schema tokens ≡ Err h → FirstFault schema tokens h) _
-        (λ e. record { place = length tokens; first = end_first schema tokens last p e; left = omega arith; last = λ h. refl }) f e
-    go (stops before behind t last why g p stop) f = same (FirstFault schema tokens) _
-        (stop_first schema tokens before behind t last g p (after_sign false before) refl why stop) f
+-- what is refused is the first fault
+pub first_fault : (schema : Schema) (tokens : List Lexeme) (halt : Halt) → statement_at schema tokens ≡ Err halt →
+    FirstFault schema tokens halt
+first_fault schema tokens halt e = go e (ran_so schema tokens (Err halt) e) where
+  go : {halt : Halt} → statement_at schema tokens ≡ Err halt → Ran schema false (AStatement ∷ []) tokens (Err halt) →
+      FirstFault schema tokens halt
+  go e (ends last p) =
+      record { place = length tokens; first = end_first schema tokens last p e; left = omega arith; last = λ h. refl }
+  go e (stops before behind t last why g p stop) =
+      stop_first schema tokens before behind t last g p (after_sign false before) refl why stop

@@ -21,29 +21,24 @@ use Rattle.bw_sql.specs.Grammar.{IsQuery}
 use Rattle.bw_sql.specs.Judged.{Answers, IsFaultOf, IsRead, fault_at, judged}
 use Rattle.bw_sql.specs.Limits.{longest_statement}
 use Rattle.bw_sql.specs.Reader.{Reads}
-use Rattle.bw_sql.specs.Reading.{Halt, ◌>>=◌, statement_at}
+use Rattle.bw_sql.specs.Reading.{Halt, statement_at}
 use Rattle.bw_sql.specs.Refusal.{code_of}
 use Rattle.bw_sql.specs.Statement.{IsFault, IsRefusal, SpellsOrFails, Parses, Spells, too_long, refused, token_refused, end_refused, byte_refused, tokens_of}
 use Rattle.bw_sql.specs.Token.{Lexeme, lexeme, lexemes}
 use Rattle.bw_sql.proofs.Cases.{bool_cases}
-use Rattle.bw_sql.proofs.Frontiers.{FirstFault, first_fault, only_at_end, asked_for_weaker, path_weaker, Ran, whole, ends, stops, ran}
+use Rattle.bw_sql.proofs.Frontiers.{FirstFault, first_fault, only_at_end, asked_for_weaker, path_weaker, Ran, whole, ran_so}
 use Rattle.bw_sql.proofs.Machine.{Symbol, AStatement, all_may_end}
 use Rattle.bw_sql.proofs.Cuts.{cut_of_text, one_cut_of}
-use Rattle.bw_sql.proofs.Runs.{statement_runs}
 use Rattle.bw_sql.proofs.Spelled.{query_read}
 use Rattle.bw_sql.proofs.Viable.{Path, path_spelled}
 
 -- the machine reads all tokens of what is read
 accepted : (schema : Schema) (tokens : List Lexeme) (q : Asked) → statement_at schema tokens ≡ Ok q →
     (last : List Symbol) × Path (is_met schema) (AStatement ∷ []) tokens last × (all_may_end last ≡ true)
-accepted schema tokens q e =
-    go (ran schema false (AStatement ∷ []) tokens) (statement_runs schema tokens ∙ ap (λ r. r >>= λ q. Ok tt) e)
-  where
-    go : {r : Result (Unit {0}) Halt} → Ran schema false (AStatement ∷ []) tokens r → r ≡ Ok tt →
-        (last : List Symbol) × Path (is_met schema) (AStatement ∷ []) tokens last × (all_may_end last ≡ true)
-    go (whole last p m) f = (last, p, m)
-    go (ends last p) f = cc
-    go (stops before behind t last why g p h) f = cc
+accepted schema tokens q e = go (ran_so schema tokens (Ok q) e) where
+  go : Ran schema false (AStatement ∷ []) tokens (Ok tt) →
+      (last : List Symbol) × Path (is_met schema) (AStatement ∷ []) tokens last × (all_may_end last ≡ true)
+  go (whole last p m) = (last, p, m)
 
 -- what is read is spelled by the grammar, with all demands met
 pub query_spelled : (schema : Schema) (tokens : List Lexeme) (q : Asked) → statement_at schema tokens ≡ Ok q →
