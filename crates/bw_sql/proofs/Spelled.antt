@@ -48,16 +48,12 @@ PartEnds connective.Or rest = (after_keyword word.Is rest ≡ None) × (after_ke
 abbrev JoinedEnds : Connective → List Lexeme → Type 0
 JoinedEnds by rest = PartEnds by rest × (after_keyword (word_of by) rest ≡ None)
 
--- a connective's word, and what it ends
-word_comes : (by : Connective) (next : List Lexeme) → after_keyword (word_of by) (Reserved (word_of by) ∷ next) ≡ Some next
+-- a connective's word is found, and ends a part
+word_comes : (by : Connective) (next : List Lexeme) →
+    (after_keyword (word_of by) (Reserved (word_of by) ∷ next) ≡ Some next) × PartEnds by (Reserved (word_of by) ∷ next)
 unfolding after_keyword
-word_comes connective.And next = refl
-word_comes connective.Or next = refl
-
-word_ends : (by : Connective) (next : List Lexeme) → PartEnds by (Reserved (word_of by) ∷ next)
-unfolding after_keyword
-word_ends connective.And next = refl
-word_ends connective.Or next = (refl, refl)
+word_comes connective.And next = (refl, refl)
+word_comes connective.Or next = (refl, (refl, refl))
 
 aggregate_comes : (of : Aggregate) (next : List Lexeme) →
     after_aggregate (Reserved (aggregate_word of) ∷ next) ≡ Some (of, next)
@@ -65,15 +61,11 @@ unfolding after_aggregate after_keyword
 aggregate_comes kind.Count next = refl
 aggregate_comes _ next = refl
 
-truth_value_read : {tokens rest : List Lexeme} {t : Truth} → TruthIs tokens rest t → truth_value_at tokens ≡ Ok (t, rest)
+truth_read : {tokens rest : List Lexeme} {t : Truth} → TruthIs tokens rest t →
+    (truth_value_at tokens ≡ Ok (t, rest)) × (after_keyword word.Not tokens ≡ None)
 unfolding truth_value_at after_keyword
-truth_value_read true_word = refl
-truth_value_read _ = refl
-
-truth_no_not : {tokens rest : List Lexeme} {t : Truth} → TruthIs tokens rest t → after_keyword word.Not tokens ≡ None
-unfolding after_keyword
-truth_no_not true_word = refl
-truth_no_not _ = refl
+truth_read true_word = (refl, refl)
+truth_read _ = (refl, refl)
 
 module _ (schema : Schema) (met : Demand → Bool) where
   abbrev columns : List Column
@@ -153,7 +145,7 @@ module _ (schema : Schema) (met : Demand → Bool) where
   parts_begin : {by : Connective} {depth : ℕ} {tokens rest : List Lexeme} {cs : List CondTree} →
       MoreParts columns met by depth tokens rest cs → PartEnds by rest → PartEnds by tokens
   parts_begin last_part e = e
-  parts_begin (next_part {by = by} {tokens = next} c cs) e = word_ends by next
+  parts_begin (next_part {by = by} {tokens = next} c cs) e = (word_comes by next).1
 
   mutual
     unfolding joined_in part_in condition_in term_in factor_in test_in primary_in truth_test_at repeated after_keyword after_mark mark_at nested meets predicate_at
@@ -163,7 +155,7 @@ module _ (schema : Schema) (met : Demand → Bool) where
         Outcome schema met (joined_in schema (nested schema n) by tokens) (c, rest)
     joined_read (parts c last_part) n h e = and_then _ (part_read c n h e.0) (rw e.1 (reads refl))
     joined_read (parts c (next_part {by = by} {tokens = next} d ds)) n h e =
-        and_then _ (part_read c n h (word_ends by next)) (rw (word_comes by next)
+        and_then _ (part_read c n h (word_comes by next).1) (rw (word_comes by next).0
         (and_then _ (and_then _ (parts_read (next_part d ds) n h (suc (length next)) (omega arith) e) (reads refl)) (reads refl)))
 
     parts_read : {by : Connective} {depth : ℕ} {tokens rest : List Lexeme} {cs : List CondTree} →
@@ -175,7 +167,7 @@ module _ (schema : Schema) (met : Demand → Bool) where
     parts_read (next_part c cs) n h zero l e = absurd (omega arith)
     parts_read (next_part {by = by} {depth = depth} {tokens = next} c cs) n h (suc fuel) l e =
         let runs = part_runs schema n depth (level_runs schema n depth h) by in
-        rw (word_comes by next) (and_from _ (part_read c n h (parts_begin cs e.0)) (λ f.
+        rw (word_comes by next).0 (and_from _ (part_read c n h (parts_begin cs e.0)) (λ f.
         let less = takes schema _ (part_in schema (nested schema n) by) runs _ _ _ f in
         and_then _ (parts_read cs n h fuel (omega (arith, less)) e) (reads refl)))
 
@@ -194,8 +186,8 @@ module _ (schema : Schema) (met : Demand → Bool) where
     test_read : {depth : ℕ} {tokens rest : List Lexeme} {c : CondTree} → TestIs columns met depth tokens rest c → (n : ℕ) → n + depth ≡ deepest_nesting → after_keyword word.Is rest ≡ None →
         Outcome schema met (test_in schema (nested schema n) tokens) (c, rest)
     test_read (tested c untested) n h e = and_then _ (primary_read c n h) (rw e (reads refl))
-    test_read (tested c (is t)) n h e = and_then _ (primary_read c n h) (rw (truth_no_not t, truth_value_read t) (reads refl))
-    test_read (tested c (is_not t)) n h e = and_then _ (primary_read c n h) (rw (truth_value_read t) (reads refl))
+    test_read (tested c (is t)) n h e = and_then _ (primary_read c n h) (rw ((truth_read t).1, (truth_read t).0) (reads refl))
+    test_read (tested c (is_not t)) n h e = and_then _ (primary_read c n h) (rw (truth_read t).0 (reads refl))
 
     primary_read : {depth : ℕ} {tokens rest : List Lexeme} {c : CondTree} → PrimaryIs columns met depth tokens rest c → (n : ℕ) → n + depth ≡ deepest_nesting →
         Outcome schema met (primary_in schema (nested schema n) tokens) (c, rest)
@@ -241,20 +233,16 @@ module _ (schema : Schema) (met : Demand → Bool) where
   list_read (items {first = first} {others = others} x xs) e = rw ((item_begins x).0, (item_begins x).1) (and_then _ (item_read x)
       (and_then _ (commas_read _ (next_read first) (takes schema _ (next_item_at schema first) (next_item_runs schema first)) xs (length others) (omega arith) e) (reads refl)))
 
-  end_ends : {last : List Lexeme} → EndIs last → (after_keyword word.Where last ≡ None) × JoinedEnds connective.Or last
-  unfolding after_keyword
-  end_ends bare = (refl, ((refl, refl), refl))
-  end_ends _ = (refl, ((refl, refl), refl))
-
-  end_read : {last : List Lexeme} → EndIs last → end_at last ≡ Ok tt
-  unfolding end_at after_mark
-  end_read bare = refl
-  end_read semicolon = refl
+  end_read : {last : List Lexeme} → EndIs last →
+      (end_at last ≡ Ok tt) × (after_keyword word.Where last ≡ None) × JoinedEnds connective.Or last
+  unfolding end_at after_keyword after_mark
+  end_read bare = (refl, refl, ((refl, refl), refl))
+  end_read _ = (refl, refl, ((refl, refl), refl))
 
   selection_read : {tokens last : List Lexeme} {c : CondTree} → SelectionIs columns met tokens last c → EndIs last → Outcome schema met (selection_at schema tokens) (c, last)
   unfolding selection_at after_keyword condition_in joined_in part_in
-  selection_read all_rows e = rw (end_ends e).0 (reads refl)
-  selection_read (rows_where c) e = joined_read c deepest_nesting refl (end_ends e).1
+  selection_read all_rows e = rw (end_read e).1 (reads refl)
+  selection_read (rows_where c) e = joined_read c deepest_nesting refl (end_read e).2
 
   table_read : {table : List ℕ} {rest : List Lexeme} → met (IsTable table) ≡ true → Outcome schema met (table_at schema (Name table ∷ rest)) rest
   unfolding table_at name_at meets
@@ -264,12 +252,12 @@ module _ (schema : Schema) (met : Demand → Bool) where
   pub statement_read : {tokens : List Lexeme} {q : Asked} → StatementIs columns met tokens q → Outcome schema met (statement_at schema tokens) q
   unfolding statement_at table_expression_at keyword_at after_keyword after_mark
   statement_read (statement xs m c e) =
-      and_then _ (list_read xs refl) (and_then _ (and_then _ (table_read m) (selection_read c e)) (rw (end_read e) (reads refl)))
+      and_then _ (list_read xs refl) (and_then _ (and_then _ (table_read m) (selection_read c e)) (rw (end_read e).0 (reads refl)))
 
 -- what is spelled with all demands met is read
-reads_if_met : (schema : Schema) (tokens : List Lexeme) (q : Asked) → Outcome schema (is_met schema) (statement_at schema tokens) q → statement_at schema tokens ≡ Ok q
-reads_if_met schema tokens q (reads e) = e
-reads_if_met schema tokens q (excused d left m u e) = cc
-
-pub query_read : (schema : Schema) (tokens : List Lexeme) (q : Asked) → IsQuery schema tokens q → statement_at schema tokens ≡ Ok q
-query_read schema tokens q spelled = reads_if_met schema tokens q (statement_read schema (is_met schema) spelled)
+pub query_read : (schema : Schema) (tokens : List Lexeme) (q : Asked) → IsQuery schema tokens q →
+    statement_at schema tokens ≡ Ok q
+query_read schema tokens q spelled = go (statement_read schema (is_met schema) spelled) where
+  go : Outcome schema (is_met schema) (statement_at schema tokens) q → statement_at schema tokens ≡ Ok q
+  go (reads e) = e
+  go (excused d left m u e) = cc
