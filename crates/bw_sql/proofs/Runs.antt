@@ -336,8 +336,6 @@ module _ (schema : Schema) where
   argument_runs : (kind : Aggregate) → Runs schema (λ stack. AnArgument kind ∷ stack) (aggregated_at schema kind)
   unfolding run step decide all_may_end may_end meets aggregated_at after_mark column_at name_at
   argument_runs aggregate.Count stack (Punct mark.Star ∷ tokens) = refl
-  argument_runs aggregate.Count stack (Name text ∷ tokens) =
-      option_cases (column_named schema.columns.items text) (λ e. rw e refl) (λ n e. rw e refl)
   argument_runs kind stack (Name text ∷ tokens) =
       option_cases (column_named schema.columns.items text) (λ e. rw e refl) (λ n e. rw e refl)
   argument_runs kind stack _ = refl

@@ -8,7 +8,7 @@ use Rattle.std.specs.Char.{to_ascii_lowercase}
 use Rattle.std.specs.Prelude.{map}
 use Rattle.bw_model.specs.declared.column.Column.{Column}
 use Rattle.bw_model.specs.declared.cond.Operand.{Operand}
-use Rattle.bw_model.specs.declared.cond.Operand.TheVariants.{Lit, Null}
+use Rattle.bw_model.specs.declared.cond.Operand.TheVariants.{Null}
 use Rattle.bw_model.specs.declared.cond.Truth.{Truth}
 use Rattle.bw_model.specs.declared.cond.Truth.TheVariants.{Yes}
 use Rattle.bw_model.specs.declared.keyword.Keyword.{Keyword}
@@ -22,20 +22,19 @@ use Rattle.bw_sql.specs.declared.condition.Connective.TheVariants as connective
 use Rattle.bw_sql.specs.declared.items.Aggregate.{Aggregate}
 use Rattle.bw_sql.specs.declared.items.Aggregate.TheVariants as aggregate
 use Rattle.bw_sql.specs.declared.reader.Refusal.{Refusal}
-use Rattle.bw_sql.specs.declared.token.Mark.{Mark}
 use Rattle.bw_sql.specs.declared.token.Mark.TheVariants as mark
 use Rattle.bw_sql.specs.Asked.{Asked}
 use Rattle.bw_model.specs.CondTree.{CondTree, Always, Cmp, Between, IsNull, Test, Not, Among}
 use Rattle.bw_model.specs.Column.{column_named}
-use Rattle.bw_sql.specs.Demand.{Demand, IsTable, IsColumn, Fits, OfOneKind, Depth, every_column, is_met, meets, signed}
+use Rattle.bw_sql.specs.Demand.{Demand, IsTable, IsColumn, Fits, OfOneKind, Depth, every_column, is_met, meets}
 use Rattle.bw_sql.specs.Frontier.{Viable}
-use Rattle.bw_sql.specs.Grammar.{TruthIs, OperandIs, CommaList, RangeIs, ComparedIs, TestedIs, JoinedIs, MoreParts, FactorIs, PrimaryIs, ItemIs, NextItemIs, ItemsAre, SelectionIs, EndIs, StatementIs, true_word, false_word, unknown_word, null, column, unsigned, plus, minus, no_more, one_more, between, among, compared, comparison, range, not_range, is_null, is_not_null, parts, last_part, next_part, factor, term, test, not_test, tested, untested, is, is_not, predicate, bracket, plain, count_all, aggregate, next_item, star, items, all_rows, rows_where, bare, semicolon, statement}
+use Rattle.bw_sql.specs.Grammar.{TruthIs, OperandIs, CommaList, RangeIs, ComparedIs, TestedIs, MoreParts, FactorIs, PrimaryIs, ItemIs, NextItemIs, ItemsAre, SelectionIs, EndIs, StatementIs, true_word, false_word, unknown_word, null, column, unsigned, plus, minus, no_more, one_more, between, among, compared, comparison, range, not_range, is_null, is_not_null, parts, last_part, next_part, factor, term, test, not_test, tested, untested, is, is_not, predicate, bracket, plain, count_all, aggregate, next_item, star, items, all_rows, rows_where, bare, semicolon, statement}
 use Rattle.bw_sql.specs.Reading.{same_keyword}
 use Rattle.bw_sql.specs.Token.{Lexeme, Name, Digits, Reserved, Compare, Punct}
 use Rattle.bw_sql.specs.Words.{aggregate_word}
 use Rattle.bw_sql.proofs.SameWord.{word_same}
 use Rattle.bw_sql.proofs.Cases.{bool_cases}
-use Rattle.bw_sql.proofs.Machine.{Symbol, AWord, Opening, Closing, AnOperand, SignedDigits, PredicateTail, RangeTail, NullTail, NotNullTail, CommaTail, AFactor, APrimary, TestTail, TruthTail, NotTruthTail, PartTail, ItemList, AnItem, AnArgument, ATable, ASelection, AnEnd, AStatement, Choice, Ask, Take, Pass, Stop, operand_choice, primary_choice, range_choice, truth_choice, aggregate_choice, decide, may_end, all_may_end, ask, chosen, step}
+use Rattle.bw_sql.proofs.Machine.{Symbol, AWord, Opening, Closing, AnOperand, SignedDigits, PredicateTail, RangeTail, NullTail, NotNullTail, CommaTail, AFactor, APrimary, TestTail, TruthTail, NotTruthTail, PartTail, ItemList, AnItem, AnArgument, ATable, ASelection, AnEnd, AStatement, Choice, Ask, Take, Pass, Stop, of_aggregate, in_brackets, operand_choice, primary_choice, range_choice, truth_choice, aggregate_choice, decide, may_end, all_may_end, ask, chosen, step}
 
 -- a token, and the rest
 pub data IsToken (t : Lexeme) : List Lexeme → List Lexeme → Type 0 where
@@ -97,43 +96,43 @@ module _ (columns : List Column) (met : Demand → Bool) where
   Fair s t Pass = (tokens : List Lexeme) → Means s tokens tokens
   Fair s t Stop = Unit {0}
 
-  -- an operand of a sign and digits
-  abbrev sign_of : Bool → Mark
-  sign_of false = mark.Plus
-  sign_of true = mark.Minus
+  -- what a thing that begins with the token leads to
+  abbrev Onto : {A : Type 0} → (List Lexeme → List Lexeme → A → Type 0) → Symbol → List Symbol → Lexeme → Type 0
+  Onto {A = A} Is s behind t =
+      (more middle : List Lexeme) (x : A) → Is (t ∷ more) middle x → Leads behind middle (Means s (t ∷ more))
 
-  signed_fair : (is_negative : Bool) (digits : List ℕ) (more middle : List Lexeme) → met (Fits is_negative digits) ≡ true →
-      IsToken (Digits digits) more middle →
-      OperandIs columns met (Punct (sign_of is_negative) ∷ more) middle (Lit (signed is_negative digits))
-  signed_fair false digits more middle m here_is = plus m
-  signed_fair true digits more middle m here_is = minus m
+  plus_fair : (s : Symbol) (behind : List Symbol) → Onto (OperandIs columns met) s behind (Punct mark.Plus) →
+      Fair s (Punct mark.Plus) (Take (SignedDigits false ∷ behind))
+  plus_fair s behind k m more middle (digits, fits, here_is) = k more middle _ (plus fits)
 
-  operand_fair : (s : Symbol) (behind : List Symbol) (t : Lexeme) → ((more middle : List Lexeme) (x : Operand) →
-      OperandIs columns met (t ∷ more) middle x → Leads behind middle (Means s (t ∷ more))) → Fair s t (operand_choice behind t)
+  minus_fair : (s : Symbol) (behind : List Symbol) → Onto (OperandIs columns met) s behind (Punct mark.Minus) →
+      Fair s (Punct mark.Minus) (Take (SignedDigits true ∷ behind))
+  minus_fair s behind k m more middle (digits, fits, here_is) = k more middle _ (minus fits)
+
+  operand_fair : (s : Symbol) (behind : List Symbol) (t : Lexeme) → Onto (OperandIs columns met) s behind t →
+      Fair s t (operand_choice behind t)
   operand_fair s behind (Reserved word.Null) k = λ m more. k more more Null null
   operand_fair s behind (Name text) k = λ m more. k more more _ (column m.0)
   operand_fair s behind (Digits digits) k = λ m more. k more more _ (unsigned m.0)
-  operand_fair s behind (Punct mark.Plus) k = λ m more middle q. k more middle _ (signed_fair false q.0 more middle q.1 q.2)
-  operand_fair s behind (Punct mark.Minus) k = λ m more middle q. k more middle _ (signed_fair true q.0 more middle q.1 q.2)
+  operand_fair s behind (Punct mark.Plus) k = plus_fair s behind k
+  operand_fair s behind (Punct mark.Minus) k = minus_fair s behind k
   operand_fair s behind _ k = tt
 
-  bracket_fair : (depth : ℕ) (more inside behind : List Lexeme) (c : CondTree) → met (Depth (suc depth)) ≡ true →
-      JoinedIs columns met connective.Or (suc depth) more inside c → IsToken (Punct mark.Close) inside behind →
-      PrimaryIs columns met depth (Punct mark.Open ∷ more) behind c
-  bracket_fair depth more inside behind c m p here_is = bracket m p
+  bracket_fair : (s : Symbol) (depth : ℕ) (behind : List Symbol) → Onto (PrimaryIs columns met depth) s behind (Punct mark.Open) →
+      Fair s (Punct mark.Open) (Ask (Depth (suc depth) ∷ []) (in_brackets (suc depth) behind))
+  bracket_fair s depth behind k m more a f b fs d ts rest here_is =
+      k more rest _ (bracket m.0 (parts (term (parts (factor f.1) fs.1)) ts.1))
 
-  primary_fair : (s : Symbol) (depth : ℕ) (behind : List Symbol) (t : Lexeme) → ((more middle : List Lexeme) (c : CondTree) →
-      PrimaryIs columns met depth (t ∷ more) middle c → Leads behind middle (Means s (t ∷ more))) →
+  primary_fair : (s : Symbol) (depth : ℕ) (behind : List Symbol) (t : Lexeme) → Onto (PrimaryIs columns met depth) s behind t →
       Fair s t (primary_choice depth behind t)
-  primary_fair s depth behind (Punct mark.Open) k = λ m more a f b fs d ts e close. k more e _
-      (bracket_fair depth more d e _ m.0 (parts (term (parts (factor f.1) fs.1)) ts.1) close)
+  primary_fair s depth behind (Punct mark.Open) k = bracket_fair s depth behind k
   primary_fair s depth behind t k =
       operand_fair s (PredicateTail ∷ behind) t (λ more middle x o rest q. let p = q x in k more rest p.0 (predicate (compared o p.1)))
 
-  aggregate_fair : (kind : Aggregate) (more a b rest : List Lexeme) → IsToken (Punct mark.Open) more a →
-      Means (AnArgument kind) a b → IsToken (Punct mark.Close) b rest →
-      (item : Item) × ItemIs columns met false (Reserved (aggregate_word kind) ∷ more) rest item
-  aggregate_fair kind more a b rest here_is given close = given rest close
+  aggregate_fair : (kind : Aggregate) (s : Symbol) (demands : List Demand) (behind : List Symbol) →
+      (AllMet demands → Onto (ItemIs columns met false) s behind (Reserved (aggregate_word kind))) →
+      Fair s (Reserved (aggregate_word kind)) (Ask demands (of_aggregate kind behind))
+  aggregate_fair kind s demands behind k m more a here_is b given rest close = let p = given rest close in k m more rest p.0 p.1
 
   counted_fair : (kind : Aggregate) (text : List ℕ) (more : List Lexeme) → met (IsColumn text) ≡ true →
       Means (AnArgument kind) (Name text ∷ more) more
@@ -142,33 +141,30 @@ module _ (columns : List Column) (met : Demand → Bool) where
   rows_fair : (more : List Lexeme) → Means (AnArgument aggregate.Count) (Punct mark.Star ∷ more) more
   rows_fair more after here_is = (CountAll, count_all)
 
-  aggregates_fair : (s : Symbol) (demands : List Demand) (behind : List Symbol) (t : Lexeme) → (AllMet demands →
-      (more middle : List Lexeme) (item : Item) → ItemIs columns met false (t ∷ more) middle item →
-      Leads behind middle (Means s (t ∷ more))) → Fair s t (aggregate_choice demands behind t)
-  aggregates_fair s demands behind (Reserved word.Count) k = λ m more a opening b given rest close.
-      let p = aggregate_fair aggregate.Count more a b rest opening given close in k m more rest p.0 p.1
-  aggregates_fair s demands behind (Reserved word.Sum) k = λ m more a opening b given rest close.
-      let p = aggregate_fair aggregate.Sum more a b rest opening given close in k m more rest p.0 p.1
-  aggregates_fair s demands behind (Reserved word.Min) k = λ m more a opening b given rest close.
-      let p = aggregate_fair aggregate.Min more a b rest opening given close in k m more rest p.0 p.1
-  aggregates_fair s demands behind (Reserved word.Max) k = λ m more a opening b given rest close.
-      let p = aggregate_fair aggregate.Max more a b rest opening given close in k m more rest p.0 p.1
+  aggregates_fair : (s : Symbol) (demands : List Demand) (behind : List Symbol) (t : Lexeme) →
+      (AllMet demands → Onto (ItemIs columns met false) s behind t) → Fair s t (aggregate_choice demands behind t)
+  aggregates_fair s demands behind (Reserved word.Count) k = aggregate_fair aggregate.Count s demands behind k
+  aggregates_fair s demands behind (Reserved word.Sum) k = aggregate_fair aggregate.Sum s demands behind k
+  aggregates_fair s demands behind (Reserved word.Min) k = aggregate_fair aggregate.Min s demands behind k
+  aggregates_fair s demands behind (Reserved word.Max) k = aggregate_fair aggregate.Max s demands behind k
   aggregates_fair s demands behind _ k = tt
 
-  between_fair : (x : Operand) (more a b rest : List Lexeme) → Means AnOperand more a → IsToken (Reserved word.And) a b →
-      Means AnOperand b rest → (c : CondTree) × RangeIs columns met x (Reserved word.Between ∷ more) rest c
-  between_fair x more a b rest y here_is z = (Between x y.0 z.0, between y.1 z.1)
+  -- what a range leads to
+  abbrev OfRange : Symbol → Lexeme → Type 0
+  OfRange s t = (more rest : List Lexeme) → ((x : Operand) → (c : CondTree) × RangeIs columns met x (t ∷ more) rest c) →
+      Means s (t ∷ more) rest
 
-  in_fair : (x : Operand) (more a b d rest : List Lexeme) → IsToken (Punct mark.Open) more a → Means AnOperand a b →
-      Means (CommaTail None) b d → IsToken (Punct mark.Close) d rest →
-      (c : CondTree) × RangeIs columns met x (Reserved word.In ∷ more) rest c
-  in_fair x more a b d rest here_is y ys here_is = (Among x (y.0 ∷ ys.0), among y.1 ys.1)
+  between_fair : (s : Symbol) → OfRange s (Reserved word.Between) →
+      Fair s (Reserved word.Between) (Take (AnOperand ∷ AWord word.And ∷ AnOperand ∷ []))
+  between_fair s k m more a y b here_is rest z = k more rest (λ x. (Between x y.0 z.0, between y.1 z.1))
 
-  range_fair : (s : Symbol) (t : Lexeme) → ((more rest : List Lexeme) → ((x : Operand) → (c : CondTree) ×
-      RangeIs columns met x (t ∷ more) rest c) → Means s (t ∷ more) rest) → Fair s t (range_choice t)
-  range_fair s (Reserved word.Between) k = λ m more a y b w rest z. k more rest (λ x. between_fair x more a b rest y w z)
-  range_fair s (Reserved word.In) k = λ m more a opening b y d ys rest close.
-      k more rest (λ x. in_fair x more a b d rest opening y ys close)
+  in_fair : (s : Symbol) → OfRange s (Reserved word.In) →
+      Fair s (Reserved word.In) (Take (Opening ∷ AnOperand ∷ CommaTail None ∷ Closing ∷ []))
+  in_fair s k m more a here_is b y d ys rest here_is = k more rest (λ x. (Among x (y.0 ∷ ys.0), among y.1 ys.1))
+
+  range_fair : (s : Symbol) (t : Lexeme) → OfRange s t → Fair s t (range_choice t)
+  range_fair s (Reserved word.Between) k = between_fair s k
+  range_fair s (Reserved word.In) k = in_fair s k
   range_fair s _ k = tt
 
   truth_fair : (s : Symbol) (t : Lexeme) → ((more : List Lexeme) (v : Truth) → TruthIs (t ∷ more) more v →
@@ -183,10 +179,9 @@ module _ (columns : List Column) (met : Demand → Bool) where
   word_fair w found true e = λ m more. subst (λ v. IsToken (Reserved w) (Reserved v ∷ more) more) (sym (word_same found w e)) here_is
   word_fair w found false e = tt
 
-  stated : (more a b d e rest : List Lexeme) → Means ItemList more a → IsToken (Reserved word.From) a b → Means ATable b d →
-      Means ASelection d e → Means AnEnd e rest → rest ≡ [] → (q : Asked) × StatementIs columns met (Reserved word.Select ∷ more) q
-  stated more a b d e rest xs here_is (text, m, here_is) c end h =
-      (record { items = xs.0; cond = c.0 }, statement xs.1 m c.1 (end h))
+  stated : Fair AStatement (Reserved word.Select) (Take (ItemList ∷ AWord word.From ∷ ATable ∷ ASelection ∷ AnEnd ∷ []))
+  stated m more a xs b here_is d (text, k, here_is) e c rest end h =
+      (record { items = xs.0; cond = c.0 }, statement xs.1 k c.1 (end h))
 
   fair : (s : Symbol) (t : Lexeme) → Fair s t (decide s t)
   unfolding decide
@@ -232,7 +227,7 @@ module _ (columns : List Column) (met : Demand → Bool) where
   fair ASelection (Reserved word.Where) = λ m more a c b cs rest ds. (_, rows_where (parts (term (parts (factor c.1) cs.1)) ds.1))
   fair ASelection t = λ tokens. (Always, all_rows)
   fair AnEnd (Punct mark.Semicolon) = λ m more e. subst (λ t. EndIs (Punct mark.Semicolon ∷ t)) (sym e) semicolon
-  fair AStatement (Reserved word.Select) = λ m more a xs b w d table e c rest end. stated more a b d e rest xs w table c end
+  fair AStatement (Reserved word.Select) = stated
   fair _ _ = tt
 
   asked_met : (demands : List Demand) (stack next : List Symbol) → ask met demands stack ≡ Ok next →
