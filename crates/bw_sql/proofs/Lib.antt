@@ -2,12 +2,10 @@ pub mod Cuts
 pub mod Cases
 pub mod Frontiers
 pub mod Machine
-pub mod Pieces
 pub mod Repeats
-pub mod Delimiters
 pub mod Runs
 pub mod SameNames
-pub mod SameWord
+pub mod Spellings
 pub mod Spelled
 pub mod Texts
 pub mod Viable

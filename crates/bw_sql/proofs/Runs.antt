@@ -26,7 +26,7 @@ use Rattle.bw_sql.specs.Reading.{Halt, Nested, ◌>>=◌, more_items, same_keywo
 use Rattle.bw_sql.specs.Token.{Lexeme, Name, Digits, Reserved, Compare, Punct}
 use Rattle.bw_sql.specs.Words.{word_of, join_of}
 use Rattle.bw_sql.proofs.Cases.{bool_cases, option_cases}
-use Rattle.bw_sql.proofs.SameWord.{mark_is, word_is}
+use Rattle.bw_sql.proofs.Spellings.{mark_is, word_is}
 use Rattle.bw_sql.proofs.Machine.{Symbol, Choice, AWord, Opening, Closing, AnOperand, PredicateTail, RangeTail, CommaTail, APrimary, TestTail, PartTail, ItemList, AnItem, AnArgument, ATable, ASelection, AnEnd, AStatement, a_part, one_of, of_aggregate, in_brackets, operand_choice, primary_choice, decide, may_end, all_may_end, ask, chosen, step, proceed, run}
 
 assoc : {A B C : Type 0} (m : Result A Halt) (f : A → Result B Halt) (g : B → Result C Halt) → ((m >>= f) >>= g) ≡ (m >>= λ x. f x >>= g)

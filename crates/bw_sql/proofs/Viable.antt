@@ -32,7 +32,7 @@ use Rattle.bw_sql.specs.Grammar.{TruthIs, OperandIs, CommaList, RangeIs, Compare
 use Rattle.bw_sql.specs.Reading.{same_keyword}
 use Rattle.bw_sql.specs.Token.{Lexeme, Name, Digits, Reserved, Compare, Punct}
 use Rattle.bw_sql.specs.Words.{aggregate_word}
-use Rattle.bw_sql.proofs.SameWord.{word_same}
+use Rattle.bw_sql.proofs.Spellings.{word_same}
 use Rattle.bw_sql.proofs.Cases.{bool_cases}
 use Rattle.bw_sql.proofs.Machine.{Symbol, AWord, Opening, Closing, AnOperand, SignedDigits, PredicateTail, RangeTail, NullTail, NotNullTail, CommaTail, AFactor, APrimary, TestTail, TruthTail, NotTruthTail, PartTail, ItemList, AnItem, AnArgument, ATable, ASelection, AnEnd, AStatement, Choice, Ask, Take, Pass, Stop, of_aggregate, in_brackets, operand_choice, primary_choice, range_choice, truth_choice, aggregate_choice, decide, may_end, all_may_end, ask, chosen, step}
 

@@ -1,4 +1,4 @@
--- Delimiters, which are comparisons and marks: which bytes they are, and which is the longest.
+-- Reserved words and delimiters, which are comparisons and marks: which bytes they are, and which is the longest.
 use Rattle.std.proofs.Common.{◌≡◌, ℕ, suc, ◌≤◌, Bool, true, false, if◌then◌else◌, List, [], ◌∷◌, ◌++◌, length, Option, Some, refl, sym, ◌∙◌, ap, subst, arith}
 use Rattle.std.specs.Char.{is_ascii_digit}
 use Rattle.std.specs.List.{list_all}
@@ -9,25 +9,29 @@ use Rattle.std.proofs.lemmas.Slice.Eq.{bytes_eq-Decides}
 use Rattle.bw_model.specs.declared.cond.Op.{Op}
 use Rattle.bw_model.specs.declared.cond.Op.TheVariants.{Eq, Ne, Lt, Gt, Le, Ge}
 use Rattle.bw_model.specs.Number.{are_digits}
-use Rattle.bw_model.specs.Text.{begins_word, goes_on_in_word, is_word}
+use Rattle.bw_model.specs.Text.{begins_word, goes_on_in_word, is_word, same_text}
 use Rattle.bw_sql.specs.declared.token.Mark.{Mark}
 use Rattle.bw_sql.specs.declared.token.Mark.TheVariants.{Open, Close, Comma, Star, Semicolon, Plus, Minus}
 use Rattle.bw_sql.specs.Piece.{IsDelimiter, IsLongestDelimiter, BeginsNoDelimiter, begins_comment, comparison_spelling, is_blank, is_in_comment, is_short_delimiter, is_long_delimiter, mark_spelling}
-use Rattle.bw_sql.specs.Token.{Lexeme, Compare, Punct}
+use Rattle.bw_sql.specs.Token.{Lexeme, Compare, Punct, Reserved}
 use Rattle.bw_sql.proofs.Cases.{bool_cases}
+use Rattle.bw_model.specs.declared.keyword.Keyword.{Keyword}
+use Rattle.bw_model.specs.declared.keyword.Keyword.TheVariants as word
+use Rattle.bw_model.specs.Keyword.{keyword_of, spelling}
+use Rattle.bw_sql.specs.Reading.{same_keyword, same_mark, after_keyword, after_mark}
 
 abbrev delimiters : List Lexeme
 delimiters = Compare Eq ∷ Compare Ne ∷ Compare Lt ∷ Compare Gt ∷ Compare Le ∷ Compare Ge ∷ Punct Open ∷ Punct Close
     ∷ Punct Comma ∷ Punct Star ∷ Punct Semicolon ∷ Punct Plus ∷ Punct Minus ∷ []
 
-abbrev spelling : Lexeme → List ℕ
-spelling (Compare op) = comparison_spelling op
-spelling (Punct mark) = mark_spelling mark
-spelling _ = []
+abbrev bytes_of : Lexeme → List ℕ
+bytes_of (Compare op) = comparison_spelling op
+bytes_of (Punct mark) = mark_spelling mark
+bytes_of _ = []
 
 -- the delimiter that bytes are
 pub delimiter_of : List ℕ → Option Lexeme
-delimiter_of bytes = find (λ t. bytes_eq (spelling t) bytes) delimiters
+delimiter_of bytes = find (λ t. bytes_eq (bytes_of t) bytes) delimiters
 
 abbrev pub is_delimiter : List ℕ → Bool
 is_delimiter [] = false
@@ -91,8 +95,8 @@ is_one _ = false
 
 pub found : (t : Lexeme) (bytes : List ℕ) → delimiter_of bytes ≡ Some t → IsDelimiter bytes t
 unfolding delimiter_of
-found t bytes e = go t (found_in (λ t. bytes_eq (spelling t) bytes) is_one delimiters t e refl) where
-  go : (t : Lexeme) → (bytes_eq (spelling t) bytes ≡ true) × (is_one t ≡ true) → IsDelimiter bytes t
+found t bytes e = go t (found_in (λ t. bytes_eq (bytes_of t) bytes) is_one delimiters t e refl) where
+  go : (t : Lexeme) → (bytes_eq (bytes_of t) bytes ≡ true) × (is_one t ≡ true) → IsDelimiter bytes t
   go (Compare op) h = sym ((bytes_eq-Decides (comparison_spelling op) bytes).0 h.0)
   go (Punct mark) h = sym ((bytes_eq-Decides (mark_spelling mark) bytes).0 h.0)
   go _ h = let f = h.1 in cc
@@ -146,3 +150,31 @@ none_begins c rest none short [] after t g is = let f = (known t [] is).is in cc
 none_begins c rest none short (x ∷ []) after t g is = let same : x ≡ c = cc in short t (subst (λ y. IsDelimiter (y ∷ []) t) same is)
 none_begins c rest none short (x ∷ d ∷ more) after t g is =
     let most = at_most_one c rest none (x ∷ d ∷ more) after t g is in omega arith
+
+-- a reserved word, and so a mark, is known by its spelling
+spelled_word : (w : Keyword) → keyword_of (spelling w) ≡ Some w
+unfolding keyword_of same_text
+spelled_word word.And = refl
+spelled_word _ = refl
+
+pub word_same : (v w : Keyword) → same_keyword v w ≡ true → v ≡ w
+word_same v w e =
+    let both : Some v ≡ Some w = sym (spelled_word v) ∙ ap keyword_of ((bytes_eq-Decides (spelling v) (spelling w)).0 e)
+    ∙ spelled_word w in cc
+
+mark_same : (m n : Mark) → same_mark m n ≡ true → m ≡ n
+mark_same m n e =
+    let both : Some (Punct m) ≡ Some (Punct n) = sym (mark_known m).of
+    ∙ ap delimiter_of ((bytes_eq-Decides (mark_spelling m) (mark_spelling n)).0 e) ∙ (mark_known n).of in cc
+
+pub word_is : (w : Keyword) (tokens next : List Lexeme) → after_keyword w tokens ≡ Some next → tokens ≡ Reserved w ∷ next
+unfolding after_keyword
+word_is w (Reserved found ∷ tokens) next e = bool_cases (same_keyword found w)
+    (λ b. let f = rw b at e in let same : tokens ≡ next = cc in rw (word_same found w b, same) refl) (λ b. let f = rw b at e in cc)
+word_is w _ next e = cc
+
+pub mark_is : (m : Mark) (tokens next : List Lexeme) → after_mark m tokens ≡ Some next → tokens ≡ Punct m ∷ next
+unfolding after_mark
+mark_is m (Punct found ∷ tokens) next e = bool_cases (same_mark found m)
+    (λ b. let f = rw b at e in let same : tokens ≡ next = cc in rw (mark_same found m b, same) refl) (λ b. let f = rw b at e in cc)
+mark_is m _ next e = cc
