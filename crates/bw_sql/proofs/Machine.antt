@@ -1,19 +1,24 @@
 -- A machine of symbols of the grammar. A stack of symbols says what is to come; the uppermost symbol decides on
 -- one token: it takes the token and gives way to other symbols, passes it on, or stops.
-use Rattle.std.proofs.Common.{ℕ, suc, Bool, true, false, if◌then◌else◌, ◌&&◌, List, [], ◌∷◌, ◌++◌, length, Result, Ok, Err}
+use Rattle.std.proofs.Common.{ℕ, suc, Bool, true, false, if◌then◌else◌, ◌&&◌, List, [], ◌∷◌, ◌++◌, length, Option, Some, None, Result, Ok, Err}
 use Rattle.bw_model.specs.declared.keyword.Keyword.{Keyword}
 use Rattle.bw_model.specs.declared.keyword.Keyword.TheVariants as word
 use Rattle.bw_model.specs.declared.schema.Schema.{Schema}
 use Rattle.bw_sql.specs.declared.reader.Refusal.{Refusal}
-use Rattle.bw_sql.specs.declared.reader.Refusal.TheVariants.{Syntax}
+use Rattle.bw_sql.specs.declared.reader.Refusal.TheVariants.{Syntax, Literal}
+use Rattle.bw_sql.specs.declared.condition.Connective.{Connective}
+use Rattle.bw_sql.specs.declared.condition.Connective.TheVariants as connective
+use Rattle.bw_sql.specs.declared.items.Aggregate.{Aggregate}
+use Rattle.bw_sql.specs.declared.items.Aggregate.TheVariants as aggregate
 use Rattle.bw_sql.specs.declared.token.Mark.TheVariants as mark
 use Rattle.bw_sql.specs.Demand.{Demand, IsTable, IsColumn, Fits, OfOneKind, Depth, is_met, refusal}
+use Rattle.bw_sql.specs.Frontier.{is_sign}
 use Rattle.bw_sql.specs.Reading.{Halt, same_keyword}
 use Rattle.bw_sql.specs.Token.{Lexeme, Name, Digits, Reserved, Compare, Punct}
 
 -- What is to come: a word, a bracket, an operand, the digits after a sign, what follows the first operand of a
--- predicate, its NOT or its IS, further operands; a factor or a primary inside of so many brackets and NOTs, what
--- may follow a primary, its IS, a truth value, further factors and terms; the items, further items, an item
+-- predicate, its NOT or its IS, further operands or items; a factor or a primary inside of so many brackets and NOTs, what
+-- may follow a primary, its IS, a truth value, further parts that a connective joins; the items, an item
 -- after a first one of a kind, what stands in brackets; a table, a selection, the end, a statement.
 pub data Symbol : Type 0 where
   AWord : Keyword → Symbol
@@ -25,103 +30,116 @@ pub data Symbol : Type 0 where
   RangeTail : Symbol
   NullTail : Symbol
   NotNullTail : Symbol
-  OperandTail : Symbol
+  CommaTail : Option Bool → Symbol
   AFactor : ℕ → Symbol
   APrimary : ℕ → Symbol
-  TestTail : ℕ → Symbol
-  TruthTail : ℕ → Symbol
-  NotTruthTail : ℕ → Symbol
-  FactorTail : ℕ → Symbol
-  TermTail : ℕ → Symbol
+  TestTail : Symbol
+  TruthTail : Symbol
+  NotTruthTail : Symbol
+  PartTail : Connective → ℕ → Symbol
   ItemList : Symbol
-  ItemTail : Bool → Symbol
   AnItem : Bool → Symbol
-  CountArgument : Symbol
-  AColumn : Symbol
+  AnArgument : Aggregate → Symbol
   ATable : Symbol
   ASelection : Symbol
   AnEnd : Symbol
   AStatement : Symbol
 
--- A token is taken freely, or if a demand is met, or if a column and its kind are right, or as digits after a
--- sign, at which a refusal stands then.
+-- A token is taken, and gives way to other symbols, if some demands are met; or it is passed on, or not taken.
 pub data Choice : Type 0 where
-  Take : List Symbol → Choice
-  Ask : Demand → List Symbol → Choice
-  AskBoth : List ℕ → Bool → Choice
-  AskDigits : Bool → List ℕ → Choice
+  Ask : List Demand → List Symbol → Choice
   Pass : Choice
   Stop : Choice
 
+abbrev pub Take : List Symbol → Choice
+Take symbols = Ask [] symbols
+
+-- an operand, or an item after a first one of a kind
+abbrev pub one_of : Option Bool → Symbol
+one_of None = AnOperand
+one_of (Some first) = AnItem first
+
+-- a factor, or a term, and then what stands after it
+abbrev pub a_part : Connective → ℕ → List Symbol → List Symbol
+a_part connective.And depth behind = AFactor depth ∷ behind
+a_part connective.Or depth behind = AFactor depth ∷ PartTail connective.And depth ∷ behind
+
 abbrev pub in_brackets : ℕ → List Symbol → List Symbol
-in_brackets depth behind = AFactor depth ∷ FactorTail depth ∷ TermTail depth ∷ Closing ∷ behind
+in_brackets depth behind = a_part connective.Or depth (PartTail connective.Or depth ∷ Closing ∷ behind)
 
 -- an operand, and then what stands after it
 abbrev pub operand_choice : List Symbol → Lexeme → Choice
 operand_choice behind (Reserved word.Null) = Take behind
-operand_choice behind (Name text) = Ask (IsColumn text) behind
-operand_choice behind (Digits digits) = Ask (Fits false digits) behind
+operand_choice behind (Name text) = Ask (IsColumn text ∷ []) behind
+operand_choice behind (Digits digits) = Ask (Fits false digits ∷ []) behind
 operand_choice behind (Punct mark.Plus) = Take (SignedDigits false ∷ behind)
 operand_choice behind (Punct mark.Minus) = Take (SignedDigits true ∷ behind)
 operand_choice behind _ = Stop
 
 -- a bracket, or a predicate
 abbrev pub primary_choice : ℕ → List Symbol → Lexeme → Choice
-primary_choice depth behind (Punct mark.Open) = Ask (Depth (suc depth)) (in_brackets (suc depth) behind)
+primary_choice depth behind (Punct mark.Open) = Ask (Depth (suc depth) ∷ []) (in_brackets (suc depth) behind)
 primary_choice depth behind t = operand_choice (PredicateTail ∷ behind) t
+
+-- a range after BETWEEN, or a list after IN
+abbrev pub range_choice : Lexeme → Choice
+range_choice (Reserved word.Between) = Take (AnOperand ∷ AWord word.And ∷ AnOperand ∷ [])
+range_choice (Reserved word.In) = Take (Opening ∷ AnOperand ∷ CommaTail None ∷ Closing ∷ [])
+range_choice _ = Stop
+
+abbrev pub truth_choice : Lexeme → Choice
+truth_choice (Reserved word.True) = Take []
+truth_choice (Reserved word.False) = Take []
+truth_choice (Reserved word.Unknown) = Take []
+truth_choice _ = Stop
+
+-- an aggregate, where some demands are met
+abbrev pub of_aggregate : Aggregate → List Symbol → List Symbol
+of_aggregate kind behind = Opening ∷ AnArgument kind ∷ Closing ∷ behind
+
+abbrev pub aggregate_choice : List Demand → List Symbol → Lexeme → Choice
+aggregate_choice demands behind (Reserved word.Count) = Ask demands (of_aggregate aggregate.Count behind)
+aggregate_choice demands behind (Reserved word.Sum) = Ask demands (of_aggregate aggregate.Sum behind)
+aggregate_choice demands behind (Reserved word.Min) = Ask demands (of_aggregate aggregate.Min behind)
+aggregate_choice demands behind (Reserved word.Max) = Ask demands (of_aggregate aggregate.Max behind)
+aggregate_choice demands behind _ = Stop
 
 unfoldable pub decide : Symbol → Lexeme → Choice
 decide (AWord word) (Reserved found) = if same_keyword found word then Take [] else Stop
 decide Opening (Punct mark.Open) = Take []
 decide Closing (Punct mark.Close) = Take []
 decide AnOperand t = operand_choice [] t
-decide (SignedDigits is_negative) (Digits digits) = AskDigits is_negative digits
+decide (SignedDigits is_negative) (Digits digits) = Ask (Fits is_negative digits ∷ []) []
 decide PredicateTail (Compare op) = Take (AnOperand ∷ [])
 decide PredicateTail (Reserved word.Is) = Take (NullTail ∷ [])
 decide PredicateTail (Reserved word.Not) = Take (RangeTail ∷ [])
-decide PredicateTail (Reserved word.Between) = Take (AnOperand ∷ AWord word.And ∷ AnOperand ∷ [])
-decide PredicateTail (Reserved word.In) = Take (Opening ∷ AnOperand ∷ OperandTail ∷ Closing ∷ [])
-decide RangeTail (Reserved word.Between) = Take (AnOperand ∷ AWord word.And ∷ AnOperand ∷ [])
-decide RangeTail (Reserved word.In) = Take (Opening ∷ AnOperand ∷ OperandTail ∷ Closing ∷ [])
+decide PredicateTail t = range_choice t
+decide RangeTail t = range_choice t
 decide NullTail (Reserved word.Null) = Take []
 decide NullTail (Reserved word.Not) = Take (NotNullTail ∷ [])
 decide NotNullTail (Reserved word.Null) = Take []
-decide OperandTail (Punct mark.Comma) = Take (AnOperand ∷ OperandTail ∷ [])
-decide OperandTail t = Pass
-decide (AFactor depth) (Reserved word.Not) = Ask (Depth (suc depth)) (APrimary (suc depth) ∷ TestTail (suc depth) ∷ [])
-decide (AFactor depth) t = primary_choice depth (TestTail depth ∷ []) t
+decide (CommaTail of) (Punct mark.Comma) = Take (one_of of ∷ CommaTail of ∷ [])
+decide (CommaTail of) t = Pass
+decide (AFactor depth) (Reserved word.Not) = Ask (Depth (suc depth) ∷ []) (APrimary (suc depth) ∷ TestTail ∷ [])
+decide (AFactor depth) t = primary_choice depth (TestTail ∷ []) t
 decide (APrimary depth) t = primary_choice depth [] t
-decide (TestTail depth) (Reserved word.Is) = Take (TruthTail depth ∷ [])
-decide (TestTail depth) t = Pass
-decide (TruthTail depth) (Reserved word.Not) = Take (NotTruthTail depth ∷ [])
-decide (TruthTail depth) (Reserved word.True) = Take []
-decide (TruthTail depth) (Reserved word.False) = Take []
-decide (TruthTail depth) (Reserved word.Unknown) = Take []
-decide (NotTruthTail depth) (Reserved word.True) = Take []
-decide (NotTruthTail depth) (Reserved word.False) = Take []
-decide (NotTruthTail depth) (Reserved word.Unknown) = Take []
-decide (FactorTail depth) (Reserved word.And) = Take (AFactor depth ∷ FactorTail depth ∷ [])
-decide (FactorTail depth) t = Pass
-decide (TermTail depth) (Reserved word.Or) = Take (AFactor depth ∷ FactorTail depth ∷ TermTail depth ∷ [])
-decide (TermTail depth) t = Pass
+decide TestTail (Reserved word.Is) = Take (TruthTail ∷ [])
+decide TestTail t = Pass
+decide TruthTail (Reserved word.Not) = Take (NotTruthTail ∷ [])
+decide TruthTail t = truth_choice t
+decide NotTruthTail t = truth_choice t
+decide (PartTail connective.And depth) (Reserved word.And) = Take (a_part connective.And depth (PartTail connective.And depth ∷ []))
+decide (PartTail connective.Or depth) (Reserved word.Or) = Take (a_part connective.Or depth (PartTail connective.Or depth ∷ []))
+decide (PartTail by depth) t = Pass
 decide ItemList (Punct mark.Star) = Take []
-decide ItemList (Name text) = Ask (IsColumn text) (ItemTail true ∷ [])
-decide ItemList (Reserved word.Count) = Take (Opening ∷ CountArgument ∷ Closing ∷ ItemTail false ∷ [])
-decide ItemList (Reserved word.Sum) = Take (Opening ∷ AColumn ∷ Closing ∷ ItemTail false ∷ [])
-decide ItemList (Reserved word.Min) = Take (Opening ∷ AColumn ∷ Closing ∷ ItemTail false ∷ [])
-decide ItemList (Reserved word.Max) = Take (Opening ∷ AColumn ∷ Closing ∷ ItemTail false ∷ [])
-decide (ItemTail first) (Punct mark.Comma) = Take (AnItem first ∷ ItemTail first ∷ [])
-decide (ItemTail first) t = Pass
-decide (AnItem first) (Name text) = AskBoth text first
-decide (AnItem first) (Reserved word.Count) = Ask (OfOneKind first false) (Opening ∷ CountArgument ∷ Closing ∷ [])
-decide (AnItem first) (Reserved word.Sum) = Ask (OfOneKind first false) (Opening ∷ AColumn ∷ Closing ∷ [])
-decide (AnItem first) (Reserved word.Min) = Ask (OfOneKind first false) (Opening ∷ AColumn ∷ Closing ∷ [])
-decide (AnItem first) (Reserved word.Max) = Ask (OfOneKind first false) (Opening ∷ AColumn ∷ Closing ∷ [])
-decide CountArgument (Punct mark.Star) = Take []
-decide CountArgument (Name text) = Ask (IsColumn text) []
-decide AColumn (Name text) = Ask (IsColumn text) []
-decide ATable (Name text) = Ask (IsTable text) []
-decide ASelection (Reserved word.Where) = Take (AFactor 0 ∷ FactorTail 0 ∷ TermTail 0 ∷ [])
+decide ItemList (Name text) = Ask (IsColumn text ∷ []) (CommaTail (Some true) ∷ [])
+decide ItemList t = aggregate_choice [] (CommaTail (Some false) ∷ []) t
+decide (AnItem first) (Name text) = Ask (IsColumn text ∷ OfOneKind first true ∷ []) []
+decide (AnItem first) t = aggregate_choice (OfOneKind first false ∷ []) [] t
+decide (AnArgument aggregate.Count) (Punct mark.Star) = Take []
+decide (AnArgument kind) (Name text) = Ask (IsColumn text ∷ []) []
+decide ATable (Name text) = Ask (IsTable text ∷ []) []
+decide ASelection (Reserved word.Where) = Take (a_part connective.Or 0 (PartTail connective.Or 0 ∷ []))
 decide ASelection t = Pass
 decide AnEnd (Punct mark.Semicolon) = Take []
 decide AStatement (Reserved word.Select) = Take (ItemList ∷ AWord word.From ∷ ATable ∷ ASelection ∷ AnEnd ∷ [])
@@ -129,11 +147,9 @@ decide _ _ = Stop
 
 -- the symbols that may be passed at the end
 unfoldable pub may_end : Symbol → Bool
-may_end OperandTail = true
-may_end (TestTail depth) = true
-may_end (FactorTail depth) = true
-may_end (TermTail depth) = true
-may_end (ItemTail first) = true
+may_end (CommaTail of) = true
+may_end TestTail = true
+may_end (PartTail by depth) = true
 may_end ASelection = true
 may_end AnEnd = true
 may_end _ = false
@@ -142,35 +158,32 @@ unfoldable pub all_may_end : List Symbol → Bool
 all_may_end [] = true
 all_may_end (s ∷ stack) = may_end s && all_may_end stack
 
--- why the machine stopped, and whether at the token before
-pub record Halted : Type 0 where
-  pub why : Refusal
-  pub is_behind_sign : Bool
-
-abbrev pub ask : (Demand → Bool) → Demand → Bool → Result (List Symbol) Halted → Result (List Symbol) Halted
-ask met demand is_behind_sign next = if met demand then next else Err (record { why = refusal demand; is_behind_sign = is_behind_sign })
+-- a stack, if the demands are met, asked in this order
+abbrev pub ask : (Demand → Bool) → List Demand → List Symbol → Result (List Symbol) Refusal
+ask met [] stack = Ok stack
+ask met (d ∷ demands) stack = if met d then ask met demands stack else Err (refusal d)
 
 -- what a choice makes of the stack below the symbol, given what the stack makes of the token
-abbrev pub chosen : (Demand → Bool) → Choice → List Symbol → Result (List Symbol) Halted → Result (List Symbol) Halted
-chosen met (Take symbols) stack passed = Ok (symbols ++ stack)
-chosen met (Ask demand symbols) stack passed = ask met demand false (Ok (symbols ++ stack))
-chosen met (AskBoth text first) stack passed = ask met (IsColumn text) false (ask met (OfOneKind first true) false (Ok stack))
-chosen met (AskDigits is_negative digits) stack passed = ask met (Fits is_negative digits) true (Ok stack)
+abbrev pub chosen : (Demand → Bool) → Choice → List Symbol → Result (List Symbol) Refusal → Result (List Symbol) Refusal
+chosen met (Ask demands symbols) stack passed = ask met demands (symbols ++ stack)
 chosen met Pass stack passed = passed
-chosen met Stop stack passed = Err (record { why = Syntax; is_behind_sign = false })
+chosen met Stop stack passed = Err Syntax
 
-unfoldable pub step : (Demand → Bool) → List Symbol → Lexeme → Result (List Symbol) Halted
-step met [] t = Err (record { why = Syntax; is_behind_sign = false })
+unfoldable pub step : (Demand → Bool) → List Symbol → Lexeme → Result (List Symbol) Refusal
+step met [] t = Err Syntax
 step met (s ∷ stack) t = chosen met (decide s t) stack (step met stack t)
 
-abbrev pub halt_at : Halted → ℕ → Halt
-halt_at halted behind = record { why = halted.why; left = if halted.is_behind_sign then suc (suc behind) else suc behind }
+-- how many tokens are left where a token is refused, after a sign or not: a literal is refused at its sign
+abbrev pub left_at : Refusal → Bool → ℕ → ℕ
+left_at Literal true behind = suc (suc behind)
+left_at _ _ behind = suc behind
 
-abbrev pub proceed : Result (List Symbol) Halted → ℕ → (List Symbol → Result (Unit {0}) Halt) → Result (Unit {0}) Halt
-proceed (Ok stack) behind onward = onward stack
-proceed (Err halted) behind onward = Err (halt_at halted behind)
+abbrev pub proceed : Bool → Result (List Symbol) Refusal → ℕ → (List Symbol → Result (Unit {0}) Halt) → Result (Unit {0}) Halt
+proceed signed (Ok stack) behind onward = onward stack
+proceed signed (Err why) behind onward = Err (record { why = why; left = left_at why signed behind })
 
--- a run over all tokens, with all demands of the schema
-unfoldable pub run : Schema → List Symbol → List Lexeme → Result (Unit {0}) Halt
-run schema stack [] = if all_may_end stack then Ok tt else Err (record { why = Syntax; left = 0 })
-run schema stack (t ∷ tokens) = proceed (step (is_met schema) stack t) (length tokens) (λ next. run schema next tokens)
+-- a run over all tokens, after a sign or not, with all demands of the schema
+unfoldable pub run : Schema → Bool → List Symbol → List Lexeme → Result (Unit {0}) Halt
+run schema signed stack [] = if all_may_end stack then Ok tt else Err (record { why = Syntax; left = 0 })
+run schema signed stack (t ∷ tokens) =
+    proceed signed (step (is_met schema) stack t) (length tokens) (λ next. run schema (is_sign t) next tokens)

@@ -19,57 +19,39 @@ pub record Repeats {A : Type 0} (after : List Lexeme → Option (List Lexeme)) (
   pub enough : left ≤ fuel
   pub same : whole ≡ with_front front (repeated fuel after one tokens)
 
-module _ {A : Type 0} (after : List Lexeme → Option (List Lexeme)) (one : List Lexeme → Result (A × List Lexeme) Halt) where
-  pub begins : (front : List A) (tokens : List Placed) →
-      Repeats after one front (length tokens) (lexemes tokens) (with_front front (repeated (length (lexemes tokens)) after one (lexemes tokens)))
-  begins front tokens = record { fuel = length (lexemes tokens); enough = omega (arith, length-lexemes tokens); same = refl }
+fronts : {A : Type 0} (front : List A) (x : A) (read : Result (List A × List Lexeme) Halt) →
+    with_front front (with_front (x ∷ []) read) ≡ with_front (front ++ x ∷ []) read
+fronts front x (Ok xs) = ap (λ all. Ok (all, xs.1)) (sym (append_assoc front (x ∷ []) xs.0))
+fronts front x (Err halt) = refl
 
-  at_none : (fuel : ℕ) (tokens : List Lexeme) → after tokens ≡ None → repeated fuel after one tokens ≡ Ok ([], tokens)
+module _ {A : Type 0} {after : List Lexeme → Option (List Lexeme)} {one : List Lexeme → Result (A × List Lexeme) Halt} {front : List A}
+    {left : ℕ} {tokens : List Lexeme} {whole : Result (List A × List Lexeme) Halt} (repeats : Repeats after one front left tokens whole) where
+  pub ends : after tokens ≡ None → whole ≡ Ok (front, tokens)
   unfolding repeated
-  at_none zero tokens e = refl
-  at_none (suc fuel) tokens e = rw e refl
+  ends e = repeats.same ∙ ap (with_front front) (none repeats.fuel) ∙ ap (λ xs. Ok (xs, tokens)) (append-nil front) where
+    none : (fuel : ℕ) → repeated fuel after one tokens ≡ Ok ([], tokens)
+    none zero = refl
+    none (suc fuel) = rw e refl
 
-  at_some : (fuel : ℕ) (tokens next : List Lexeme) → after tokens ≡ Some next → repeated (suc fuel) after one tokens ≡ more_behind (Some next) tokens one (repeated fuel after one)
+  -- where another comes
+  more : {next : List Lexeme} → after tokens ≡ Some next → 0 < left → (fuel : ℕ) × (left ≤ suc fuel) ×
+      (whole ≡ with_front front (more_behind (Some next) tokens one (repeated fuel after one)))
   unfolding repeated
-  at_some fuel tokens next e = rw e refl
+  more {next = next} e some = go repeats.fuel repeats.enough repeats.same where
+    go : (fuel : ℕ) → left ≤ fuel → whole ≡ with_front front (repeated fuel after one tokens) → (fuel : ℕ) × (left ≤ suc fuel) ×
+        (whole ≡ with_front front (more_behind (Some next) tokens one (repeated fuel after one)))
+    go zero enough same = absurd (omega arith)
+    go (suc fuel) enough same = (fuel, enough, rw e at same)
 
-  pub ends : (front : List A) (left : ℕ) (tokens : List Lexeme) (whole : Result (List A × List Lexeme) Halt) →
-      Repeats after one front left tokens whole → after tokens ≡ None → whole ≡ Ok (front, tokens)
-  ends front left tokens whole repeats e =
-      repeats.same ∙ ap (with_front front) (at_none repeats.fuel tokens e) ∙ ap (λ xs. Ok (xs, tokens)) (append-nil front)
+  pub halts : {next : List Lexeme} (stop : Stop) → after tokens ≡ Some next → Halts stop (one next) → 0 < left → Halts stop whole
+  halts (Refused why behind) e f some = let m = more e some in m.2 ∙ (rw f refl)
+  halts OutOfMemory e f some = tt
 
-  halts_by : (front : List A) (left : ℕ) (tokens next : List Lexeme) (whole : Result (List A × List Lexeme) Halt) (halt : Halt) (fuel : ℕ) →
-      left ≤ fuel → whole ≡ with_front front (repeated fuel after one tokens) → after tokens ≡ Some next → one next ≡ Err halt → 0 < left → whole ≡ Err halt
-  halts_by front left tokens next whole halt zero enough same e f some = absurd (omega arith)
-  halts_by front left tokens next whole halt (suc fuel) enough same e f some =
-      let halted : more_behind (Some next) tokens one (repeated fuel after one) ≡ Err halt = rw f refl in
-      same ∙ ap (with_front front) (at_some fuel tokens next e ∙ halted)
-
-  pub halts : (front : List A) (left : ℕ) (tokens next : List Lexeme) (whole : Result (List A × List Lexeme) Halt) (halt : Halt) →
-      Repeats after one front left tokens whole → after tokens ≡ Some next → one next ≡ Err halt → 0 < left → whole ≡ Err halt
-  halts front left tokens next whole halt repeats e f some = halts_by front left tokens next whole halt repeats.fuel repeats.enough repeats.same e f some
-
-  fronts : (front : List A) (x : A) (read : Result (List A × List Lexeme) Halt) →
-      with_front front (with_front (x ∷ []) read) ≡ with_front (front ++ x ∷ []) read
-  fronts front x (Ok xs) = ap (λ all. Ok (all, xs.1)) (sym (append_assoc front (x ∷ []) xs.0))
-  fronts front x (Err halt) = refl
-
-  steps_by : (front : List A) (left : ℕ) (tokens next rest : List Lexeme) (whole : Result (List A × List Lexeme) Halt) (x : A) (fuel : ℕ) →
-      left ≤ fuel → whole ≡ with_front front (repeated fuel after one tokens) → after tokens ≡ Some next → one next ≡ Ok (x, rest) →
-      (fewer : ℕ) → fewer < left → Repeats after one (front ++ x ∷ []) fewer rest whole
-  steps_by front left tokens next rest whole x zero enough same e f fewer h = absurd (omega arith)
-  steps_by front left tokens next rest whole x (suc fuel) enough same e f fewer h =
-      let read : more_behind (Some next) tokens one (repeated fuel after one) ≡ with_front (x ∷ []) (repeated fuel after one rest) = rw f refl in
-      record {
-        fuel = fuel;
-        enough = omega arith;
-        same = same ∙ ap (with_front front) (at_some fuel tokens next e ∙ read) ∙ fronts front x (repeated fuel after one rest);
-      }
-
-  pub steps : (front : List A) (left : ℕ) (tokens next rest : List Lexeme) (whole : Result (List A × List Lexeme) Halt) (x : A) →
-      Repeats after one front left tokens whole → after tokens ≡ Some next → one next ≡ Ok (x, rest) →
-      (fewer : ℕ) → fewer < left → Repeats after one (front ++ x ∷ []) fewer rest whole
-  steps front left tokens next rest whole x repeats e f fewer h = steps_by front left tokens next rest whole x repeats.fuel repeats.enough repeats.same e f fewer h
+  pub steps : {next rest : List Lexeme} {x : A} {all : List A} {fewer : ℕ} → after tokens ≡ Some next → one next ≡ Ok (x, rest) →
+      all ≡ front ++ x ∷ [] → fewer < left → Repeats after one all fewer rest whole
+  steps {rest = rest} {x = x} e f g less =
+      let m = more e (omega arith) in
+      record { fuel = m.0; enough = omega (arith, m.1); same = rw g (m.2 ∙ (rw f (fronts front x (repeated m.0 after one rest)))) }
 
 -- what stops one reader stops the one that calls it
 pub halts_too : {A B : Type 0} (stop : Stop) (r : Result A Halt) (w : Result B Halt) →

@@ -9,157 +9,194 @@ use Rattle.bw_model.specs.declared.query.Item.TheVariants.{Plain}
 use Rattle.bw_model.specs.declared.schema.Schema.{Schema}
 use Rattle.bw_model.specs.Number.{number_of}
 use Rattle.bw_model.specs.Text.{same_text}
+use Rattle.bw_sql.specs.declared.condition.Connective.{Connective}
+use Rattle.bw_sql.specs.declared.condition.Connective.TheVariants as connective
 use Rattle.bw_sql.specs.declared.items.Aggregate.{Aggregate}
 use Rattle.bw_sql.specs.declared.items.Aggregate.TheVariants as aggregate
-use Rattle.bw_sql.specs.declared.reader.Refusal.TheVariants.{Syntax}
+use Rattle.bw_sql.specs.declared.reader.Refusal.{Refusal}
+use Rattle.bw_sql.specs.declared.reader.Refusal.TheVariants.{Syntax, Literal}
 use Rattle.bw_sql.specs.declared.token.Mark.TheVariants as mark
 use Rattle.bw_sql.specs.Asked.{Asked}
-use Rattle.bw_model.specs.CondTree.{CondTree, CondTrees, And, Or}
+use Rattle.bw_model.specs.CondTree.{CondTree, CondTrees}
 use Rattle.bw_model.specs.Column.{column_named}
-use Rattle.bw_sql.specs.Demand.{Depth, is_met}
+use Rattle.bw_sql.specs.Demand.{Depth, is_met, meets}
+use Rattle.bw_sql.specs.Frontier.{is_sign}
 use Rattle.bw_sql.specs.Limits.{deepest_nesting}
-use Rattle.bw_sql.specs.Reading.{Halt, Nested, ◌>>=◌, refuse, more_items, same_keyword, after_keyword, after_mark, keyword_at, mark_at, name_at, digits_at, sign_at, literal_at, column_at, table_at, operand_at, repeated, with_front, operands_at, range_at, list_at, range_or_list_at, null_test_at, after_comparison, behind_comparison, predicate_at, truth_value_at, truth_test_at, primary_in, test_in, factor_in, series_at, series_behind, term_in, condition_in, nested, selection_at, table_expression_at, end_at, after_aggregate, aggregated_at, aggregate_item, item_at, of_one_kind, next_item_at, items_at, statement_at}
+use Rattle.bw_sql.specs.Reading.{Halt, Nested, ◌>>=◌, more_items, same_keyword, after_keyword, after_mark, keyword_at, mark_at, name_at, digits_at, sign_at, literal_at, column_at, table_at, operand_at, repeated, with_front, operands_at, range_at, list_at, range_or_list_at, null_test_at, after_comparison, behind_comparison, predicate_at, truth_value_at, truth_test_at, primary_in, test_in, factor_in, part_in, joined_in, series_at, series_behind, term_in, condition_in, nested, selection_at, table_expression_at, end_at, after_aggregate, aggregated_at, argument_at, item_at, of_one_kind, next_item_at, items_at, statement_at}
 use Rattle.bw_sql.specs.Token.{Lexeme, Name, Digits, Reserved, Compare, Punct}
-use Rattle.bw_sql.proofs.Sound.{mark_is, word_is, not_too_deep, operand_shorter, next_item_shorter, factor_shorter, term_shorter}
-use Rattle.bw_sql.proofs.Machine.{Symbol, AWord, Opening, Closing, AnOperand, PredicateTail, RangeTail, OperandTail, AFactor, APrimary, TestTail, FactorTail, TermTail, ItemList, ItemTail, AnItem, CountArgument, AColumn, ATable, ASelection, AnEnd, AStatement, in_brackets, operand_choice, primary_choice, decide, may_end, all_may_end, ask, chosen, step, proceed, run}
+use Rattle.bw_sql.specs.Words.{word_of, join_of}
+use Rattle.bw_sql.proofs.Cases.{bool_cases, option_cases}
+use Rattle.bw_sql.proofs.Spellings.{mark_is, word_is}
+use Rattle.bw_sql.proofs.Machine.{Symbol, Choice, AWord, Opening, Closing, AnOperand, PredicateTail, RangeTail, CommaTail, APrimary, TestTail, PartTail, ItemList, AnItem, AnArgument, ATable, ASelection, AnEnd, AStatement, a_part, one_of, of_aggregate, in_brackets, operand_choice, primary_choice, decide, may_end, all_may_end, ask, chosen, step, proceed, run}
 
 assoc : {A B C : Type 0} (m : Result A Halt) (f : A → Result B Halt) (g : B → Result C Halt) → ((m >>= f) >>= g) ≡ (m >>= λ x. f x >>= g)
 assoc (Ok x) f g = refl
 assoc (Err halt) f g = refl
 
-same : {A B : Type 0} (m : Result A Halt) (f g : A → Result B Halt) → ((x : A) → m ≡ Ok x → f x ≡ g x) → (m >>= f) ≡ (m >>= g)
-same (Ok x) f g h = h x refl
-same (Err halt) f g h = refl
-
-chain : {A B C : Type 0} (m : Result A Halt) (f : A → Result B Halt) (h : A → Result C Halt) (g : B → Result C Halt) → ((x : A) → m ≡ Ok x → h x ≡ (f x >>= g)) → (m >>= h) ≡ ((m >>= f) >>= g)
-chain m f h g k = same m h (λ x. f x >>= g) k ∙ sym (assoc m f g)
-
-pub option_cases : {A P : Type 0} (o : Option A) → (o ≡ None → P) → ((x : A) → o ≡ Some x → P) → P
-option_cases None f g = f refl
-option_cases (Some x) f g = g x refl
-
-pub bool_cases : {P : Type 0} (b : Bool) → (b ≡ true → P) → (b ≡ false → P) → P
-bool_cases true f g = f refl
-bool_cases false f g = g refl
+chain : {A B C : Type 0} (m : Result A Halt) (f : A → Result B Halt) (h : A → Result C Halt) (g : B → Result C Halt) →
+    ((x : A) → m ≡ Ok x → h x ≡ (f x >>= g)) → (m >>= h) ≡ ((m >>= f) >>= g)
+chain (Ok x) f h g k = k x refl
+chain (Err halt) f h g k = refl
 
 module _ (schema : Schema) where
-  word_runs : (w : Keyword) (stack : List Symbol) (tokens : List Lexeme) → run schema (AWord w ∷ stack) tokens ≡ (keyword_at w tokens >>= λ rest. run schema stack rest)
+  -- reading is what the machine does with some symbols above a stack
+  abbrev Runs : {A : Type 0} → (List Symbol → List Symbol) → (List Lexeme → Result (A × List Lexeme) Halt) → Type 0
+  Runs symbols read = (stack : List Symbol) (tokens : List Lexeme) →
+      run schema false (symbols stack) tokens ≡ (read tokens >>= λ x. run schema false stack x.1)
+
+  same_halt : (a b : Halt) → ◌≡◌ {A = Result (Unit {0}) Halt} (Err a) (Err b) → (a.why ≡ b.why) × (a.left ≡ b.left)
+  same_halt a b e = let same : a ≡ b = cc in (ap (λ (h : Halt). h.why) same, ap (λ (h : Halt). h.left) same)
+
+  -- a refusal by the grammar is at one of the tokens, so a reader leaves no more of them than there were
+  refused_within : (signed : Bool) (stack : List Symbol) (tokens : List Lexeme) (n : ℕ) →
+      run schema signed stack tokens ≡ Err (record { why = Syntax; left = suc n }) → n < length tokens
+  unfolding run
+  refused_within signed stack [] n e = bool_cases (all_may_end stack) (λ m. let f = rw m at e in cc)
+      (λ u. absurd (omega (arith, (same_halt _ _ (rw u at e)).1)))
+  refused_within signed stack (t ∷ tokens) n e =
+      go (step (is_met schema) stack t) signed (λ next f. refused_within (is_sign t) next tokens n f) e
+    where
+      go : (r : Result (List Symbol) Refusal) (signed : Bool) → ((next : List Symbol) →
+          run schema (is_sign t) next tokens ≡ Err (record { why = Syntax; left = suc n }) → n < length tokens) →
+          proceed signed r (length tokens) (λ next. run schema (is_sign t) next tokens) ≡ Err (record { why = Syntax; left = suc n }) →
+          n < suc (length tokens)
+      go (Ok next) signed onward e = omega (arith, onward next e)
+      go (Err Literal) signed onward e = let same = (same_halt _ _ e).0 in cc
+      go (Err why) signed onward e = omega (arith, (same_halt _ _ e).1)
+
+  pub takes : {A : Type 0} (symbols : List Symbol → List Symbol) (read : List Lexeme → Result (A × List Lexeme) Halt) →
+      Runs symbols read → (tokens rest : List Lexeme) (x : A) → read tokens ≡ Ok (x, rest) → length rest ≤ length tokens
+  unfolding run all_may_end step
+  takes symbols read runs tokens [] x e = omega arith
+  takes symbols read runs tokens (t ∷ rest) x e =
+      refused_within false (symbols []) tokens (length rest) (runs [] tokens ∙ ap (λ r. r >>= λ x. run schema false [] x.1) e)
+
+  -- a word or a mark that has to come
+  abbrev RunsOn : Symbol → (List Lexeme → Result (List Lexeme) Halt) → Type 0
+  RunsOn symbol read = (stack : List Symbol) (tokens : List Lexeme) →
+      run schema false (symbol ∷ stack) tokens ≡ (read tokens >>= λ rest. run schema false stack rest)
+
+  word_runs : (w : Keyword) → RunsOn (AWord w) (keyword_at w)
   unfolding run step decide all_may_end may_end keyword_at after_keyword
   word_runs w stack (Reserved found ∷ tokens) = bool_cases (same_keyword found w) (λ e. rw e refl) (λ e. rw e refl)
   word_runs w stack _ = refl
 
-  opening_runs : (stack : List Symbol) (tokens : List Lexeme) → run schema (Opening ∷ stack) tokens ≡ (mark_at mark.Open tokens >>= λ rest. run schema stack rest)
+  opening_runs : RunsOn Opening (mark_at mark.Open)
   unfolding run step decide all_may_end may_end mark_at after_mark
   opening_runs stack (Punct mark.Open ∷ tokens) = refl
   opening_runs stack _ = refl
 
-  closing_runs : (stack : List Symbol) (tokens : List Lexeme) → run schema (Closing ∷ stack) tokens ≡ (mark_at mark.Close tokens >>= λ rest. run schema stack rest)
+  closing_runs : RunsOn Closing (mark_at mark.Close)
   unfolding run step decide all_may_end may_end mark_at after_mark
   closing_runs stack (Punct mark.Close ∷ tokens) = refl
   closing_runs stack _ = refl
 
-  -- digits after a sign
-  operand_chosen : (behind stack : List Symbol) (passed : _) (t : Lexeme) (tokens : List Lexeme) →
-      proceed (chosen (is_met schema) (operand_choice behind t) stack passed) (length tokens) (λ next. run schema next tokens) ≡
-      (operand_at schema (t ∷ tokens) >>= λ x. run schema (behind ++ stack) x.1)
-  unfolding run step decide all_may_end may_end is_met operand_at after_keyword after_mark column_at name_at literal_at sign_at digits_at
+  -- the machine's choice at a token, above a stack
+  abbrev Chooses : {A : Type 0} → (List Symbol → Lexeme → Choice) → (List Lexeme → Result (A × List Lexeme) Halt) → Type 0
+  Chooses choice read = (behind stack : List Symbol) (passed : Result (List Symbol) Refusal) (t : Lexeme) (tokens : List Lexeme) →
+      proceed false (chosen (is_met schema) (choice behind t) stack passed) (length tokens) (λ next. run schema (is_sign t) next tokens) ≡
+      (read (t ∷ tokens) >>= λ x. run schema false (behind ++ stack) x.1)
+
+  operand_chosen : Chooses operand_choice (operand_at schema)
+  unfolding run step decide all_may_end may_end meets operand_at after_keyword after_mark column_at name_at literal_at sign_at digits_at
   operand_chosen behind stack passed (Reserved word.Null) tokens = refl
-  operand_chosen behind stack passed (Name text) tokens = option_cases (column_named schema.columns.items text) (λ e. rw e refl) (λ n e. rw e refl)
+  operand_chosen behind stack passed (Name text) tokens =
+      option_cases (column_named schema.columns.items text) (λ e. rw e refl) (λ n e. rw e refl)
   operand_chosen behind stack passed (Digits digits) tokens = option_cases (number_of false digits) (λ e. rw e refl) (λ n e. rw e refl)
-  operand_chosen behind stack passed (Punct mark.Plus) (Digits digits ∷ tokens) = option_cases (number_of false digits) (λ e. rw e refl) (λ n e. rw e refl)
-  operand_chosen behind stack passed (Punct mark.Minus) (Digits digits ∷ tokens) = option_cases (number_of true digits) (λ e. rw e refl) (λ n e. rw e refl)
+  operand_chosen behind stack passed (Punct mark.Plus) (Digits digits ∷ tokens) =
+      option_cases (number_of false digits) (λ e. rw e refl) (λ n e. rw e refl)
+  operand_chosen behind stack passed (Punct mark.Minus) (Digits digits ∷ tokens) =
+      option_cases (number_of true digits) (λ e. rw e refl) (λ n e. rw e refl)
   operand_chosen behind stack passed _ _ = refl
 
-  operand_runs : (stack : List Symbol) (tokens : List Lexeme) → run schema (AnOperand ∷ stack) tokens ≡ (operand_at schema tokens >>= λ x. run schema stack x.1)
+  pub operand_runs : Runs (λ stack. AnOperand ∷ stack) (operand_at schema)
   unfolding run step decide all_may_end may_end operand_at after_keyword literal_at sign_at digits_at after_mark
   operand_runs stack [] = refl
   operand_runs stack (t ∷ tokens) = operand_chosen [] stack (step (is_met schema) stack t) t tokens
 
 -- What is after a first thing: more of them, as long as something introduces them.
-record TailLaws (schema : Schema) {A : Type 0} (tail : Symbol) (ones : List Symbol → List Symbol) (after : List Lexeme → Option (List Lexeme)) (one : List Lexeme → Result (A × List Lexeme) Halt) : Type 0 where
-  one_runs : (stack : List Symbol) (tokens : List Lexeme) → run schema (ones stack) tokens ≡ (one tokens >>= λ x. run schema stack x.1)
-  ends : (stack : List Symbol) (tokens : List Lexeme) → after tokens ≡ None → run schema (tail ∷ stack) tokens ≡ run schema stack tokens
-  goes_on : (stack : List Symbol) (tokens next : List Lexeme) → after tokens ≡ Some next → run schema (tail ∷ stack) tokens ≡ run schema (ones (tail ∷ stack)) next
-  shorter : (tokens next : List Lexeme) → after tokens ≡ Some next → length next < length tokens
-  one_shorter : (tokens : List Lexeme) (x : A × List Lexeme) → one tokens ≡ Ok x → length x.1 ≤ length tokens
+record TailLaws (schema : Schema) {A : Type 0} (tail : Symbol) (ones : List Symbol → List Symbol)
+    (after : List Lexeme → Option (List Lexeme)) (one : List Lexeme → Result (A × List Lexeme) Halt) : Type 0 where
+  one_runs : Runs schema ones one
+  ends : (stack : List Symbol) (tokens : List Lexeme) → after tokens ≡ None →
+      run schema false (tail ∷ stack) tokens ≡ run schema false stack tokens
+  token : Lexeme
+  comes : (tokens next : List Lexeme) → after tokens ≡ Some next → tokens ≡ token ∷ next
+  goes_on : (stack : List Symbol) (next : List Lexeme) →
+      run schema false (tail ∷ stack) (token ∷ next) ≡ run schema false (ones (tail ∷ stack)) next
 
-module _ (schema : Schema) {A : Type 0} (tail : Symbol) (ones : List Symbol → List Symbol) (after : List Lexeme → Option (List Lexeme)) (one : List Lexeme → Result (A × List Lexeme) Halt)
-    (laws : TailLaws schema tail ones after one) where
-  repeated_none : (n : ℕ) (tokens : List Lexeme) → after tokens ≡ None → repeated (suc n) after one tokens ≡ Ok ([], tokens)
+module _ (schema : Schema) {A : Type 0} (tail : Symbol) (ones : List Symbol → List Symbol) (after : List Lexeme → Option (List Lexeme))
+    (one : List Lexeme → Result (A × List Lexeme) Halt) (laws : TailLaws schema tail ones after one) where
+  tail_runs : (n : ℕ) (stack : List Symbol) (tokens : List Lexeme) → length tokens ≤ n →
+      run schema false (tail ∷ stack) tokens ≡ (repeated n after one tokens >>= λ xs. run schema false stack xs.1)
   unfolding repeated
-  repeated_none n tokens e = rw e refl
+  tail_runs zero stack tokens h = option_cases (after tokens) (laws.ends stack tokens)
+      (λ next e. absurd (omega (arith, ap length (laws.comes tokens next e))))
+  tail_runs (suc n) stack tokens h = option_cases (after tokens) (λ e. rw e (laws.ends stack tokens e))
+      (λ next e. rw e (ap (run schema false (tail ∷ stack)) (laws.comes tokens next e) ∙ laws.goes_on stack next
+      ∙ laws.one_runs (tail ∷ stack) next
+      ∙ chain (one next) _ _ _ (λ x f. let less = takes schema ones one laws.one_runs next x.1 x.0 f in
+      tail_runs n stack x.1 (omega (arith, ap length (laws.comes tokens next e), less))
+      ∙ chain (repeated n after one x.1) _ _ _ (λ xs g. refl))))
 
-  repeated_some : (n : ℕ) (tokens next : List Lexeme) → after tokens ≡ Some next →
-      repeated (suc n) after one tokens ≡ (one next >>= λ x. repeated n after one x.1 >>= λ xs. Ok (x.0 ∷ xs.0, xs.1))
-  unfolding repeated
-  repeated_some n tokens next e = rw e refl
+module _ (schema : Schema) (tail : Symbol) (ones : List Symbol → List Symbol) (w : Keyword)
+    (one : List Lexeme → Result (CondTree × List Lexeme) Halt) (laws : TailLaws schema tail ones (after_keyword w) one)
+    (join : CondTrees → CondTree) where
+  joined_tail : (first : CondTree) (stack : List Symbol) (tokens : List Lexeme) → run schema false (tail ∷ stack) tokens ≡
+      (series_behind w join one first (after_keyword w tokens) tokens >>= λ c. run schema false stack c.1)
+  joined_tail first stack tokens = option_cases (after_keyword w tokens) (λ e. rw e (laws.ends stack tokens e))
+      (λ next e. rw e (tail_runs schema tail ones (after_keyword w) one laws (length tokens) stack tokens (omega arith)
+      ∙ sym (assoc (with_front (first ∷ []) (repeated (length tokens) (after_keyword w) one tokens)) _ _
+      ∙ assoc (repeated (length tokens) (after_keyword w) one tokens) _ _)))
 
-  tail_runs : (n : ℕ) (stack : List Symbol) (tokens : List Lexeme) → length tokens ≤ n → run schema (tail ∷ stack) tokens ≡ (repeated n after one tokens >>= λ xs. run schema stack xs.1)
-  unfolding repeated
-  tail_runs zero stack tokens h = option_cases (after tokens) (λ e. laws.ends stack tokens e) (λ next e. absurd (omega (arith, laws.shorter tokens next e)))
-  tail_runs (suc n) stack tokens h = option_cases (after tokens)
-      (λ e. laws.ends stack tokens e ∙ sym (ap (λ r. r >>= λ xs. run schema stack xs.1) (repeated_none n tokens e)))
-      (λ next e. laws.goes_on stack tokens next e ∙ laws.one_runs (tail ∷ stack) next
-      ∙ same (one next) _ _ (λ x f. tail_runs n stack x.1 (omega (arith, laws.shorter tokens next e, laws.one_shorter next x f)) ∙ sym (assoc (repeated n after one x.1) _ _))
-      ∙ sym (ap (λ r. r >>= λ xs. run schema stack xs.1) (repeated_some n tokens next e) ∙ assoc (one next) _ _))
-
-module _ (schema : Schema) (tail : Symbol) (ones : List Symbol → List Symbol) (w : Keyword) (one : List Lexeme → Result (CondTree × List Lexeme) Halt)
-    (laws : TailLaws schema tail ones (after_keyword w) one) (join : CondTrees → CondTree) where
-  joined_tail : (first : CondTree) (stack : List Symbol) (tokens : List Lexeme) →
-      run schema (tail ∷ stack) tokens ≡ (series_behind w join one first (after_keyword w tokens) tokens >>= λ c. run schema stack c.1)
-  joined_tail first stack tokens = option_cases (after_keyword w tokens)
-      (λ e. laws.ends stack tokens e ∙ sym (ap (λ o. series_behind w join one first o tokens >>= λ c. run schema stack c.1) e))
-      (λ next e. tail_runs schema tail ones (after_keyword w) one laws (length tokens) stack tokens (omega arith)
-      ∙ sym (assoc (with_front (first ∷ []) (repeated (length tokens) (after_keyword w) one tokens)) _ _ ∙ assoc (repeated (length tokens) (after_keyword w) one tokens) _ _)
-      ∙ sym (ap (λ o. series_behind w join one first o tokens >>= λ c. run schema stack c.1) e))
-
-  joined_runs : (stack : List Symbol) (tokens : List Lexeme) → run schema (ones (tail ∷ stack)) tokens ≡ (series_at w join one tokens >>= λ c. run schema stack c.1)
-  joined_runs stack tokens = laws.one_runs (tail ∷ stack) tokens ∙ same (one tokens) _ _ (λ c f. joined_tail c.0 stack c.1) ∙ sym (assoc (one tokens) _ _)
+  joined_runs : Runs schema (λ stack. ones (tail ∷ stack)) (series_at w join one)
+  joined_runs stack tokens = laws.one_runs (tail ∷ stack) tokens ∙ chain (one tokens) _ _ _ (λ c f. joined_tail c.0 stack c.1)
 
 module _ (schema : Schema) where
-  operand_ends : (stack : List Symbol) (tokens : List Lexeme) → after_mark mark.Comma tokens ≡ None → run schema (OperandTail ∷ stack) tokens ≡ run schema stack tokens
+  comma_laws : {A : Type 0} (of : Option Bool) (one : List Lexeme → Result (A × List Lexeme) Halt) →
+      Runs schema (λ stack. one_of of ∷ stack) one →
+      TailLaws schema (CommaTail of) (λ stack. one_of of ∷ stack) (after_mark mark.Comma) one
   unfolding run step decide all_may_end may_end after_mark
-  operand_ends stack (Punct mark.Comma ∷ tokens) e = cc
-  operand_ends stack _ e = refl
-
-  operand_goes_on : (stack : List Symbol) (tokens next : List Lexeme) → after_mark mark.Comma tokens ≡ Some next → run schema (OperandTail ∷ stack) tokens ≡ run schema (AnOperand ∷ OperandTail ∷ stack) next
-  unfolding run step decide
-  operand_goes_on stack tokens next e = ap (run schema (OperandTail ∷ stack)) (mark_is mark.Comma tokens next e)
-
-  operand_laws : TailLaws schema OperandTail (λ stack. AnOperand ∷ stack) (after_mark mark.Comma) (operand_at schema)
-  operand_laws = record {
-    one_runs = operand_runs schema;
-    ends = operand_ends;
-    goes_on = operand_goes_on;
-    shorter = λ tokens next e. omega (arith, ap length (mark_is mark.Comma tokens next e));
-    one_shorter = operand_shorter schema;
+  comma_laws of one runs = record {
+    one_runs = runs;
+    ends = ends;
+    token = Punct mark.Comma;
+    comes = mark_is mark.Comma;
+    goes_on = λ stack next. refl;
   }
+    where
+      ends : (stack : List Symbol) (tokens : List Lexeme) → after_mark mark.Comma tokens ≡ None →
+          run schema false (CommaTail of ∷ stack) tokens ≡ run schema false stack tokens
+      ends stack (Punct mark.Comma ∷ tokens) e = cc
+      ends stack _ e = refl
 
-  between_runs : (x : Operand) (stack : List Symbol) (tokens : List Lexeme) → run schema (AnOperand ∷ AWord word.And ∷ AnOperand ∷ stack) tokens ≡ (range_at schema x tokens >>= λ c. run schema stack c.1)
+  between_runs : (x : Operand) → Runs schema (λ stack. AnOperand ∷ AWord word.And ∷ AnOperand ∷ stack) (range_at schema x)
   between_runs x stack tokens = operand_runs schema _ tokens
       ∙ chain (operand_at schema tokens) _ _ _ (λ y e. word_runs schema word.And _ y.1
       ∙ chain (keyword_at word.And y.1) _ _ _ (λ rest f. operand_runs schema _ rest
       ∙ chain (operand_at schema rest) _ _ _ (λ z g. refl)))
 
-  operands_run : (stack : List Symbol) (tokens : List Lexeme) → run schema (AnOperand ∷ OperandTail ∷ stack) tokens ≡ (operands_at schema tokens >>= λ xs. run schema stack xs.1)
+  operands_run : Runs schema (λ stack. AnOperand ∷ CommaTail None ∷ stack) (operands_at schema)
   operands_run stack tokens = operand_runs schema _ tokens
-      ∙ chain (operand_at schema tokens) _ _ _ (λ y e. tail_runs schema OperandTail _ _ _ operand_laws (length y.1) stack y.1 (omega arith)
+      ∙ chain (operand_at schema tokens) _ _ _ (λ y e. tail_runs schema (CommaTail None) _ _ _ (comma_laws None _ (operand_runs schema)) (length y.1) stack y.1 (omega arith)
       ∙ chain (repeated (length y.1) (after_mark mark.Comma) (operand_at schema) y.1) _ _ _ (λ ys f. refl))
 
-  list_in_runs : (x : Operand) (stack : List Symbol) (tokens : List Lexeme) → run schema (Opening ∷ AnOperand ∷ OperandTail ∷ Closing ∷ stack) tokens ≡ (list_at schema x (Reserved word.In ∷ tokens) >>= λ c. run schema stack c.1)
+  list_in_runs : (x : Operand) → Runs schema (λ stack. Opening ∷ AnOperand ∷ CommaTail None ∷ Closing ∷ stack)
+      (λ tokens. list_at schema x (Reserved word.In ∷ tokens))
   unfolding keyword_at after_keyword
   list_in_runs x stack tokens = opening_runs schema _ tokens
       ∙ chain (mark_at mark.Open tokens) _ _ _ (λ rest e. operands_run (Closing ∷ stack) rest
       ∙ chain (operands_at schema rest) _ _ _ (λ items f. closing_runs schema stack items.1
       ∙ chain (mark_at mark.Close items.1) _ _ _ (λ rest g. refl)))
 
-  range_runs : (x : Operand) (stack : List Symbol) (tokens : List Lexeme) → run schema (RangeTail ∷ stack) tokens ≡ (range_or_list_at schema x tokens >>= λ c. run schema stack c.1)
+  range_runs : (x : Operand) → Runs schema (λ stack. RangeTail ∷ stack) (range_or_list_at schema x)
   unfolding run step decide all_may_end may_end range_or_list_at after_keyword keyword_at
   range_runs x stack (Reserved word.Between ∷ tokens) = between_runs x stack tokens
   range_runs x stack (Reserved word.In ∷ tokens) = list_in_runs x stack tokens
   range_runs x stack _ = refl
 
-  predicate_tail : (x : Operand) (stack : List Symbol) (tokens : List Lexeme) → run schema (PredicateTail ∷ stack) tokens ≡ (behind_comparison schema x (after_comparison tokens) tokens >>= λ c. run schema stack c.1)
+  predicate_tail : (x : Operand) → Runs schema (λ stack. PredicateTail ∷ stack)
+      (λ tokens. behind_comparison schema x (after_comparison tokens) tokens)
   unfolding run step decide all_may_end may_end range_or_list_at after_keyword keyword_at after_comparison null_test_at
   predicate_tail x stack (Compare op ∷ tokens) = operand_runs schema stack tokens ∙ chain (operand_at schema tokens) _ _ _ (λ y e. refl)
   predicate_tail x stack (Reserved word.Is ∷ Reserved word.Null ∷ tokens) = refl
@@ -169,102 +206,99 @@ module _ (schema : Schema) where
   predicate_tail x stack (Reserved word.In ∷ tokens) = list_in_runs x stack tokens
   predicate_tail x stack _ = refl
 
-  test_tail : (depth : ℕ) (c : CondTree) (stack : List Symbol) (tokens : List Lexeme) → run schema (TestTail depth ∷ stack) tokens ≡ (truth_test_at c tokens >>= λ c. run schema stack c.1)
+  test_tail : (c : CondTree) → Runs schema (λ stack. TestTail ∷ stack) (truth_test_at c)
   unfolding run step decide all_may_end may_end truth_test_at after_keyword truth_value_at
-  test_tail depth c stack (Reserved word.Is ∷ Reserved word.Not ∷ Reserved word.True ∷ tokens) = refl
-  test_tail depth c stack (Reserved word.Is ∷ Reserved word.True ∷ tokens) = refl
-  test_tail depth c stack _ = refl
+  test_tail c stack (Reserved word.Is ∷ Reserved word.Not ∷ Reserved word.True ∷ tokens) = refl
+  test_tail c stack (Reserved word.Is ∷ Reserved word.True ∷ tokens) = refl
+  test_tail c stack _ = refl
 
-too_deep : (depth : ℕ) → 0 + depth ≡ deepest_nesting → nat_le (suc depth) deepest_nesting ≡ false
+pub too_deep : (depth : ℕ) → 0 + depth ≡ deepest_nesting → nat_le (suc depth) deepest_nesting ≡ false
 too_deep depth e = grind (arith, nat_tests)
 
--- what stands one level deeper, after `(` and after NOT
-record LevelRuns (schema : Schema) (depth : ℕ) (inner : Nested) : Type 0 where
-  enclosed_runs : (behind stack : List Symbol) (next : List Lexeme) →
-      proceed (ask (is_met schema) (Depth (suc depth)) false (Ok (in_brackets (suc depth) behind ++ stack))) (length next) (λ s. run schema s next) ≡
-      (inner.enclosed (Punct mark.Open ∷ next) next >>= λ c. run schema (behind ++ stack) c.1)
-  negated_runs : (stack : List Symbol) (next : List Lexeme) →
-      proceed (ask (is_met schema) (Depth (suc depth)) false (Ok (APrimary (suc depth) ∷ TestTail (suc depth) ∷ stack))) (length next) (λ s. run schema s next) ≡
-      (inner.negated (Reserved word.Not ∷ next) next >>= λ c. run schema stack c.1)
+not_too_deep : (n depth : ℕ) → suc n + depth ≡ deepest_nesting → nat_le (suc depth) deepest_nesting ≡ true
+not_too_deep n depth e = grind (arith, nat_tests)
 
-module _ (schema : Schema) (n depth : ℕ) (at : n + depth ≡ deepest_nesting) (level : LevelRuns schema depth (nested schema n)) where
-  primary_chosen : (behind stack : List Symbol) (passed : _) (t : Lexeme) (tokens : List Lexeme) →
-      proceed (chosen (is_met schema) (primary_choice depth behind t) stack passed) (length tokens) (λ next. run schema next tokens) ≡
-      (primary_in schema (nested schema n) (t ∷ tokens) >>= λ c. run schema (behind ++ stack) c.1)
+-- what stands one level deeper, after `(` and after NOT
+pub record LevelRuns (schema : Schema) (depth : ℕ) (inner : Nested) : Type 0 where
+  enclosed_runs : (behind stack : List Symbol) (next : List Lexeme) →
+      proceed false (ask (is_met schema) (Depth (suc depth) ∷ []) (in_brackets (suc depth) behind ++ stack)) (length next)
+      (λ s. run schema false s next) ≡
+      (inner.enclosed (Punct mark.Open ∷ next) next >>= λ c. run schema false (behind ++ stack) c.1)
+  negated_runs : (stack : List Symbol) (next : List Lexeme) →
+      proceed false (ask (is_met schema) (Depth (suc depth) ∷ []) (APrimary (suc depth) ∷ TestTail ∷ stack)) (length next)
+      (λ s. run schema false s next) ≡
+      (inner.negated (Reserved word.Not ∷ next) next >>= λ c. run schema false stack c.1)
+
+module _ (schema : Schema) (n depth : ℕ) (level : LevelRuns schema depth (nested schema n)) where
+  primary_chosen : Chooses schema (primary_choice depth) (primary_in schema (nested schema n))
   unfolding primary_in after_mark predicate_at
   primary_chosen behind stack passed (Punct mark.Open) tokens = level.enclosed_runs behind stack tokens
   primary_chosen behind stack passed t tokens = operand_chosen schema (PredicateTail ∷ behind) stack passed t tokens
       ∙ chain (operand_at schema (t ∷ tokens)) _ _ _ (λ x e. predicate_tail schema x.0 (behind ++ stack) x.1)
 
-  test_runs : (stack : List Symbol) (tokens : List Lexeme) → run schema (APrimary depth ∷ TestTail depth ∷ stack) tokens ≡ (test_in schema (nested schema n) tokens >>= λ c. run schema stack c.1)
+  test_runs : Runs schema (λ stack. APrimary depth ∷ TestTail ∷ stack) (test_in schema (nested schema n))
   unfolding run step decide all_may_end may_end test_in primary_in after_mark predicate_at operand_at after_keyword literal_at digits_at sign_at
   test_runs stack [] = refl
-  test_runs stack (t ∷ tokens) = primary_chosen [] (TestTail depth ∷ stack) (step (is_met schema) (TestTail depth ∷ stack) t) t tokens
-      ∙ chain (primary_in schema (nested schema n) (t ∷ tokens)) _ _ _ (λ c e. test_tail schema depth c.0 stack c.1)
+  test_runs stack (t ∷ tokens) = primary_chosen [] (TestTail ∷ stack) (step (is_met schema) (TestTail ∷ stack) t) t tokens
+      ∙ chain (primary_in schema (nested schema n) (t ∷ tokens)) _ _ _ (λ c e. test_tail schema c.0 stack c.1)
 
-  test_chosen : (stack : List Symbol) (passed : _) (t : Lexeme) (tokens : List Lexeme) →
-      proceed (chosen (is_met schema) (primary_choice depth (TestTail depth ∷ []) t) stack passed) (length tokens) (λ next. run schema next tokens) ≡
-      (test_in schema (nested schema n) (t ∷ tokens) >>= λ c. run schema stack c.1)
+  test_chosen : (stack : List Symbol) (passed : Result (List Symbol) Refusal) (t : Lexeme) (tokens : List Lexeme) →
+      proceed false (chosen (is_met schema) (primary_choice depth (TestTail ∷ []) t) stack passed) (length tokens)
+      (λ next. run schema (is_sign t) next tokens) ≡
+      (test_in schema (nested schema n) (t ∷ tokens) >>= λ c. run schema false stack c.1)
   unfolding test_in
-  test_chosen stack passed t tokens = primary_chosen (TestTail depth ∷ []) stack passed t tokens
-      ∙ chain (primary_in schema (nested schema n) (t ∷ tokens)) _ _ _ (λ c e. test_tail schema depth c.0 stack c.1)
+  test_chosen stack passed t tokens = primary_chosen (TestTail ∷ []) stack passed t tokens
+      ∙ chain (primary_in schema (nested schema n) (t ∷ tokens)) _ _ _ (λ c e. test_tail schema c.0 stack c.1)
 
-  test_empty : test_in schema (nested schema n) [] ≡ refuse Syntax []
-  unfolding test_in primary_in after_mark predicate_at operand_at after_keyword literal_at digits_at sign_at
-  test_empty = refl
-
-  factor_runs : (stack : List Symbol) (tokens : List Lexeme) → run schema (AFactor depth ∷ stack) tokens ≡ (factor_in schema (nested schema n) tokens >>= λ c. run schema stack c.1)
-  unfolding run step decide all_may_end may_end factor_in after_keyword
-  factor_runs stack [] = rw test_empty refl
+  factor_runs : Runs schema (a_part connective.And depth) (part_in schema (nested schema n) connective.And)
+  unfolding run step decide all_may_end may_end factor_in after_keyword part_in test_in primary_in after_mark predicate_at operand_at literal_at digits_at sign_at
+  factor_runs stack [] = refl
   factor_runs stack (Reserved word.Not ∷ tokens) = level.negated_runs stack tokens
   factor_runs stack (t ∷ tokens) = test_chosen stack (step (is_met schema) stack t) t tokens
 
-  factor_ends : (stack : List Symbol) (tokens : List Lexeme) → after_keyword word.And tokens ≡ None → run schema (FactorTail depth ∷ stack) tokens ≡ run schema stack tokens
+  abbrev PartLaws : Connective → Type 0
+  PartLaws by = TailLaws schema (PartTail by depth) (a_part by depth) (after_keyword (word_of by)) (part_in schema (nested schema n) by)
+
+  part_laws : (by : Connective) → Runs schema (a_part by depth) (part_in schema (nested schema n) by) → PartLaws by
   unfolding run step decide all_may_end may_end after_keyword
-  factor_ends stack (Reserved word.And ∷ tokens) e = cc
-  factor_ends stack _ e = refl
-
-  factor_goes_on : (stack : List Symbol) (tokens next : List Lexeme) → after_keyword word.And tokens ≡ Some next → run schema (FactorTail depth ∷ stack) tokens ≡ run schema (AFactor depth ∷ FactorTail depth ∷ stack) next
-  unfolding run step decide
-  factor_goes_on stack tokens next e = ap (run schema (FactorTail depth ∷ stack)) (word_is word.And tokens next e)
-
-  factor_laws : TailLaws schema (FactorTail depth) (λ stack. AFactor depth ∷ stack) (after_keyword word.And) (factor_in schema (nested schema n))
-  factor_laws = record {
-    one_runs = factor_runs;
-    ends = factor_ends;
-    goes_on = factor_goes_on;
-    shorter = λ tokens next e. omega (arith, ap length (word_is word.And tokens next e));
-    one_shorter = factor_shorter schema n depth at;
+  part_laws by runs = record {
+    one_runs = runs;
+    ends = ends by;
+    token = Reserved (word_of by);
+    comes = word_is (word_of by);
+    goes_on = goes_on by;
   }
+    where
+      ends : (by : Connective) (stack : List Symbol) (tokens : List Lexeme) → after_keyword (word_of by) tokens ≡ None →
+          run schema false (PartTail by depth ∷ stack) tokens ≡ run schema false stack tokens
+      ends connective.And stack (Reserved word.And ∷ tokens) e = cc
+      ends connective.Or stack (Reserved word.Or ∷ tokens) e = cc
+      ends _ stack _ e = refl
 
-  term_runs : (stack : List Symbol) (tokens : List Lexeme) → run schema (AFactor depth ∷ FactorTail depth ∷ stack) tokens ≡ (term_in schema (nested schema n) tokens >>= λ c. run schema stack c.1)
-  unfolding term_in
-  term_runs stack tokens = joined_runs schema (FactorTail depth) _ word.And (factor_in schema (nested schema n)) factor_laws And stack tokens
+      goes_on : (by : Connective) (stack : List Symbol) (next : List Lexeme) → run schema false (PartTail by depth ∷ stack)
+          (Reserved (word_of by) ∷ next) ≡ run schema false (a_part by depth (PartTail by depth ∷ stack)) next
+      goes_on connective.And stack next = refl
+      goes_on connective.Or stack next = refl
 
-  term_ends : (stack : List Symbol) (tokens : List Lexeme) → after_keyword word.Or tokens ≡ None → run schema (TermTail depth ∷ stack) tokens ≡ run schema stack tokens
-  unfolding run step decide all_may_end may_end after_keyword
-  term_ends stack (Reserved word.Or ∷ tokens) e = cc
-  term_ends stack _ e = refl
+  series_runs : (by : Connective) → PartLaws by → Runs schema (λ stack. a_part by depth (PartTail by depth ∷ stack))
+      (joined_in schema (nested schema n) by)
+  unfolding joined_in
+  series_runs by laws = joined_runs schema (PartTail by depth) _ (word_of by) (part_in schema (nested schema n) by) laws (join_of by)
 
-  term_goes_on : (stack : List Symbol) (tokens next : List Lexeme) → after_keyword word.Or tokens ≡ Some next → run schema (TermTail depth ∷ stack) tokens ≡ run schema (AFactor depth ∷ FactorTail depth ∷ TermTail depth ∷ stack) next
-  unfolding run step decide
-  term_goes_on stack tokens next e = ap (run schema (TermTail depth ∷ stack)) (word_is word.Or tokens next e)
+  term_runs : Runs schema (a_part connective.Or depth) (part_in schema (nested schema n) connective.Or)
+  unfolding joined_in part_in term_in
+  term_runs = series_runs connective.And (part_laws connective.And factor_runs)
 
-  term_laws : TailLaws schema (TermTail depth) (λ stack. AFactor depth ∷ FactorTail depth ∷ stack) (after_keyword word.Or) (term_in schema (nested schema n))
-  term_laws = record {
-    one_runs = term_runs;
-    ends = term_ends;
-    goes_on = term_goes_on;
-    shorter = λ tokens next e. omega (arith, ap length (word_is word.Or tokens next e));
-    one_shorter = term_shorter schema n depth at;
-  }
+  pub part_runs : (by : Connective) → Runs schema (a_part by depth) (part_in schema (nested schema n) by)
+  part_runs connective.And = factor_runs
+  part_runs connective.Or = term_runs
 
-  condition_runs : (stack : List Symbol) (tokens : List Lexeme) → run schema (AFactor depth ∷ FactorTail depth ∷ TermTail depth ∷ stack) tokens ≡ (condition_in schema (nested schema n) tokens >>= λ c. run schema stack c.1)
-  unfolding condition_in
-  condition_runs stack tokens = joined_runs schema (TermTail depth) _ word.Or (term_in schema (nested schema n)) term_laws Or stack tokens
+  condition_runs : Runs schema (λ stack. a_part connective.Or depth (PartTail connective.Or depth ∷ stack)) (condition_in schema (nested schema n))
+  unfolding joined_in part_in condition_in
+  condition_runs = series_runs connective.Or (part_laws connective.Or term_runs)
 
-level_runs : (schema : Schema) (n depth : ℕ) → n + depth ≡ deepest_nesting → LevelRuns schema depth (nested schema n)
-unfolding nested is_met
+pub level_runs : (schema : Schema) (n depth : ℕ) → n + depth ≡ deepest_nesting → LevelRuns schema depth (nested schema n)
+unfolding nested meets
 level_runs schema zero depth e = record {
   enclosed_runs = λ behind stack next. rw (too_deep depth e) refl;
   negated_runs = λ stack next. rw (too_deep depth e) refl;
@@ -273,119 +307,91 @@ level_runs schema (suc n) depth e =
     let less : n + suc depth ≡ deepest_nesting = omega arith in
     let level = level_runs schema n (suc depth) less in
     record {
-      enclosed_runs = λ behind stack next. rw (not_too_deep n depth e) (condition_runs schema n (suc depth) less level (Closing ∷ behind ++ stack) next
-          ∙ chain (condition_in schema (nested schema n) next) _ _ _ (λ c f. closing_runs schema (behind ++ stack) c.1 ∙ chain (mark_at mark.Close c.1) _ _ _ (λ rest g. refl)));
-      negated_runs = λ stack next. rw (not_too_deep n depth e) (test_runs schema n (suc depth) less level stack next
+      enclosed_runs = λ behind stack next. rw (not_too_deep n depth e)
+          (condition_runs schema n (suc depth) level (Closing ∷ behind ++ stack) next
+          ∙ chain (condition_in schema (nested schema n) next) _ _ _ (λ c f. closing_runs schema (behind ++ stack) c.1
+          ∙ chain (mark_at mark.Close c.1) _ _ _ (λ rest g. refl)));
+      negated_runs = λ stack next. rw (not_too_deep n depth e) (test_runs schema n (suc depth) level stack next
           ∙ chain (test_in schema (nested schema n) next) _ _ _ (λ c f. refl));
     }
 
 module _ (schema : Schema) where
-  selection_runs : (stack : List Symbol) (tokens : List Lexeme) → run schema (ASelection ∷ stack) tokens ≡ (selection_at schema tokens >>= λ c. run schema stack c.1)
+  selection_runs : Runs schema (λ stack. ASelection ∷ stack) (selection_at schema)
   unfolding run step decide all_may_end may_end selection_at after_keyword
-  selection_runs stack (Reserved word.Where ∷ tokens) = condition_runs schema deepest_nesting 0 refl (level_runs schema deepest_nesting 0 refl) stack tokens
+  selection_runs stack (Reserved word.Where ∷ tokens) =
+      condition_runs schema deepest_nesting 0 (level_runs schema deepest_nesting 0 refl) stack tokens
   selection_runs stack _ = refl
 
-  end_runs : (tokens : List Lexeme) → run schema (AnEnd ∷ []) tokens ≡ end_at tokens
+  end_runs : (tokens : List Lexeme) → run schema false (AnEnd ∷ []) tokens ≡ end_at tokens
   unfolding run step decide all_may_end may_end end_at after_mark
   end_runs [] = refl
   end_runs (Punct mark.Semicolon ∷ []) = refl
   end_runs _ = refl
 
-  table_runs : (stack : List Symbol) (tokens : List Lexeme) → run schema (ATable ∷ stack) tokens ≡ (table_at schema tokens >>= λ rest. run schema stack rest)
-  unfolding run step decide all_may_end may_end is_met table_at name_at
+  table_runs : RunsOn schema ATable (table_at schema)
+  unfolding run step decide all_may_end may_end meets table_at name_at
   table_runs stack (Name text ∷ tokens) = bool_cases (same_text schema.name text) (λ e. rw e refl) (λ e. rw e refl)
   table_runs stack _ = refl
 
-  column_runs : (stack : List Symbol) (tokens : List Lexeme) → run schema (AColumn ∷ stack) tokens ≡ (column_at schema tokens >>= λ c. run schema stack c.1)
-  unfolding run step decide all_may_end may_end is_met column_at name_at
-  column_runs stack (Name text ∷ tokens) = option_cases (column_named schema.columns.items text) (λ e. rw e refl) (λ n e. rw e refl)
-  column_runs stack _ = refl
+  argument_runs : (kind : Aggregate) → Runs schema (λ stack. AnArgument kind ∷ stack) (aggregated_at schema kind)
+  unfolding run step decide all_may_end may_end meets aggregated_at after_mark column_at name_at
+  argument_runs aggregate.Count stack (Punct mark.Star ∷ tokens) = refl
+  argument_runs kind stack (Name text ∷ tokens) =
+      option_cases (column_named schema.columns.items text) (λ e. rw e refl) (λ n e. rw e refl)
+  argument_runs kind stack _ = refl
 
-  counted_runs : (stack : List Symbol) (tokens : List Lexeme) → run schema (CountArgument ∷ stack) tokens ≡ (aggregated_at schema aggregate.Count tokens >>= λ item. run schema stack item.1)
-  unfolding run step decide all_may_end may_end is_met aggregated_at after_mark column_at name_at
-  counted_runs stack (Punct mark.Star ∷ tokens) = refl
-  counted_runs stack (Name text ∷ tokens) = option_cases (column_named schema.columns.items text) (λ e. rw e refl) (λ n e. rw e refl)
-  counted_runs stack _ = refl
-
-  abbrev argument : Aggregate → Symbol
-  argument aggregate.Count = CountArgument
-  argument aggregate.Sum = AColumn
-  argument aggregate.Min = AColumn
-  argument aggregate.Max = AColumn
-
-  argument_runs : (kind : Aggregate) (stack : List Symbol) (tokens : List Lexeme) → run schema (argument kind ∷ stack) tokens ≡ (aggregated_at schema kind tokens >>= λ item. run schema stack item.1)
-  unfolding aggregated_at
-  argument_runs aggregate.Count stack tokens = counted_runs stack tokens
-  argument_runs aggregate.Sum stack tokens = column_runs stack tokens ∙ chain (column_at schema tokens) _ _ _ (λ c e. refl)
-  argument_runs aggregate.Min stack tokens = column_runs stack tokens ∙ chain (column_at schema tokens) _ _ _ (λ c e. refl)
-  argument_runs aggregate.Max stack tokens = column_runs stack tokens ∙ chain (column_at schema tokens) _ _ _ (λ c e. refl)
-
-  aggregate_runs : (kind : Aggregate) (stack : List Symbol) (first tokens : List Lexeme) → run schema (Opening ∷ argument kind ∷ Closing ∷ stack) tokens ≡ (aggregate_item schema (Some (kind, tokens)) first >>= λ item. run schema stack item.1)
-  aggregate_runs kind stack first tokens = opening_runs schema _ tokens
+  aggregate_runs : (kind : Aggregate) → Runs schema (of_aggregate kind) (argument_at schema kind)
+  aggregate_runs kind stack tokens = opening_runs schema _ tokens
       ∙ chain (mark_at mark.Open tokens) _ _ _ (λ rest e. argument_runs kind _ rest
       ∙ chain (aggregated_at schema kind rest) _ _ _ (λ item f. closing_runs schema stack item.1
       ∙ chain (mark_at mark.Close item.1) _ _ _ (λ rest g. refl)))
 
-  next_item_runs : (first : Bool) (stack : List Symbol) (tokens : List Lexeme) → run schema (AnItem first ∷ stack) tokens ≡ (next_item_at schema first tokens >>= λ x. run schema stack x.1)
-  unfolding run step decide all_may_end may_end is_met next_item_at of_one_kind item_at after_aggregate after_keyword column_at name_at
-  next_item_runs true stack (Name text ∷ tokens) = option_cases (column_named schema.columns.items text) (λ e. rw e refl) (λ n e. rw e refl)
+  pub next_item_runs : (first : Bool) → Runs schema (λ stack. AnItem first ∷ stack) (next_item_at schema first)
+  unfolding run step decide all_may_end may_end meets next_item_at of_one_kind item_at after_aggregate after_keyword column_at name_at
+  next_item_runs true stack (Name text ∷ tokens) =
+      option_cases (column_named schema.columns.items text) (λ e. rw e refl) (λ n e. rw e refl)
   next_item_runs true stack (Reserved word.Count ∷ tokens) = refl
   next_item_runs true stack _ = refl
-  next_item_runs false stack (Name text ∷ tokens) = option_cases (column_named schema.columns.items text) (λ e. rw e refl) (λ n e. rw e refl)
-  next_item_runs false stack (Reserved word.Count ∷ tokens) = aggregate_runs aggregate.Count stack (Reserved word.Count ∷ tokens) tokens
-  next_item_runs false stack (Reserved word.Sum ∷ tokens) = aggregate_runs aggregate.Sum stack (Reserved word.Sum ∷ tokens) tokens
-  next_item_runs false stack (Reserved word.Min ∷ tokens) = aggregate_runs aggregate.Min stack (Reserved word.Min ∷ tokens) tokens
-  next_item_runs false stack (Reserved word.Max ∷ tokens) = aggregate_runs aggregate.Max stack (Reserved word.Max ∷ tokens) tokens
+  next_item_runs false stack (Name text ∷ tokens) =
+      option_cases (column_named schema.columns.items text) (λ e. rw e refl) (λ n e. rw e refl)
+  next_item_runs false stack (Reserved word.Count ∷ tokens) = aggregate_runs aggregate.Count stack tokens
+  next_item_runs false stack (Reserved word.Sum ∷ tokens) = aggregate_runs aggregate.Sum stack tokens
+  next_item_runs false stack (Reserved word.Min ∷ tokens) = aggregate_runs aggregate.Min stack tokens
+  next_item_runs false stack (Reserved word.Max ∷ tokens) = aggregate_runs aggregate.Max stack tokens
   next_item_runs false stack _ = refl
 
-  item_ends : (first : Bool) (stack : List Symbol) (tokens : List Lexeme) → after_mark mark.Comma tokens ≡ None → run schema (ItemTail first ∷ stack) tokens ≡ run schema stack tokens
-  unfolding run step decide all_may_end may_end after_mark
-  item_ends first stack (Punct mark.Comma ∷ tokens) e = cc
-  item_ends first stack _ e = refl
-
-  item_goes_on : (first : Bool) (stack : List Symbol) (tokens next : List Lexeme) → after_mark mark.Comma tokens ≡ Some next → run schema (ItemTail first ∷ stack) tokens ≡ run schema (AnItem first ∷ ItemTail first ∷ stack) next
-  unfolding run step decide
-  item_goes_on first stack tokens next e = ap (run schema (ItemTail first ∷ stack)) (mark_is mark.Comma tokens next e)
-
-  item_laws : (first : Bool) → TailLaws schema (ItemTail first) (λ stack. AnItem first ∷ stack) (after_mark mark.Comma) (next_item_at schema first)
-  item_laws first = record {
-    one_runs = next_item_runs first;
-    ends = item_ends first;
-    goes_on = item_goes_on first;
-    shorter = λ tokens next e. omega (arith, ap length (mark_is mark.Comma tokens next e));
-    one_shorter = next_item_shorter schema first;
-  }
-
-  more_items_run : (x : Item) (stack : List Symbol) (kind : Bool) (tokens : List Lexeme) → run schema (ItemTail kind ∷ stack) tokens ≡ (with_front (x ∷ []) (more_items schema kind tokens) >>= λ xs. run schema stack xs.1)
-  more_items_run x stack kind tokens = tail_runs schema (ItemTail kind) _ _ _ (item_laws kind) (length tokens) stack tokens (omega arith)
+  more_items_run : (x : Item) (kind : Bool) → Runs schema (λ stack. CommaTail (Some kind) ∷ stack)
+      (λ tokens. with_front (x ∷ []) (more_items schema kind tokens))
+  more_items_run x kind stack tokens = tail_runs schema (CommaTail (Some kind)) _ _ _ (comma_laws schema (Some kind) _ (next_item_runs kind)) (length tokens) stack tokens (omega arith)
       ∙ chain (more_items schema kind tokens) _ _ _ (λ xs e. refl)
 
-  first_aggregate : (kind : Aggregate) (stack : List Symbol) (first tokens : List Lexeme) → run schema (Opening ∷ argument kind ∷ Closing ∷ ItemTail false ∷ stack) tokens ≡
-      ((aggregate_item schema (Some (kind, tokens)) first >>= λ x. with_front (x.0 ∷ []) (more_items schema false x.1)) >>= λ xs. run schema stack xs.1)
-  first_aggregate kind stack first tokens = aggregate_runs kind (ItemTail false ∷ stack) first tokens
-      ∙ chain (aggregate_item schema (Some (kind, tokens)) first) _ _ _ (λ x e. more_items_run x.0 stack false x.1)
+  first_aggregate : (kind : Aggregate) → Runs schema (λ stack. of_aggregate kind (CommaTail (Some false) ∷ stack))
+      (λ tokens. argument_at schema kind tokens >>= λ x. with_front (x.0 ∷ []) (more_items schema false x.1))
+  first_aggregate kind stack tokens = aggregate_runs kind (CommaTail (Some false) ∷ stack) tokens
+      ∙ chain (argument_at schema kind tokens) _ _ _ (λ x e. more_items_run x.0 false stack x.1)
 
-  list_runs : (stack : List Symbol) (tokens : List Lexeme) → run schema (ItemList ∷ stack) tokens ≡ (items_at schema tokens >>= λ xs. run schema stack xs.1)
-  unfolding run step decide all_may_end may_end is_met items_at after_mark item_at after_aggregate after_keyword column_at name_at
+  list_runs : Runs schema (λ stack. ItemList ∷ stack) (items_at schema)
+  unfolding run step decide all_may_end may_end meets items_at after_mark item_at after_aggregate after_keyword column_at name_at
   list_runs stack (Punct mark.Star ∷ tokens) = refl
-  list_runs stack (Name text ∷ tokens) = option_cases (column_named schema.columns.items text) (λ e. rw e refl) (λ n e. rw e (more_items_run (Plain n) stack true tokens))
-  list_runs stack (Reserved word.Count ∷ tokens) = first_aggregate aggregate.Count stack (Reserved word.Count ∷ tokens) tokens
-  list_runs stack (Reserved word.Sum ∷ tokens) = first_aggregate aggregate.Sum stack (Reserved word.Sum ∷ tokens) tokens
-  list_runs stack (Reserved word.Min ∷ tokens) = first_aggregate aggregate.Min stack (Reserved word.Min ∷ tokens) tokens
-  list_runs stack (Reserved word.Max ∷ tokens) = first_aggregate aggregate.Max stack (Reserved word.Max ∷ tokens) tokens
+  list_runs stack (Name text ∷ tokens) = option_cases (column_named schema.columns.items text) (λ e. rw e refl)
+      (λ n e. rw e (more_items_run (Plain n) true stack tokens))
+  list_runs stack (Reserved word.Count ∷ tokens) = first_aggregate aggregate.Count stack tokens
+  list_runs stack (Reserved word.Sum ∷ tokens) = first_aggregate aggregate.Sum stack tokens
+  list_runs stack (Reserved word.Min ∷ tokens) = first_aggregate aggregate.Min stack tokens
+  list_runs stack (Reserved word.Max ∷ tokens) = first_aggregate aggregate.Max stack tokens
   list_runs stack _ = refl
 
   ended : (m : Result (Unit {0}) Halt) (q : Asked) → m ≡ ((m >>= λ end. Ok q) >>= λ q. Ok tt)
   ended (Ok u) q = refl
   ended (Err halt) q = refl
 
-  expression_runs : (stack : List Symbol) (tokens : List Lexeme) → run schema (AWord word.From ∷ ATable ∷ ASelection ∷ stack) tokens ≡ (table_expression_at schema tokens >>= λ c. run schema stack c.1)
+  expression_runs : Runs schema (λ stack. AWord word.From ∷ ATable ∷ ASelection ∷ stack) (table_expression_at schema)
   unfolding table_expression_at
   expression_runs stack tokens = word_runs schema word.From _ tokens
       ∙ chain (keyword_at word.From tokens) _ _ _ (λ rest e. table_runs _ rest
       ∙ chain (table_at schema rest) _ _ _ (λ after f. selection_runs stack after))
 
-  pub statement_runs : (tokens : List Lexeme) → run schema (AStatement ∷ []) tokens ≡ (statement_at schema tokens >>= λ q. Ok tt)
+  pub statement_runs : (tokens : List Lexeme) → run schema false (AStatement ∷ []) tokens ≡ (statement_at schema tokens >>= λ q. Ok tt)
   unfolding run step decide all_may_end may_end statement_at keyword_at after_keyword
   statement_runs (Reserved word.Select ∷ tokens) = list_runs _ tokens
       ∙ chain (items_at schema tokens) _ _ _ (λ xs e. expression_runs (AnEnd ∷ []) xs.1

@@ -1,346 +1,373 @@
 -- What the machine has read can be completed to a statement.
-use Rattle.std.proofs.Common.{◌≡◌, ℕ, suc, ◌≤◌, Bool, true, false, List, [], ◌∷◌, ◌++◌, length, is_some, if◌then◌else◌, Result, Ok, Err, refl, sym, ◌∙◌, ap, subst, arith}
+use Rattle.std.proofs.Common.{◌≡◌, ℕ, suc, ◌≤◌, Bool, true, false, List, [], ◌∷◌, ◌++◌, length, is_some, Some, None, if◌then◌else◌, Result, Ok, refl, sym, subst, arith}
 use Rattle.std.proofs.lemmas.Bool.{and_parts, lt-ltb}
+use Rattle.std.proofs.lemmas.List.{append-nil}
 use Rattle.std.specs.List.{position}
 use Rattle.std.proofs.lemmas.Slice.Eq.{bytes_eq-Decides}
 use Rattle.std.specs.Char.{to_ascii_lowercase}
 use Rattle.std.specs.Prelude.{map}
 use Rattle.bw_model.specs.declared.column.Column.{Column}
 use Rattle.bw_model.specs.declared.cond.Operand.{Operand}
-use Rattle.bw_model.specs.declared.cond.Operand.TheVariants.{Lit, Null}
-use Rattle.bw_model.specs.declared.cond.Truth.TheVariants.{No, Unknown, Yes}
+use Rattle.bw_model.specs.declared.cond.Operand.TheVariants.{Null}
+use Rattle.bw_model.specs.declared.cond.Truth.{Truth}
+use Rattle.bw_model.specs.declared.cond.Truth.TheVariants.{Yes}
 use Rattle.bw_model.specs.declared.keyword.Keyword.{Keyword}
 use Rattle.bw_model.specs.declared.keyword.Keyword.TheVariants as word
 use Rattle.bw_model.specs.declared.query.Item.{Item}
-use Rattle.bw_model.specs.declared.query.Item.TheVariants.{Plain, CountAll, Count, Sum, Min, Max}
+use Rattle.bw_model.specs.declared.query.Item.TheVariants.{CountAll}
 use Rattle.bw_model.specs.declared.schema.Schema.{Schema}
 use Rattle.bw_model.specs.Number.{digits_value, number_of}
 use Rattle.bw_model.specs.Text.{same_text}
+use Rattle.bw_sql.specs.declared.condition.Connective.TheVariants as connective
+use Rattle.bw_sql.specs.declared.items.Aggregate.{Aggregate}
+use Rattle.bw_sql.specs.declared.items.Aggregate.TheVariants as aggregate
+use Rattle.bw_sql.specs.declared.reader.Refusal.{Refusal}
 use Rattle.bw_sql.specs.declared.token.Mark.TheVariants as mark
 use Rattle.bw_sql.specs.Asked.{Asked}
-use Rattle.bw_model.specs.CondTree.{CondTree, Always, Cmp, Between, IsNull, Test, Not, Among, And, Or}
+use Rattle.bw_model.specs.CondTree.{CondTree, Always, Cmp, Between, IsNull, Test, Not, Among}
 use Rattle.bw_model.specs.Column.{column_named}
-use Rattle.bw_sql.specs.Demand.{Demand, IsTable, IsColumn, Fits, OfOneKind, column_number, every_column, is_met, refusal, signed}
+use Rattle.bw_sql.specs.Demand.{Demand, IsTable, IsColumn, Fits, OfOneKind, Depth, every_column, is_met, meets}
 use Rattle.bw_sql.specs.Frontier.{Viable}
-use Rattle.bw_sql.specs.Grammar.{OperandIs, MoreOperands, RangeIs, PredicateIs, ConditionIs, MoreTerms, MoreFactors, FactorIs, TestIs, PrimaryIs, ItemIs, MoreItems, ItemsAre, SelectionIs, EndIs, StatementIs, joined, true_word, false_word, unknown_word, null, column, unsigned, plus, minus, last_operand, next_operand, between, among, comparison, range, not_range, is_null, is_not_null, terms, last_term, next_term, factors, last_factor, next_factor, test, not_test, primary, is, is_not, predicate, bracket, plain, count_all, count, sum, least, greatest, last_item, next_item, star, items, all_rows, rows_where, bare, semicolon, statement}
+use Rattle.bw_sql.specs.Grammar.{TruthIs, OperandIs, CommaList, RangeIs, ComparedIs, TestedIs, MoreParts, FactorIs, PrimaryIs, ItemIs, NextItemIs, ItemsAre, SelectionIs, EndIs, StatementIs, true_word, false_word, unknown_word, null, column, unsigned, plus, minus, no_more, one_more, between, among, compared, comparison, range, not_range, is_null, is_not_null, parts, last_part, next_part, factor, term, test, not_test, tested, untested, is, is_not, predicate, bracket, plain, count_all, aggregate, next_item, star, items, all_rows, rows_where, bare, semicolon, statement}
 use Rattle.bw_sql.specs.Reading.{same_keyword}
 use Rattle.bw_sql.specs.Token.{Lexeme, Name, Digits, Reserved, Compare, Punct}
-use Rattle.bw_sql.proofs.Sound.{word_same}
-use Rattle.bw_sql.proofs.Machine.{Symbol, AWord, Opening, Closing, AnOperand, SignedDigits, PredicateTail, RangeTail, NullTail, NotNullTail, OperandTail, AFactor, APrimary, TestTail, TruthTail, NotTruthTail, FactorTail, TermTail, ItemList, ItemTail, AnItem, CountArgument, AColumn, ATable, ASelection, AnEnd, AStatement, Choice, Take, Ask, AskBoth, AskDigits, Pass, Stop, operand_choice, primary_choice, decide, may_end, all_may_end, chosen, step, Halted}
+use Rattle.bw_sql.specs.Words.{aggregate_word}
+use Rattle.bw_sql.proofs.Spellings.{word_same}
+use Rattle.bw_sql.proofs.Cases.{bool_cases}
+use Rattle.bw_sql.proofs.Machine.{Symbol, AWord, Opening, Closing, AnOperand, SignedDigits, PredicateTail, RangeTail, NullTail, NotNullTail, CommaTail, AFactor, APrimary, TestTail, TruthTail, NotTruthTail, PartTail, ItemList, AnItem, AnArgument, ATable, ASelection, AnEnd, AStatement, Choice, Ask, Take, Pass, Stop, of_aggregate, in_brackets, operand_choice, primary_choice, range_choice, truth_choice, aggregate_choice, decide, may_end, all_may_end, ask, chosen, step}
 
-module _ (schema : Schema) (met : Demand → Bool) where
+-- a token, and the rest
+pub data IsToken (t : Lexeme) : List Lexeme → List Lexeme → Type 0 where
+  here_is : {rest : List Lexeme} → IsToken t (t ∷ rest) rest
+
+module _ (columns : List Column) (met : Demand → Bool) where
   -- the tokens that a symbol stands for, up to the rest: with what stands before it they make a whole
   abbrev pub Means : Symbol → List Lexeme → List Lexeme → Type 0
-  Means (AWord w) tokens rest = tokens ≡ Reserved w ∷ rest
-  Means Opening tokens rest = tokens ≡ Punct mark.Open ∷ rest
-  Means Closing tokens rest = tokens ≡ Punct mark.Close ∷ rest
-  Means AnOperand tokens rest = (x : Operand) × OperandIs schema met tokens rest x
-  Means (SignedDigits is_negative) tokens rest = (digits : List ℕ) × (met (Fits is_negative digits) ≡ true) × (tokens ≡ Digits digits ∷ rest)
-  Means PredicateTail tokens rest = (before : List Lexeme) (x : Operand) → OperandIs schema met before tokens x → (c : CondTree) × PredicateIs schema met before rest c
-  Means RangeTail tokens rest = (x : Operand) → (c : CondTree) × RangeIs schema met x tokens rest c
-  Means NullTail tokens rest = (before : List Lexeme) (x : Operand) → OperandIs schema met before (Reserved word.Is ∷ tokens) x → (c : CondTree) × PredicateIs schema met before rest c
-  Means NotNullTail tokens rest = (before : List Lexeme) (x : Operand) → OperandIs schema met before (Reserved word.Is ∷ Reserved word.Not ∷ tokens) x → (c : CondTree) × PredicateIs schema met before rest c
-  Means OperandTail tokens rest = (xs : List Operand) × MoreOperands schema met tokens rest xs
-  Means (AFactor depth) tokens rest = (c : CondTree) × FactorIs schema met depth tokens rest c
-  Means (APrimary depth) tokens rest = (c : CondTree) × PrimaryIs schema met depth tokens rest c
-  Means (TestTail depth) tokens rest = (before : List Lexeme) (c : CondTree) → PrimaryIs schema met depth before tokens c → (d : CondTree) × TestIs schema met depth before rest d
-  Means (TruthTail depth) tokens rest = (before : List Lexeme) (c : CondTree) → PrimaryIs schema met depth before (Reserved word.Is ∷ tokens) c → (d : CondTree) × TestIs schema met depth before rest d
-  Means (NotTruthTail depth) tokens rest = (before : List Lexeme) (c : CondTree) → PrimaryIs schema met depth before (Reserved word.Is ∷ Reserved word.Not ∷ tokens) c → (d : CondTree) × TestIs schema met depth before rest d
-  Means (FactorTail depth) tokens rest = (cs : List CondTree) × MoreFactors schema met depth tokens rest cs
-  Means (TermTail depth) tokens rest = (cs : List CondTree) × MoreTerms schema met depth tokens rest cs
-  Means ItemList tokens rest = (xs : List Item) × ItemsAre schema met tokens rest xs
-  Means (ItemTail first) tokens rest = (xs : List Item) × MoreItems schema met first tokens rest xs
-  Means (AnItem first) tokens rest = (kind : Bool) × (item : Item) × (met (OfOneKind first kind) ≡ true) × ItemIs schema met kind tokens rest item
-  Means CountArgument tokens rest = (after : List Lexeme) → rest ≡ Punct mark.Close ∷ after → (item : Item) × ItemIs schema met false (Reserved word.Count ∷ Punct mark.Open ∷ tokens) after item
-  Means AColumn tokens rest = (text : List ℕ) × (met (IsColumn text) ≡ true) × (tokens ≡ Name text ∷ rest)
-  Means ATable tokens rest = (text : List ℕ) × (met (IsTable text) ≡ true) × (tokens ≡ Name text ∷ rest)
-  Means ASelection tokens rest = (c : CondTree) × SelectionIs schema met tokens rest c
+  Means (AWord w) tokens rest = IsToken (Reserved w) tokens rest
+  Means Opening tokens rest = IsToken (Punct mark.Open) tokens rest
+  Means Closing tokens rest = IsToken (Punct mark.Close) tokens rest
+  Means AnOperand tokens rest = (x : Operand) × OperandIs columns met tokens rest x
+  Means (SignedDigits is_negative) tokens rest =
+      (digits : List ℕ) × (met (Fits is_negative digits) ≡ true) × IsToken (Digits digits) tokens rest
+  Means PredicateTail tokens rest = (x : Operand) → (c : CondTree) × ComparedIs columns met x tokens rest c
+  Means RangeTail tokens rest = (x : Operand) → (c : CondTree) × RangeIs columns met x tokens rest c
+  Means NullTail tokens rest = (x : Operand) → (c : CondTree) × ComparedIs columns met x (Reserved word.Is ∷ tokens) rest c
+  Means NotNullTail tokens rest =
+      (x : Operand) → (c : CondTree) × ComparedIs columns met x (Reserved word.Is ∷ Reserved word.Not ∷ tokens) rest c
+  Means (CommaTail None) tokens rest = (xs : List Operand) × CommaList (OperandIs columns met) tokens rest xs
+  Means (AFactor depth) tokens rest = (c : CondTree) × FactorIs columns met depth tokens rest c
+  Means (APrimary depth) tokens rest = (c : CondTree) × PrimaryIs columns met depth tokens rest c
+  Means TestTail tokens rest = (c : CondTree) → (d : CondTree) × TestedIs c tokens rest d
+  Means TruthTail tokens rest = (c : CondTree) → (d : CondTree) × TestedIs c (Reserved word.Is ∷ tokens) rest d
+  Means NotTruthTail tokens rest =
+      (c : CondTree) → (d : CondTree) × TestedIs c (Reserved word.Is ∷ Reserved word.Not ∷ tokens) rest d
+  Means (PartTail by depth) tokens rest = (cs : List CondTree) × MoreParts columns met by depth tokens rest cs
+  Means ItemList tokens rest = (xs : List Item) × ItemsAre columns met tokens rest xs
+  Means (CommaTail (Some first)) tokens rest = (xs : List Item) × CommaList (NextItemIs columns met first) tokens rest xs
+  Means (AnItem first) tokens rest = (item : Item) × NextItemIs columns met first tokens rest item
+  Means (AnArgument kind) tokens rest = (after : List Lexeme) → IsToken (Punct mark.Close) rest after →
+      (item : Item) × ItemIs columns met false (Reserved (aggregate_word kind) ∷ Punct mark.Open ∷ tokens) after item
+  Means ATable tokens rest = (text : List ℕ) × (met (IsTable text) ≡ true) × IsToken (Name text) tokens rest
+  Means ASelection tokens rest = (c : CondTree) × SelectionIs columns met tokens rest c
   Means AnEnd tokens rest = rest ≡ [] → EndIs tokens
-  Means AStatement tokens rest = rest ≡ [] → (q : Asked) × StatementIs schema met tokens q
+  Means AStatement tokens rest = rest ≡ [] → (q : Asked) × StatementIs columns met tokens q
 
   abbrev pub Sequence : List Symbol → List Lexeme → List Lexeme → Type 0
   Sequence [] tokens rest = tokens ≡ rest
   Sequence (s ∷ stack) tokens rest = (middle : List Lexeme) × Means s tokens middle × Sequence stack middle rest
 
-  split : (upper lower : List Symbol) (tokens rest : List Lexeme) → Sequence (upper ++ lower) tokens rest → (middle : List Lexeme) × Sequence upper tokens middle × Sequence lower middle rest
-  split [] lower tokens rest q = (tokens, refl, q)
-  split (s ∷ upper) lower tokens rest q = let p = split upper lower q.0 rest q.2 in (p.0, (q.0, q.1, p.1), p.2)
+  -- what the symbols stand for from these tokens on leads to a fact of the rest
+  abbrev pub Leads : List Symbol → List Lexeme → (List Lexeme → Type 0) → Type 0
+  Leads [] tokens P = P tokens
+  Leads (s ∷ symbols) tokens P = (middle : List Lexeme) → Means s tokens middle → Leads symbols middle P
+
+  led : (symbols stack : List Symbol) (tokens rest : List Lexeme) (P : List Lexeme → Type 0) → Leads symbols tokens P →
+      Sequence (symbols ++ stack) tokens rest → (middle : List Lexeme) × P middle × Sequence stack middle rest
+  led [] stack tokens rest P leads q = (tokens, leads, q)
+  led (s ∷ symbols) stack tokens rest P leads q = led symbols stack q.0 rest P (leads q.0 q.1) q.2
+
+  abbrev pub AllMet : List Demand → Type 0
+  AllMet [] = Unit {0}
+  AllMet (d ∷ demands) = (met d ≡ true) × AllMet demands
 
   -- a choice does right by its symbol
   abbrev pub Fair : Symbol → Lexeme → Choice → Type 0
-  Fair s t (Take symbols) = (more rest : List Lexeme) → Sequence symbols more rest → Means s (t ∷ more) rest
-  Fair s t (Ask demand symbols) = met demand ≡ true → (more rest : List Lexeme) → Sequence symbols more rest → Means s (t ∷ more) rest
-  Fair s t (AskBoth text first) = met (IsColumn text) ≡ true → met (OfOneKind first true) ≡ true → (rest : List Lexeme) → Means s (t ∷ rest) rest
-  Fair s t (AskDigits is_negative digits) = met (Fits is_negative digits) ≡ true → (rest : List Lexeme) → Means s (t ∷ rest) rest
+  Fair s t (Ask demands symbols) = AllMet demands → (more : List Lexeme) → Leads symbols more (Means s (t ∷ more))
   Fair s t Pass = (tokens : List Lexeme) → Means s tokens tokens
   Fair s t Stop = Unit {0}
 
-  operand_fair : (s : Symbol) (behind : List Symbol) (t : Lexeme) →
-      ((more middle rest : List Lexeme) (x : Operand) → OperandIs schema met (t ∷ more) middle x → Sequence behind middle rest → Means s (t ∷ more) rest) →
+  -- what a thing that begins with the token leads to
+  abbrev Onto : {A : Type 0} → (List Lexeme → List Lexeme → A → Type 0) → Symbol → List Symbol → Lexeme → Type 0
+  Onto {A = A} Is s behind t =
+      (more middle : List Lexeme) (x : A) → Is (t ∷ more) middle x → Leads behind middle (Means s (t ∷ more))
+
+  plus_fair : (s : Symbol) (behind : List Symbol) → Onto (OperandIs columns met) s behind (Punct mark.Plus) →
+      Fair s (Punct mark.Plus) (Take (SignedDigits false ∷ behind))
+  plus_fair s behind k m more middle (digits, fits, here_is) = k more middle _ (plus fits)
+
+  minus_fair : (s : Symbol) (behind : List Symbol) → Onto (OperandIs columns met) s behind (Punct mark.Minus) →
+      Fair s (Punct mark.Minus) (Take (SignedDigits true ∷ behind))
+  minus_fair s behind k m more middle (digits, fits, here_is) = k more middle _ (minus fits)
+
+  operand_fair : (s : Symbol) (behind : List Symbol) (t : Lexeme) → Onto (OperandIs columns met) s behind t →
       Fair s t (operand_choice behind t)
-  operand_fair s behind (Reserved word.Null) k = λ more rest q. k more more rest Null null q
-  operand_fair s behind (Name text) k = λ m more rest q. k more more rest _ (column m) q
-  operand_fair s behind (Digits digits) k = λ m more rest q. k more more rest _ (unsigned m) q
-  operand_fair s behind (Punct mark.Plus) k = λ more rest q.
-      k more q.0 rest _ (subst (λ t. OperandIs schema met (Punct mark.Plus ∷ t) q.0 (Lit (signed false q.1.0))) (sym q.1.2) (plus q.1.1)) q.2
-  operand_fair s behind (Punct mark.Minus) k = λ more rest q.
-      k more q.0 rest _ (subst (λ t. OperandIs schema met (Punct mark.Minus ∷ t) q.0 (Lit (signed true q.1.0))) (sym q.1.2) (minus q.1.1)) q.2
+  operand_fair s behind (Reserved word.Null) k = λ m more. k more more Null null
+  operand_fair s behind (Name text) k = λ m more. k more more _ (column m.0)
+  operand_fair s behind (Digits digits) k = λ m more. k more more _ (unsigned m.0)
+  operand_fair s behind (Punct mark.Plus) k = plus_fair s behind k
+  operand_fair s behind (Punct mark.Minus) k = minus_fair s behind k
   operand_fair s behind _ k = tt
 
-  primary_fair : (s : Symbol) (depth : ℕ) (behind : List Symbol) (t : Lexeme) →
-      ((more middle rest : List Lexeme) (c : CondTree) → PrimaryIs schema met depth (t ∷ more) middle c → Sequence behind middle rest → Means s (t ∷ more) rest) →
+  bracket_fair : (s : Symbol) (depth : ℕ) (behind : List Symbol) → Onto (PrimaryIs columns met depth) s behind (Punct mark.Open) →
+      Fair s (Punct mark.Open) (Ask (Depth (suc depth) ∷ []) (in_brackets (suc depth) behind))
+  bracket_fair s depth behind k m more a f b fs d ts rest here_is =
+      k more rest _ (bracket m.0 (parts (term (parts (factor f.1) fs.1)) ts.1))
+
+  primary_fair : (s : Symbol) (depth : ℕ) (behind : List Symbol) (t : Lexeme) → Onto (PrimaryIs columns met depth) s behind t →
       Fair s t (primary_choice depth behind t)
-  primary_fair s depth behind (Punct mark.Open) k = λ m more rest q.
-      let f = q.1.1 in
-      let g = q.2.1.1 in
-      let h = q.2.2.1.1 in
-      let inside = terms (factors f g) h in
-      let closing = q.2.2.2 in
-      k more closing.0 rest _ (bracket m (subst (λ t. ConditionIs schema met (suc depth) more t (joined Or (joined And q.1.0 q.2.1.0) q.2.2.1.0)) closing.1 inside)) closing.2
-  primary_fair s depth behind t k = operand_fair s (PredicateTail ∷ behind) t (λ more middle rest x o q. let p = q.1 (t ∷ more) x o in k more q.0 rest p.0 (predicate p.1) q.2)
+  primary_fair s depth behind (Punct mark.Open) k = bracket_fair s depth behind k
+  primary_fair s depth behind t k =
+      operand_fair s (PredicateTail ∷ behind) t (λ more middle x o rest q. let p = q x in k more rest p.0 (predicate (compared o p.1)))
 
-  aggregate_fair : (w : Keyword) (make : ℕ → Item) → ((text : List ℕ) (rest : List Lexeme) → met (IsColumn text) ≡ true →
-      ItemIs schema met false (Reserved w ∷ Punct mark.Open ∷ Name text ∷ Punct mark.Close ∷ rest) rest (make (column_number schema text))) →
-      (behind : List Symbol) (more rest : List Lexeme) → Sequence (Opening ∷ AColumn ∷ Closing ∷ behind) more rest →
-      (middle : List Lexeme) × (item : Item) × ItemIs schema met false (Reserved w ∷ more) middle item × Sequence behind middle rest
-  aggregate_fair w make given behind more rest q =
-      let named = q.2.1 in
-      let tokens : more ≡ Punct mark.Open ∷ Name named.0 ∷ Punct mark.Close ∷ q.2.2.0 = q.1 ∙ ap (λ t. Punct mark.Open ∷ t) (named.2 ∙ ap (λ t. Name named.0 ∷ t) q.2.2.1) in
-      (q.2.2.0, make (column_number schema named.0), subst (λ t. ItemIs schema met false (Reserved w ∷ t) q.2.2.0 (make (column_number schema named.0))) (sym tokens) (given named.0 q.2.2.0 named.1), q.2.2.2)
+  aggregate_fair : (kind : Aggregate) (s : Symbol) (demands : List Demand) (behind : List Symbol) →
+      (AllMet demands → Onto (ItemIs columns met false) s behind (Reserved (aggregate_word kind))) →
+      Fair s (Reserved (aggregate_word kind)) (Ask demands (of_aggregate kind behind))
+  aggregate_fair kind s demands behind k m more a here_is b given rest close = let p = given rest close in k m more rest p.0 p.1
 
-  counted_fair : (behind : List Symbol) (more rest : List Lexeme) → Sequence (Opening ∷ CountArgument ∷ Closing ∷ behind) more rest →
-      (middle : List Lexeme) × (item : Item) × ItemIs schema met false (Reserved word.Count ∷ more) middle item × Sequence behind middle rest
-  counted_fair behind more rest q =
-      let i = q.2.1 q.2.2.0 q.2.2.1 in
-      (q.2.2.0, i.0, subst (λ t. ItemIs schema met false (Reserved word.Count ∷ t) q.2.2.0 i.0) (sym q.1) i.1, q.2.2.2)
+  counted_fair : (kind : Aggregate) (text : List ℕ) (more : List Lexeme) → met (IsColumn text) ≡ true →
+      Means (AnArgument kind) (Name text ∷ more) more
+  counted_fair kind text more m after here_is = (_, aggregate kind m)
 
-  between_fair : (x : Operand) (more rest : List Lexeme) → Sequence (AnOperand ∷ AWord word.And ∷ AnOperand ∷ []) more rest → (c : CondTree) × RangeIs schema met x (Reserved word.Between ∷ more) rest c
-  between_fair x more rest q =
-      (Between x q.1.0 q.2.2.1.0, between (subst (λ t. OperandIs schema met more t q.1.0) q.2.1 q.1.1) (subst (λ t. OperandIs schema met q.2.0 t q.2.2.1.0) q.2.2.2 q.2.2.1.1))
+  rows_fair : (more : List Lexeme) → Means (AnArgument aggregate.Count) (Punct mark.Star ∷ more) more
+  rows_fair more after here_is = (CountAll, count_all)
 
-  in_fair : (x : Operand) (more rest : List Lexeme) → Sequence (Opening ∷ AnOperand ∷ OperandTail ∷ Closing ∷ []) more rest → (c : CondTree) × RangeIs schema met x (Reserved word.In ∷ more) rest c
-  in_fair x more rest q =
-      let y = q.2.1 in
-      let ys = q.2.2.1 in
-      let closing = q.2.2.2 in
-      let spelled : RangeIs schema met x (Reserved word.In ∷ Punct mark.Open ∷ q.0) rest (Among x (y.0 ∷ ys.0)) = among y.1 (subst (λ t. MoreOperands schema met q.2.0 t ys.0) (closing.1 ∙ ap (λ t. Punct mark.Close ∷ t) closing.2) ys.1) in
-      (Among x (y.0 ∷ ys.0), subst (λ t. RangeIs schema met x (Reserved word.In ∷ t) rest (Among x (y.0 ∷ ys.0))) (sym q.1) spelled)
+  aggregates_fair : (s : Symbol) (demands : List Demand) (behind : List Symbol) (t : Lexeme) →
+      (AllMet demands → Onto (ItemIs columns met false) s behind t) → Fair s t (aggregate_choice demands behind t)
+  aggregates_fair s demands behind (Reserved word.Count) k = aggregate_fair aggregate.Count s demands behind k
+  aggregates_fair s demands behind (Reserved word.Sum) k = aggregate_fair aggregate.Sum s demands behind k
+  aggregates_fair s demands behind (Reserved word.Min) k = aggregate_fair aggregate.Min s demands behind k
+  aggregates_fair s demands behind (Reserved word.Max) k = aggregate_fair aggregate.Max s demands behind k
+  aggregates_fair s demands behind _ k = tt
 
-  word_fair : (w found : Keyword) (b : Bool) → same_keyword found w ≡ b → Fair (AWord w) (Reserved found) (if b then Take [] else Stop)
-  word_fair w found true e = λ more rest q. ap (λ v. Reserved v ∷ more) (word_same found w e) ∙ ap (λ t. Reserved w ∷ t) q
+  -- what a range leads to
+  abbrev OfRange : Symbol → Lexeme → Type 0
+  OfRange s t = (more rest : List Lexeme) → ((x : Operand) → (c : CondTree) × RangeIs columns met x (t ∷ more) rest c) →
+      Means s (t ∷ more) rest
+
+  between_fair : (s : Symbol) → OfRange s (Reserved word.Between) →
+      Fair s (Reserved word.Between) (Take (AnOperand ∷ AWord word.And ∷ AnOperand ∷ []))
+  between_fair s k m more a y b here_is rest z = k more rest (λ x. (Between x y.0 z.0, between y.1 z.1))
+
+  in_fair : (s : Symbol) → OfRange s (Reserved word.In) →
+      Fair s (Reserved word.In) (Take (Opening ∷ AnOperand ∷ CommaTail None ∷ Closing ∷ []))
+  in_fair s k m more a here_is b y d ys rest here_is = k more rest (λ x. (Among x (y.0 ∷ ys.0), among y.1 ys.1))
+
+  range_fair : (s : Symbol) (t : Lexeme) → OfRange s t → Fair s t (range_choice t)
+  range_fair s (Reserved word.Between) k = between_fair s k
+  range_fair s (Reserved word.In) k = in_fair s k
+  range_fair s _ k = tt
+
+  truth_fair : (s : Symbol) (t : Lexeme) → ((more : List Lexeme) (v : Truth) → TruthIs (t ∷ more) more v →
+      Means s (t ∷ more) more) → Fair s t (truth_choice t)
+  truth_fair s (Reserved word.True) k = λ m more. k more _ true_word
+  truth_fair s (Reserved word.False) k = λ m more. k more _ false_word
+  truth_fair s (Reserved word.Unknown) k = λ m more. k more _ unknown_word
+  truth_fair s _ k = tt
+
+  word_fair : (w found : Keyword) (b : Bool) → same_keyword found w ≡ b →
+      Fair (AWord w) (Reserved found) (if b then Take [] else Stop)
+  word_fair w found true e = λ m more. subst (λ v. IsToken (Reserved w) (Reserved v ∷ more) more) (sym (word_same found w e)) here_is
   word_fair w found false e = tt
 
-  listed : (w : Keyword) (more rest : List Lexeme) → ((middle : List Lexeme) × (item : Item) × ItemIs schema met false (Reserved w ∷ more) middle item × Sequence (ItemTail false ∷ []) middle rest) →
-      (xs : List Item) × ItemsAre schema met (Reserved w ∷ more) rest xs
-  listed w more rest p = (p.1 ∷ p.3.1.0, subst (λ r. ItemsAre schema met (Reserved w ∷ more) r (p.1 ∷ p.3.1.0)) p.3.2 (items p.2 p.3.1.1))
-
-  alone : (first : Bool) (w : Keyword) (more rest : List Lexeme) → met (OfOneKind first false) ≡ true →
-      ((middle : List Lexeme) × (item : Item) × ItemIs schema met false (Reserved w ∷ more) middle item × Sequence [] middle rest) → Means (AnItem first) (Reserved w ∷ more) rest
-  alone first w more rest m p = (false, p.1, m, subst (λ r. ItemIs schema met false (Reserved w ∷ more) r p.1) p.3 p.2)
-
-  stated : (more rest : List Lexeme) → Sequence (ItemList ∷ AWord word.From ∷ ATable ∷ ASelection ∷ AnEnd ∷ []) more rest → rest ≡ [] → (q : Asked) × StatementIs schema met (Reserved word.Select ∷ more) q
-  stated more rest q e =
-      let table = q.2.2.1 in
-      let selection = q.2.2.2.1 in
-      let last = q.2.2.2.2 in (
-        record { items = q.1.0; cond = selection.0 },
-        statement (subst (λ t. ItemsAre schema met more t q.1.0) (q.2.1 ∙ ap (λ t. Reserved word.From ∷ t) table.2) q.1.1) table.1 selection.1 (last.1 (last.2 ∙ e)),
-      )
+  stated : Fair AStatement (Reserved word.Select) (Take (ItemList ∷ AWord word.From ∷ ATable ∷ ASelection ∷ AnEnd ∷ []))
+  stated m more a xs b here_is d (text, k, here_is) e c rest end h =
+      (record { items = xs.0; cond = c.0 }, statement xs.1 k c.1 (end h))
 
   fair : (s : Symbol) (t : Lexeme) → Fair s t (decide s t)
   unfolding decide
   fair (AWord w) (Reserved found) = word_fair w found (same_keyword found w) refl
-  fair Opening (Punct mark.Open) = λ more rest q. ap (λ t. Punct mark.Open ∷ t) q
-  fair Closing (Punct mark.Close) = λ more rest q. ap (λ t. Punct mark.Close ∷ t) q
-  fair AnOperand t = operand_fair AnOperand [] t (λ more middle rest x o q. (x, subst (λ r. OperandIs schema met (t ∷ more) r x) q o))
-  fair (SignedDigits is_negative) (Digits digits) = λ m rest. (digits, m, refl)
-  fair PredicateTail (Compare op) = λ more rest q before x o. (Cmp op x q.1.0, comparison o (subst (λ r. OperandIs schema met more r q.1.0) q.2 q.1.1))
-  fair PredicateTail (Reserved word.Is) = λ more rest q before x o. subst (λ r. (c : CondTree) × PredicateIs schema met before r c) q.2 (q.1 before x o)
-  fair PredicateTail (Reserved word.Not) = λ more rest q before x o. let p = q.1 x in (Not p.0, not_range o (subst (λ r. RangeIs schema met x more r p.0) q.2 p.1))
-  fair PredicateTail (Reserved word.Between) = λ more rest q before x o. let p = between_fair x more rest q in (p.0, range o p.1)
-  fair PredicateTail (Reserved word.In) = λ more rest q before x o. let p = in_fair x more rest q in (p.0, range o p.1)
-  fair RangeTail (Reserved word.Between) = λ more rest q x. between_fair x more rest q
-  fair RangeTail (Reserved word.In) = λ more rest q x. in_fair x more rest q
-  fair NullTail (Reserved word.Null) = λ more rest q before x o. (IsNull x, subst (λ r. PredicateIs schema met before r (IsNull x)) q (is_null o))
-  fair NullTail (Reserved word.Not) = λ more rest q before x o. subst (λ r. (c : CondTree) × PredicateIs schema met before r c) q.2 (q.1 before x o)
-  fair NotNullTail (Reserved word.Null) = λ more rest q before x o. (Not (IsNull x), subst (λ r. PredicateIs schema met before r (Not (IsNull x))) q (is_not_null o))
-  fair OperandTail (Punct mark.Comma) = λ more rest q. (q.1.0 ∷ q.2.1.0, subst (λ r. MoreOperands schema met (Punct mark.Comma ∷ more) r (q.1.0 ∷ q.2.1.0)) q.2.2 (next_operand q.1.1 q.2.1.1))
-  fair OperandTail t = λ tokens. ([], last_operand)
-  fair (AFactor depth) (Reserved word.Not) = λ m more rest q. let e = q.2.1 more q.1.0 q.1.1 in (Not e.0, subst (λ r. FactorIs schema met depth (Reserved word.Not ∷ more) r (Not e.0)) q.2.2 (not_test m e.1))
-  fair (AFactor depth) t = primary_fair (AFactor depth) depth (TestTail depth ∷ []) t (λ more middle rest c p q. let e = q.1 (t ∷ more) c p in (e.0, subst (λ r. FactorIs schema met depth (t ∷ more) r e.0) q.2 (test e.1)))
-  fair (APrimary depth) t = primary_fair (APrimary depth) depth [] t (λ more middle rest c p q. (c, subst (λ r. PrimaryIs schema met depth (t ∷ more) r c) q p))
-  fair (TestTail depth) (Reserved word.Is) = λ more rest q before c p. subst (λ r. (d : CondTree) × TestIs schema met depth before r d) q.2 (q.1 before c p)
-  fair (TestTail depth) t = λ tokens before c p. (c, primary p)
-  fair (TruthTail depth) (Reserved word.Not) = λ more rest q before c p. subst (λ r. (d : CondTree) × TestIs schema met depth before r d) q.2 (q.1 before c p)
-  fair (TruthTail depth) (Reserved word.True) = λ more rest q before c p. (Test c Yes, subst (λ r. TestIs schema met depth before r (Test c Yes)) q (is p true_word))
-  fair (TruthTail depth) (Reserved word.False) = λ more rest q before c p. (Test c No, subst (λ r. TestIs schema met depth before r (Test c No)) q (is p false_word))
-  fair (TruthTail depth) (Reserved word.Unknown) = λ more rest q before c p. (Test c Unknown, subst (λ r. TestIs schema met depth before r (Test c Unknown)) q (is p unknown_word))
-  fair (NotTruthTail depth) (Reserved word.True) = λ more rest q before c p. (Not (Test c Yes), subst (λ r. TestIs schema met depth before r (Not (Test c Yes))) q (is_not p true_word))
-  fair (NotTruthTail depth) (Reserved word.False) = λ more rest q before c p. (Not (Test c No), subst (λ r. TestIs schema met depth before r (Not (Test c No))) q (is_not p false_word))
-  fair (NotTruthTail depth) (Reserved word.Unknown) = λ more rest q before c p. (Not (Test c Unknown), subst (λ r. TestIs schema met depth before r (Not (Test c Unknown))) q (is_not p unknown_word))
-  fair (FactorTail depth) (Reserved word.And) = λ more rest q.
-      (q.1.0 ∷ q.2.1.0, subst (λ r. MoreFactors schema met depth (Reserved word.And ∷ more) r (q.1.0 ∷ q.2.1.0)) q.2.2 (next_factor q.1.1 q.2.1.1))
-  fair (FactorTail depth) t = λ tokens. ([], last_factor)
-  fair (TermTail depth) (Reserved word.Or) = λ more rest q.
-      (joined And q.1.0 q.2.1.0 ∷ q.2.2.1.0, subst (λ r. MoreTerms schema met depth (Reserved word.Or ∷ more) r (joined And q.1.0 q.2.1.0 ∷ q.2.2.1.0)) q.2.2.2 (next_term (factors q.1.1 q.2.1.1) q.2.2.1.1))
-  fair (TermTail depth) t = λ tokens. ([], last_term)
-  fair ItemList (Punct mark.Star) = λ more rest q. (every_column schema, subst (λ r. ItemsAre schema met (Punct mark.Star ∷ more) r (every_column schema)) q star)
-  fair ItemList (Name text) = λ m more rest q. (Plain (column_number schema text) ∷ q.1.0, subst (λ r. ItemsAre schema met (Name text ∷ more) r (Plain (column_number schema text) ∷ q.1.0)) q.2 (items (plain m) q.1.1))
-  fair ItemList (Reserved word.Count) = λ more rest q. listed word.Count more rest (counted_fair (ItemTail false ∷ []) more rest q)
-  fair ItemList (Reserved word.Sum) = λ more rest q. listed word.Sum more rest (aggregate_fair word.Sum Sum (λ text r m. sum m) (ItemTail false ∷ []) more rest q)
-  fair ItemList (Reserved word.Min) = λ more rest q. listed word.Min more rest (aggregate_fair word.Min Min (λ text r m. least m) (ItemTail false ∷ []) more rest q)
-  fair ItemList (Reserved word.Max) = λ more rest q. listed word.Max more rest (aggregate_fair word.Max Max (λ text r m. greatest m) (ItemTail false ∷ []) more rest q)
-  fair (ItemTail first) (Punct mark.Comma) = λ more rest q.
-      (q.1.1 ∷ q.2.1.0, subst (λ r. MoreItems schema met first (Punct mark.Comma ∷ more) r (q.1.1 ∷ q.2.1.0)) q.2.2 (next_item q.1.2 q.1.3 q.2.1.1))
-  fair (ItemTail first) t = λ tokens. ([], last_item)
-  fair (AnItem first) (Name text) = λ m k rest. (true, Plain (column_number schema text), k, plain m)
-  fair (AnItem first) (Reserved word.Count) = λ m more rest q. alone first word.Count more rest m (counted_fair [] more rest q)
-  fair (AnItem first) (Reserved word.Sum) = λ m more rest q. alone first word.Sum more rest m (aggregate_fair word.Sum Sum (λ text r m. sum m) [] more rest q)
-  fair (AnItem first) (Reserved word.Min) = λ m more rest q. alone first word.Min more rest m (aggregate_fair word.Min Min (λ text r m. least m) [] more rest q)
-  fair (AnItem first) (Reserved word.Max) = λ m more rest q. alone first word.Max more rest m (aggregate_fair word.Max Max (λ text r m. greatest m) [] more rest q)
-  fair CountArgument (Punct mark.Star) = λ more rest q after e. (CountAll, subst (λ t. ItemIs schema met false (Reserved word.Count ∷ Punct mark.Open ∷ Punct mark.Star ∷ t) after CountAll) (sym (q ∙ e)) count_all)
-  fair CountArgument (Name text) = λ m more rest q after e.
-      (Count (column_number schema text), subst (λ t. ItemIs schema met false (Reserved word.Count ∷ Punct mark.Open ∷ Name text ∷ t) after (Count (column_number schema text))) (sym (q ∙ e)) (count m))
-  fair AColumn (Name text) = λ m more rest q. (text, m, ap (λ t. Name text ∷ t) q)
-  fair ATable (Name text) = λ m more rest q. (text, m, ap (λ t. Name text ∷ t) q)
-  fair ASelection (Reserved word.Where) = λ more rest q.
-      let c = joined Or (joined And q.1.0 q.2.1.0) q.2.2.1.0 in (c, subst (λ r. SelectionIs schema met (Reserved word.Where ∷ more) r c) q.2.2.2 (rows_where (terms (factors q.1.1 q.2.1.1) q.2.2.1.1)))
+  fair Opening (Punct mark.Open) = λ m more. here_is
+  fair Closing (Punct mark.Close) = λ m more. here_is
+  fair AnOperand t = operand_fair AnOperand [] t (λ more middle x o. (x, o))
+  fair (SignedDigits is_negative) (Digits digits) = λ m more. (digits, m.0, here_is)
+  fair PredicateTail (Compare op) = λ m more rest y x. (Cmp op x y.0, comparison y.1)
+  fair PredicateTail (Reserved word.Is) = λ m more rest q. q
+  fair PredicateTail (Reserved word.Not) = λ m more rest q x. let p = q x in (Not p.0, not_range p.1)
+  fair PredicateTail t = range_fair PredicateTail t (λ more rest q x. let p = q x in (p.0, range p.1))
+  fair RangeTail t = range_fair RangeTail t (λ more rest q. q)
+  fair NullTail (Reserved word.Null) = λ m more x. (IsNull x, is_null)
+  fair NullTail (Reserved word.Not) = λ m more rest q. q
+  fair NotNullTail (Reserved word.Null) = λ m more x. (Not (IsNull x), is_not_null)
+  fair (CommaTail None) (Punct mark.Comma) = λ m more a x b xs. (x.0 ∷ xs.0, one_more x.1 xs.1)
+  fair (CommaTail None) t = λ tokens. ([], no_more)
+  fair (AFactor depth) (Reserved word.Not) = λ m more a c rest q. let d = q c.0 in (Not d.0, not_test m.0 (tested c.1 d.1))
+  fair (AFactor depth) t = primary_fair (AFactor depth) depth (TestTail ∷ []) t
+      (λ more middle c p rest q. let d = q c in (d.0, test (tested p d.1)))
+  fair (APrimary depth) t = primary_fair (APrimary depth) depth [] t (λ more middle c p. (c, p))
+  fair TestTail (Reserved word.Is) = λ m more rest q. q
+  fair TestTail t = λ tokens c. (c, untested)
+  fair TruthTail (Reserved word.Not) = λ m more rest q. q
+  fair TruthTail t = truth_fair TruthTail t (λ more v q c. (Test c v, is q))
+  fair NotTruthTail t = truth_fair NotTruthTail t (λ more v q c. (Not (Test c v), is_not q))
+  fair (PartTail connective.And depth) (Reserved word.And) = λ m more a c b cs. (c.0 ∷ cs.0, next_part (factor c.1) cs.1)
+  fair (PartTail connective.Or depth) (Reserved word.Or) = λ m more a c b cs d ds.
+      (_, next_part (term (parts (factor c.1) cs.1)) ds.1)
+  fair (PartTail by depth) t = λ tokens. ([], last_part)
+  fair ItemList (Punct mark.Star) = λ m more. (every_column columns, star)
+  fair ItemList (Name text) = λ m more rest xs. (_, items (plain m.0) xs.1)
+  fair ItemList t = aggregates_fair ItemList [] (CommaTail (Some false) ∷ []) t (λ m more middle item p rest xs. (_, items p xs.1))
+  fair (CommaTail (Some first)) (Punct mark.Comma) = λ m more a x b xs. (x.0 ∷ xs.0, one_more x.1 xs.1)
+  fair (CommaTail (Some first)) t = λ tokens. ([], no_more)
+  fair (AnItem first) (Name text) = λ m more. (_, next_item m.1.0 (plain m.0))
+  fair (AnItem first) t = aggregates_fair (AnItem first) (OfOneKind first false ∷ []) [] t
+      (λ m more middle item p. (item, next_item m.0 p))
+  fair (AnArgument aggregate.Count) (Punct mark.Star) = λ m more. rows_fair more
+  fair (AnArgument kind) (Name text) = λ m more. counted_fair kind text more m.0
+  fair ATable (Name text) = λ m more. (text, m.0, here_is)
+  fair ASelection (Reserved word.Where) = λ m more a c b cs rest ds. (_, rows_where (parts (term (parts (factor c.1) cs.1)) ds.1))
   fair ASelection t = λ tokens. (Always, all_rows)
-  fair AnEnd (Punct mark.Semicolon) = λ more rest q e. subst (λ t. EndIs (Punct mark.Semicolon ∷ t)) (sym (q ∙ e)) semicolon
-  fair AStatement (Reserved word.Select) = λ more rest q e. stated more rest q e
+  fair AnEnd (Punct mark.Semicolon) = λ m more e. subst (λ t. EndIs (Punct mark.Semicolon ∷ t)) (sym e) semicolon
+  fair AStatement (Reserved word.Select) = stated
   fair _ _ = tt
 
-  choice_fair : (s : Symbol) (stack : List Symbol) (t : Lexeme) (next : List Symbol) (passed : Result (List Symbol) Halted) (c : Choice) → Fair s t c →
-      ((more : List Lexeme) → passed ≡ Ok next → Sequence next more [] → Sequence stack (t ∷ more) []) →
-      (more : List Lexeme) → chosen met c stack passed ≡ Ok next → Sequence next more [] → Sequence (s ∷ stack) (t ∷ more) []
-  choice_fair s stack t next passed (Take symbols) f onward more e q =
-      let here : symbols ++ stack ≡ next = cc in
-      let p = split symbols stack more [] (subst (λ n. Sequence n more []) (sym here) q) in (p.0, f more p.0 p.1, p.2)
-  choice_fair s stack t next passed (Ask demand symbols) f onward more e q = asked (met demand) refl e
-    where
-      asked : (b : Bool) → met demand ≡ b → if◌then◌else◌ {A = Result (List Symbol) Halted} b (Ok (symbols ++ stack)) (Err (record { why = refusal demand; is_behind_sign = false })) ≡ Ok next → Sequence (s ∷ stack) (t ∷ more) []
-      asked true m e =
-          let here : symbols ++ stack ≡ next = cc in
-          let p = split symbols stack more [] (subst (λ n. Sequence n more []) (sym here) q) in (p.0, f m more p.0 p.1, p.2)
-      asked false m e = cc
-  choice_fair s stack t next passed (AskBoth text first) f onward more e q = both (met (IsColumn text)) (met (OfOneKind first true)) refl refl e
-    where
-      both : (a b : Bool) → met (IsColumn text) ≡ a → met (OfOneKind first true) ≡ b →
-          if◌then◌else◌ {A = Result (List Symbol) Halted} a (if◌then◌else◌ {A = Result (List Symbol) Halted} b (Ok stack) (Err (record { why = refusal (OfOneKind first true); is_behind_sign = false }))) (Err (record { why = refusal (IsColumn text); is_behind_sign = false })) ≡ Ok next →
-          Sequence (s ∷ stack) (t ∷ more) []
-      both true true m k e = let here : stack ≡ next = cc in (more, f m k more, subst (λ n. Sequence n more []) (sym here) q)
-      both true false m k e = cc
-      both false b m k e = cc
-  choice_fair s stack t next passed (AskDigits is_negative digits) f onward more e q = asked (met (Fits is_negative digits)) refl e
-    where
-      asked : (b : Bool) → met (Fits is_negative digits) ≡ b → if◌then◌else◌ {A = Result (List Symbol) Halted} b (Ok stack) (Err (record { why = refusal (Fits is_negative digits); is_behind_sign = true })) ≡ Ok next → Sequence (s ∷ stack) (t ∷ more) []
-      asked true m e = let here : stack ≡ next = cc in (more, f m more, subst (λ n. Sequence n more []) (sym here) q)
-      asked false m e = cc
-  choice_fair s stack t next passed Pass f onward more e q = (t ∷ more, f (t ∷ more), onward more e q)
-  choice_fair s stack t next passed Stop f onward more e q = cc
+  asked_met : (demands : List Demand) (stack next : List Symbol) → ask met demands stack ≡ Ok next →
+      AllMet demands × (stack ≡ next)
+  asked_met [] stack next e = (tt, cc)
+  asked_met (d ∷ demands) stack next e = bool_cases (met d)
+      (λ m. let p = asked_met demands stack next (rw m at e) in ((m, p.0), p.1)) (λ u. let f = rw u at e in cc)
 
-  step_fair : (stack : List Symbol) (t : Lexeme) (next : List Symbol) (more : List Lexeme) → step met stack t ≡ Ok next → Sequence next more [] → Sequence stack (t ∷ more) []
+  choice_fair : (s : Symbol) (stack : List Symbol) (t : Lexeme) (next : List Symbol) (passed : Result (List Symbol) Refusal)
+      (c : Choice) → Fair s t c → (more : List Lexeme) →
+      (passed ≡ Ok next → Sequence stack (t ∷ more) []) →
+      chosen met c stack passed ≡ Ok next → Sequence next more [] → Sequence (s ∷ stack) (t ∷ more) []
+  choice_fair s stack t next passed (Ask demands symbols) f more onward e q =
+      let p = asked_met demands (symbols ++ stack) next e in
+      led symbols stack more [] (Means s (t ∷ more)) (f p.0 more) (subst (λ n. Sequence n more []) (sym p.1) q)
+  choice_fair s stack t next passed Pass f more onward e q = (t ∷ more, f (t ∷ more), onward e)
+  choice_fair s stack t next passed Stop f more onward e q = cc
+
+  step_fair : (stack : List Symbol) (t : Lexeme) (next : List Symbol) (more : List Lexeme) → step met stack t ≡ Ok next →
+      Sequence next more [] → Sequence stack (t ∷ more) []
   unfolding step
   step_fair [] t next more e q = cc
-  step_fair (s ∷ stack) t next more e q = choice_fair s stack t next (step met stack t) (decide s t) (fair s t) (λ more e q. step_fair stack t next more e q) more e q
+  step_fair (s ∷ stack) t next more e q = choice_fair s stack t next (step met stack t) (decide s t) (fair s t) more
+      (λ e. step_fair stack t next more e q) e q
 
 -- the machine reads these tokens from one stack to another
 pub data Path (met : Demand → Bool) : List Symbol → List Lexeme → List Symbol → Type 0 where
   here : {stack : List Symbol} → Path met stack [] stack
-  there : {stack next last : List Symbol} {t : Lexeme} {tokens : List Lexeme} → step met stack t ≡ Ok next → Path met next tokens last → Path met stack (t ∷ tokens) last
+  there : {stack next last : List Symbol} {t : Lexeme} {tokens : List Lexeme} → step met stack t ≡ Ok next →
+      Path met next tokens last → Path met stack (t ∷ tokens) last
 
-path_fair : (schema : Schema) (met : Demand → Bool) {stack last : List Symbol} {tokens : List Lexeme} → Path met stack tokens last → (more : List Lexeme) → Sequence schema met last more [] → Sequence schema met stack (tokens ++ more) []
-path_fair schema met here more q = q
-path_fair schema met (there {stack = stack} {next = next} {t = t} {tokens = tokens} e p) more q = step_fair schema met stack t next (tokens ++ more) e (path_fair schema met p more q)
+path_fair : (columns : List Column) (met : Demand → Bool) {stack last : List Symbol} {tokens : List Lexeme} →
+    Path met stack tokens last → (more : List Lexeme) → Sequence columns met last more [] →
+    Sequence columns met stack (tokens ++ more) []
+path_fair columns met here more q = q
+path_fair columns met (there {stack = stack} {next = next} {t = t} {tokens = tokens} e p) more q =
+    step_fair columns met stack t next (tokens ++ more) e (path_fair columns met p more q)
 
 -- each symbol has a completion
 same_as_itself : (text : List ℕ) → same_text text text ≡ true
 unfolding same_text
 same_as_itself text = (bytes_eq-Decides (map to_ascii_lowercase text) (map to_ascii_lowercase text)).1 refl
 
-first_named : (columns : List Column) → 1 ≤ length columns → (text : List ℕ) × (is_some (position (λ column. same_text column.name text) columns) ≡ true)
+first_named : (columns : List Column) → 1 ≤ length columns →
+    (text : List ℕ) × (is_some (position (λ column. same_text column.name text) columns) ≡ true)
 first_named [] h = absurd (omega arith)
 first_named (c ∷ columns) h = (c.name, rw (same_as_itself c.name, lt-ltb 0 (suc (length columns)) (omega arith)) refl)
 
-some_column : (schema : Schema) → (text : List ℕ) × (is_met schema (IsColumn text) ≡ true)
-unfolding is_met column_named
-some_column schema = first_named schema.columns.items schema.inhabited
-
-table_met : (schema : Schema) → is_met schema (IsTable schema.name) ≡ true
-unfolding is_met
-table_met schema = same_as_itself schema.name
-
-zero_fits : (schema : Schema) (is_negative : Bool) → is_met schema (Fits is_negative (48 ∷ [])) ≡ true
-unfolding is_met number_of digits_value
-zero_fits schema true = refl
-zero_fits schema false = refl
-
-kind_met : (schema : Schema) (first : Bool) → is_met schema (OfOneKind first first) ≡ true
-unfolding is_met
-kind_met schema true = refl
-kind_met schema false = refl
-
 module _ (schema : Schema) (met : Demand → Bool) (weaker : (d : Demand) → is_met schema d ≡ true → met d ≡ true) where
-  complete : (s : Symbol) (rest : List Lexeme) → (tokens : List Lexeme) × Means schema met s tokens rest
-  complete (AWord w) rest = (Reserved w ∷ rest, refl)
-  complete Opening rest = (Punct mark.Open ∷ rest, refl)
-  complete Closing rest = (Punct mark.Close ∷ rest, refl)
+  abbrev columns : List Column
+  columns = schema.columns.items
+
+  some_column : (text : List ℕ) × (met (IsColumn text) ≡ true)
+  unfolding meets column_named
+  some_column = let c = first_named columns schema.inhabited in (c.0, weaker (IsColumn c.0) c.1)
+
+  table_met : met (IsTable schema.name) ≡ true
+  unfolding meets
+  table_met = weaker (IsTable schema.name) (same_as_itself schema.name)
+
+  zero_fits : (is_negative : Bool) → met (Fits is_negative (48 ∷ [])) ≡ true
+  unfolding meets number_of digits_value
+  zero_fits true = weaker (Fits true (48 ∷ [])) refl
+  zero_fits false = weaker (Fits false (48 ∷ [])) refl
+
+  kind_met : (first : Bool) → met (OfOneKind first first) ≡ true
+  unfolding meets
+  kind_met true = weaker (OfOneKind true true) refl
+  kind_met false = weaker (OfOneKind false false) refl
+
+  complete : (s : Symbol) (rest : List Lexeme) → (tokens : List Lexeme) × Means columns met s tokens rest
+  complete (AWord w) rest = (Reserved w ∷ rest, here_is)
+  complete Opening rest = (Punct mark.Open ∷ rest, here_is)
+  complete Closing rest = (Punct mark.Close ∷ rest, here_is)
   complete AnOperand rest = (Reserved word.Null ∷ rest, (Null, null))
-  complete (SignedDigits is_negative) rest = (Digits (48 ∷ []) ∷ rest, (48 ∷ [], weaker (Fits is_negative (48 ∷ [])) (zero_fits schema is_negative), refl))
-  complete PredicateTail rest = (Reserved word.Is ∷ Reserved word.Null ∷ rest, λ before x o. (IsNull x, is_null o))
-  complete RangeTail rest = (Reserved word.In ∷ Punct mark.Open ∷ Reserved word.Null ∷ Punct mark.Close ∷ rest, λ x. (Among x (Null ∷ []), among null last_operand))
-  complete NullTail rest = (Reserved word.Null ∷ rest, λ before x o. (IsNull x, is_null o))
-  complete NotNullTail rest = (Reserved word.Null ∷ rest, λ before x o. (Not (IsNull x), is_not_null o))
-  complete OperandTail rest = (rest, ([], last_operand))
-  complete (AFactor depth) rest = (Reserved word.Null ∷ Reserved word.Is ∷ Reserved word.Null ∷ rest, (IsNull Null, test (primary (predicate (is_null null)))))
-  complete (APrimary depth) rest = (Reserved word.Null ∷ Reserved word.Is ∷ Reserved word.Null ∷ rest, (IsNull Null, predicate (is_null null)))
-  complete (TestTail depth) rest = (rest, λ before c p. (c, primary p))
-  complete (TruthTail depth) rest = (Reserved word.True ∷ rest, λ before c p. (Test c Yes, is p true_word))
-  complete (NotTruthTail depth) rest = (Reserved word.True ∷ rest, λ before c p. (Not (Test c Yes), is_not p true_word))
-  complete (FactorTail depth) rest = (rest, ([], last_factor))
-  complete (TermTail depth) rest = (rest, ([], last_term))
-  complete ItemList rest = (Punct mark.Star ∷ rest, (every_column schema, star))
-  complete (ItemTail first) rest = (rest, ([], last_item))
-  complete (AnItem true) rest = let c = some_column schema in (Name c.0 ∷ rest, (true, Plain (column_number schema c.0), weaker (OfOneKind true true) (kind_met schema true), plain (weaker (IsColumn c.0) c.1)))
-  complete (AnItem false) rest = (Reserved word.Count ∷ Punct mark.Open ∷ Punct mark.Star ∷ Punct mark.Close ∷ rest, (false, CountAll, weaker (OfOneKind false false) (kind_met schema false), count_all))
-  complete CountArgument rest = (Punct mark.Star ∷ rest, λ after e. (CountAll, subst (λ t. ItemIs schema met false (Reserved word.Count ∷ Punct mark.Open ∷ Punct mark.Star ∷ t) after CountAll) (sym e) count_all))
-  complete AColumn rest = let c = some_column schema in (Name c.0 ∷ rest, (c.0, weaker (IsColumn c.0) c.1, refl))
-  complete ATable rest = (Name schema.name ∷ rest, (schema.name, weaker (IsTable schema.name) (table_met schema), refl))
+  complete (SignedDigits is_negative) rest = (Digits (48 ∷ []) ∷ rest, (48 ∷ [], zero_fits is_negative, here_is))
+  complete PredicateTail rest = (Reserved word.Is ∷ Reserved word.Null ∷ rest, λ x. (IsNull x, is_null))
+  complete RangeTail rest = (
+    Reserved word.In ∷ Punct mark.Open ∷ Reserved word.Null ∷ Punct mark.Close ∷ rest,
+    λ x. (Among x (Null ∷ []), among null no_more),
+  )
+  complete NullTail rest = (Reserved word.Null ∷ rest, λ x. (IsNull x, is_null))
+  complete NotNullTail rest = (Reserved word.Null ∷ rest, λ x. (Not (IsNull x), is_not_null))
+  complete (CommaTail None) rest = (rest, ([], no_more))
+  complete (AFactor depth) rest =
+      (Reserved word.Null ∷ Reserved word.Is ∷ Reserved word.Null ∷ rest, (IsNull Null, test (tested (predicate (compared null is_null)) untested)))
+  complete (APrimary depth) rest =
+      (Reserved word.Null ∷ Reserved word.Is ∷ Reserved word.Null ∷ rest, (IsNull Null, predicate (compared null is_null)))
+  complete TestTail rest = (rest, λ c. (c, untested))
+  complete TruthTail rest = (Reserved word.True ∷ rest, λ c. (Test c Yes, is true_word))
+  complete NotTruthTail rest = (Reserved word.True ∷ rest, λ c. (Not (Test c Yes), is_not true_word))
+  complete (PartTail by depth) rest = (rest, ([], last_part))
+  complete ItemList rest = (Punct mark.Star ∷ rest, (every_column columns, star))
+  complete (CommaTail (Some first)) rest = (rest, ([], no_more))
+  complete (AnItem true) rest = (Name some_column.0 ∷ rest, (_, next_item (kind_met true) (plain some_column.1)))
+  complete (AnItem false) rest = (
+    Reserved word.Count ∷ Punct mark.Open ∷ Punct mark.Star ∷ Punct mark.Close ∷ rest,
+    (CountAll, next_item (kind_met false) count_all),
+  )
+  complete (AnArgument kind) rest = (Name some_column.0 ∷ rest, counted_fair columns met kind some_column.0 rest some_column.1)
+  complete ATable rest = (Name schema.name ∷ rest, (schema.name, table_met, here_is))
   complete ASelection rest = (rest, (Always, all_rows))
   complete AnEnd rest = (rest, λ e. subst EndIs (sym e) bare)
   complete AStatement rest = (
     Reserved word.Select ∷ Punct mark.Star ∷ Reserved word.From ∷ Name schema.name ∷ rest,
-    λ e. (record { items = every_column schema; cond = Always }, statement star (weaker (IsTable schema.name) (table_met schema)) all_rows (subst EndIs (sym e) bare)),
+    λ e. (record { items = every_column columns; cond = Always }, statement star table_met all_rows (subst EndIs (sym e) bare)),
   )
 
-  complete_all : (stack : List Symbol) → (tokens : List Lexeme) × Sequence schema met stack tokens []
+  complete_all : (stack : List Symbol) → (tokens : List Lexeme) × Sequence columns met stack tokens []
   complete_all [] = ([], refl)
-  complete_all (s ∷ stack) = let below = complete_all stack in let above = complete s below.0 in (above.0, (below.0, above.1, below.1))
+  complete_all (s ∷ stack) =
+      let below = complete_all stack in let above = complete s below.0 in (above.0, (below.0, above.1, below.1))
 
   -- what the machine has read begins a statement
   pub path_viable : (tokens : List Lexeme) (last : List Symbol) → Path met (AStatement ∷ []) tokens last → Viable schema met tokens
   path_viable tokens last p =
       let more = complete_all last in
-      let whole = path_fair schema met p more.0 more.1 in
+      let whole = path_fair columns met p more.0 more.1 in
       let q = whole.1 whole.2 in
       record { more = more.0; query = q.0; spelled = q.1 }
 
   -- a stack that may end stands for no token more
-  ended : (s : Symbol) → may_end s ≡ true → Means schema met s [] []
+  ended : (s : Symbol) → may_end s ≡ true → Means columns met s [] []
   unfolding may_end
-  ended OperandTail e = ([], last_operand)
-  ended (TestTail depth) e = λ before c p. (c, primary p)
-  ended (FactorTail depth) e = ([], last_factor)
-  ended (TermTail depth) e = ([], last_term)
-  ended (ItemTail first) e = ([], last_item)
+  ended (CommaTail None) e = ([], no_more)
+  ended TestTail e = λ c. (c, untested)
+  ended (PartTail by depth) e = ([], last_part)
+  ended (CommaTail (Some first)) e = ([], no_more)
   ended ASelection e = (Always, all_rows)
   ended AnEnd e = λ e. bare
   ended _ e = cc
 
-  all_ended : (stack : List Symbol) → all_may_end stack ≡ true → Sequence schema met stack [] []
+  all_ended : (stack : List Symbol) → all_may_end stack ≡ true → Sequence columns met stack [] []
   unfolding all_may_end
   all_ended [] e = refl
-  all_ended (s ∷ stack) e = let p = and_parts (may_end s) (all_may_end stack) e in ([], ended s p.0, all_ended stack p.1)
+  all_ended (s ∷ stack) e =
+      let p = and_parts (may_end s) (all_may_end stack) e in ([], ended s p.0, all_ended stack p.1)
 
-  pub path_spelled : (tokens : List Lexeme) (last : List Symbol) → Path met (AStatement ∷ []) tokens last → all_may_end last ≡ true → (q : Asked) × StatementIs schema met (tokens ++ []) q
-  path_spelled tokens last p e = let whole = path_fair schema met p [] (all_ended last e) in whole.1 whole.2
+  pub path_spelled : (tokens : List Lexeme) (last : List Symbol) → Path met (AStatement ∷ []) tokens last →
+      all_may_end last ≡ true → (q : Asked) × StatementIs columns met tokens q
+  path_spelled tokens last p e =
+      let whole = path_fair columns met p [] (all_ended last e) in
+      subst (λ ts. (q : Asked) × StatementIs columns met ts q) (append-nil tokens) (whole.1 whole.2)

@@ -1,5 +1,5 @@
 -- What a query that is spelled names, and that it is whole.
-use Rattle.std.proofs.Common.{◌≡◌, ◌≤◌, ◌+◌, ℕ, zero, suc, Bool, true, false, nat_lt, List, [], ◌∷◌, map, length, vec_len, Option, Some, None, Result, Ok, Err, IfOk, refl, ap, subst, arith}
+use Rattle.std.proofs.Common.{◌≡◌, ◌≤◌, ◌+◌, ℕ, zero, suc, Bool, true, false, nat_lt, List, [], ◌∷◌, map, length, vec_len, Some, Result, Ok, Err, IfOk, refl, ap, subst, arith}
 use Rattle.std.specs.List.{list_all, range_with_len}
 use Rattle.std.proofs.lemmas.Bool.{and_from, le-leb, lt-ltb}
 use Rattle.std.proofs.lemmas.List.FromFn.{length-map-range_with_len}
@@ -13,35 +13,42 @@ use Rattle.bw_model.specs.declared.query.Query.{Query}
 use Rattle.bw_model.specs.declared.schema.Schema.{Schema}
 use Rattle.bw_model.specs.Column.{column_named}
 use Rattle.bw_model.specs.Cond.{is_within}
-use Rattle.bw_model.specs.CondTree.{CondTree, And, Or, trees_of, tree_within, trees_within, is_whole_tree, are_whole_trees, count_of}
+use Rattle.bw_model.specs.CondTree.{CondTree, And, trees_of, tree_within, trees_within, is_whole_tree, are_whole_trees, count_of}
 use Rattle.bw_model.specs.Text.{same_text}
 use Rattle.bw_model.specs.Total.{item_within}
+use Rattle.bw_sql.specs.declared.condition.Connective.{Connective}
+use Rattle.bw_sql.specs.declared.condition.Connective.TheVariants as connective
+use Rattle.bw_sql.specs.declared.items.Aggregate.TheVariants as kind
 use Rattle.bw_sql.specs.Asked.{Asked, asked}
-use Rattle.bw_sql.specs.Demand.{IsColumn, OfOneKind, column_number, column_or_first, is_met}
-use Rattle.bw_sql.specs.Grammar.{OperandIs, MoreOperands, RangeIs, PredicateIs, ConditionIs, MoreTerms, TermIs, MoreFactors, FactorIs, TestIs, PrimaryIs, ItemIs, MoreItems, ItemsAre, SelectionIs, IsQuery, joined, null, column, unsigned, plus, minus, last_operand, next_operand, between, among, comparison, range, not_range, is_null, is_not_null, terms, last_term, next_term, factors, last_factor, next_factor, test, not_test, primary, is, is_not, predicate, bracket, plain, count_all, count, sum, least, greatest, last_item, next_item, star, items, all_rows, rows_where, statement}
+use Rattle.bw_sql.specs.Demand.{IsColumn, OfOneKind, column_number, column_or_first, is_met, meets}
+use Rattle.bw_sql.specs.Grammar.{OperandIs, CommaList, RangeIs, ComparedIs, JoinedIs, MoreParts, PartIs, FactorIs, TestIs, PrimaryIs, ItemIs, NextItemIs, ItemsAre, SelectionIs, IsQuery, joined, null, column, no_more, one_more, between, among, compared, comparison, range, not_range, is_null, is_not_null, parts, last_part, next_part, factor, term, test, not_test, tested, untested, is, is_not, predicate, bracket, plain, count_all, aggregate, next_item, star, items, all_rows, rows_where, statement}
 use Rattle.bw_sql.specs.Items.{AreOfOneKind, is_of_kind, are_of_kind}
 use Rattle.bw_sql.specs.Statement.{Parses, tokens_of}
 use Rattle.bw_sql.specs.Token.{Lexeme}
+use Rattle.bw_sql.specs.Words.{join_of}
+use Rattle.bw_sql.proofs.Cases.{option_cases}
 
 -- a tree names the first so many columns alone, and is whole
-record Good (columns : ℕ) (c : CondTree) : Type 0 where
-  within : tree_within columns c ≡ true
-  whole : is_whole_tree c ≡ true
+abbrev Good : ℕ → CondTree → Type 0
+Good columns c = (tree_within columns c ≡ true) × (is_whole_tree c ≡ true)
 
-record AreGood (columns : ℕ) (cs : List CondTree) : Type 0 where
-  within : trees_within columns (trees_of cs) ≡ true
-  whole : are_whole_trees (trees_of cs) ≡ true
+abbrev AreGood : ℕ → List CondTree → Type 0
+AreGood columns cs = (trees_within columns (trees_of cs) ≡ true) × (are_whole_trees (trees_of cs) ≡ true)
 
-more_good : {columns : ℕ} (c : CondTree) (cs : List CondTree) → Good columns c → AreGood columns cs → AreGood columns (c ∷ cs)
-more_good c cs g gs = record { within = and_from _ _ g.within gs.within; whole = and_from _ _ g.whole gs.whole }
+more_good : (columns : ℕ) (c : CondTree) (cs : List CondTree) → Good columns c → AreGood columns cs → AreGood columns (c ∷ cs)
+more_good columns c cs g gs = (and_from _ _ g.0 gs.0, and_from _ _ g.1 gs.1)
 
-and_good : {columns : ℕ} (c : CondTree) (cs : List CondTree) → Good columns c → AreGood columns cs → Good columns (joined And c cs)
-and_good c [] g gs = g
-and_good c (d ∷ ds) g gs = let all = more_good c (d ∷ ds) g gs in record { within = all.within; whole = and_from _ _ (le-leb 2 (count_of (trees_of (c ∷ d ∷ ds))) (omega arith)) all.whole }
+several_good : (columns : ℕ) (c d : CondTree) (ds : List CondTree) → Good columns c → AreGood columns (d ∷ ds) →
+    Good columns (And (trees_of (c ∷ d ∷ ds)))
+several_good columns c d ds g gs =
+    let all = more_good columns c (d ∷ ds) g gs in
+    (all.0, and_from _ _ (le-leb 2 (count_of (trees_of (c ∷ d ∷ ds))) (omega arith)) all.1)
 
-or_good : {columns : ℕ} (c : CondTree) (cs : List CondTree) → Good columns c → AreGood columns cs → Good columns (joined Or c cs)
-or_good c [] g gs = g
-or_good c (d ∷ ds) g gs = let all = more_good c (d ∷ ds) g gs in record { within = all.within; whole = and_from _ _ (le-leb 2 (count_of (trees_of (c ∷ d ∷ ds))) (omega arith)) all.whole }
+joined_good : (columns : ℕ) (by : Connective) (c : CondTree) (cs : List CondTree) → Good columns c → AreGood columns cs →
+    Good columns (joined (join_of by) c cs)
+joined_good columns by c [] g gs = g
+joined_good columns connective.And c (d ∷ ds) g gs = several_good columns c d ds g gs
+joined_good columns _ c (d ∷ ds) g gs = several_good columns c d ds g gs
 
 -- every column is a column of the schema
 every_within : (columns a n : ℕ) → a + n ≤ columns → list_all (item_within columns) (map Plain (range_with_len a n)) ≡ true
@@ -52,13 +59,8 @@ every_plain : (a n : ℕ) → are_of_kind true (map Plain (range_with_len a n)) 
 every_plain a zero = refl
 every_plain a (suc n) = and_from _ _ refl (every_plain (a + 1) n)
 
--- items of one kind
-record GoodItems (columns : ℕ) (kind : Bool) (items : List Item) : Type 0 where
-  within : list_all (item_within columns) items ≡ true
-  kinds : are_of_kind kind items ≡ true
-
 kind_is : (schema : Schema) (first kind : Bool) → is_met schema (OfOneKind first kind) ≡ true → kind ≡ first
-unfolding is_met
+unfolding meets
 kind_is schema true kind m = m
 kind_is schema false true m = cc
 kind_is schema false false m = refl
@@ -68,93 +70,94 @@ unfolding column_named
 named_within [] text i e = cc
 named_within (c ∷ cs) text i e = lt-ltb i (length (c ∷ cs)) (position-Some (λ (column : Column). same_text column.name text) (c ∷ cs) i c e).0
 
+commas_all : {A : Type 0} {Is : List Lexeme → List Lexeme → A → Type 0} (p : A → Bool) →
+    ((tokens rest : List Lexeme) (x : A) → Is tokens rest x → p x ≡ true) → {tokens rest : List Lexeme} {xs : List A} →
+    CommaList Is tokens rest xs → list_all p xs ≡ true
+commas_all p h no_more = refl
+commas_all p h (one_more x xs) = and_from _ _ (h _ _ _ x) (commas_all p h xs)
+
 module _ (schema : Schema) where
+  abbrev cs : List Column
+  cs = schema.columns.items
+
   abbrev n : ℕ
   n = length schema.columns.items
 
-  column_within : (text : List ℕ) → is_met schema (IsColumn text) ≡ true → nat_lt (column_number schema text) n ≡ true
-  unfolding is_met
-  column_within text m = go (column_named schema.columns.items text) refl
-    where
-      go : (o : Option ℕ) → column_named schema.columns.items text ≡ o → nat_lt (column_number schema text) n ≡ true
-      go None e = let none : false ≡ true = rw e at m in cc
-      go (Some i) e = rw (ap column_or_first e) (named_within schema.columns.items text i e)
+  column_within : (text : List ℕ) → is_met schema (IsColumn text) ≡ true → nat_lt (column_number cs text) n ≡ true
+  unfolding meets
+  column_within text m = option_cases (column_named cs text) (λ e. let none : false ≡ true = rw e at m in cc)
+      (λ i e. rw (ap column_or_first e) (named_within cs text i e))
 
-  operand_within : {tokens rest : List Lexeme} {x : Operand} → OperandIs schema (is_met schema) tokens rest x → is_within n x ≡ true
+  operand_within : {tokens rest : List Lexeme} {x : Operand} → OperandIs cs (is_met schema) tokens rest x → is_within n x ≡ true
   operand_within null = refl
   operand_within (column m) = column_within _ m
-  operand_within (unsigned m) = refl
-  operand_within (plus m) = refl
-  operand_within (minus m) = refl
+  operand_within _ = refl
 
-  operands_within : {tokens rest : List Lexeme} {xs : List Operand} → MoreOperands schema (is_met schema) tokens rest xs → list_all (is_within n) xs ≡ true
-  operands_within last_operand = refl
-  operands_within (next_operand x xs) = and_from _ _ (operand_within x) (operands_within xs)
+  range_good : {tokens rest : List Lexeme} {x : Operand} {c : CondTree} → is_within n x ≡ true → RangeIs cs (is_met schema) x tokens rest c → Good n c
+  range_good h (between y z) = (rw (h, operand_within y, operand_within z) refl, refl)
+  range_good h (among y ys) = (rw (h, operand_within y, commas_all (is_within n) (λ tokens rest x p. operand_within p) ys) refl, le-leb 1 _ (omega arith))
 
-  range_good : {tokens rest : List Lexeme} {x : Operand} {c : CondTree} → is_within n x ≡ true → RangeIs schema (is_met schema) x tokens rest c → Good n c
-  range_good h (between y z) = record { within = rw (h, operand_within y, operand_within z) refl; whole = refl }
-  range_good h (among y ys) = record { within = rw (h, operand_within y, operands_within ys) refl; whole = le-leb 1 _ (omega arith) }
-
-  predicate_good : {tokens rest : List Lexeme} {c : CondTree} → PredicateIs schema (is_met schema) tokens rest c → Good n c
-  predicate_good (comparison x y) = record { within = rw (operand_within x, operand_within y) refl; whole = refl }
-  predicate_good (range x y) = range_good (operand_within x) y
-  predicate_good (not_range x y) = let g = range_good (operand_within x) y in record { within = g.within; whole = g.whole }
-  predicate_good (is_null x) = record { within = operand_within x; whole = refl }
-  predicate_good (is_not_null x) = record { within = operand_within x; whole = refl }
+  compared_good : {tokens rest : List Lexeme} {x : Operand} {c : CondTree} → is_within n x ≡ true →
+      ComparedIs cs (is_met schema) x tokens rest c → Good n c
+  compared_good h (comparison y) = (rw (h, operand_within y) refl, refl)
+  compared_good h (range y) = range_good h y
+  compared_good h (not_range y) = range_good h y
+  compared_good h is_null = (h, refl)
+  compared_good h is_not_null = (h, refl)
 
   mutual
-    condition_good : {depth : ℕ} {tokens rest : List Lexeme} {c : CondTree} → ConditionIs schema (is_met schema) depth tokens rest c → Good n c
-    condition_good (terms {c = c} {cs = cs} p ps) = or_good c cs (term_good p) (terms_good ps)
+    parts_good : {by : Connective} {depth : ℕ} {tokens rest : List Lexeme} {c : CondTree} →
+        JoinedIs cs (is_met schema) by depth tokens rest c → Good n c
+    parts_good (parts {by = by} {c = c} {cs = more} p ps) = joined_good n by c more (part_good p) (more_parts_good ps)
 
-    terms_good : {depth : ℕ} {tokens rest : List Lexeme} {cs : List CondTree} → MoreTerms schema (is_met schema) depth tokens rest cs → AreGood n cs
-    terms_good last_term = record { within = refl; whole = refl }
-    terms_good (next_term {c = c} {cs = cs} p ps) = more_good c cs (term_good p) (terms_good ps)
+    more_parts_good : {by : Connective} {depth : ℕ} {tokens rest : List Lexeme} {more : List CondTree} →
+        MoreParts cs (is_met schema) by depth tokens rest more → AreGood n more
+    more_parts_good last_part = (refl, refl)
+    more_parts_good (next_part {c = c} {cs = more} p ps) = more_good n c more (part_good p) (more_parts_good ps)
 
-    term_good : {depth : ℕ} {tokens rest : List Lexeme} {c : CondTree} → TermIs schema (is_met schema) depth tokens rest c → Good n c
-    term_good (factors {c = c} {cs = cs} p ps) = and_good c cs (factor_good p) (factors_good ps)
+    part_good : {by : Connective} {depth : ℕ} {tokens rest : List Lexeme} {c : CondTree} →
+        PartIs cs (is_met schema) by depth tokens rest c → Good n c
+    part_good (factor p) = factor_good p
+    part_good (term p) = parts_good p
 
-    factors_good : {depth : ℕ} {tokens rest : List Lexeme} {cs : List CondTree} → MoreFactors schema (is_met schema) depth tokens rest cs → AreGood n cs
-    factors_good last_factor = record { within = refl; whole = refl }
-    factors_good (next_factor {c = c} {cs = cs} p ps) = more_good c cs (factor_good p) (factors_good ps)
-
-    factor_good : {depth : ℕ} {tokens rest : List Lexeme} {c : CondTree} → FactorIs schema (is_met schema) depth tokens rest c → Good n c
+    factor_good : {depth : ℕ} {tokens rest : List Lexeme} {c : CondTree} → FactorIs cs (is_met schema) depth tokens rest c → Good n c
     factor_good (test p) = test_good p
-    factor_good (not_test m p) = let g = test_good p in record { within = g.within; whole = g.whole }
+    factor_good (not_test m p) = test_good p
 
-    test_good : {depth : ℕ} {tokens rest : List Lexeme} {c : CondTree} → TestIs schema (is_met schema) depth tokens rest c → Good n c
-    test_good (primary p) = primary_good p
-    test_good (is p t) = let g = primary_good p in record { within = g.within; whole = g.whole }
-    test_good (is_not p t) = let g = primary_good p in record { within = g.within; whole = g.whole }
+    test_good : {depth : ℕ} {tokens rest : List Lexeme} {c : CondTree} → TestIs cs (is_met schema) depth tokens rest c → Good n c
+    test_good (tested p untested) = primary_good p
+    test_good (tested p (is t)) = primary_good p
+    test_good (tested p (is_not t)) = primary_good p
 
-    primary_good : {depth : ℕ} {tokens rest : List Lexeme} {c : CondTree} → PrimaryIs schema (is_met schema) depth tokens rest c → Good n c
-    primary_good (predicate p) = predicate_good p
-    primary_good (bracket m p) = condition_good p
+    primary_good : {depth : ℕ} {tokens rest : List Lexeme} {c : CondTree} → PrimaryIs cs (is_met schema) depth tokens rest c → Good n c
+    primary_good (predicate (compared x p)) = compared_good (operand_within x) p
+    primary_good (bracket m p) = parts_good p
 
-  selection_good : {tokens rest : List Lexeme} {c : CondTree} → SelectionIs schema (is_met schema) tokens rest c → Good n c
-  selection_good all_rows = record { within = refl; whole = refl }
-  selection_good (rows_where p) = condition_good p
+  selection_good : {tokens rest : List Lexeme} {c : CondTree} → SelectionIs cs (is_met schema) tokens rest c → Good n c
+  selection_good all_rows = (refl, refl)
+  selection_good (rows_where p) = parts_good p
 
-  item_good : {kind : Bool} {tokens rest : List Lexeme} {item : Item} → ItemIs schema (is_met schema) kind tokens rest item → (item_within n item ≡ true) × (is_of_kind kind item ≡ true)
+  item_good : {kind : Bool} {tokens rest : List Lexeme} {item : Item} → ItemIs cs (is_met schema) kind tokens rest item → (item_within n item ≡ true) × (is_of_kind kind item ≡ true)
   item_good (plain m) = (column_within _ m, refl)
   item_good count_all = (refl, refl)
-  item_good (count m) = (column_within _ m, refl)
-  item_good (sum m) = (column_within _ m, refl)
-  item_good (least m) = (column_within _ m, refl)
-  item_good (greatest m) = (column_within _ m, refl)
+  item_good (aggregate kind.Count m) = (column_within _ m, refl)
+  item_good (aggregate of m) = (column_within _ m, refl)
 
-  more_items_good : {first : Bool} {tokens rest : List Lexeme} {items : List Item} → MoreItems schema (is_met schema) first tokens rest items → GoodItems n first items
-  more_items_good last_item = record { within = refl; kinds = refl }
-  more_items_good (next_item {first = first} {is_plain = kind} {item = item} m p ps) =
-      let g = item_good p in
-      let gs = more_items_good ps in
-      record { within = and_from _ _ g.0 gs.within; kinds = and_from _ _ (subst (λ k. is_of_kind k item ≡ true) (kind_is schema first kind m) g.1) gs.kinds }
+  next_good : {first : Bool} {tokens rest : List Lexeme} {item : Item} → NextItemIs cs (is_met schema) first tokens rest item →
+      (item_within n item ≡ true) × (is_of_kind first item ≡ true)
+  next_good {first = first} {item = item} (next_item {is_plain = kind} m p) =
+      let g = item_good p in (g.0, subst (λ k. is_of_kind k item ≡ true) (kind_is schema first kind m) g.1)
 
-  items_good : {tokens rest : List Lexeme} {items : List Item} → ItemsAre schema (is_met schema) tokens rest items → (1 ≤ length items) × ((kind : Bool) × GoodItems n kind items)
-  items_good star = (omega (arith, length-map-range_with_len Plain 0 n, schema.inhabited), (true, record { within = every_within n 0 n (omega arith); kinds = every_plain 0 n }))
+  items_good : {tokens rest : List Lexeme} {items : List Item} → ItemsAre cs (is_met schema) tokens rest items →
+      (1 ≤ length items) × (list_all (item_within n) items ≡ true) × AreOfOneKind items
+  items_good star =
+      (omega (arith, length-map-range_with_len Plain 0 n, schema.inhabited), every_within n 0 n (omega arith), (true, every_plain 0 n))
   items_good (items {first = first} p ps) =
-      let g = item_good p in
-      let gs = more_items_good ps in
-      (omega arith, (first, record { within = and_from _ _ g.0 gs.within; kinds = and_from _ _ g.1 gs.kinds }))
+      let g = item_good p in (
+        omega arith,
+        and_from _ _ g.0 (commas_all (item_within n) (λ tokens rest x q. (next_good q).0) ps),
+        (first, and_from _ _ g.1 (commas_all (is_of_kind first) (λ tokens rest x q. (next_good q).1) ps)),
+      )
 
 -- what a query that is spelled names, and of what kinds its items are
 pub record GoodQuery (columns : ℕ) (query : Asked) : Type 0 where
@@ -169,7 +172,7 @@ query_good schema tokens query (statement list m selection end) =
     let xs = items_good schema list in
     let c = selection_good schema selection in
     let columns : length schema.columns.items ≡ vec_len schema.columns = omega (arith, schema.columns.ok.0) in
-    subst (λ k. GoodQuery k query) columns (record { within = c.within; whole = c.whole; items = xs.1.1.within; some = xs.0; kinds = (xs.1.0, xs.1.1.kinds) })
+    subst (λ k. GoodQuery k query) columns (record { within = c.0; whole = c.1; items = xs.1; some = xs.0; kinds = xs.2 })
 
 -- so it is with the query that a text is read as
 pub if_good : (schema : Schema) (text : List ℕ) (result : Result Query Fault) (P : Query → Type 0) → Parses schema text result →

@@ -1,6 +1,7 @@
 -- What a statement has to meet beside the productions of the grammar.
 use Rattle.std.specs.Prelude.{ℕ, ℤ, pos, ◌-ℤ◌, Bool, true, false, not, List, map, length, Option, Some, None, is_some, nat_le}
 use Rattle.std.specs.List.{range_with_len}
+use Rattle.bw_model.specs.declared.column.Column.{Column}
 use Rattle.bw_model.specs.declared.query.Item.{Item}
 use Rattle.bw_model.specs.declared.query.Item.TheVariants.{Plain}
 use Rattle.bw_model.specs.declared.schema.Schema.{Schema}
@@ -22,20 +23,23 @@ pub data Demand : Type 0 where
   Depth : ℕ → Demand
 
 -- every column, in the order of the schema
-abbrev pub every_column : Schema → List Item
-every_column schema = map Plain (range_with_len 0 (length schema.columns.items))
+abbrev pub every_column : List Column → List Item
+every_column columns = map Plain (range_with_len 0 (length columns))
 
 abbrev pub same_kind : Bool → Bool → Bool
 same_kind true is_plain = is_plain
 same_kind false is_plain = not is_plain
 
--- whether a demand is met under a schema
-unfoldable pub is_met : Schema → Demand → Bool
-is_met schema (IsTable text) = same_text schema.name text
-is_met schema (IsColumn text) = is_some (column_named schema.columns.items text)
-is_met schema (Fits is_negative digits) = is_some (number_of is_negative digits)
-is_met schema (OfOneKind first other) = same_kind first other
-is_met schema (Depth depth) = nat_le depth deepest_nesting
+-- whether a demand is met by a table's name and its columns, and so under a schema
+unfoldable pub meets : List ℕ → List Column → Demand → Bool
+meets name columns (IsTable text) = same_text name text
+meets name columns (IsColumn text) = is_some (column_named columns text)
+meets name columns (Fits is_negative digits) = is_some (number_of is_negative digits)
+meets name columns (OfOneKind first other) = same_kind first other
+meets name columns (Depth depth) = nat_le depth deepest_nesting
+
+abbrev pub is_met : Schema → Demand → Bool
+is_met schema demand = meets schema.name schema.columns.items demand
 
 -- why a statement is refused that doesn't meet a demand
 abbrev pub refusal : Demand → Refusal
@@ -50,8 +54,8 @@ abbrev pub column_or_first : Option ℕ → ℕ
 column_or_first (Some column) = column
 column_or_first None = 0
 
-abbrev pub column_number : Schema → List ℕ → ℕ
-column_number schema text = column_or_first (column_named schema.columns.items text)
+abbrev pub column_number : List Column → List ℕ → ℕ
+column_number columns text = column_or_first (column_named columns text)
 
 -- the number that a sign and digits spell
 abbrev pub signed : Bool → List ℕ → ℤ

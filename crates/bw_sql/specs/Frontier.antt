@@ -15,7 +15,7 @@ use Rattle.bw_sql.specs.Token.{Lexeme, Digits, Punct}
 pub record Viable (schema : Schema) (met : Demand → Bool) (tokens : List Lexeme) : Type 0 where
   pub more : List Lexeme
   pub query : Asked
-  pub spelled : StatementIs schema met (tokens ++ more) query
+  pub spelled : StatementIs schema.columns.items met (tokens ++ more) query
 
 -- The demands of one number alone are asked, and all others let pass. No demand has the number of Syntax, for
 -- which the productions alone count.
@@ -40,7 +40,7 @@ pub data Stands (schema : Schema) (tokens : List Lexeme) : Refusal → ℕ → T
       ∷ Digits digits ∷ behind →
       Begins schema Literal before → (Begins schema Literal (before ++ t ∷ Digits digits ∷ []) → ⊥)
       → Stands schema tokens Literal (length before)
-  at_end : Begins schema Syntax tokens → ((query : Asked) → StatementIs schema (asked_for schema Syntax) tokens query
+  at_end : Begins schema Syntax tokens → ((query : Asked) → StatementIs schema.columns.items (asked_for schema Syntax) tokens query
       → ⊥) →
       Stands schema tokens Syntax (length tokens)
 

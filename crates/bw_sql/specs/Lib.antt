@@ -13,3 +13,4 @@ pub mod Reading
 pub mod Refusal
 pub mod Statement
 pub mod Token
+pub mod Words

@@ -10,7 +10,7 @@ use Rattle.bw_model.specs.declared.cond.Truth.TheVariants.{No, Unknown, Yes}
 use Rattle.bw_model.specs.declared.keyword.Keyword.{Keyword}
 use Rattle.bw_model.specs.declared.keyword.Keyword.TheVariants as word
 use Rattle.bw_model.specs.declared.query.Item.{Item}
-use Rattle.bw_model.specs.declared.query.Item.TheVariants.{Plain, CountAll, Count, Sum, Min, Max}
+use Rattle.bw_model.specs.declared.query.Item.TheVariants.{Plain, CountAll}
 use Rattle.bw_model.specs.declared.schema.Schema.{Schema}
 use Rattle.bw_model.specs.Keyword.{spelling}
 use Rattle.bw_model.specs.Number.{number_of}
@@ -29,6 +29,7 @@ use Rattle.bw_model.specs.Column.{column_named}
 use Rattle.bw_sql.specs.Demand.{every_column}
 use Rattle.bw_sql.specs.Limits.{deepest_nesting}
 use Rattle.bw_sql.specs.Piece.{mark_spelling}
+use Rattle.bw_sql.specs.Words.{word_of, join_of, of_column}
 use Rattle.bw_sql.specs.Token.{Lexeme, Name, Digits, Reserved, Compare, Punct}
 
 -- why reading stopped, and how many tokens are left from there on
@@ -325,16 +326,7 @@ term_in schema inner tokens = series_at word.And And (factor_in schema inner) to
 unfoldable pub condition_in : Schema → Nested → List Lexeme → Read CondTree
 condition_in schema inner tokens = series_at word.Or Or (term_in schema inner) tokens
 
--- a connective's word, and the condition that parts make with it
-abbrev pub word_of : Connective → Keyword
-word_of connective.And = word.And
-word_of connective.Or = word.Or
-
-abbrev pub join_of : Connective → CondTrees → CondTree
-join_of connective.And parts = And parts
-join_of connective.Or parts = Or parts
-
--- so both are read: a term's parts are factors, and a condition's are terms
+-- so what either connective joins is read: a term's parts are factors, and a condition's are terms
 unfoldable pub part_in : Schema → Nested → Connective → List Lexeme → Read CondTree
 part_in schema inner connective.And = factor_in schema inner
 part_in schema inner connective.Or = term_in schema inner
@@ -394,12 +386,6 @@ aggregate_behind None None None None = None
 unfoldable pub after_aggregate : List Lexeme → Option (Aggregate × List Lexeme)
 after_aggregate tokens = aggregate_behind (after_keyword word.Count tokens) (after_keyword word.Sum tokens)
     (after_keyword word.Min tokens) (after_keyword word.Max tokens)
-
-abbrev pub of_column : Aggregate → ℕ → Item
-of_column aggregate.Count column = Count column
-of_column aggregate.Sum column = Sum column
-of_column aggregate.Min column = Min column
-of_column aggregate.Max column = Max column
 
 abbrev pub column_of : Schema → Aggregate → List Lexeme → Read Item
 column_of schema kind tokens = do
@@ -462,7 +448,7 @@ more_items schema is_plain tokens = repeated (length tokens) (after_mark mark.Co
     (next_item_at schema is_plain) tokens
 
 abbrev pub items_behind : Schema → Option (List Lexeme) → List Lexeme → Read (List Item)
-items_behind schema (Some rest) tokens = Ok (every_column schema, rest)
+items_behind schema (Some rest) tokens = Ok (every_column schema.columns.items, rest)
 items_behind schema None tokens = do
   first ← item_at schema tokens
   with_front (first.0 ∷ []) (more_items schema (begins_with_name tokens) first.1)

@@ -10,8 +10,9 @@ ghost use Rattle.std.specs.Prelude.{is_some, ◌≡◌, ◌<◌, length, IfOk, I
 ghost use Rattle.std.specs.Option.{option_map};
 ghost use Rattle.bw_sql.specs.Demand.{every_column};
 ghost use Rattle.bw_sql.specs.Reader.{Reads, ReadsFrom};
-ghost use Rattle.bw_sql.specs.Reading.{after_aggregate, aggregated_at, argument_at, begins_with_name, item_at, items_at, more_items, next_item_at, of_column, of_one_kind, with_front};
+ghost use Rattle.bw_sql.specs.Reading.{after_aggregate, aggregated_at, argument_at, begins_with_name, item_at, items_at, more_items, next_item_at, of_one_kind, with_front};
 ghost use Rattle.bw_sql.specs.Token.{lexemes};
+ghost use Rattle.bw_sql.specs.Words.{of_column};
 
 use crate::operand::{begins_with_name, column};
 use crate::reader::{Left, Read, Refusal, Stop, after_keyword, after_mark, mark};
@@ -34,7 +35,7 @@ pub fn items<'t>(alloc: Global, schema: &Schema, tokens: &'t [Placed<'t>]) -> Re
 
 /// Every column, in the order of the schema.
 fn every_column(alloc: Global, schema: &Schema) -> Result<Vec<Item>, AllocError>
-    ensures { IfOk result (λ items. items.items ≡ every_column schema.now) }
+    ensures { IfOk result (λ items. items.items ≡ every_column schema.now.columns.items) }
 {
     (0..schema.columns.len())
         .map(|column| Item::Plain(column))

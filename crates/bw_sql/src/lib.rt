@@ -100,6 +100,7 @@ fn read(alloc: Global, schema: &Schema, text: &[u8]) -> Result<Query, Fault>
 }
 
 /// A text is cut into tokens in one way.
+#[tactic(auto, using(crate::proofs::Cuts::one_cut_of))]
 pub fn one_cut()
     ensures { (at : ℕ) (text : List ℕ) (tokens others : List Spot) (stop other : Option ℕ)
         → IsCut at text tokens stop → IsCut at text others other
@@ -107,6 +108,7 @@ pub fn one_cut()
 {}
 
 /// The reading functions read a query from the tokens that spell it, and no other.
+#[tactic(auto, using(crate::proofs::Spelled::query_read, crate::proofs::Texts::query_spelled))]
 pub fn read_as_spelled()
     ensures read { (schema : Schema) (tokens : List Lexeme) (query : Asked)
         → IsQuery schema tokens query → statement_at schema tokens ≡ Ok query }
@@ -115,6 +117,7 @@ pub fn read_as_spelled()
 {}
 
 /// A list of tokens spells at most one query.
+#[tactic(auto, using(crate::proofs::Texts::same_query))]
 pub fn one_query()
     ensures { (schema : Schema) (tokens : List Lexeme) (query other : Asked)
         → IsQuery schema tokens query → IsQuery schema tokens other → query ≡ other }
@@ -127,6 +130,7 @@ pub fn one_query_of_a_text()
 {}
 
 /// Schemas of one shape have the same columns, and a text spells the same query under both.
+#[tactic(auto, using(crate::proofs::SameNames::columns_too, crate::proofs::SameNames::spells_too))]
 pub fn schemas_of_one_shape()
     ensures columns { (schema other : Schema) → schema_shape schema ≡ schema_shape other
         → schema.columns.items ≡ other.columns.items }

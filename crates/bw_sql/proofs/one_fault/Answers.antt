@@ -1,5 +1,5 @@
 -- A text is read in one way.
-use Rattle.bw_sql.proofs.Faults.{same_fault, spelled_or_refused}
+use Rattle.bw_sql.proofs.Texts.{same_fault, spelled_or_refused}
 use Rattle.bw_sql.proofs.one_fault.Goals as goal
 
 pub returns-clause-one : goal.returns-clause-one

@@ -1,8 +1,7 @@
 -- What is read is spelled, and what is spelled is read.
 use Rattle.std.proofs.Common.{◌∙◌}
 use Rattle.bw_model.proofs.SameLemmas.{names_within-tree_of, is_whole-tree_of}
-use Rattle.bw_sql.proofs.Faults.{parsed}
-use Rattle.bw_sql.proofs.Query.{err_is_memory}
+use Rattle.bw_sql.proofs.Texts.{err_is_memory, parsed}
 use Rattle.bw_sql.proofs.Within.{if_good}
 use Rattle.bw_sql.proofs.parse.Goals as goal
 

@@ -1,5 +1,5 @@
 -- Every text is cut, and the tokens are read.
-use Rattle.bw_sql.proofs.Faults.{query_or_fault_of}
+use Rattle.bw_sql.proofs.Texts.{query_or_fault_of}
 use Rattle.bw_sql.proofs.query_or_fault.Goals as goal
 
 pub returns : goal.returns

@@ -3,8 +3,9 @@ use Rattle.std.proofs.Common.{ℕ, ◌≤◌, ◌+◌, ◌*◌, length, map}
 use Rattle.bw_model.specs.CondTree.{tree_of}
 use Rattle.bw_sql.specs.declared.condition.Connective.{Connective}
 use Rattle.bw_sql.specs.declared.condition.Connective.TheVariants.{And, Or}
-use Rattle.bw_sql.specs.Reading.{after_keyword, more_parts_in, nested, part_in, with_front, word_of}
+use Rattle.bw_sql.specs.Reading.{after_keyword, more_parts_in, nested, part_in, with_front}
 use Rattle.bw_sql.specs.Token.{lexemes}
+use Rattle.bw_sql.specs.Words.{word_of}
 use Rattle.bw_sql.proofs.Repeats.{Repeats}
 use Rattle.bw_sql.proofs.condition.+condition.Given as goal
 

@@ -1,5 +1,5 @@
 -- Of the comparisons and marks, those of two bytes come first.
-use Rattle.bw_sql.proofs.Delimiters.{short_longest, no_long, no_long_at_end}
+use Rattle.bw_sql.proofs.Spellings.{short_longest, no_long, no_long_at_end}
 use Rattle.bw_sql.proofs.lexer.delimiter.Goals as goal
 use Rattle.bw_sql.proofs.lexer.delimiter.Goals.{in-Some+in_default-long_comparison, in_default}
 

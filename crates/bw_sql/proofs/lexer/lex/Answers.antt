@@ -3,7 +3,7 @@ use Rattle.std.proofs.Common.{subst, ◌<◌, ◌-◌, Some, None, [], length, a
 use Rattle.std.proofs.lemmas.List.{append-nil}
 use Rattle.std.proofs.lemmas.Bool.{eqb-true, eqb-false}
 use Rattle.bw_sql.specs.Cut.{IsCut, stopped}
-use Rattle.bw_sql.proofs.Cuts.{ended_at, shrinks, spots_push, token_step, gap_step}
+use Rattle.bw_sql.proofs.Cuts.{ended_at, shrinks, cut_step, spots_push}
 use Rattle.bw_sql.proofs.lexer.lex.Goals as goal
 
 pub returns-in_default : goal.returns-in_default
@@ -25,7 +25,7 @@ loop-rest-preserved-in_ok-push c =
       shorter = omega (arith, shrinks _ _ _ longest);
       so_far = λ tokens stop cut.
           subst (λ spots. IsCut 0 c.args.text.now spots stop) (sym (spots_push c.loop-rest.tokens.items c.push.new.self.items _ tokens c.in_ok-push.ensures.items))
-          (c.loop-rest.invariant.so_far _ stop (token_step _ _ _ tokens stop _ c.loop-rest.invariant.shorter longest cut));
+          (c.loop-rest.invariant.so_far _ stop (cut_step _ _ _ tokens stop _ c.loop-rest.invariant.shorter longest cut));
     }
 
 pub loop-rest-preserved : goal.loop-rest-preserved
@@ -33,5 +33,5 @@ loop-rest-preserved c =
     let longest = rw c.in_default-piece.is at c.in-Some.ensures in
     record {
       shorter = omega (arith, shrinks _ _ _ longest);
-      so_far = λ tokens stop cut. c.loop-rest.invariant.so_far tokens stop (gap_step _ _ _ tokens stop c.loop-rest.invariant.shorter longest cut);
+      so_far = λ tokens stop cut. c.loop-rest.invariant.so_far tokens stop (cut_step _ _ _ tokens stop _ c.loop-rest.invariant.shorter longest cut);
     }

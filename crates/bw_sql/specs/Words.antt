@@ -1,0 +1,33 @@
+-- The words of connectives and of aggregates, and what they make.
+use Rattle.std.specs.Prelude.{ℕ}
+use Rattle.bw_model.specs.declared.keyword.Keyword.{Keyword}
+use Rattle.bw_model.specs.declared.keyword.Keyword.TheVariants as word
+use Rattle.bw_model.specs.declared.query.Item.{Item}
+use Rattle.bw_model.specs.declared.query.Item.TheVariants.{Count, Sum, Min, Max}
+use Rattle.bw_model.specs.CondTree.{CondTree, CondTrees, And, Or}
+use Rattle.bw_sql.specs.declared.condition.Connective.{Connective}
+use Rattle.bw_sql.specs.declared.condition.Connective.TheVariants as connective
+use Rattle.bw_sql.specs.declared.items.Aggregate.{Aggregate}
+use Rattle.bw_sql.specs.declared.items.Aggregate.TheVariants as aggregate
+
+-- a connective's word, and the condition that parts make with it
+abbrev pub word_of : Connective → Keyword
+word_of connective.And = word.And
+word_of connective.Or = word.Or
+
+abbrev pub join_of : Connective → CondTrees → CondTree
+join_of connective.And parts = And parts
+join_of connective.Or parts = Or parts
+
+-- an aggregate's word, and the item that it makes of a column
+abbrev pub aggregate_word : Aggregate → Keyword
+aggregate_word aggregate.Count = word.Count
+aggregate_word aggregate.Sum = word.Sum
+aggregate_word aggregate.Min = word.Min
+aggregate_word aggregate.Max = word.Max
+
+abbrev pub of_column : Aggregate → ℕ → Item
+of_column aggregate.Count column = Count column
+of_column aggregate.Sum column = Sum column
+of_column aggregate.Min column = Min column
+of_column aggregate.Max column = Max column
