@@ -6,7 +6,7 @@ use std::fmt::Write;
 
 /// Says what stands on the line of a program file's fault, and where that is an instruction's line of the certificate, which
 /// instruction it stands for.
-pub fn of_program(alloc: Global, file: &[u8], fault: &Fault) -> Result<String, AllocError> {
+pub(crate) fn of_program(alloc: Global, file: &[u8], fault: &Fault) -> Result<String, AllocError> {
     let mut text = String::new(alloc);
     let Place::Line(number) = fault.place else {
         return Ok(text);

@@ -61,7 +61,7 @@ const OTHERS: [&str; 26] = [
 
 /// Says what could stand at the byte of a statement's syntax fault, and whether what does stand there is SQL that isn't in
 /// the language. The schema is the one under which the statement was refused.
-pub fn of_statement(
+pub(crate) fn of_statement(
     alloc: Global,
     schema: &Schema,
     sql: &[u8],
