@@ -10,9 +10,9 @@ use bw_model::{Cond, Op, Operand, Truth};
 
 /// The numbers of a condition's nodes: where it is TRUE, and where it is FALSE.
 #[derive(Clone, Copy)]
-pub struct TruthNodes {
-    pub yes: u32,
-    pub no: u32,
+pub(crate) struct TruthNodes {
+    pub(crate) yes: u32,
+    pub(crate) no: u32,
 }
 
 impl TruthNodes {
@@ -37,7 +37,7 @@ impl TruthNodes {
 /// `NoProgram`, AND, OR and IN of nothing, what [`compare`] refuses, and what would pass a limit of
 /// the facts.
 #[cycle(steps)]
-pub fn steps_of(
+pub(crate) fn steps_of(
     facts: &mut Facts<'_>,
     lines: &mut Vec<Entry>,
     cond: &Cond,

@@ -11,7 +11,7 @@ use std::alloc::Global;
 /// The nodes, chains and product rows of a certificate, under a schema. Each stands once, after
 /// those that it follows from, and is added where it is first asked for.
 #[derive(Drop)]
-pub struct Facts<'a> {
+pub(crate) struct Facts<'a> {
     schema: &'a Schema,
     nodes: Nodes,
     chains: Chains,
@@ -22,7 +22,7 @@ pub struct Facts<'a> {
 impl<'a> Facts<'a> {
     /// No facts yet, for a condition, whose columns give the order of variables. Refused is, as
     /// `NoProgram`, a schema of more than 256 columns.
-    pub fn new(alloc: Global, schema: &'a Schema, cond: &Cond) -> Result<Self, Refusal> {
+    pub(crate) fn new(alloc: Global, schema: &'a Schema, cond: &Cond) -> Result<Self, Refusal> {
         Ok(Facts {
             schema,
             nodes: Nodes::new(alloc),
@@ -33,23 +33,23 @@ impl<'a> Facts<'a> {
     }
 
     /// The nodes, of which the first has number 2.
-    pub fn nodes(&self) -> &[Branch] {
+    pub(crate) fn nodes(&self) -> &[Branch] {
         self.nodes.as_slice()
     }
 
     /// The chains, of which the first has number 0.
-    pub fn chains(&self) -> &IndexMap<Compared, Link> {
+    pub(crate) fn chains(&self) -> &IndexMap<Compared, Link> {
         &self.chains.links
     }
 
     /// The product rows, of which the first has number 0.
-    pub fn rows(&self) -> &IndexMap<Question, Outcome> {
+    pub(crate) fn rows(&self) -> &IndexMap<Question, Outcome> {
         &self.products.rows
     }
 
     /// The product row of a connective of nodes `a` and `b`, whose variables are tested in this
     /// order. Refused is, as `NoProgram`, what would pass 65,534 nodes or 1,048,576 rows.
-    pub fn row(
+    pub(crate) fn row(
         &mut self,
         order: VariableOrder,
         op: Logic,
@@ -63,7 +63,7 @@ impl<'a> Facts<'a> {
     /// The chain that compares `len` bits of a column's code, at most 63, from bit `start` on, with
     /// the low bits of a number. Refused are, as `NoProgram`, bits that the column hasn't, and what
     /// would pass 65,534 nodes or 65,536 chains.
-    pub fn bound(
+    pub(crate) fn bound(
         &mut self,
         kind: Kind,
         column: u8,
@@ -84,14 +84,14 @@ impl<'a> Facts<'a> {
 
     /// The chain that compares the codes of two columns, of which the shorter one has zeros above
     /// its top bit. Refused is, as `NoProgram`, what would pass 65,534 nodes or 65,536 chains.
-    pub fn columns(&mut self, kind: Kind, left: u8, right: u8) -> Result<Cited, Refusal> {
+    pub(crate) fn columns(&mut self, kind: Kind, left: u8, right: u8) -> Result<Cited, Refusal> {
         self.chains
             .columns(self.schema, &mut self.nodes, kind, left, right)
     }
 
     /// The node that is 1 where a column is null, if it has a null variable. Refused is, as
     /// `NoProgram`, what would pass 65,534 nodes.
-    pub fn nulls(&mut self, column: u8) -> Result<Option<u32>, Refusal> {
+    pub(crate) fn nulls(&mut self, column: u8) -> Result<Option<u32>, Refusal> {
         match chains::null_variable(self.schema, column) {
             Some(variable) => Ok(Some(self.nodes.test(variable, 0, 1)?)),
             None => Ok(None),
@@ -100,7 +100,7 @@ impl<'a> Facts<'a> {
 
     /// The node that is 1 where a bit of a column's code is 1. Refused are, as `NoProgram`, a bit
     /// that the column hasn't, and what would pass 65,534 nodes.
-    pub fn bit(&mut self, column: u8, bit: u32) -> Result<u32, Refusal> {
+    pub(crate) fn bit(&mut self, column: u8, bit: u32) -> Result<u32, Refusal> {
         match chains::variable(self.schema, column, bit) {
             Some(variable) => self.nodes.test(variable, 0, 1),
             None => Err(Refusal::NoProgram),
@@ -108,18 +108,18 @@ impl<'a> Facts<'a> {
     }
 
     /// How many comparisons of two different columns the condition has.
-    pub fn relations(&self) -> usize {
+    pub(crate) fn relations(&self) -> usize {
         self.ranks.relations
     }
 
     /// How many bits a column's codes have: none, where there is no such column.
-    pub fn width(&self, column: u8) -> u32 {
+    pub(crate) fn width(&self, column: u8) -> u32 {
         chains::width(self.schema, column)
     }
 
     /// The least value of a column, whose code is 0. Refused is, as `NoProgram`, a column that the
     /// schema hasn't.
-    pub fn lo(&self, column: u8) -> Result<i64, Refusal> {
+    pub(crate) fn lo(&self, column: u8) -> Result<i64, Refusal> {
         match self.schema.columns.get(column as usize) {
             Some(column) => Ok(column.lo),
             None => Err(Refusal::NoProgram),
@@ -128,7 +128,7 @@ impl<'a> Facts<'a> {
 
     /// A column's number as instructions hold it. Refused is, as `NoProgram`, a number above 255, or
     /// of a column that the schema hasn't.
-    pub fn column(&self, column: usize) -> Result<u8, Refusal> {
+    pub(crate) fn column(&self, column: usize) -> Result<u8, Refusal> {
         if column >= self.schema.columns.len() {
             return Err(Refusal::NoProgram);
         }

@@ -12,14 +12,14 @@ const MAX_CHAINS: usize = 65_536;
 
 /// What a chain asks: whether a number is less than another, or equal to it.
 #[derive(Clone, Copy, PartialEq, Eq, Hash)]
-pub enum Kind {
+pub(crate) enum Kind {
     Less,
     Equal,
 }
 
 impl Kind {
     /// The kind as a certificate's lines hold it.
-    pub fn chain_kind(self) -> ChainKind {
+    pub(crate) fn chain_kind(self) -> ChainKind {
         match self {
             Kind::Less => ChainKind::Less,
             Kind::Equal => ChainKind::Equal,
@@ -48,7 +48,7 @@ impl Kind {
 /// What a chain is of: `len` bits of a column's code from bit `start` on against a number, or the
 /// `len` low bits of the codes of two columns.
 #[derive(Clone, Copy, PartialEq, Eq, Hash)]
-pub enum Compared {
+pub(crate) enum Compared {
     Bound {
         kind: Kind,
         column: u8,
@@ -66,9 +66,9 @@ pub enum Compared {
 
 /// The number of a chain's node, and that of the chain of one bit less, where it has bits.
 #[derive(Clone, Copy)]
-pub struct Link {
-    pub node: u32,
-    pub prev: Option<u32>,
+pub(crate) struct Link {
+    pub(crate) node: u32,
+    pub(crate) prev: Option<u32>,
 }
 
 /// The chains, in order.

@@ -9,7 +9,7 @@ const NULL_BIT: u32 = 64;
 
 /// An order of the variables of a schema, in which the nodes of a product row test them.
 #[derive(Clone, Copy, PartialEq, Eq, Hash)]
-pub enum VariableOrder {
+pub(crate) enum VariableOrder {
     /// Column by column, in their sequence, each from the null variable and the top bit down;
     /// columns that are compared with one another place by place, the left column first.
     Whole,

@@ -8,29 +8,29 @@ use bw_model::{Op, Operand, Truth};
 /// A comparison of a column's code with a number: the code is less than (equal to) `limit`, or,
 /// where it is negated, it isn't.
 #[derive(Clone, Copy)]
-pub struct LiteralComparison {
-    pub column: u8,
-    pub kind: Kind,
-    pub limit: i128,
-    pub negated: bool,
+pub(crate) struct LiteralComparison {
+    pub(crate) column: u8,
+    pub(crate) kind: Kind,
+    pub(crate) limit: i128,
+    pub(crate) negated: bool,
 }
 
 /// A comparison of the codes of two columns: the left one is less than (equal to) the right one, or,
 /// where it is negated, it isn't.
 #[derive(Clone, Copy)]
-pub struct ColumnComparison {
-    pub kind: Kind,
-    pub left: u8,
-    pub right: u8,
-    pub negated: bool,
+pub(crate) struct ColumnComparison {
+    pub(crate) kind: Kind,
+    pub(crate) left: u8,
+    pub(crate) right: u8,
+    pub(crate) negated: bool,
     /// The columns as they stand in the condition.
-    pub columns: [u8; 2],
+    pub(crate) columns: [u8; 2],
 }
 
 impl LiteralComparison {
     /// The terminal that is worth whether a number of so many bits is less than (equal to) the
     /// limit, if no such number or each of them is.
-    pub fn terminal(self, width: u32) -> Option<u32> {
+    pub(crate) fn terminal(self, width: u32) -> Option<u32> {
         let past = self.limit >= 1 << width.min(63);
         match self.kind {
             Kind::Less if self.limit <= 0 => Some(0),
@@ -43,7 +43,7 @@ impl LiteralComparison {
 
 impl ColumnComparison {
     /// The terminal that is worth whether a column's code compares so to itself.
-    pub fn terminal(self) -> Option<u32> {
+    pub(crate) fn terminal(self) -> Option<u32> {
         match self.kind {
             _ if self.left != self.right => None,
             Kind::Less => Some(0),
@@ -52,14 +52,14 @@ impl ColumnComparison {
     }
 
     /// The order in which the comparison's nodes test the variables of the two columns.
-    pub fn order(self) -> VariableOrder {
+    pub(crate) fn order(self) -> VariableOrder {
         VariableOrder::Places(self.right)
     }
 }
 
 /// What a comparison is.
 #[derive(Clone, Copy)]
-pub enum Comparison {
+pub(crate) enum Comparison {
     /// The same truth on every row.
     Fixed(Truth),
     Literal(LiteralComparison),
@@ -69,7 +69,12 @@ pub enum Comparison {
 /// What a comparison of operands is: a column's code stands for its value. Refused are, as
 /// `NoProgram`, columns that the schema hasn't or whose numbers are above 255, and two columns with
 /// different least values.
-pub fn compare(facts: &Facts<'_>, op: Op, x: Operand, y: Operand) -> Result<Comparison, Refusal> {
+pub(crate) fn compare(
+    facts: &Facts<'_>,
+    op: Op,
+    x: Operand,
+    y: Operand,
+) -> Result<Comparison, Refusal> {
     match (x, y) {
         (Operand::Col(column), Operand::Lit(n)) => {
             Ok(Comparison::Literal(with_literal(facts, op, column, n)?))

@@ -9,10 +9,10 @@ const MAX_NODES: usize = 65_534;
 /// A node: the variable that it tests, and the numbers of its children, where the variable is 0 and
 /// where it is 1. Numbers 0 and 1 are the terminals.
 #[derive(Clone, Copy, PartialEq, Eq, Hash)]
-pub struct Branch {
-    pub variable: u32,
-    pub low: u32,
-    pub high: u32,
+pub(crate) struct Branch {
+    pub(crate) variable: u32,
+    pub(crate) low: u32,
+    pub(crate) high: u32,
 }
 
 /// The nodes from number 2 on; 0 and 1 are the terminals.

@@ -14,7 +14,7 @@ const MAX_STEPS: u32 = 4_000_000;
 
 /// A connective of two nodes: `Diff` is 1 where the first is 1 and the second 0.
 #[derive(Clone, Copy, PartialEq, Eq, Hash)]
-pub enum Logic {
+pub(crate) enum Logic {
     And,
     Or,
     Xor,
@@ -23,7 +23,7 @@ pub enum Logic {
 
 impl Logic {
     /// The connective as a certificate's lines hold it.
-    pub fn connective(self) -> Connective {
+    pub(crate) fn connective(self) -> Connective {
         match self {
             Logic::And => Connective::And,
             Logic::Or => Connective::Or,
@@ -36,34 +36,34 @@ impl Logic {
 /// What a product row is of: a connective of two nodes by their numbers, worked out in an order of
 /// variables.
 #[derive(Clone, Copy, PartialEq, Eq, Hash)]
-pub struct Question {
-    pub order: VariableOrder,
-    pub op: Logic,
-    pub a: u32,
-    pub b: u32,
+pub(crate) struct Question {
+    pub(crate) order: VariableOrder,
+    pub(crate) op: Logic,
+    pub(crate) a: u32,
+    pub(crate) b: u32,
 }
 
 /// The numbers of two earlier rows: those of the cofactors by a variable, where it is 0 and where it
 /// is 1.
 #[derive(Clone, Copy)]
-pub struct Cofactors {
-    pub variable: u32,
-    pub low: u32,
-    pub high: u32,
+pub(crate) struct Cofactors {
+    pub(crate) variable: u32,
+    pub(crate) low: u32,
+    pub(crate) high: u32,
 }
 
 /// The number of a product row's node, and the rows that it follows from, where it isn't a shortcut.
 #[derive(Clone, Copy)]
-pub struct Outcome {
-    pub node: u32,
-    pub reason: Option<Cofactors>,
+pub(crate) struct Outcome {
+    pub(crate) node: u32,
+    pub(crate) reason: Option<Cofactors>,
 }
 
 /// A product row or a chain as a line cites it: its number, from 0 on, and the number of its node.
 #[derive(Clone, Copy)]
-pub struct Cited {
-    pub number: u32,
-    pub node: u32,
+pub(crate) struct Cited {
+    pub(crate) number: u32,
+    pub(crate) node: u32,
 }
 
 /// The product rows, in order.

@@ -1,12 +1,12 @@
 //! Why there is no proposal.
-ghost use Rattle.bw_plan_facts.specs.Refused.{IsRefusal};
+ghost use Rattle.bw_plan.specs.Refused.{IsRefusal};
 
 use bw_model::{Fault, code};
 use std::alloc::{AllocError, AllocFailed};
 
 /// Why there is no proposal.
 #[derive(Clone, Copy)]
-pub enum Refusal {
+pub(crate) enum Refusal {
     /// A limit of certificates or programs would be passed, or a form has no rule.
     NoProgram,
     /// The same of the condition's own lines, so that no other program helps.
@@ -29,7 +29,7 @@ impl<T: Drop> From<AllocFailed<T>> for Refusal {
 
 impl Refusal {
     /// The fault that is reported, which stands nowhere: 651, or 801 for `NoMemory`.
-    pub fn fault(self) -> Fault
+    pub(crate) fn fault(self) -> Fault
         ensures { IsRefusal result }
     {
         match self {
