@@ -5,11 +5,11 @@ use Rattle.bw_diagram.specs.Facts.{Facts}
 use Rattle.bw_program.specs.declared.instr.Instr.{Instr}
 use Rattle.bw_cert_lines.specs.declared.lines.BodyLine.{BodyLine}
 use Rattle.bw_cert_lines.specs.declared.lines.Entry.TheVariants as line_of
-use Rattle.bw_cert_known.specs.declared.edge.Edge.{Edge}
-use Rattle.bw_cert_known.specs.Accepted.{Part, join_lines, lines_of, before, edges_before, edge_at, fallen, known_or_nothing, past, known_past, obeys_join, Obeys}
-use Rattle.bw_cert_known.specs.Instruction.{behind}
-use Rattle.bw_cert_known.specs.Join.{edge_of, with_edge, edges_into}
-use Rattle.bw_cert_known.specs.Known.{Known}
+use Rattle.bw_cert_parts.specs.declared.edge.Edge.{Edge}
+use Rattle.bw_cert_parts.specs.Accepted.{Part, join_lines, lines_of, before, edges_before, edge_at, fallen, known_or_nothing, past, known_past, obeys_join, Obeys}
+use Rattle.bw_cert_parts.specs.Instruction.{behind}
+use Rattle.bw_cert_parts.specs.Join.{edge_of, with_edge, edges_into}
+use Rattle.bw_cert_parts.specs.Known.{Known}
 
 abbrev pub with_one : {A : Type 0} → List A → A → List A
 with_one xs x = xs ++ x ∷ []

@@ -24,10 +24,10 @@ use Rattle.bw_program.specs.ProgramText.{found_on}
 use Rattle.bw_cert_lines.specs.declared.lines.BodyLine.{BodyLine}
 use Rattle.bw_cert_lines.specs.declared.lines.InstructionEntry.{InstructionEntry}
 use Rattle.bw_cert_lines.specs.CertificateShape.{CertificateShape}
-use Rattle.bw_cert_known.specs.Instruction.{behind, loaded_node, byte_chain, plane_on, byte_on}
-use Rattle.bw_cert_known.specs.Join.{is_zero}
-use Rattle.bw_cert_known.specs.Known.{Known, node_of}
-use Rattle.bw_cert_known.specs.Walk.{Taken}
+use Rattle.bw_cert_parts.specs.Instruction.{behind, loaded_node, byte_chain, plane_on, byte_on}
+use Rattle.bw_cert_parts.specs.Join.{is_zero}
+use Rattle.bw_cert_parts.specs.Known.{Known, node_of}
+use Rattle.bw_cert_parts.specs.Walk.{Taken}
 use Rattle.bw_cert.specs.Stated.{on_line, with_lines, with_node_line, with_chain_line, with_row_line, facts_stated}
 use Rattle.bw_cert.specs.Valid.{last_on, end_on}
 

@@ -9,12 +9,12 @@ use Rattle.bw_program.specs.declared.instr.Instr.{Instr}
 use Rattle.bw_cert_lines.specs.declared.lines.BodyLine.{BodyLine}
 use Rattle.bw_cert_lines.specs.declared.lines.Entry.TheVariants as line_of
 use Rattle.bw_cert_lines.specs.declared.lines.InstructionEntry.{InstructionEntry}
-use Rattle.bw_cert_known.specs.declared.edge.Edge.{Edge}
-use Rattle.bw_cert_known.specs.Accepted.{KeepLine, JoinLines, Part, Obeys, keep_line, lines_of, before, edges_before, are_kept}
-use Rattle.bw_cert_known.specs.Instruction.{behind}
-use Rattle.bw_cert_known.specs.Join.{edge_of, with_edge, edges_into}
-use Rattle.bw_cert_known.specs.Known.{Known}
-use Rattle.bw_cert_known.specs.Walk.{instruction_on, is_join, keep_in, judged}
+use Rattle.bw_cert_parts.specs.declared.edge.Edge.{Edge}
+use Rattle.bw_cert_parts.specs.Accepted.{KeepLine, JoinLines, Part, Obeys, keep_line, lines_of, before, edges_before, are_kept}
+use Rattle.bw_cert_parts.specs.Instruction.{behind}
+use Rattle.bw_cert_parts.specs.Join.{edge_of, with_edge, edges_into}
+use Rattle.bw_cert_parts.specs.Known.{Known}
+use Rattle.bw_cert_parts.specs.Walk.{instruction_on, is_join, keep_in, judged}
 
 -- lines that begin with no line KEEP
 abbrev pub NoKeep : List BodyLine → Type 0

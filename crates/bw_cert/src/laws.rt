@@ -15,18 +15,18 @@ ghost use Rattle.bw_program.specs.declared.instr.Instr.{Instr};
 ghost use Rattle.bw_cert_lines.specs.CertificateFields.{certificate_fields};
 ghost use Rattle.bw_cert_lines.specs.CertificateShape.{CertificateShape};
 ghost use Rattle.bw_cert_lines.specs.declared.lines.BodyLine.{BodyLine};
-ghost use Rattle.bw_cert_known.specs.Accepted.{before};
-ghost use Rattle.bw_cert_known.specs.Sound.{Hold};
-ghost use Rattle.bw_cert_known.specs.Walk.{judged};
+ghost use Rattle.bw_cert_parts.specs.Accepted.{before};
+ghost use Rattle.bw_cert_parts.specs.Sound.{Hold};
+ghost use Rattle.bw_cert_parts.specs.Walk.{judged};
 ghost use Rattle.bw_cert.specs.FirstFault.{FirstFault, StandsOn};
 ghost use Rattle.bw_cert.specs.FirstWrong.{FirstWrong};
 ghost use Rattle.bw_cert.specs.Selects.{Selects};
 ghost use Rattle.bw_cert.specs.Valid.{Valid, checked};
 
-use bw_cert_known::{
-    judged_lines_obey, lines_are_judged_by_what_they_say, obeying_lines_are_judged, skip_soundness,
+use bw_cert_parts::{
+    judged_lines_obey, lines_are_judged_by_what_they_say, obeying_lines_are_judged,
+    pairs_are_of_trees, pairs_tell_truths, skip_soundness,
 };
-use bw_cert_pair::{pairs_are_of_trees, pairs_tell_truths};
 use bw_diagram::{accepted_lines_are_true, cited_nodes_are_worth};
 use bw_run::runs_come_to_the_end;
 

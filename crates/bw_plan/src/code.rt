@@ -1,7 +1,11 @@
 //! Instructions, with the node of each register.
+use crate::chains::Kind;
 use crate::digits::Digits;
+use crate::facts::Facts;
+use crate::order::VariableOrder;
+use crate::products::Logic;
+use crate::refusal::Refusal;
 use bw_cert_lines::{EdgeRows, Entry, InstructionEntry, Keep};
-use bw_plan_facts::{Facts, Kind, Logic, Refusal, VariableOrder};
 use bw_program::Instr;
 use std::alloc::Global;
 

@@ -1,8 +1,10 @@
 //! The digits of a byte, of four bits each, for long lists of numbers: whether a byte is a number is
 //! then one AND of two registers, and needs no look at the byte.
+use crate::chains::Kind;
 use crate::code::Code;
+use crate::products::Logic;
+use crate::refusal::Refusal;
 use crate::sets::groups_from;
-use bw_plan_facts::{Kind, Logic, Refusal};
 
 /// Registers that are 1 where the upper digit of a byte is 0, 1 and so on, and where the lower one is. A byte of four bits or
 /// fewer has no upper digit.

@@ -5,10 +5,14 @@ ghost use Rattle.bw_cert_lines.specs.CertificateFields.{certificate_fields};
 ghost use Rattle.bw_cert_lines.specs.Columns.{has_columns, is_column};
 ghost use Rattle.bw_plan.specs.Named.{is_chain_named, are_chains_named};
 
+use crate::chains::{Compared, Link};
+use crate::facts::Facts;
+use crate::nodes::Branch;
+use crate::products::{Outcome, Question};
+use crate::refusal::Refusal;
 use bw_cert_lines::{BodyLine, Certificate, ChainLine, EndLine, Entry, NodeLine, RowLine};
 use bw_diagram::{ChainColumns, Reason};
 use bw_model::{Schema, code};
-use bw_plan_facts::{Branch, Compared, Facts, Link, Outcome, Question, Refusal};
 use bw_program::{Instr, Program};
 use indexmap::IndexMap;
 use std::alloc::{AllocError, Global};

@@ -4,14 +4,18 @@ ghost use Rattle.bw_model.specs.Cond.{names_within};
 ghost use Rattle.bw_program.specs.Program.{fits};
 ghost use Rattle.bw_cert_lines.specs.CertificateFields.{certificate_fields};
 ghost use Rattle.bw_cert_lines.specs.Columns.{has_columns};
-ghost use Rattle.bw_plan_facts.specs.Refused.{IsRefusal};
+ghost use Rattle.bw_plan.specs.Refused.{IsRefusal};
 
 use crate::code::Code;
 use crate::emit;
+use crate::facts::Facts;
+use crate::order::VariableOrder;
+use crate::products::Logic;
+use crate::refusal::Refusal;
+use crate::steps::steps_of;
 use crate::truths::Wanted;
 use bw_cert_lines::Certificate;
 use bw_model::{Cond, Fault, Schema};
-use bw_plan_facts::{Facts, Logic, Refusal, VariableOrder, steps_of};
 use bw_program::Program;
 use std::alloc::Global;
 

@@ -1,6 +1,9 @@
 //! Instructions that compare the codes of two columns with one another, bit by bit.
+use crate::chains::Kind;
 use crate::code::Code;
-use bw_plan_facts::{ColumnComparison, Kind, Logic, Refusal};
+use crate::comparison::ColumnComparison;
+use crate::products::Logic;
+use crate::refusal::Refusal;
 
 /// Registers of one bit of two columns.
 #[derive(Clone, Copy)]

@@ -1,10 +1,12 @@
 //! Instructions that compare a column's codes with numbers, from the most significant byte down.
+use crate::chains::Kind;
 use crate::code::Code;
 use crate::digits::Upper;
+use crate::products::Logic;
+use crate::refusal::Refusal;
 use crate::sets::{
     byte_of, first_group, going_on, groups_from, is_rare, is_soon_done, most_instructions,
 };
-use bw_plan_facts::{Kind, Logic, Refusal};
 
 impl Code<'_> {
     /// A register that is 1 where a column's code has an odd number of bounds above it. The bounds

@@ -1,5 +1,7 @@
 //! Sets of a column's codes.
-use bw_plan_facts::{Kind, LiteralComparison, Refusal};
+use crate::chains::Kind;
+use crate::comparison::LiteralComparison;
+use crate::refusal::Refusal;
 use std::alloc::Global;
 
 /// A set of numbers of so many bits: those with an odd number of bounds above them, or, where it is

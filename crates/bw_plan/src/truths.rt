@@ -1,11 +1,12 @@
 //! Instructions that work out where a condition is TRUE, and where it is FALSE.
 use crate::code::Code;
+use crate::comparison::{ColumnComparison, Comparison, LiteralComparison, compare};
+use crate::order::VariableOrder;
+use crate::products::Logic;
+use crate::refusal::Refusal;
 use crate::room::leading;
 use crate::sets::Set;
 use bw_model::{Cond, Op, Operand, Truth};
-use bw_plan_facts::{
-    ColumnComparison, Comparison, LiteralComparison, Logic, Refusal, VariableOrder, compare,
-};
 
 /// Which truths are wanted.
 #[derive(Clone, Copy)]

@@ -1,7 +1,9 @@
 //! The lines below a fault's own line.
 use crate::by_rows::of_rows;
+use crate::csv_text::of_csv;
+use crate::frontier::of_statement;
+use crate::lines::of_program;
 use bw_device::{FromRead, Input, read_limited};
-use bw_explain::{of_csv, of_program, of_statement};
 use bw_file::TableReader;
 use bw_model::{Fault, MAX_CSV_LEN, Place, Schema, code};
 use bw_words::Words;

@@ -1,7 +1,0 @@
-pub mod ComparisonLemmas
-pub mod NumberLemmas
-pub mod PairLemmas
-pub mod RowLemmas
-pub mod SoundLemmas
-pub mod StepLemmas
-pub mod TreeLemmas

@@ -1,4 +1,0 @@
-pub mod Comparison
-pub mod Meaning
-pub mod Pair
-pub mod Rows

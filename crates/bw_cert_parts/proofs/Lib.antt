@@ -1,0 +1,16 @@
+pub mod AcceptLemmas
+pub mod ComparisonLemmas
+pub mod EdgeLemmas
+pub mod HoldLemmas
+pub mod JoinLemmas
+pub mod NumberLemmas
+pub mod PairLemmas
+pub mod RowLemmas
+pub mod SameLemmas
+pub mod SoundLemmas
+pub mod StepLemmas
+pub mod TreeLemmas
+pub mod TruthLemmas
+pub mod TruthStepLemmas
+pub mod WalkLemmas
+pub mod WrittenLemmas

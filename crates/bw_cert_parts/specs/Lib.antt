@@ -1,0 +1,11 @@
+pub mod Accepted
+pub mod Comparison
+pub mod Edges
+pub mod Instruction
+pub mod Join
+pub mod Known
+pub mod Meaning
+pub mod Pair
+pub mod Rows
+pub mod Sound
+pub mod Walk

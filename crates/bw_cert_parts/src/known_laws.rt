@@ -1,0 +1,57 @@
+//! Laws: what lines say is known, and that it holds in every run.
+ghost use Rattle.std.specs.Prelude.{◌≡◌, ℕ, List, [], Ok, IsTrue, length, map};
+ghost use Rattle.bw_model.specs.Variable.{Assignment};
+ghost use Rattle.bw_diagram.specs.Facts.{Facts, AreTrue};
+ghost use Rattle.bw_program.specs.Machine.{State, Reaches, end_state};
+ghost use Rattle.bw_program.specs.Program.{ProgramShape, is_program};
+ghost use Rattle.bw_program.specs.declared.instr.Instr.{Instr};
+ghost use Rattle.bw_cert_lines.specs.CertificateFields.{body_fields};
+ghost use Rattle.bw_cert_lines.specs.declared.lines.BodyLine.{BodyLine};
+ghost use Rattle.bw_cert_parts.specs.Accepted.{Part, Obeys, Accepts, before, lines_of};
+ghost use Rattle.bw_cert_parts.specs.Sound.{Hold};
+ghost use Rattle.bw_cert_parts.specs.Walk.{Taken, judged, told};
+
+use bw_diagram::cited_nodes_are_worth;
+
+/// A law, skip soundness: let parts obey for a program's instructions, over facts that are true.
+/// Then in every run, over any lanes and whichever skips it takes, at each place that it reaches,
+/// each register of which a node is known there holds, in the lane of each assignment, the value of
+/// the node. So it is at the end, which every run comes to.
+pub fn skip_soundness()
+    ensures reached { (facts : Facts) (program : ProgramShape) (parts : List Part)
+        → AreTrue facts → IsTrue (is_program program)
+        → Obeys facts program.instrs parts
+        → (lanes : List Assignment) (place : ℕ) (state : State)
+        → Reaches facts.columns lanes program place state
+        → Hold facts lanes (before facts program.instrs parts place) state.registers }
+    ensures end { (facts : Facts) (program : ProgramShape) (parts : List Part) → AreTrue facts
+        → IsTrue (is_program program)
+        → Obeys facts program.instrs parts → (lanes : List Assignment)
+        → Hold facts lanes (before facts program.instrs parts (length program.instrs))
+        (end_state facts.columns lanes program).registers }
+{
+    cited_nodes_are_worth();
+}
+
+/// A law: lines that are judged to be right are those of parts that obey.
+pub fn judged_lines_obey()
+    ensures { (facts : Facts) (instrs : List Instr) (end : ℕ) (lines : List BodyLine) (taken : Taken)
+        → judged facts instrs end lines ≡ Ok taken → Accepts facts instrs lines taken }
+{}
+
+/// A law: the lines of parts that obey are judged to be right, and what is known at the end is what
+/// is known before it.
+pub fn obeying_lines_are_judged()
+    ensures { (facts : Facts) (instrs : List Instr) (parts : List Part) (end : ℕ)
+        → Obeys facts instrs parts
+        → judged facts instrs end (lines_of 0 parts)
+        ≡ Ok (record { known = before facts instrs parts (length instrs); rest = [] }) }
+{}
+
+/// A law: lines that say the same are judged alike, to what is known at the end and lines after it
+/// that say the same, or to one fault.
+pub fn lines_are_judged_by_what_they_say()
+    ensures { (facts : Facts) (instrs : List Instr) (end : ℕ) (lines others : List BodyLine)
+        → map body_fields lines ≡ map body_fields others
+        → told (judged facts instrs end lines) ≡ told (judged facts instrs end others) }
+{}

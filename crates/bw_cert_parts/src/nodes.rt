@@ -1,0 +1,85 @@
+//! Pairs of nodes, and what a line takes from the product rows that it cites.
+ghost use Rattle.std.specs.Prelude.{◌≡◌};
+ghost use Rattle.bw_cert_parts.specs.Comparison.{constant_pair};
+ghost use Rattle.bw_cert_parts.specs.Rows.{pair_of_nodes, if_both, exchanged, null_cited, value_node};
+
+use bw_diagram::{Connective, Diagram};
+use bw_model::Truth;
+
+/// The nodes of a condition: where it is TRUE, and where it is FALSE.
+#[derive(Clone, Copy)]
+pub struct Pair {
+    pub yes: u64,
+    pub no: u64,
+}
+
+impl Pair {
+    /// The pair of two nodes.
+    pub(crate) const fn new(yes: u64, no: u64) -> Self
+        ensures { result ≡ pair_of_nodes yes no }
+    {
+        Pair { yes, no }
+    }
+
+    /// The pair of a step with one truth on every row.
+    pub(crate) const fn constant(truth: Truth) -> Self
+        ensures { result ≡ constant_pair truth }
+    {
+        match truth {
+            Truth::Yes => Pair::new(1, 0),
+            Truth::No => Pair::new(0, 1),
+            Truth::Unknown => Pair::new(0, 0),
+        }
+    }
+
+    /// The pair of two nodes, if both are there.
+    pub(crate) fn of_both(yes: Option<u64>, no: Option<u64>) -> Option<Self>
+        ensures { result ≡ if_both yes no }
+    {
+        match (yes, no) {
+            (Some(yes), Some(no)) => Some(Pair { yes, no }),
+            _ => None,
+        }
+    }
+
+    /// The pair of the opposite condition.
+    pub(crate) const fn exchanged(self) -> Self
+        ensures { result ≡ exchanged self }
+    {
+        Pair {
+            yes: self.no,
+            no: self.yes,
+        }
+    }
+}
+
+/// The pair of the product row of a number, if it is the null test of a column with this null
+/// variable: the nodes that are 1 where the column is null, and where it isn't.
+pub(crate) fn null_cited(diagram: &Diagram<'_>, variable: u32, number: u64) -> Option<Pair>
+    ensures { result ≡ null_cited diagram.now variable number }
+{
+    let null = u64::from(diagram.row(number)?.b);
+    Pair::of_both(
+        diagram.variable_cited(variable, null),
+        diagram.cited(Connective::Diff, 1, null, number),
+    )
+}
+
+/// The node that is 1 where a column with this null variable has a value, which a line cites by the
+/// number of a product row: 1, for `-`, where the column has no null variable.
+pub(crate) fn value_node(
+    diagram: &Diagram<'_>,
+    variable: Option<u32>,
+    number: Option<u64>,
+) -> Option<u64>
+    ensures { result ≡ value_node diagram.now variable number }
+{
+    match (variable, number) {
+        (None, None) => Some(1),
+        (Some(variable), Some(number)) => match null_cited(diagram, variable, number) {
+            Some(pair) => Some(pair.no),
+            None => None,
+        },
+        _ => None,
+    }
+}

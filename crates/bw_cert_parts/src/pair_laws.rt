@@ -1,0 +1,37 @@
+//! Laws of pairs.
+ghost use Rattle.std.specs.Prelude.{◌≡◌, ℕ, List, Ok, IsTrue, length, map};
+ghost use Rattle.bw_model.specs.declared.column.Column.{Column};
+ghost use Rattle.bw_model.specs.declared.cond.Cond.{Cond};
+ghost use Rattle.bw_model.specs.Cond.{names_within, truth_of};
+ghost use Rattle.bw_model.specs.CondTree.{tree_of};
+ghost use Rattle.bw_model.specs.Variable.{Assignment, row_of};
+ghost use Rattle.bw_diagram.specs.Facts.{Facts, AreTrue};
+ghost use Rattle.bw_cert_lines.specs.CertificateFields.{body_fields};
+ghost use Rattle.bw_cert_lines.specs.declared.lines.BodyLine.{BodyLine};
+ghost use Rattle.bw_cert_parts.specs.declared.nodes.Pair.{Pair};
+ghost use Rattle.bw_cert_parts.specs.Meaning.{Tells};
+ghost use Rattle.bw_cert_parts.specs.Pair.{pair_of, told};
+
+use bw_diagram::cited_nodes_are_worth;
+
+/// A law: where what a diagram holds is true, the pair of a condition is two nodes of it, and under
+/// every assignment the one is 1 exactly where the condition is TRUE on the assignment's row, the
+/// other exactly where it is FALSE. The condition names only columns of the diagram.
+pub fn pairs_tell_truths()
+    ensures { (columns : List Column) (facts : Facts) (end : ℕ) (cond : Cond)
+        (lines rest : List BodyLine) (pair : Pair)
+        → facts.columns ≡ columns → AreTrue facts → IsTrue (names_within (length columns) cond)
+        → pair_of columns facts end cond lines ≡ Ok (pair, rest)
+        → Tells facts.nodes (λ assignment. truth_of (row_of columns assignment) cond) pair }
+{
+    cited_nodes_are_worth();
+}
+
+/// A law: conditions of one tree are read alike, from lines that say the same: to one pair and lines
+/// after it that say the same, or to one fault.
+pub fn pairs_are_of_trees()
+    ensures { (columns : List Column) (facts : Facts) (end : ℕ) (cond same : Cond)
+        (lines others : List BodyLine)
+        → tree_of cond ≡ tree_of same → map body_fields lines ≡ map body_fields others
+        → told (pair_of columns facts end cond lines) ≡ told (pair_of columns facts end same others) }
+{}

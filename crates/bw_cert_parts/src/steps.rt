@@ -1,0 +1,391 @@
+//! The steps of a condition, operands first: each takes the next line.
+ghost use Rattle.std.specs.Prelude.{◌≡◌, [], ◌∷◌, Some, IsTrue, IfErr, length, map};
+ghost use Rattle.std.specs.List.{list_all};
+ghost use Rattle.bw_model.specs.declared.fault.code.TheConstants.{CONDITION_LINE};
+ghost use Rattle.bw_model.specs.Cond.{names_within, is_within};
+ghost use Rattle.bw_model.specs.declared.cond.Op.TheVariants.{Eq, Le, Ge};
+ghost use Rattle.bw_model.specs.Fault.{at_line};
+ghost use Rattle.bw_cert_parts.specs.declared.steps.Junction.TheVariants.{All, Any};
+ghost use Rattle.bw_cert_parts.specs.Comparison.{fixed, comparison};
+ghost use Rattle.bw_cert_parts.specs.Pair.{Answers, next_entry, next_number, taken, by_line, null_test, is_null_test, joined_pair, negated_pair, with_opposite, tested_pair, joined_parts, one_more, equations, pair_of};
+
+use crate::comparison::{comparison, fixed};
+use crate::nodes::{Pair, null_cited};
+use bw_cert_lines::{BodyLine, ConditionEntry, Entry};
+use bw_diagram::{Connective, Diagram};
+use bw_model::{Cond, Fault, Op, Operand, Schema, Truth, code};
+
+/// A pair, and the lines after those that made it.
+type Read<'a> = Result<(Pair, &'a [BodyLine]), Fault>;
+
+/// What joins the parts of a condition: AND, or OR.
+#[derive(Clone, Copy)]
+pub enum Junction {
+    All,
+    Any,
+}
+
+/// The nodes of a condition: where it is TRUE, and where it is FALSE. The lines begin with the
+/// condition's, and those after them are answered too. Refused is, as 606, the first line that
+/// isn't one of the condition's next step, or that breaks its rule; where the lines have run out,
+/// the one of END, whose number is `end`. The condition's columns are the schema's. Takes no
+/// memory.
+#[tactic(auto, using(crate::proofs::PairLemmas::pairs, bw_model::proofs::CondLemmas::names))]
+#[cycle(pair)]
+pub fn pair<'a>(
+    schema: &Schema,
+    diagram: &Diagram<'_>,
+    cond: &Cond,
+    lines: &'a [BodyLine],
+    end: u64,
+) -> Read<'a>
+    requires { IsTrue (names_within (length schema.now.columns.items) cond.now) }
+    ensures pair { Answers result
+        (pair_of schema.now.columns.items diagram.now end cond.now lines.now) }
+    ensures code { IfErr result (λ fault. fault.code ≡ CONDITION_LINE) }
+{
+    match cond {
+        Cond::Always => constant(Truth::Yes, lines, end),
+        Cond::Cmp(op, x, y) => compared(schema, diagram, *op, *x, *y, lines, end),
+        Cond::Between(x, y, z) => between(schema, diagram, *x, *y, *z, lines, end),
+        Cond::Among(x, items) => among(schema, diagram, *x, items, lines, end),
+        Cond::IsNull(x) => null_tested(schema, diagram, *x, lines, end),
+        Cond::And(parts) => joined(schema, diagram, Junction::All, parts, lines, end),
+        Cond::Or(parts) => joined(schema, diagram, Junction::Any, parts, lines, end),
+        Cond::Not(part) => {
+            let (made, rest) = pair(schema, diagram, part, lines, end)?;
+            negated(made, rest, end)
+        }
+        Cond::Test(part, wanted) => {
+            let (made, rest) = pair(schema, diagram, part, lines, end)?;
+            tested(diagram, *wanted, made, rest, end)
+        }
+    }
+}
+
+/// The pair of parts that are joined: the first part's lines, and then for each further part its
+/// lines and the one that joins it.
+#[cycle(pair)]
+fn joined<'a>(
+    schema: &Schema,
+    diagram: &Diagram<'_>,
+    junction: Junction,
+    parts: &[Cond],
+    lines: &'a [BodyLine],
+    end: u64,
+) -> Read<'a>
+    requires { IsTrue (list_all (names_within (length schema.now.columns.items)) parts.now) }
+    ensures pair { Answers result (joined_parts schema.now.columns.items diagram.now end junction
+        (map (pair_of schema.now.columns.items diagram.now end) parts.now) lines.now) }
+    ensures code { IfErr result (λ fault. fault.code ≡ CONDITION_LINE) }
+{
+    let Some((first, others)) = parts.split_first() else {
+        return Err(refused(lines, end));
+    };
+    let (mut made, mut left) = pair(schema, diagram, first, lines, end)?;
+    for part in others {
+        let (next, rest) = pair(schema, diagram, part, left, end)?;
+        let (both, rest) = join(diagram, junction, made, next, rest, end)?;
+        made = both;
+        left = rest;
+    }
+    Ok((made, left))
+}
+
+/// The pair of a list of equations with one operand, of which one holds.
+fn among<'a>(
+    schema: &Schema,
+    diagram: &Diagram<'_>,
+    x: Operand,
+    items: &[Operand],
+    lines: &'a [BodyLine],
+    end: u64,
+) -> Read<'a>
+    requires operand { IsTrue (is_within (length schema.now.columns.items) x) }
+    requires items { IsTrue (list_all (is_within (length schema.now.columns.items)) items.now) }
+    ensures pair { Answers result (joined_parts schema.now.columns.items diagram.now end Any
+        (equations schema.now.columns.items diagram.now end x items.now) lines.now) }
+    ensures code { IfErr result (λ fault. fault.code ≡ CONDITION_LINE) }
+{
+    let Some((first, others)) = items.split_first() else {
+        return Err(refused(lines, end));
+    };
+    let (mut made, mut left) = compared(schema, diagram, Op::Eq, x, *first, lines, end)?;
+    for item in others {
+        (made, left) = one_more(schema, diagram, x, *item, made, left, end)?;
+    }
+    Ok((made, left))
+}
+
+/// The pair of one of these equations more, joined to the pair so far.
+fn one_more<'a>(
+    schema: &Schema,
+    diagram: &Diagram<'_>,
+    x: Operand,
+    item: Operand,
+    made: Pair,
+    lines: &'a [BodyLine],
+    end: u64,
+) -> Read<'a>
+    requires operand { IsTrue (is_within (length schema.now.columns.items) x) }
+    requires item { IsTrue (is_within (length schema.now.columns.items) item) }
+    ensures pair { Answers result (one_more schema.now.columns.items diagram.now end Any
+        (by_line end (comparison schema.now.columns.items diagram.now Eq x item)) (made, lines.now)) }
+    ensures code { IfErr result (λ fault. fault.code ≡ CONDITION_LINE) }
+{
+    let (next, rest) = compared(schema, diagram, Op::Eq, x, item, lines, end)?;
+    join(diagram, Junction::Any, made, next, rest, end)
+}
+
+/// The pair of `x >= y AND x <= z`.
+fn between<'a>(
+    schema: &Schema,
+    diagram: &Diagram<'_>,
+    x: Operand,
+    y: Operand,
+    z: Operand,
+    lines: &'a [BodyLine],
+    end: u64,
+) -> Read<'a>
+    requires x { IsTrue (is_within (length schema.now.columns.items) x) }
+    requires y { IsTrue (is_within (length schema.now.columns.items) y) }
+    requires z { IsTrue (is_within (length schema.now.columns.items) z) }
+    ensures pair { Answers result (joined_parts schema.now.columns.items diagram.now end All
+        (by_line end (comparison schema.now.columns.items diagram.now Ge x y)
+        ∷ by_line end (comparison schema.now.columns.items diagram.now Le x z) ∷ []) lines.now) }
+    ensures code { IfErr result (λ fault. fault.code ≡ CONDITION_LINE) }
+{
+    let (lower, rest) = compared(schema, diagram, Op::Ge, x, y, lines, end)?;
+    let (upper, rest) = compared(schema, diagram, Op::Le, x, z, rest, end)?;
+    join(diagram, Junction::All, lower, upper, rest, end)
+}
+
+/// The pair of a comparison, by the next line.
+#[tactic(auto, unfolding(crate::specs::Pair::by_line))]
+fn compared<'a>(
+    schema: &Schema,
+    diagram: &Diagram<'_>,
+    op: Op,
+    x: Operand,
+    y: Operand,
+    lines: &'a [BodyLine],
+    end: u64,
+) -> Read<'a>
+    requires left { IsTrue (is_within (length schema.now.columns.items) x) }
+    requires right { IsTrue (is_within (length schema.now.columns.items) y) }
+    ensures pair { Answers result
+        (by_line end (comparison schema.now.columns.items diagram.now op x y) lines.now) }
+    ensures code { IfErr result (λ fault. fault.code ≡ CONDITION_LINE) }
+{
+    let made = match next_entry(lines) {
+        Some(entry) => comparison(schema, diagram, op, x, y, entry),
+        None => None,
+    };
+    taken(made, lines, end)
+}
+
+/// The pair of a step with one truth on every row, by the next line.
+#[tactic(auto, unfolding(crate::specs::Pair::by_line))]
+fn constant<'a>(truth: Truth, lines: &'a [BodyLine], end: u64) -> Read<'a>
+    ensures pair { Answers result (by_line end (fixed truth) lines.now) }
+    ensures code { IfErr result (λ fault. fault.code ≡ CONDITION_LINE) }
+{
+    let made = match next_entry(lines) {
+        Some(entry) => fixed(truth, entry),
+        None => None,
+    };
+    taken(made, lines, end)
+}
+
+/// The pair of `IS NULL`, by the next line.
+#[tactic(auto, unfolding(crate::specs::Pair::by_line))]
+fn null_tested<'a>(
+    schema: &Schema,
+    diagram: &Diagram<'_>,
+    x: Operand,
+    lines: &'a [BodyLine],
+    end: u64,
+) -> Read<'a>
+    requires { IsTrue (is_within (length schema.now.columns.items) x) }
+    ensures pair { Answers result
+        (by_line end (is_null_test schema.now.columns.items diagram.now x) lines.now) }
+    ensures code { IfErr result (λ fault. fault.code ≡ CONDITION_LINE) }
+{
+    let made = match next_entry(lines) {
+        Some(entry) => is_null_test(schema, diagram, x, entry),
+        None => None,
+    };
+    taken(made, lines, end)
+}
+
+/// The pair of `IS NULL`, by what a line says.
+#[tactic(auto, unfolding(crate::specs::Pair::is_null_test))]
+fn is_null_test(
+    schema: &Schema,
+    diagram: &Diagram<'_>,
+    x: Operand,
+    entry: ConditionEntry,
+) -> Option<Pair>
+    requires { IsTrue (is_within (length schema.now.columns.items) x) }
+    ensures { result ≡ is_null_test schema.now.columns.items diagram.now x entry }
+{
+    match x {
+        Operand::Col(column) => match schema.var_null(column) {
+            Some(variable) => null_test(diagram, variable, entry),
+            None => fixed(Truth::No, entry),
+        },
+        Operand::Lit(_) => fixed(Truth::No, entry),
+        Operand::Null => fixed(Truth::Yes, entry),
+    }
+}
+
+/// The pair of `IS NULL` of a column with this null variable, by what a line says.
+fn null_test(diagram: &Diagram<'_>, variable: u32, entry: ConditionEntry) -> Option<Pair>
+    ensures { result ≡ null_test diagram.now (Some variable) entry }
+{
+    match entry {
+        ConditionEntry::NullTest(number) => null_cited(diagram, variable, number),
+        _ => None,
+    }
+}
+
+/// The pair of two parts that are joined, by the next line.
+#[tactic(auto, unfolding(crate::specs::Pair::by_line))]
+fn join<'a>(
+    diagram: &Diagram<'_>,
+    junction: Junction,
+    a: Pair,
+    b: Pair,
+    lines: &'a [BodyLine],
+    end: u64,
+) -> Read<'a>
+    ensures pair { Answers result
+        (by_line end (joined_pair diagram.now junction a b) lines.now) }
+    ensures code { IfErr result (λ fault. fault.code ≡ CONDITION_LINE) }
+{
+    let made = match next_entry(lines) {
+        Some(entry) => joined_pair(diagram, junction, a, b, entry),
+        None => None,
+    };
+    taken(made, lines, end)
+}
+
+/// The pair of two parts that are joined, by what a line says.
+#[tactic(auto, unfolding(crate::specs::Pair::joined_pair))]
+fn joined_pair(
+    diagram: &Diagram<'_>,
+    junction: Junction,
+    a: Pair,
+    b: Pair,
+    entry: ConditionEntry,
+) -> Option<Pair>
+    ensures { result ≡ joined_pair diagram.now junction a b entry }
+{
+    match (junction, entry) {
+        (Junction::All, ConditionEntry::And(i, j)) => Pair::of_both(
+            diagram.cited(Connective::And, a.yes, b.yes, i),
+            diagram.cited(Connective::Or, a.no, b.no, j),
+        ),
+        (Junction::Any, ConditionEntry::Or(i, j)) => Pair::of_both(
+            diagram.cited(Connective::Or, a.yes, b.yes, i),
+            diagram.cited(Connective::And, a.no, b.no, j),
+        ),
+        _ => None,
+    }
+}
+
+/// The pair of NOT, by the next line.
+#[tactic(auto, unfolding(crate::specs::Pair::by_line, crate::specs::Pair::negated_pair))]
+fn negated<'a>(pair: Pair, lines: &'a [BodyLine], end: u64) -> Read<'a>
+    ensures pair { Answers result (by_line end (negated_pair pair) lines.now) }
+    ensures code { IfErr result (λ fault. fault.code ≡ CONDITION_LINE) }
+{
+    let made = match next_entry(lines) {
+        Some(ConditionEntry::Not) => Some(pair.exchanged()),
+        _ => None,
+    };
+    taken(made, lines, end)
+}
+
+/// The pair of `IS TRUE`, `IS FALSE` or `IS UNKNOWN`, by the next line.
+#[tactic(auto, unfolding(crate::specs::Pair::by_line))]
+fn tested<'a>(
+    diagram: &Diagram<'_>,
+    wanted: Truth,
+    pair: Pair,
+    lines: &'a [BodyLine],
+    end: u64,
+) -> Read<'a>
+    ensures pair { Answers result
+        (by_line end (tested_pair diagram.now wanted pair) lines.now) }
+    ensures code { IfErr result (λ fault. fault.code ≡ CONDITION_LINE) }
+{
+    let made = match next_entry(lines) {
+        Some(entry) => tested_pair(diagram, wanted, pair, entry),
+        None => None,
+    };
+    taken(made, lines, end)
+}
+
+/// The pair of `IS TRUE`, `IS FALSE` or `IS UNKNOWN`, by what a line says.
+#[tactic(auto, unfolding(crate::specs::Pair::tested_pair))]
+fn tested_pair(
+    diagram: &Diagram<'_>,
+    wanted: Truth,
+    pair: Pair,
+    entry: ConditionEntry,
+) -> Option<Pair>
+    ensures { result ≡ tested_pair diagram.now wanted pair entry }
+{
+    match (wanted, entry) {
+        (Truth::Yes, ConditionEntry::Is(i)) => with_opposite(diagram, pair.yes, i),
+        (Truth::No, ConditionEntry::Is(i)) => with_opposite(diagram, pair.no, i),
+        (Truth::Unknown, ConditionEntry::IsUnknown(i, j)) => {
+            let known = diagram.cited(Connective::Or, pair.yes, pair.no, i)?;
+            Pair::of_both(diagram.cited(Connective::Diff, 1, known, j), Some(known))
+        }
+        _ => None,
+    }
+}
+
+/// A node, and its opposite, which a line cites by the number of a product row.
+fn with_opposite(diagram: &Diagram<'_>, node: u64, number: u64) -> Option<Pair>
+    ensures { result ≡ with_opposite diagram.now node number }
+{
+    Pair::of_both(Some(node), diagram.cited(Connective::Diff, 1, node, number))
+}
+
+/// What the next line says of a condition, if there is one and it is a condition's.
+fn next_entry(lines: &[BodyLine]) -> Option<ConditionEntry>
+    ensures { result ≡ next_entry lines.now }
+{
+    match lines.first() {
+        Some(line) => match &line.entry {
+            Entry::Condition(entry) => Some(*entry),
+            _ => None,
+        },
+        None => None,
+    }
+}
+
+/// The pair that the next line makes, and the lines after it, or the refusal of that line.
+fn taken<'a>(made: Option<Pair>, lines: &'a [BodyLine], end: u64) -> Read<'a>
+    ensures pair { Answers result (taken end made lines.now) }
+    ensures code { IfErr result (λ fault. fault.code ≡ CONDITION_LINE) }
+{
+    match (made, lines) {
+        (Some(pair), [_, rest @ ..]) => Ok((pair, rest)),
+        _ => Err(refused(lines, end)),
+    }
+}
+
+/// The refusal of the next line, or of END's where there is none.
+fn refused(lines: &[BodyLine], end: u64) -> Fault
+    ensures { result ≡ at_line CONDITION_LINE (next_number end lines.now) }
+{
+    let line = match lines.first() {
+        Some(line) => line.line,
+        None => end,
+    };
+    Fault::at_line(code::CONDITION_LINE, line)
+}

@@ -1,0 +1,88 @@
+//! The lines of a program's instructions and joins, taken one after another.
+ghost use Rattle.std.specs.Prelude.{◌≡◌, ◌≤◌, IsTrue, IfOk, IfErr, Ok, Err};
+ghost use Rattle.bw_model.specs.Fault.{Gives};
+ghost use Rattle.bw_program.specs.Program.{named_by, register_count};
+ghost use Rattle.bw_cert_parts.specs.Walk.{judged, instruction_taken};
+ghost use Rattle.bw_cert_parts.specs.Known.{is_known_fault};
+
+use crate::edge::Edges;
+use crate::judge::Judge;
+use crate::known::Known;
+use bw_cert_lines::{BodyLine, Entry};
+use bw_diagram::Diagram;
+use bw_model::{Fault, Schema, code};
+use bw_program::{Instr, Program};
+use std::alloc::Global;
+
+/// What is known where a program ends, and the lines that follow those of its instructions and
+/// joins.
+#[derive(Clone, Copy)]
+pub struct AtEnd<'a> {
+    pub known: Known,
+    pub rest: &'a [BodyLine],
+}
+
+/// Takes the lines of a program's instructions and joins, and gives what is known of the registers
+/// at its end and the lines that follow. `end` is the number of the certificate's last line, after
+/// all lines.
+///
+/// Refused is the first line that breaks a rule: where an instruction's line is wanted, another, or
+/// one that doesn't show what the instruction gives (607), or, of the right kind, reads a register
+/// that isn't known (609); where skips meet, another line than JOIN, or a KEEP line that doesn't
+/// hold for falling through and for each skip (608). Where lines are missing, that is so at the
+/// last line.
+pub fn known_at_end<'a>(
+    alloc: Global,
+    schema: &Schema,
+    diagram: &Diagram<'_>,
+    program: &Program,
+    lines: &'a [BodyLine],
+    end: u64,
+) -> Result<AtEnd<'a>, Fault>
+    requires { diagram.now.columns ≡ schema.now.columns.items }
+    ensures judged { Gives (λ at. record { known = at.known; rest = at.rest.now }) result
+        (judged diagram.now program.now.instrs end lines.now) }
+    ensures code { IfErr result (λ fault. IsTrue (is_known_fault fault)) }
+{
+    let judge = Judge { schema, diagram };
+    let mut known: Known = [None; 64];
+    let mut edges = Edges::new(alloc, program.len())?;
+    let mut rest = lines;
+    for number in 0..program.len() {
+        let instr = program.instr(number);
+        edges.add(&known, instr)?;
+        rest = judge.take_instruction(&mut known, instr, rest, end)?;
+        let place = number + 1;
+        rest = judge.take_join(&mut known, edges.into_place(place), place, rest, end)?;
+    }
+    Ok(AtEnd { known, rest })
+}
+
+impl Judge<'_> {
+    /// Takes the line of an instruction, and gives those that follow.
+    fn take_instruction<'a>(
+        self,
+        known: &mut Known,
+        instr: Instr,
+        lines: &'a [BodyLine],
+        end: u64,
+    ) -> Result<&'a [BodyLine], Fault>
+        requires columns { self.diagram.now.columns ≡ self.schema.now.columns.items }
+        requires registers { named_by instr ≤ register_count }
+        ensures taken { IfOk result (λ rest.
+            instruction_taken self.entry.diagram.now end known.old instr lines.now
+            ≡ Ok (record { known = known.new; rest = rest.now })) }
+        ensures fault { IfErr result (λ fault.
+            instruction_taken self.entry.diagram.now end known.old instr lines.now ≡ Err fault) }
+        ensures code { IfErr result (λ fault. IsTrue (is_known_fault fault)) }
+    {
+        let Some((line, rest)) = lines.split_first() else {
+            return Err(Fault::at_line(code::INSTRUCTION_LINE, end));
+        };
+        let Entry::Instruction(given) = &line.entry else {
+            return Err(Fault::at_line(code::INSTRUCTION_LINE, line.line));
+        };
+        self.behind(known, line.line, instr, *given)?;
+        Ok(rest)
+    }
+}

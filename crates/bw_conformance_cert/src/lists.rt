@@ -1,0 +1,103 @@
+//! Lists of numbers: what fits into a program, and the rows that it picks.
+use crate::proposals::{Numbers, cost_of, judged, rows_of};
+use bw_model::{Row, Schema, code};
+use std::alloc::Global;
+use std::process::Abort;
+use std::test::Fail;
+
+/// Columns of eight bits, 16, 20, 26 and 32, of which the third and the fifth take null.
+const WIDTHS: &str = "\
+    TABLE t\n\
+    COLUMN a 0 255 NOT NULL\n\
+    COLUMN b 0 65535 NOT NULL\n\
+    COLUMN c 0 1048575\n\
+    COLUMN d 0 67108863 NOT NULL\n\
+    COLUMN e 0 4294967295\n\
+    ";
+
+/// Scattered numbers of so many bits, of which the first and the last bytes are often all zeros or ones.
+fn scattered(alloc: Global, count: u64, bits: u32) -> Result<Vec<i64>, Fail> {
+    let mut numbers = Numbers::new(u64::from(bits));
+    let mut made = Vec::new(alloc);
+    for number in 0..count {
+        let any = numbers.below(1 << bits.min(62));
+        let near = match number % 8 {
+            0 => any | 255,
+            1 => any & !255,
+            _ => any,
+        };
+        made.push(i64::try_from(near % (1 << bits.min(62))).unwrap_or(0))?;
+    }
+    Ok(made)
+}
+
+/// The condition that a column is one of some numbers.
+fn among(alloc: Global, column: &str, numbers: &[i64]) -> Result<String, Fail> {
+    let mut text = format!(in alloc; "{column} IN (")?;
+    for (at, number) in numbers.iter().enumerate() {
+        let comma = if at == 0 { "" } else { "," };
+        text.push_str(format!(in alloc; "{comma}{number}")?.as_str())?;
+    }
+    text.push_str(")")?;
+    Ok(text)
+}
+
+/// Ends the test where lists of so many numbers aren't served, negated and joined too.
+fn assert_served(
+    rt: &(impl Abort + AllocGlobal),
+    column: &str,
+    bits: u32,
+    counts: &[u64],
+) -> Result<(), Fail> {
+    let alloc = rt.alloc();
+    let schema = Schema::parse(alloc, WIDTHS.as_bytes())?;
+    for count in counts {
+        let numbers = scattered(alloc, *count, bits)?;
+        let mut source = Numbers::new(*count);
+        let rows = rows_of(alloc, &mut source, &schema, &numbers, 1200)?;
+        let text = among(alloc, column, &numbers)?;
+        for (before, behind) in [("", ""), ("NOT (", ")"), ("a < 9 OR ", " AND b > 5")] {
+            let text = format!(in alloc; "{before}{text}{behind}")?;
+            cost_of(rt, alloc, &schema, text.as_str(), &rows)?;
+        }
+    }
+    Ok(())
+}
+
+#[test]
+fn lists_over_one_byte_are_served(rt: HostRuntime) -> Result<(), Fail> {
+    assert_served(&rt, "a", 8, &[10, 60, 200])
+}
+
+#[test]
+fn lists_over_two_bytes_are_served(rt: HostRuntime) -> Result<(), Fail> {
+    assert_served(&rt, "b", 16, &[60, 300])
+}
+
+#[test]
+fn lists_over_three_bytes_are_served(rt: HostRuntime) -> Result<(), Fail> {
+    assert_served(&rt, "c", 20, &[40, 60, 300])
+}
+
+#[test]
+fn lists_over_four_bytes_are_served(rt: HostRuntime) -> Result<(), Fail> {
+    assert_served(&rt, "d", 26, &[60, 300])?;
+    assert_served(&rt, "e", 32, &[100])
+}
+
+#[test]
+fn the_longest_lists_are_served(rt: HostRuntime) -> Result<(), Fail> {
+    let alloc = rt.alloc();
+    let schema = Schema::parse(alloc, WIDTHS.as_bytes())?;
+    let none: Vec<Row> = Vec::new(alloc);
+    let fits = scattered(alloc, 560, 26)?;
+    let text = among(alloc, "d", &fits)?;
+    cost_of(&rt, alloc, &schema, text.as_str(), &none)?;
+    let passes = scattered(alloc, 660, 26)?;
+    let text = among(alloc, "d", &passes)?;
+    match judged(&rt, alloc, &schema, text.as_str(), &none)? {
+        Ok(cost) => panic!(rt; "660 numbers: {cost:?}"),
+        Err(fault) => assert_eq!(rt; fault.code, code::NO_PROGRAM),
+    }
+    Ok(())
+}

@@ -1,0 +1,140 @@
+//! Comparisons, in the form in which certificates state them.
+use crate::chains::Kind;
+use crate::facts::Facts;
+use crate::order::VariableOrder;
+use crate::refusal::Refusal;
+use bw_model::{Op, Operand, Truth};
+
+/// A comparison of a column's code with a number: the code is less than (equal to) `limit`, or,
+/// where it is negated, it isn't.
+#[derive(Clone, Copy)]
+pub(crate) struct LiteralComparison {
+    pub(crate) column: u8,
+    pub(crate) kind: Kind,
+    pub(crate) limit: i128,
+    pub(crate) negated: bool,
+}
+
+/// A comparison of the codes of two columns: the left one is less than (equal to) the right one, or,
+/// where it is negated, it isn't.
+#[derive(Clone, Copy)]
+pub(crate) struct ColumnComparison {
+    pub(crate) kind: Kind,
+    pub(crate) left: u8,
+    pub(crate) right: u8,
+    pub(crate) negated: bool,
+    /// The columns as they stand in the condition.
+    pub(crate) columns: [u8; 2],
+}
+
+impl LiteralComparison {
+    /// The terminal that is worth whether a number of so many bits is less than (equal to) the
+    /// limit, if no such number or each of them is.
+    pub(crate) fn terminal(self, width: u32) -> Option<u32> {
+        let past = self.limit >= 1 << width.min(63);
+        match self.kind {
+            Kind::Less if self.limit <= 0 => Some(0),
+            Kind::Less if past => Some(1),
+            Kind::Equal if self.limit < 0 || past => Some(0),
+            _ => None,
+        }
+    }
+}
+
+impl ColumnComparison {
+    /// The terminal that is worth whether a column's code compares so to itself.
+    pub(crate) fn terminal(self) -> Option<u32> {
+        match self.kind {
+            _ if self.left != self.right => None,
+            Kind::Less => Some(0),
+            Kind::Equal => Some(1),
+        }
+    }
+
+    /// The order in which the comparison's nodes test the variables of the two columns.
+    pub(crate) fn order(self) -> VariableOrder {
+        VariableOrder::Places(self.right)
+    }
+}
+
+/// What a comparison is.
+#[derive(Clone, Copy)]
+pub(crate) enum Comparison {
+    /// The same truth on every row.
+    Fixed(Truth),
+    Literal(LiteralComparison),
+    Columns(ColumnComparison),
+}
+
+/// What a comparison of operands is: a column's code stands for its value. Refused are, as
+/// `NoProgram`, columns that the schema hasn't or whose numbers are above 255, and two columns with
+/// different least values.
+pub(crate) fn compare(
+    facts: &Facts<'_>,
+    op: Op,
+    x: Operand,
+    y: Operand,
+) -> Result<Comparison, Refusal> {
+    match (x, y) {
+        (Operand::Col(column), Operand::Lit(n)) => {
+            Ok(Comparison::Literal(with_literal(facts, op, column, n)?))
+        }
+        (Operand::Lit(n), Operand::Col(column)) => {
+            Ok(Comparison::Literal(with_literal(facts, op.turned(), column, n)?))
+        }
+        (Operand::Col(left), Operand::Col(right)) => {
+            Ok(Comparison::Columns(with_column(facts, op, left, right)?))
+        }
+        (Operand::Lit(m), Operand::Lit(n)) if op.holds(m, n) => Ok(Comparison::Fixed(Truth::Yes)),
+        (Operand::Lit(_), Operand::Lit(_)) => Ok(Comparison::Fixed(Truth::No)),
+        _ => Ok(Comparison::Fixed(Truth::Unknown)),
+    }
+}
+
+/// The comparison of a column with a literal.
+fn with_literal(
+    facts: &Facts<'_>,
+    op: Op,
+    column: usize,
+    n: i64,
+) -> Result<LiteralComparison, Refusal> {
+    let column = facts.column(column)?;
+    let distance = i128::from(n) - i128::from(facts.lo(column)?);
+    let (kind, limit, negated) = match op {
+        Op::Lt => (Kind::Less, distance, false),
+        Op::Ge => (Kind::Less, distance, true),
+        Op::Le => (Kind::Less, distance + 1, false),
+        Op::Gt => (Kind::Less, distance + 1, true),
+        Op::Eq => (Kind::Equal, distance, false),
+        Op::Ne => (Kind::Equal, distance, true),
+    };
+    Ok(LiteralComparison {
+        column,
+        kind,
+        limit,
+        negated,
+    })
+}
+
+/// The comparison of two columns, which have one least value.
+fn with_column(facts: &Facts<'_>, op: Op, c: usize, d: usize) -> Result<ColumnComparison, Refusal> {
+    let (c, d) = (facts.column(c)?, facts.column(d)?);
+    if facts.lo(c)? != facts.lo(d)? {
+        return Err(Refusal::NoProgram);
+    }
+    let (kind, left, right, negated) = match op {
+        Op::Lt => (Kind::Less, c, d, false),
+        Op::Ge => (Kind::Less, c, d, true),
+        Op::Gt => (Kind::Less, d, c, false),
+        Op::Le => (Kind::Less, d, c, true),
+        Op::Eq => (Kind::Equal, c, d, false),
+        Op::Ne => (Kind::Equal, c, d, true),
+    };
+    Ok(ColumnComparison {
+        kind,
+        left,
+        right,
+        negated,
+        columns: [c, d],
+    })
+}

@@ -1,0 +1,137 @@
+//! What a certificate states: nodes, chains and product rows.
+use crate::chains::{self, Chains, Compared, Kind, Link};
+use crate::nodes::{Branch, Nodes};
+use crate::order::{Ranks, VariableOrder};
+use crate::products::{Cited, Logic, Outcome, Products, Question};
+use crate::refusal::Refusal;
+use bw_model::{Cond, Schema};
+use indexmap::IndexMap;
+use std::alloc::Global;
+
+/// The nodes, chains and product rows of a certificate, under a schema. Each stands once, after
+/// those that it follows from, and is added where it is first asked for.
+#[derive(Drop)]
+pub(crate) struct Facts<'a> {
+    schema: &'a Schema,
+    nodes: Nodes,
+    chains: Chains,
+    products: Products,
+    ranks: Ranks,
+}
+
+impl<'a> Facts<'a> {
+    /// No facts yet, for a condition, whose columns give the order of variables. Refused is, as
+    /// `NoProgram`, a schema of more than 256 columns.
+    pub(crate) fn new(alloc: Global, schema: &'a Schema, cond: &Cond) -> Result<Self, Refusal> {
+        Ok(Facts {
+            schema,
+            nodes: Nodes::new(alloc),
+            chains: Chains::new(alloc),
+            products: Products::new(alloc),
+            ranks: Ranks::new(alloc, schema, cond)?,
+        })
+    }
+
+    /// The nodes, of which the first has number 2.
+    pub(crate) fn nodes(&self) -> &[Branch] {
+        self.nodes.as_slice()
+    }
+
+    /// The chains, of which the first has number 0.
+    pub(crate) fn chains(&self) -> &IndexMap<Compared, Link> {
+        &self.chains.links
+    }
+
+    /// The product rows, of which the first has number 0.
+    pub(crate) fn rows(&self) -> &IndexMap<Question, Outcome> {
+        &self.products.rows
+    }
+
+    /// The product row of a connective of nodes `a` and `b`, whose variables are tested in this
+    /// order. Refused is, as `NoProgram`, what would pass 65,534 nodes or 1,048,576 rows.
+    pub(crate) fn row(
+        &mut self,
+        order: VariableOrder,
+        op: Logic,
+        a: u32,
+        b: u32,
+    ) -> Result<Cited, Refusal> {
+        let asked = Question { order, op, a, b };
+        self.products.row(&self.ranks, &mut self.nodes, asked)
+    }
+
+    /// The chain that compares `len` bits of a column's code, at most 63, from bit `start` on, with
+    /// the low bits of a number. Refused are, as `NoProgram`, bits that the column hasn't, and what
+    /// would pass 65,534 nodes or 65,536 chains.
+    pub(crate) fn bound(
+        &mut self,
+        kind: Kind,
+        column: u8,
+        start: u32,
+        len: u32,
+        bound: u64,
+    ) -> Result<Cited, Refusal> {
+        self.chains.bound(
+            self.schema,
+            &mut self.nodes,
+            kind,
+            column,
+            start,
+            len,
+            bound,
+        )
+    }
+
+    /// The chain that compares the codes of two columns, of which the shorter one has zeros above
+    /// its top bit. Refused is, as `NoProgram`, what would pass 65,534 nodes or 65,536 chains.
+    pub(crate) fn columns(&mut self, kind: Kind, left: u8, right: u8) -> Result<Cited, Refusal> {
+        self.chains
+            .columns(self.schema, &mut self.nodes, kind, left, right)
+    }
+
+    /// The node that is 1 where a column is null, if it has a null variable. Refused is, as
+    /// `NoProgram`, what would pass 65,534 nodes.
+    pub(crate) fn nulls(&mut self, column: u8) -> Result<Option<u32>, Refusal> {
+        match chains::null_variable(self.schema, column) {
+            Some(variable) => Ok(Some(self.nodes.test(variable, 0, 1)?)),
+            None => Ok(None),
+        }
+    }
+
+    /// The node that is 1 where a bit of a column's code is 1. Refused are, as `NoProgram`, a bit
+    /// that the column hasn't, and what would pass 65,534 nodes.
+    pub(crate) fn bit(&mut self, column: u8, bit: u32) -> Result<u32, Refusal> {
+        match chains::variable(self.schema, column, bit) {
+            Some(variable) => self.nodes.test(variable, 0, 1),
+            None => Err(Refusal::NoProgram),
+        }
+    }
+
+    /// How many comparisons of two different columns the condition has.
+    pub(crate) fn relations(&self) -> usize {
+        self.ranks.relations
+    }
+
+    /// How many bits a column's codes have: none, where there is no such column.
+    pub(crate) fn width(&self, column: u8) -> u32 {
+        chains::width(self.schema, column)
+    }
+
+    /// The least value of a column, whose code is 0. Refused is, as `NoProgram`, a column that the
+    /// schema hasn't.
+    pub(crate) fn lo(&self, column: u8) -> Result<i64, Refusal> {
+        match self.schema.columns.get(column as usize) {
+            Some(column) => Ok(column.lo),
+            None => Err(Refusal::NoProgram),
+        }
+    }
+
+    /// A column's number as instructions hold it. Refused is, as `NoProgram`, a number above 255, or
+    /// of a column that the schema hasn't.
+    pub(crate) fn column(&self, column: usize) -> Result<u8, Refusal> {
+        if column >= self.schema.columns.len() {
+            return Err(Refusal::NoProgram);
+        }
+        u8::try_from(column).map_err(|_| Refusal::NoProgram)
+    }
+}

@@ -1,0 +1,192 @@
+//! In which order diagrams test variables.
+use crate::refusal::Refusal;
+use crate::sequence::{Sequence, sequence_of};
+use bw_model::{Cond, Operand, Schema};
+use std::alloc::Global;
+
+/// The bit number that a null variable is given, above those of all bits.
+const NULL_BIT: u32 = 64;
+
+/// An order of the variables of a schema, in which the nodes of a product row test them.
+#[derive(Clone, Copy, PartialEq, Eq, Hash)]
+pub(crate) enum VariableOrder {
+    /// Column by column, in their sequence, each from the null variable and the top bit down;
+    /// columns that are compared with one another place by place, the left column first.
+    Whole,
+    /// The order of one comparison of two columns, of which this is the right one: place by place
+    /// from the null variables and the top bits down, the left column first.
+    Places(u8),
+}
+
+/// Where a variable stands.
+#[derive(Clone, Copy)]
+struct Standing {
+    column: u8,
+    bit: u32,
+    rank: u32,
+}
+
+/// Where the variables of a schema stand in its orders.
+#[derive(Drop)]
+pub(crate) struct Ranks {
+    standings: Vec<Standing>,
+    /// How many comparisons of two columns there are.
+    pub(crate) relations: usize,
+}
+
+impl Ranks {
+    /// The ranks under a condition.
+    pub(crate) fn new(alloc: Global, schema: &Schema, cond: &Cond) -> Result<Self, Refusal> {
+        let mut compared = Vec::new(alloc);
+        collect(cond, &mut compared)?;
+        let groups = Groups::of(&sequence_of(schema, cond), &compared);
+        let mut standings = Vec::new(alloc);
+        for (column, each) in schema.columns.iter().enumerate() {
+            let Ok(number) = u8::try_from(column) else {
+                return Err(Refusal::NoProgram);
+            };
+            if each.nullable {
+                standings.push(groups.standing(number, NULL_BIT))?;
+            }
+            for bit in (0..schema.width(column)).rev() {
+                standings.push(groups.standing(number, bit))?;
+            }
+        }
+        Ok(Ranks {
+            standings,
+            relations: compared.len(),
+        })
+    }
+
+    /// How early a variable is tested.
+    pub(crate) fn rank(&self, order: VariableOrder, variable: u32) -> u32 {
+        let Some(standing) = self.standings.get(variable as usize) else {
+            return u32::MAX;
+        };
+        match order {
+            VariableOrder::Whole => standing.rank,
+            VariableOrder::Places(right) => {
+                let second = u32::from(standing.column == right);
+                NULL_BIT.saturating_sub(standing.bit).saturating_mul(2) + second
+            }
+        }
+    }
+}
+
+/// For each column, the place of the first of those that it is compared with, and how far it stands
+/// to the right among them.
+#[derive(Drop)]
+struct Groups {
+    group: [u8; 64],
+    level: [u8; 64],
+}
+
+impl Groups {
+    /// The groups of columns that are compared, left with right.
+    fn of(sequence: &Sequence, compared: &[(u8, u8)]) -> Self {
+        let mut groups = Groups {
+            group: [0; 64],
+            level: [0; 64],
+        };
+        for (column, group) in groups.group.iter_mut().enumerate() {
+            *group = sequence.place((column % 64) as u8);
+        }
+        for _ in 0..64 {
+            let mut changed = false;
+            for (left, right) in compared {
+                changed |= groups.bring_together(*left as usize, *right as usize);
+            }
+            if !changed {
+                break;
+            }
+        }
+        groups
+    }
+
+    /// Puts two columns into one group, the right one further to the right. Answers whether
+    /// anything changed.
+    fn bring_together(&mut self, left: usize, right: usize) -> bool {
+        if left >= 64 || right >= 64 {
+            return false;
+        }
+        let first = self.group[left].min(self.group[right]);
+        let level = self.level[left]
+            .saturating_add(1)
+            .min(63)
+            .max(self.level[right]);
+        let changed = self.group[left] != first
+            || self.group[right] != first
+            || self.level[right] != level;
+        self.group[left] = first;
+        self.group[right] = first;
+        self.level[right] = level;
+        changed
+    }
+
+    /// Where the variable of a column's bit stands.
+    fn standing(&self, column: u8, bit: u32) -> Standing {
+        let group = self.group.get(column as usize).copied().unwrap_or(column);
+        let level = self.level.get(column as usize).copied().unwrap_or(0);
+        let place = NULL_BIT.saturating_sub(bit);
+        let rank = ((u32::from(group) * 65 + place.min(64)) * 64 + u32::from(level)) * 256;
+        Standing {
+            column,
+            bit,
+            rank: rank + u32::from(column),
+        }
+    }
+}
+
+/// Appends the columns that a condition compares with one another, left with right.
+#[cycle(collect)]
+fn collect(cond: &Cond, compared: &mut Vec<(u8, u8)>) -> Result<(), Refusal> {
+    match cond {
+        Cond::Always | Cond::IsNull(_) => Ok(()),
+        Cond::Cmp(op, x, y) => {
+            if matches!(op, bw_model::Op::Gt | bw_model::Op::Le) {
+                collect_pair(*y, *x, compared)
+            } else {
+                collect_pair(*x, *y, compared)
+            }
+        }
+        Cond::Between(x, y, z) => {
+            collect_pair(*x, *y, compared)?;
+            collect_pair(*z, *x, compared)
+        }
+        Cond::Among(x, items) => {
+            for item in items {
+                collect_pair(*x, *item, compared)?;
+            }
+            Ok(())
+        }
+        Cond::And(parts) | Cond::Or(parts) => collect_all(parts, compared),
+        Cond::Not(part) | Cond::Test(part, _) => collect(part, compared),
+    }
+}
+
+/// The same of each of some parts.
+#[cycle(collect)]
+fn collect_all(parts: &[Cond], compared: &mut Vec<(u8, u8)>) -> Result<(), Refusal> {
+    for part in parts {
+        collect(part, compared)?;
+    }
+    Ok(())
+}
+
+/// Appends two operands that are different columns.
+fn collect_pair(
+    left: Operand,
+    right: Operand,
+    compared: &mut Vec<(u8, u8)>,
+) -> Result<(), Refusal> {
+    let (Operand::Col(left), Operand::Col(right)) = (left, right) else {
+        return Ok(());
+    };
+    let (Ok(left), Ok(right)) = (u8::try_from(left), u8::try_from(right)) else {
+        return Ok(());
+    };
+    if left != right {
+        compared.push((left, right))?;
+    }
+    Ok(())
+}

@@ -1,0 +1,40 @@
+//! Why there is no proposal.
+ghost use Rattle.bw_plan.specs.Refused.{IsRefusal};
+
+use bw_model::{Fault, code};
+use std::alloc::{AllocError, AllocFailed};
+
+/// Why there is no proposal.
+#[derive(Clone, Copy)]
+pub(crate) enum Refusal {
+    /// A limit of certificates or programs would be passed, or a form has no rule.
+    NoProgram,
+    /// The same of the condition's own lines, so that no other program helps.
+    NoLines,
+    /// Memory was refused.
+    NoMemory,
+}
+
+impl From<AllocError> for Refusal {
+    fn from(_error: AllocError) -> Self {
+        Refusal::NoMemory
+    }
+}
+
+impl<T: Drop> From<AllocFailed<T>> for Refusal {
+    fn from(_error: AllocFailed<T>) -> Self {
+        Refusal::NoMemory
+    }
+}
+
+impl Refusal {
+    /// The fault that is reported, which stands nowhere: 651, or 801 for `NoMemory`.
+    pub(crate) fn fault(self) -> Fault
+        ensures { IsRefusal result }
+    {
+        match self {
+            Refusal::NoProgram | Refusal::NoLines => Fault::new(code::NO_PROGRAM),
+            Refusal::NoMemory => Fault::new(code::OUT_OF_MEMORY),
+        }
+    }
+}

@@ -1,0 +1,301 @@
+//! The steps of a condition, operands first, each with its line.
+use crate::chains::Kind;
+use crate::comparison::{ColumnComparison, Comparison, LiteralComparison, compare};
+use crate::facts::Facts;
+use crate::order::VariableOrder;
+use crate::products::Logic;
+use crate::refusal::Refusal;
+use bw_cert_lines::{ConditionEntry, Entry};
+use bw_model::{Cond, Op, Operand, Truth};
+
+/// The numbers of a condition's nodes: where it is TRUE, and where it is FALSE.
+#[derive(Clone, Copy)]
+pub(crate) struct TruthNodes {
+    pub(crate) yes: u32,
+    pub(crate) no: u32,
+}
+
+impl TruthNodes {
+    /// Those of a step with one truth on every row.
+    fn constant(truth: Truth) -> Self {
+        TruthNodes {
+            yes: u32::from(truth == Truth::Yes),
+            no: u32::from(truth == Truth::No),
+        }
+    }
+
+    /// Those of the opposite condition.
+    fn exchanged(self) -> Self {
+        TruthNodes {
+            yes: self.no,
+            no: self.yes,
+        }
+    }
+}
+
+/// The nodes of a condition, with the lines of its steps appended, operands first. Refused are, as
+/// `NoProgram`, AND, OR and IN of nothing, what [`compare`] refuses, and what would pass a limit of
+/// the facts.
+#[cycle(steps)]
+pub(crate) fn steps_of(
+    facts: &mut Facts<'_>,
+    lines: &mut Vec<Entry>,
+    cond: &Cond,
+) -> Result<TruthNodes, Refusal> {
+    match cond {
+        Cond::Always => constant(lines, Truth::Yes),
+        Cond::Cmp(op, x, y) => compared(facts, lines, *op, *x, *y),
+        Cond::Between(x, y, z) => {
+            let lower = compared(facts, lines, Op::Ge, *x, *y)?;
+            let upper = compared(facts, lines, Op::Le, *x, *z)?;
+            joined(facts, lines, false, lower, upper)
+        }
+        Cond::Among(x, items) => among(facts, lines, *x, items),
+        Cond::IsNull(x) => null_tested(facts, lines, *x),
+        Cond::And(parts) => all_joined(facts, lines, false, parts),
+        Cond::Or(parts) => all_joined(facts, lines, true, parts),
+        Cond::Not(part) => {
+            let made = steps_of(facts, lines, part)?;
+            put(lines, ConditionEntry::Not)?;
+            Ok(made.exchanged())
+        }
+        Cond::Test(part, wanted) => {
+            let made = steps_of(facts, lines, part)?;
+            tested(facts, lines, *wanted, made)
+        }
+    }
+}
+
+/// The nodes of parts of which any, or else each, is to hold.
+#[cycle(steps)]
+fn all_joined(
+    facts: &mut Facts<'_>,
+    lines: &mut Vec<Entry>,
+    any: bool,
+    parts: &[Cond],
+) -> Result<TruthNodes, Refusal> {
+    let Some((first, others)) = parts.split_first() else {
+        return Err(Refusal::NoProgram);
+    };
+    let mut made = steps_of(facts, lines, first)?;
+    for part in others {
+        let next = steps_of(facts, lines, part)?;
+        made = joined(facts, lines, any, made, next)?;
+    }
+    Ok(made)
+}
+
+/// The nodes of a list of equations with one operand, of which one is to hold.
+fn among(
+    facts: &mut Facts<'_>,
+    lines: &mut Vec<Entry>,
+    x: Operand,
+    items: &[Operand],
+) -> Result<TruthNodes, Refusal> {
+    let Some((first, others)) = items.split_first() else {
+        return Err(Refusal::NoProgram);
+    };
+    let mut made = compared(facts, lines, Op::Eq, x, *first)?;
+    for item in others {
+        let next = compared(facts, lines, Op::Eq, x, *item)?;
+        made = joined(facts, lines, true, made, next)?;
+    }
+    Ok(made)
+}
+
+/// Appends a line.
+fn put(lines: &mut Vec<Entry>, entry: ConditionEntry) -> Result<(), Refusal> {
+    lines.push(Entry::Condition(entry))?;
+    Ok(())
+}
+
+/// The nodes of a step with one truth on every row.
+fn constant(lines: &mut Vec<Entry>, truth: Truth) -> Result<TruthNodes, Refusal> {
+    put(lines, ConditionEntry::Fixed)?;
+    Ok(TruthNodes::constant(truth))
+}
+
+/// The nodes of two parts that are joined by OR, or else by AND.
+fn joined(
+    facts: &mut Facts<'_>,
+    lines: &mut Vec<Entry>,
+    any: bool,
+    a: TruthNodes,
+    b: TruthNodes,
+) -> Result<TruthNodes, Refusal> {
+    let (yes, no) = if any {
+        (Logic::Or, Logic::And)
+    } else {
+        (Logic::And, Logic::Or)
+    };
+    let yes = facts.row(VariableOrder::Whole, yes, a.yes, b.yes)?;
+    let no = facts.row(VariableOrder::Whole, no, a.no, b.no)?;
+    let (i, j) = (u64::from(yes.number), u64::from(no.number));
+    put(
+        lines,
+        if any {
+            ConditionEntry::Or(i, j)
+        } else {
+            ConditionEntry::And(i, j)
+        },
+    )?;
+    Ok(TruthNodes {
+        yes: yes.node,
+        no: no.node,
+    })
+}
+
+/// The nodes of `IS TRUE`, `IS FALSE` or `IS UNKNOWN`.
+fn tested(
+    facts: &mut Facts<'_>,
+    lines: &mut Vec<Entry>,
+    wanted: Truth,
+    made: TruthNodes,
+) -> Result<TruthNodes, Refusal> {
+    let half = match wanted {
+        Truth::Yes => made.yes,
+        Truth::No => made.no,
+        Truth::Unknown => {
+            let known = facts.row(VariableOrder::Whole, Logic::Or, made.yes, made.no)?;
+            let other = facts.row(VariableOrder::Whole, Logic::Diff, 1, known.node)?;
+            let (i, j) = (u64::from(known.number), u64::from(other.number));
+            put(lines, ConditionEntry::IsUnknown(i, j))?;
+            return Ok(TruthNodes {
+                yes: other.node,
+                no: known.node,
+            });
+        }
+    };
+    let other = facts.row(VariableOrder::Whole, Logic::Diff, 1, half)?;
+    put(lines, ConditionEntry::Is(u64::from(other.number)))?;
+    Ok(TruthNodes {
+        yes: half,
+        no: other.node,
+    })
+}
+
+/// The nodes of `IS NULL`.
+fn null_tested(
+    facts: &mut Facts<'_>,
+    lines: &mut Vec<Entry>,
+    x: Operand,
+) -> Result<TruthNodes, Refusal> {
+    let column = match x {
+        Operand::Col(column) => facts.column(column)?,
+        Operand::Lit(_) => return constant(lines, Truth::No),
+        Operand::Null => return constant(lines, Truth::Yes),
+    };
+    let Some(nulls) = facts.nulls(column)? else {
+        return constant(lines, Truth::No);
+    };
+    let values = facts.row(VariableOrder::Whole, Logic::Diff, 1, nulls)?;
+    put(lines, ConditionEntry::NullTest(u64::from(values.number)))?;
+    Ok(TruthNodes {
+        yes: nulls,
+        no: values.node,
+    })
+}
+
+/// The nodes of a comparison.
+fn compared(
+    facts: &mut Facts<'_>,
+    lines: &mut Vec<Entry>,
+    op: Op,
+    x: Operand,
+    y: Operand,
+) -> Result<TruthNodes, Refusal> {
+    match compare(facts, op, x, y)? {
+        Comparison::Fixed(truth) => constant(lines, truth),
+        Comparison::Literal(bound) => bounded(facts, lines, bound),
+        Comparison::Columns(relation) => related(facts, lines, relation),
+    }
+}
+
+/// The row and the node of where a column has a value: none, and 1, where it always has.
+fn values(facts: &mut Facts<'_>, column: u8) -> Result<(Option<u64>, u32), Refusal> {
+    let Some(nulls) = facts.nulls(column)? else {
+        return Ok((None, 1));
+    };
+    let values = facts.row(VariableOrder::Whole, Logic::Diff, 1, nulls)?;
+    Ok((Some(u64::from(values.number)), values.node))
+}
+
+/// The nodes of a comparison of a column with a number.
+fn bounded(
+    facts: &mut Facts<'_>,
+    lines: &mut Vec<Entry>,
+    bound: LiteralComparison,
+) -> Result<TruthNodes, Refusal> {
+    let (value, m) = values(facts, bound.column)?;
+    let (chain, e) = match bound.terminal(facts.width(bound.column)) {
+        Some(terminal) => (None, terminal),
+        None => {
+            let len = facts.width(bound.column);
+            let limit = u64::try_from(bound.limit).map_err(|_| Refusal::NoProgram)?;
+            let cited = facts.bound(bound.kind, bound.column, 0, len, limit)?;
+            (Some(u64::from(cited.number)), cited.node)
+        }
+    };
+    let p = facts.row(VariableOrder::Whole, Logic::And, m, e)?;
+    let q = facts.row(VariableOrder::Whole, Logic::Diff, m, e)?;
+    put(
+        lines,
+        ConditionEntry::Compare {
+            chain,
+            value,
+            yes: u64::from(p.number),
+            no: u64::from(q.number),
+        },
+    )?;
+    let made = TruthNodes {
+        yes: p.node,
+        no: q.node,
+    };
+    Ok(if bound.negated {
+        made.exchanged()
+    } else {
+        made
+    })
+}
+
+/// The nodes of a comparison of two columns.
+fn related(
+    facts: &mut Facts<'_>,
+    lines: &mut Vec<Entry>,
+    relation: ColumnComparison,
+) -> Result<TruthNodes, Refusal> {
+    let order = relation.order();
+    let [c, d] = relation.columns;
+    let (left, first) = values(facts, c)?;
+    let (right, second) = values(facts, d)?;
+    let both = facts.row(order, Logic::And, first, second)?;
+    let (chain, e) = match relation.terminal() {
+        Some(terminal) => (None, terminal),
+        None => {
+            let cited = facts.columns(relation.kind, relation.left, relation.right)?;
+            (Some(u64::from(cited.number)), cited.node)
+        }
+    };
+    let p = facts.row(order, Logic::And, both.node, e)?;
+    let q = facts.row(order, Logic::Diff, both.node, e)?;
+    put(
+        lines,
+        ConditionEntry::CompareColumns {
+            chain,
+            left,
+            right,
+            both: u64::from(both.number),
+            yes: u64::from(p.number),
+            no: u64::from(q.number),
+        },
+    )?;
+    let made = TruthNodes {
+        yes: p.node,
+        no: q.node,
+    };
+    Ok(if relation.negated {
+        made.exchanged()
+    } else {
+        made
+    })
+}

@@ -1,0 +1,24 @@
+//! What is wrong with a CSV text.
+use crate::heading::of_heading;
+use crate::record::of_record;
+use crate::unfit::of_columns;
+use bw_model::{Fault, Place, Schema, code};
+use std::alloc::{AllocError, Global};
+
+/// Says what is wrong with a CSV text that is read under a schema, or with none, as `bw infer` reads it: the line of the file,
+/// the column, the field as it stands, and what would have been right; of a heading, which one it is and what it should be;
+/// and for `bw infer` each column that doesn't fit. Faults that stand at no record have nothing to say.
+pub(crate) fn of_csv(
+    alloc: Global,
+    csv: &[u8],
+    schema: Option<&Schema>,
+    fault: &Fault,
+) -> Result<String, AllocError> {
+    match (fault.place, schema) {
+        (Place::Rec(0), None) if fault.code == code::SCHEMA_RANGE => of_columns(alloc, csv),
+        (Place::Rec(0), _) => of_heading(alloc, csv, schema, fault),
+        (Place::Rec(_), Some(schema)) => of_record(alloc, csv, schema, fault),
+        (Place::Rec(_), None) => of_columns(alloc, csv),
+        _ => Ok(String::new(alloc)),
+    }
+}
