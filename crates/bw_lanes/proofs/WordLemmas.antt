@@ -17,7 +17,7 @@ use Rattle.std.specs.List.{list_all}
 use Rattle.bw_lanes.specs.Lanes.{bits_from_least, lanes_of_words, lanes_of_bytes, differ}
 use Rattle.std.proofs.lemmas.Nat.Bits.{shr_and_one, bit_at_or, bit_at_xor}
 use Rattle.bw_lanes.proofs.BitLemmas.{bit_in_numbers, length-bits_of_numbers, length-bits_from_least, bits_from_least_more, bits_of_not, bits_of_and, bits_joined, of_bit, bits_of_flags}
-use Rattle.std.proofs.lemmas.Simd.{length-replicate, length-zip2, put_chunk_is, take_more_put_chunk}
+use Rattle.std.proofs.lemmas.Simd.{get_or-zip2, length-replicate, length-zip2, put_chunk_is, take_more_put_chunk}
 use Rattle.std.proofs.Math.Seq.{take-add, drop-cons, drop-append_seam, take-append_seam, drop-drop}
 use Rattle.bw_lanes.specs.Picked.{as_byte}
 
@@ -143,7 +143,18 @@ ones_more word words eight lt = ap (count_by (λ lane. lane)) (lanes_more word w
 pub few_ones : (n : ℕ) → count_by (λ lane. lane) (bits_from_least 64 n) ≤ 64
 few_ones n = omega (arith, count_by-le-length (λ lane. lane) (bits_from_least 64 n), length-bits_from_least 64 n)
 
+pub word_of_both : (a b : List ℕ) (word : ℕ) → length a ≡ 8 → length b ≡ 8 → word < 8 → get_or (zip2 bit_and a b) word 0 ≡ bit_and (get_or a word 0) (get_or b word 0)
+word_of_both a b word here there lt = get_or-zip2 bit_and a b word 0 0 0 (omega arith) (omega arith)
+
+pub length-both : (a b : List ℕ) → length a ≡ 8 → length b ≡ 8 → length (zip2 bit_and a b) ≡ 8
+length-both a b here there = length-zip2 bit_and a b (here ∙ sym there) ∙ here
+
+pub both_whole : (word : ℕ) (a b : List ℕ) → length a ≡ 8 → length b ≡ 8 → 8 ≤ word → take word (zip2 bit_and a b) ≡ zip2 bit_and a b
+both_whole word a b here there le = take_all word (zip2 bit_and a b) (omega (arith, length-both a b))
+
 pub ruleset ones_so_far = (no_lanes, ones_more, few_ones)
+
+pub ruleset ones_of_both = (no_lanes, ones_more, few_ones, word_of_both, length-both, both_whole, lanes_of_and)
 
 pub length-first : (word : ℕ) (words : List ℕ) → length words ≡ 8 → word ≤ 8 → length (lanes_of_words (take word words)) ≡ 64 * word
 length-first word words eight le = omega (arith, length-lanes_of_words (take word words), length-take word words)

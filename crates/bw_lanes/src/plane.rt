@@ -72,12 +72,17 @@ pub fn count(plane: &Plane) -> u32
 }
 
 /// How many lanes are 1 in both.
+#[tactic(auto, using(crate::proofs::WordLemmas::ones_of_both))]
 pub fn count_and(a: &Plane, b: &Plane) -> u32
     ensures ones { result ≡ count_by (λ lane. lane)
         (zip2 (λ x y. x && y) (lanes_of_words a.now) (lanes_of_words b.now)) }
     ensures bound { result ≤ 512 }
 {
-    count(&and(a, b))
+    let mut ones = 0;
+    for word in 0..8 {
+        ones += ones_of(a[word] & b[word]);
+    }
+    ones
 }
 
 /// How many bits of a word are 1.
