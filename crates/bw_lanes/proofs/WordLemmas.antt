@@ -4,7 +4,7 @@ use Rattle.std.proofs.Math.Nat.{two-pow-succ}
 use Rattle.std.proofs.Math.Bool.{and-true, and_assoc}
 use Rattle.std.proofs.lemmas.Bool.{eq-eqb}
 use Rattle.std.proofs.lemmas.Nat.{le_or_l, ones_le_self, one_shl, pow_pos}
-use Rattle.std.proofs.lemmas.List.{map-append, length-take, take_more, take_more_set, replicate-append-replicate, take-append-drop, take-take, length-drop, drop_all}
+use Rattle.std.proofs.lemmas.List.{map-append, length-map, length-take, take_more, take_more_set, replicate-append-replicate, take-append-drop, take-take, length-drop, drop_all}
 use Rattle.std.proofs.lemmas.List.Folds.{list_all-append}
 use Rattle.std.proofs.lemmas.List.Concat.{flat_map-append}
 use Rattle.std.proofs.lemmas.Bool.Decides.{nat_tests}
@@ -17,9 +17,8 @@ use Rattle.std.specs.List.{list_all}
 use Rattle.bw_lanes.specs.Lanes.{bits_from_least, lanes_of_words, lanes_of_bytes, differ}
 use Rattle.std.proofs.lemmas.Nat.Bits.{shr_and_one, bit_at_or, bit_at_xor}
 use Rattle.bw_lanes.proofs.BitLemmas.{bit_in_numbers, length-bits_of_numbers, length-bits_from_least, bits_from_least_more, bits_of_not, bits_of_and, bits_joined, of_bit, bits_of_flags}
-use Rattle.std.proofs.lemmas.Simd.{get_or-zip2, length-replicate, length-zip2, put_chunk_is, take_more_put_chunk}
+use Rattle.std.proofs.lemmas.Simd.{length-put_chunk, get_or-zip2, length-replicate, length-zip2, put_chunk_is, take_more_put_chunk}
 use Rattle.std.proofs.Math.Seq.{take-add, drop-cons, drop-append_seam, take-append_seam, drop-drop}
-use Rattle.bw_lanes.specs.Picked.{as_byte}
 
 pub zip2-append : {A B C : Type 0} (f : A → B → C) (xs xs' : List A) (ys ys' : List B) → length xs ≡ length ys → zip2 f (xs ++ xs') (ys ++ ys') ≡ zip2 f xs ys ++ zip2 f xs' ys'
 zip2-append f [] xs' [] ys' same = refl
@@ -259,9 +258,7 @@ part_of_lanes word words eight lt =
     ∙ ap (λ k. take k (bits_from_least 64 here ++ lanes_of_words (drop (suc word) words))) (sym (length-bits_from_least 64 here)) ∙ take-append_seam (bits_from_least 64 here) _)
 
 -- the bytes of a plane's first words, and of one more
-pub bytes_more : (word : ℕ) (words bytes some new : List ℕ) → length words ≡ 8 → length bytes ≡ 512 → length some ≡ 64 → word < 8
-    → take (64 * word) bytes ≡ map as_byte (lanes_of_words (take word words)) → some ≡ map as_byte (bits_from_least 64 (get_or words word 0)) → new ≡ put_chunk (64 * word) bytes some
-    → take (64 * (word + 1)) new ≡ map as_byte (lanes_of_words (take (word + 1) words))
-bytes_more word words bytes some new eight all long lt before is made =
-    ap (take (64 * (word + 1))) made ∙ take_more_put_chunk (64 * word) bytes some (64 * (word + 1)) (omega arith) (omega arith) ∙ ap₂ ◌++◌ before is
-    ∙ sym (ap (map as_byte) (lanes_more word words eight lt) ∙ map-append as_byte (lanes_of_words (take word words)) (bits_from_least 64 (get_or words word 0)))
+pub put_more : (word : ℕ) (bytes some : List ℕ) → length bytes ≡ 512 → length some ≡ 64 → word < 8 → take (64 * (word + 1)) (put_chunk (64 * word) bytes some) ≡ take (64 * word) bytes ++ some
+put_more word bytes some all long lt = take_more_put_chunk (64 * word) bytes some (64 * (word + 1)) (omega arith) (omega arith)
+
+pub ruleset put_bytes = (no_lanes, put_more, lanes_more, map-append, length-put_chunk, length-map, length-bits_from_least)

@@ -24,7 +24,7 @@ const BIT_OF_ROW: [u8; 64] = [
 
 // Inline, behind a loop that makes the plane, it was compiled to take each byte by itself: a sum took seven times as long.
 /// A byte a row: 255 where its lane is 1, and else 0.
-#[tactic(auto, using(crate::proofs::WordLemmas::no_lanes))]
+#[tactic(auto, using(crate::proofs::WordLemmas::put_bytes))]
 #[inline(never)]
 pub fn bytes_of_plane(plane: &Plane) -> [u8; LANES]
     ensures { result ≡ map as_byte (lanes_of_words plane.now) }
