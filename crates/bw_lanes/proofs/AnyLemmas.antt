@@ -1,17 +1,17 @@
 -- Whether a lane is 1, word by word.
-use Rattle.std.proofs.Common.{◌≡◌, ◌∙◌, refl, sym, ap, ap₂, ℕ, ◌+◌, ◌*◌, ◌^◌, ◌<◌, Bool, true, false, not, ◌==◌, ◌&&◌, ◌||◌, List, [], ◌∷◌, ◌++◌, map, length, take, get_or, bit_and, w64, arith}
+use Rattle.std.proofs.Common.{◌≡◌, ◌∙◌, refl, sym, ap, ap₂, ℕ, zero, suc, replicate, ◌+◌, ◌*◌, ◌^◌, ◌<◌, ◌≤◌, Bool, true, false, not, ◌==◌, ◌&&◌, ◌||◌, List, [], ◌∷◌, ◌++◌, map, length, take, take_all, get_or, bit_and, w64, arith}
 use Rattle.std.specs.Int.{bit_not}
 use Rattle.std.specs.List.{list_all, list_any, range_with_len}
 use Rattle.std.proofs.lemmas.List.{length-take}
 use Rattle.std.proofs.lemmas.List.FromFn.{length-range_with_len}
 use Rattle.std.proofs.lemmas.Simd.{map-map}
+use Rattle.std.proofs.lemmas.List.Folds.{list_any-append}
+use Rattle.std.proofs.lemmas.Nat.{and_le_l}
 use lib.Lanes.{zip2}
 use Rattle.bw_lanes.specs.Lanes.{bits_from_least, lanes_of_words}
 use Rattle.bw_lanes.proofs.BitLemmas.{bits_of_and, bits_of_not}
 use Rattle.bw_lanes.proofs.ByteLemmas.{rows_of_word}
-use Rattle.bw_lanes.proofs.CountLemmas.{lanes_more, length-first}
-use Rattle.bw_lanes.proofs.PartLemmas.{before_and_part, mapped_right}
-use Rattle.bw_lanes.proofs.WordLemmas.{zip2-append, zero_bits}
+use Rattle.bw_lanes.proofs.WordLemmas.{lanes_more, length-first, before_and_part, mapped_right, zip2-append, zero_bits}
 
 pub any_is : (lanes : List Bool) → list_any (λ lane. lane) lanes ≡ not (list_all not lanes)
 any_is [] = refl
@@ -22,33 +22,37 @@ pub any_mapped : {A : Type 0} (test : A → Bool) (xs : List A) → list_any (λ
 any_mapped test [] = refl
 any_mapped test (x ∷ xs) = ap (λ b. test x || b) (any_mapped test xs)
 
--- a word isn't 0 where a bit is 1
-pub any_bit : (n : ℕ) → n < 2 ^ 64 → not (n == 0) ≡ list_any (λ lane. lane) (bits_from_least 64 n)
-any_bit n small = ap not (zero_bits 64 n small) ∙ sym (any_is (bits_from_least 64 n))
-
--- the bits of a word whose lanes don't pass a test
-pub bits_without : (test : ℕ → Bool) (word passing : ℕ) (rows : List ℕ) → passing < 2 ^ 64 → bits_from_least 64 passing ≡ map test rows
-    → bits_from_least 64 (bit_and word (bit_not w64 passing)) ≡ zip2 (λ lane row. lane && not (test row)) (bits_from_least 64 word) rows
-bits_without test word passing rows small is =
-    bits_of_and 64 word (bit_not w64 passing)
+-- whether a word has a bit whose lane doesn't pass a test
+pub any_left : (test : ℕ → Bool) (word passing : ℕ) (rows : List ℕ) → word < 2 ^ 64 → passing < 2 ^ 64 → bits_from_least 64 passing ≡ map test rows
+    → not (bit_and word (bit_not w64 passing) == 0) ≡ list_any (λ lane. lane) (zip2 (λ lane row. lane && not (test row)) (bits_from_least 64 word) rows)
+any_left test word passing rows fits small is =
+    ap not (zero_bits 64 (bit_and word (bit_not w64 passing)) (omega (arith, and_le_l word (bit_not w64 passing)))) ∙ sym (any_is (bits_from_least 64 (bit_and word (bit_not w64 passing))))
+    ∙ ap (list_any (λ lane. lane)) (bits_of_and 64 word (bit_not w64 passing)
     ∙ ap (zip2 (λ x y. x && y) (bits_from_least 64 word)) (bits_of_not passing small ∙ ap (map not) is ∙ map-map not test rows)
-    ∙ mapped_right (λ x y. x && y) (λ row. not (test row)) (bits_from_least 64 word) rows
+    ∙ mapped_right (λ x y. x && y) (λ row. not (test row)) (bits_from_least 64 word) rows)
 
--- none of no lanes
-pub none_of_none : (test : ℕ → Bool) (lanes : List Bool) (rows : List ℕ) → list_any (λ lane. lane) lanes ≡ false → list_any (λ lane. lane) (zip2 (λ lane row. lane && test row) lanes rows) ≡ false
-none_of_none test [] rows none = refl
-none_of_none test (lane ∷ lanes) [] none = refl
-none_of_none test (true ∷ lanes) (row ∷ rows) none = absurd (cc)
-none_of_none test (false ∷ lanes) (row ∷ rows) none = none_of_none test lanes rows none
+none_of : (test : ℕ → Bool) (count : ℕ) (rows : List ℕ) → false ≡ list_any (λ lane. lane) (zip2 (λ lane row. lane && not (test row)) (replicate count false) rows)
+none_of test zero rows = refl
+none_of test (suc count) [] = refl
+none_of test (suc count) (row ∷ rows) = none_of test count rows
 
--- one word more
+pub none_left : (test : ℕ → Bool) (rows : List ℕ) → false ≡ list_any (λ lane. lane) (zip2 (λ lane row. lane && not (test row)) (bits_from_least 64 0) rows)
+unfolding bits_from_least
+none_left test rows = none_of test 64 rows
+
+-- whether one of the first words has one
 abbrev pub lanes_to : (Bool → ℕ → Bool) → ℕ → List ℕ → List Bool
 lanes_to f word words = zip2 f (lanes_of_words (take word words)) (take (64 * word) (range_with_len 0 512))
 
-pub lanes_to_more : (f : Bool → ℕ → Bool) (word : ℕ) (words : List ℕ) → length words ≡ 8 → word < 8
-    → lanes_to f (word + 1) words ≡ lanes_to f word words ++ zip2 f (bits_from_least 64 (get_or words word 0)) (range_with_len (64 * word) 64)
-lanes_to_more f word words eight lt =
+pub any_more : (f : Bool → ℕ → Bool) (word : ℕ) (words : List ℕ) (before here : Bool) → length words ≡ 8 → word < 8 → before ≡ list_any (λ lane. lane) (lanes_to f word words)
+    → here ≡ list_any (λ lane. lane) (zip2 f (bits_from_least 64 (get_or words word 0)) (range_with_len (64 * word) 64)) → (before || here) ≡ list_any (λ lane. lane) (lanes_to f (word + 1) words)
+any_more f word words before here eight lt so_far is =
     let rows = range_with_len 0 512 in
+    ap₂ (λ a b. a || b) so_far is ∙ sym (list_any-append (λ lane. lane) (lanes_to f word words) _) ∙ ap (list_any (λ lane. lane)) (sym (
     ap₂ (zip2 f) (lanes_more word words eight lt) (before_and_part word rows lt ∙ ap (λ l. take (64 * word) rows ++ l) (rows_of_word word lt))
     ∙ zip2-append f (lanes_of_words (take word words)) (bits_from_least 64 (get_or words word 0)) (take (64 * word) rows) (range_with_len (64 * word) 64)
-    (omega (arith, length-first word words eight (omega arith), length-take (64 * word) rows, length-range_with_len 0 512))
+    (omega (arith, length-first word words eight (omega arith), length-take (64 * word) rows, length-range_with_len 0 512))))
+
+pub any_whole : (f : Bool → ℕ → Bool) (word : ℕ) (words : List ℕ) → length words ≡ 8 → 8 ≤ word → lanes_to f word words ≡ zip2 f (lanes_of_words words) (range_with_len 0 512)
+any_whole f word words eight le =
+    ap₂ (λ w r. zip2 f (lanes_of_words w) r) (take_all word words (omega arith)) (take_all (64 * word) (range_with_len 0 512) (omega (arith, length-range_with_len 0 512)))

@@ -1,12 +1,7 @@
 pub mod AnyLemmas
 pub mod BitLemmas
 pub mod ByteLemmas
-pub mod ChoiceLemmas
-pub mod CountLemmas
 pub mod LastLemmas
-pub mod MaskLemmas
-pub mod PartLemmas
 pub mod PickedLemmas
-pub mod ShiftLemmas
 pub mod StoredLemmas
 pub mod WordLemmas

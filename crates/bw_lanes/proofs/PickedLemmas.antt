@@ -1,25 +1,87 @@
--- Some rows, a byte each, and the bytes of a slice in these rows.
-use Rattle.std.proofs.Common.{◌≡◌, ◌∙◌, refl, sym, ap, ℕ, zero, suc, ◌+◌, ◌-◌, ◌*◌, ◌/◌, ◌%◌, ◌^◌, ◌<◌, ◌≤◌, Bool, false, cond, eqb, ◌==◌, List, [], ◌∷◌, ◌++◌, map, length, get_or, replicate, take, drop, append-nil, bit_and, arith, w8}
-use Rattle.std.specs.Int.{bit_at}
+-- Some rows, a byte each, the bytes of a slice in these rows, and what is chosen among bytes, in one order or in another.
+use Rattle.std.proofs.Common.{◌≡◌, ◌∙◌, refl, sym, ap, ap₂, ℕ, ◌+◌, ◌*◌, ◌<◌, min, max, cond, ltb, List, [], ◌∷◌, ◌++◌, map, length, take, drop, take_all, arith, w8, zero, suc, ◌-◌, ◌/◌, ◌%◌, ◌^◌, ◌≤◌, Bool, true, false, eqb, ◌==◌, ◌&&◌, get_or, replicate, append-nil, sum, Fits, bit_and, bit_or, fold}
 use Rattle.std.specs.List.{range_with_len}
-use Rattle.std.proofs.lemmas.Nat.{pow-add, shr-shr}
-use Rattle.std.proofs.lemmas.List.FromFn.{length-map-range_with_len, get_or-map-range_with_len}
-use Rattle.std.proofs.lemmas.Simd.{Each1-replicate, pick_l_left, map-map, zip2_of_maps, tops_compared, splat_is_map, get_or_narrower, put_chunk_is, zip2_splat}
+use Rattle.std.proofs.lemmas.Bool.Decides.{nat_tests}
+use Rattle.std.proofs.lemmas.List.{take-append-drop, take-append-le, drop-append-le, length-take, length-drop, length-append, take_all, drop_all}
+use Rattle.std.proofs.lemmas.List.Sums.{fold-append, sum_by-append, sum_by-cons}
+use Rattle.std.proofs.lemmas.Simd.{length-zip2, pick_l-range_with_len, tops_compared, sum-zip2, adds_fit, sum_fits, fold-sum, dot4_Fits, sum_dots, sum_by-ones, sum_bound, bytes_below, Each1-replicate, pick_l_left, map-map, zip2_of_maps, splat_is_map, get_or_narrower, put_chunk_is, zip2_splat}
+use lib.Lanes.{zip2, top, sel_l, pick_l, put_chunk, number_l, digits_l, sum_l, dots, products, Each1}
+use Rattle.bw_lanes.proofs.WordLemmas.{part, zipped_more, length-part, zipped_all}
+use Rattle.std.specs.Int.{bit_at, bit_not}
+use Rattle.std.specs.Int.Bits.{or_zero_r, or_add_and}
+use Rattle.std.proofs.lemmas.Nat.{and_mask, pow-add, shr-shr}
+use Rattle.std.proofs.lemmas.Nat.Bits.{bit_at_cat_low}
+use Rattle.std.proofs.lemmas.List.FromFn.{length-map-range_with_len}
 use Rattle.std.proofs.Math.Nat.{pow-suc}
-use Rattle.std.proofs.lemmas.List.{take_all, drop_all, length-drop}
-use lib.Lanes.{put_chunk, zip2, top, sel_l, pick_l, number_l, digits_l}
 use Rattle.bw_lanes.specs.Lanes.{bits_from_least}
-use Rattle.bw_lanes.specs.Picked.{as_byte}
-use Rattle.bw_lanes.proofs.BitLemmas.{same_on_range, bits_of_low}
+use Rattle.bw_lanes.specs.Picked.{as_byte, bytes_picked}
+use Rattle.bw_lanes.specs.Shifted.{with_bit}
+use Rattle.bw_lanes.proofs.BitLemmas.{same_on_range}
 use Rattle.bw_lanes.proofs.ByteLemmas.{bit_by_mask}
-use Rattle.bw_lanes.proofs.MaskLemmas.{chosen}
 
--- a bit of a number's byte
-bit_of_low : (n bit : ℕ) → bit < 8 → (bit_at (n % 256) bit == 1) ≡ (bit_at n bit == 1)
-unfolding bits_from_least
-bit_of_low n bit lt =
-    sym (get_or-map-range_with_len (λ i. bit_at (n % 256) i == 1) 0 8 bit bit false lt (omega arith)) ∙ ap (λ l. get_or l bit false) (bits_of_low 8 n)
-    ∙ get_or-map-range_with_len (λ i. bit_at n i == 1) 0 8 bit bit false lt (omega arith)
+-- A choice between two numbers that asks for no order.
+pub record IsChoice (f : ℕ → ℕ → ℕ) : Type 0 where
+  pub grouped : (a b c : ℕ) → f (f a b) c ≡ f a (f b c)
+  pub turned : (a b c : ℕ) → f (f a b) c ≡ f (f a c) b
+
+pub least_is_choice : IsChoice min
+least_is_choice = record { grouped = λ a b c. omega arith; turned = λ a b c. omega arith }
+
+pub greatest_is_choice : IsChoice max
+greatest_is_choice = record { grouped = λ a b c. omega arith; turned = λ a b c. omega arith }
+
+-- the lesser and the greater in each lane, as they are computed
+lesser_or_greater : (x y : ℕ) → (cond (ltb x y) x y ≡ min x y) × (cond (ltb x y) y x ≡ max x y)
+lesser_or_greater x y = (grind (arith, nat_tests), grind (arith, nat_tests))
+
+selected : (xs ys : List ℕ) → (sel_l (zip2 ltb xs ys) xs ys ≡ zip2 min xs ys) × (sel_l (zip2 ltb xs ys) ys xs ≡ zip2 max xs ys)
+selected [] ys = (refl, refl)
+selected (x ∷ xs) [] = (refl, refl)
+selected (x ∷ xs) (y ∷ ys) = let one = lesser_or_greater x y in let more = selected xs ys in (ap₂ ◌∷◌ one.0 more.0, ap₂ ◌∷◌ one.1 more.1)
+
+pub lesser_computed : (xs ys : List ℕ) → sel_l (map (top 7) (zip2 (λ a b. cond (ltb a b) 255 0) xs ys)) xs ys ≡ zip2 min xs ys
+lesser_computed xs ys = ap (λ tests. sel_l tests xs ys) (tops_compared w8 ltb xs ys) ∙ (selected xs ys).0
+
+pub greater_computed : (xs ys : List ℕ) → sel_l (map (top 7) (zip2 (λ a b. cond (ltb a b) 255 0) xs ys)) ys xs ≡ zip2 max xs ys
+greater_computed xs ys = ap (λ tests. sel_l tests ys xs) (tops_compared w8 ltb xs ys) ∙ (selected xs ys).1
+
+module _ (f : ℕ → ℕ → ℕ) (choice : IsChoice f) where
+  moved : (a y : ℕ) (xs ys : List ℕ) → fold f a (xs ++ (y ∷ ys)) ≡ fold f (f a y) (xs ++ ys)
+  moved a y [] ys = refl
+  moved a y (x ∷ xs) ys = moved (f a x) y xs ys ∙ ap (λ k. fold f k (xs ++ ys)) (choice.turned a x y)
+
+  -- among the choices of two lists, lane by lane
+  fold_pairs : (a : ℕ) (xs ys : List ℕ) → length xs ≡ length ys → fold f a (zip2 f xs ys) ≡ fold f a (xs ++ ys)
+  fold_pairs a [] [] long = refl
+  fold_pairs a [] (y ∷ ys) long = absurd (omega arith)
+  fold_pairs a (x ∷ xs) [] long = absurd (omega arith)
+  fold_pairs a (x ∷ xs) (y ∷ ys) long =
+      fold_pairs (f a (f x y)) xs ys (omega arith) ∙ ap (λ k. fold f k (xs ++ ys)) (sym (choice.grouped a x y)) ∙ sym (moved (f a x) y xs ys)
+
+  -- one part more of two lists that are joined
+  pub best_more : (pick : ℕ → ℕ → ℕ) (e word : ℕ) (bytes rows best more new : List ℕ) → length bytes ≡ 512 → length rows ≡ 512 → length best ≡ 64 → word < 8
+      → fold f e best ≡ fold f e (zip2 pick (take (64 * word) bytes) (take (64 * word) rows)) → more ≡ zip2 pick (part word bytes) (part word rows) → new ≡ zip2 f best more
+      → fold f e new ≡ fold f e (zip2 pick (take (64 * (word + 1)) bytes) (take (64 * (word + 1)) rows))
+  best_more pick e word bytes rows best more new long size count lt so_far is made =
+      let all = length-part word bytes long lt in
+      let same : length best ≡ length more = omega (arith, ap length is, length-zip2 pick (part word bytes) (part word rows) (all ∙ sym (length-part word rows size lt)), all) in
+      ap (fold f e) made ∙ fold_pairs e best more same ∙ fold-append f e best more ∙ ap₂ (fold f) so_far is
+      ∙ sym (ap (fold f e) (zipped_more pick word bytes rows long size lt) ∙ fold-append f e (zip2 pick (take (64 * word) bytes) (take (64 * word) rows)) (zip2 pick (part word bytes) (part word rows)))
+
+  -- both halves, lane by lane
+  pub halved : (e k : ℕ) (xs ys : List ℕ) → length xs ≡ k + k → ys ≡ zip2 f (pick_l 0 (xs ++ xs) (range_with_len 0 k)) (pick_l 0 (xs ++ xs) (range_with_len k k))
+      → (length ys ≡ k) × (fold f e ys ≡ fold f e xs)
+  halved e k xs ys long is =
+      let both = length-append xs xs in
+      let low : pick_l 0 (xs ++ xs) (range_with_len 0 k) ≡ take k xs = pick_l-range_with_len 0 (xs ++ xs) 0 k (omega arith) ∙ take-append-le k xs xs (omega arith) in
+      let rest = length-drop k xs in
+      let high : pick_l 0 (xs ++ xs) (range_with_len k k) ≡ drop k xs =
+      pick_l-range_with_len 0 (xs ++ xs) k k (omega arith) ∙ ap (take k) (drop-append-le k xs xs (omega arith)) ∙ take-append-le k (drop k xs) xs (omega arith) ∙ take_all k (drop k xs) (omega arith) in
+      let front = length-take k xs in
+      let pairs = is ∙ ap₂ (zip2 f) low high in (
+        omega (arith, ap length pairs, length-zip2 f (take k xs) (drop k xs) (omega arith)),
+        ap (fold f e) pairs ∙ fold_pairs e (take k xs) (drop k xs) (omega arith) ∙ ap (fold f e) (take-append-drop k xs),
+      )
 
 pow_of_bytes : (bytes : ℕ) → 2 ^ (8 * bytes) ≡ 256 ^ bytes
 pow_of_bytes zero = refl
@@ -27,12 +89,18 @@ pow_of_bytes (suc bytes) =
     let more : 8 * suc bytes ≡ 8 + 8 * bytes = omega arith in
     ap (λ k. 2 ^ k) more ∙ pow-add 2 8 (8 * bytes) ∙ omega (arith, pow_of_bytes bytes, pow-suc 256 bytes)
 
-bit_of_byte : (n i : ℕ) → (bit_at (n / 256 ^ (i / 8) % 256) (i % 8) == 1) ≡ (bit_at n i == 1)
+bit_of_byte : (n i : ℕ) → bit_at (n / 256 ^ (i / 8) % 256) (i % 8) ≡ bit_at n i
 bit_of_byte n i =
-    let whole : 8 * (i / 8) + i % 8 ≡ i = omega arith in
-    bit_of_low (n / 256 ^ (i / 8)) (i % 8) (omega arith)
-    ∙ ap (λ k. bit_at (n / k) (i % 8) == 1) (sym (pow_of_bytes (i / 8)))
-    ∙ ap (λ k. k % 2 == 1) (shr-shr n (8 * (i / 8)) (i % 8) ∙ ap (λ k. n / 2 ^ k) whole)
+    let byte = n / 256 ^ (i / 8) in
+    let whole : byte / 256 * 2 ^ 8 + byte % 256 ≡ byte = omega arith in
+    let place : 8 * (i / 8) + i % 8 ≡ i = omega arith in
+    sym (bit_at_cat_low (byte / 256) 8 (byte % 256) (i % 8) (omega arith)) ∙ ap (λ k. bit_at k (i % 8)) whole ∙ ap (λ k. n / k / 2 ^ (i % 8) % 2) (sym (pow_of_bytes (i / 8)))
+    ∙ ap (λ k. k % 2) (shr-shr n (8 * (i / 8)) (i % 8) ∙ ap (λ k. n / 2 ^ k) place)
+
+-- a choice between two values, lane by lane
+chosen : {A B : Type 0} (test : A → Bool) (f g : A → B) (xs : List A) → sel_l (map test xs) (map f xs) (map g xs) ≡ map (λ x. cond (test x) (f x) (g x)) xs
+chosen test f g [] = refl
+chosen test f g (x ∷ xs) = ap (λ l. cond (test x) (f x) (g x) ∷ l) (chosen test f g xs)
 
 -- the bytes of 64 rows, as they are computed from the bits of a word
 abbrev rows : List ℕ
@@ -64,7 +132,7 @@ bytes_computed word small =
     (λ i _ lt.
     let lane = get_or_narrower (2 ^ 64) 8 (2 ^ 8) 64 (replicate 8 word) 0 (i / 8) refl (Each1-replicate (λ x. x < 2 ^ 64) 8 word small) (omega arith) (omega arith) in
     let same : i / 8 ≡ 8 * 0 + i / 8 = omega arith in
-    ap as_byte (bit_by_mask (i % 8) (own i) ∙ ap (λ k. bit_at (get_or bytes k 0) (i % 8) == 1) same ∙ ap (λ n. bit_at n (i % 8) == 1) lane ∙ bit_of_byte word i))
+    ap as_byte (bit_by_mask (i % 8) (own i) ∙ ap (λ k. bit_at (get_or bytes k 0) (i % 8) == 1) same ∙ ap (λ n. bit_at n (i % 8) == 1) lane ∙ ap (λ n. n == 1) (bit_of_byte word i)))
     ∙ sym (map-map as_byte (λ i. bit_at word i == 1) rows)
 
 -- what is written at a part of the bytes
@@ -77,14 +145,75 @@ put_is at bytes some all long le =
     ∙ ap (λ l. take at bytes ++ l) (append-nil (put_chunk 0 rest some) ∙ put_chunk_is 0 rest some (omega (arith, left, long))) ∙ sym (put_chunk_is at bytes some (omega (arith, all, long)))
 
 -- the rows with a byte
-zero_where_not : (test : ℕ → Bool) (rows bytes : List ℕ) (count : ℕ) → length rows ≡ count → length bytes ≡ count → sel_l (map test bytes) rows (replicate count 0) ≡ zip2 (λ row byte. cond (test byte) row 0) rows bytes
-zero_where_not test [] [] count here there = refl
-zero_where_not test [] (byte ∷ bytes) count here there = absurd (omega (arith, here, there))
-zero_where_not test (row ∷ rows) [] count here there = absurd (omega (arith, here, there))
-zero_where_not test (row ∷ rows) (byte ∷ bytes) zero here there = absurd (omega (arith, here))
-zero_where_not test (row ∷ rows) (byte ∷ bytes) (suc count) here there = ap (λ l. cond (test byte) row 0 ∷ l) (zero_where_not test rows bytes count (omega (arith, here)) (omega (arith, there)))
+kept_where : (test : ℕ → Bool) (xs bytes : List ℕ) → sel_l (map test bytes) xs (map (λ _. 0) bytes) ≡ zip2 (λ row byte. cond (test byte) row 0) xs bytes
+kept_where test [] [] = refl
+kept_where test [] (byte ∷ bytes) = refl
+kept_where test (x ∷ xs) [] = refl
+kept_where test (x ∷ xs) (byte ∷ bytes) = ap (λ l. cond (test byte) x 0 ∷ l) (kept_where test xs bytes)
 
-pub kept_computed : (rows bytes : List ℕ) (c : ℕ) → length rows ≡ 64 → length bytes ≡ 64
+pub kept_computed : (rows bytes : List ℕ) (c : ℕ) → length bytes ≡ 64
     → sel_l (map (top 7) (zip2 (λ a b. cond (eqb a b) 255 0) bytes (replicate 64 c))) rows (replicate 64 0) ≡ zip2 (λ row byte. cond (byte == c) row 0) rows bytes
-kept_computed rows bytes c here there =
-    ap (λ tests. sel_l tests rows (replicate 64 0)) (tops_compared w8 eqb bytes (replicate 64 c) ∙ zip2_splat eqb bytes 64 c there) ∙ zero_where_not (λ byte. eqb byte c) rows bytes 64 here there
+kept_computed rows bytes c size =
+    ap₂ (λ tests l. sel_l tests rows l) (tops_compared w8 eqb bytes (replicate 64 c) ∙ zip2_splat eqb bytes 64 c size) (splat_is_map bytes 64 0 size) ∙ kept_where (λ byte. eqb byte c) rows bytes
+
+both_lanes : (lane test : Bool) → cond test (as_byte lane) 0 ≡ as_byte (lane && test)
+both_lanes lane test = grind (arith, nat_tests)
+
+pub kept_lanes : (c : ℕ) (lanes : List Bool) (bytes : List ℕ) → zip2 (λ row byte. cond (byte == c) row 0) (map as_byte lanes) bytes ≡ map as_byte (zip2 (λ lane byte. lane && (byte == c)) lanes bytes)
+kept_lanes c [] bytes = refl
+kept_lanes c (lane ∷ lanes) [] = refl
+kept_lanes c (lane ∷ lanes) (byte ∷ bytes) = ap₂ ◌∷◌ (both_lanes lane (byte == c)) (kept_lanes c lanes bytes)
+
+-- a byte that is added to itself, with 255 taken from that where the bit is 1
+pub shifted_computed : (bytes : List ℕ) (lanes : List Bool) → zip2 (λ a b. (a + (256 - b)) % 256) (zip2 (λ a b. (a + b) % 256) bytes bytes) (map as_byte lanes) ≡ zip2 with_bit bytes lanes
+shifted_computed [] lanes = refl
+shifted_computed (byte ∷ bytes) [] = refl
+shifted_computed (byte ∷ bytes) (true ∷ lanes) = ap₂ ◌∷◌ (omega arith) (shifted_computed bytes lanes)
+shifted_computed (byte ∷ bytes) (false ∷ lanes) = ap₂ ◌∷◌ (omega arith) (shifted_computed bytes lanes)
+
+-- the bytes in some rows, as they are computed
+picked_by : (f : ℕ → ℕ → ℕ) (other : ℕ) → ((lane : Bool) (byte : ℕ) → byte < 256 → f byte (as_byte lane) ≡ cond lane byte other)
+    → (lanes : List Bool) (bytes : List ℕ) → ((at : ℕ) → get_or bytes at 0 < 256) → zip2 f bytes (map as_byte lanes) ≡ bytes_picked other lanes bytes
+picked_by f other one [] [] small = refl
+picked_by f other one [] (byte ∷ bytes) small = refl
+picked_by f other one (lane ∷ lanes) [] small = refl
+picked_by f other one (lane ∷ lanes) (byte ∷ bytes) small = ap₂ ◌∷◌ (one lane byte (small 0)) (picked_by f other one lanes bytes (λ at. small (suc at)))
+
+abbrev pub or_others : ℕ → ℕ → ℕ
+or_others byte row = bit_or byte (bit_not w8 row)
+
+and_lane : (lane : Bool) (byte : ℕ) → byte < 256 → bit_and byte (as_byte lane) ≡ cond lane byte 0
+and_lane lane byte small = grind (arith, nat_tests, and_mask byte 8, or_add_and byte 0, or_zero_r byte)
+
+or_lane : (lane : Bool) (byte : ℕ) → byte < 256 → or_others byte (as_byte lane) ≡ cond lane byte 255
+or_lane lane byte small = grind (arith, nat_tests, and_mask byte 8, or_add_and byte 255, or_zero_r byte)
+
+module _ (word : ℕ) (lanes : List Bool) (bytes rows : List ℕ) (long : length bytes ≡ 512) (size : length rows ≡ 512) (le : 8 ≤ word) (small : (at : ℕ) → get_or bytes at 0 < 256) (is : rows ≡ map as_byte lanes) where
+  picked_all : (f : ℕ → ℕ → ℕ) (other : ℕ) → ((lane : Bool) (byte : ℕ) → byte < 256 → f byte (as_byte lane) ≡ cond lane byte other) → zip2 f (take (64 * word) bytes) (take (64 * word) rows) ≡ bytes_picked other lanes bytes
+  picked_all f other one = zipped_all f word bytes rows long size le ∙ ap (zip2 f bytes) is ∙ picked_by f other one lanes bytes small
+
+  pub bytes_or_0 : zip2 bit_and (take (64 * word) bytes) (take (64 * word) rows) ≡ bytes_picked 0 lanes bytes
+  bytes_or_0 = picked_all bit_and 0 and_lane
+
+  pub bytes_or_255 : zip2 or_others (take (64 * word) bytes) (take (64 * word) rows) ≡ bytes_picked 255 lanes bytes
+  bytes_or_255 = picked_all or_others 255 or_lane
+
+-- one step of a sum
+pub sum_is : (xs : List ℕ) → sum_l xs ≡ sum xs
+sum_is [] = refl
+sum_is (x ∷ xs) = ap (λ k. x + k) (sum_is xs) ∙ sym (sum_by-cons (λ n. n) x xs)
+
+pub sum_more : (word : ℕ) (bytes rows sums more : List ℕ) → length bytes ≡ 512 → length rows ≡ 512 → length sums ≡ length more → word < 8
+    → sum_l sums ≡ sum (zip2 bit_and (take (64 * word) bytes) (take (64 * word) rows)) → sum_l more ≡ sum (zip2 bit_and (part word bytes) (part word rows))
+    → sum_l (zip2 (λ a b. a + b) sums more) ≡ sum (zip2 bit_and (take (64 * (word + 1)) bytes) (take (64 * (word + 1)) rows))
+sum_more word bytes rows sums more long size same lt so_far is =
+    sum-zip2 sums more same ∙ ap₂ ◌+◌ so_far is ∙ sym (ap sum (zipped_more bit_and word bytes rows long size lt) ∙ sum_by-append (λ n. n) (zip2 bit_and (take (64 * word) bytes) (take (64 * word) rows)) (zip2 bit_and (part word bytes) (part word rows)))
+
+-- sums of four bytes each
+pub fours_add : (bytes : List ℕ) → length bytes ≡ 64 → sum_l (dots bytes (replicate 64 1)) ≡ sum_l bytes
+fours_add bytes long = (sum_dots 16 bytes (replicate 64 1) long (omega arith)).0 ∙ ap (λ n. sum_l (products bytes (replicate n 1))) (sym long) ∙ sum_by-ones bytes
+
+pub few_in_bytes : (bytes : List ℕ) → length bytes ≡ 64 → Each1 (Fits w8) bytes → sum_l bytes ≤ 16320
+few_in_bytes bytes long fit = omega (arith, sum_bound 255 bytes (bytes_below bytes fit))
+
+pub ruleset sums_of_fours = (dot4_Fits, fours_add, few_in_bytes)

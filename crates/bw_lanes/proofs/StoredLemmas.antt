@@ -1,12 +1,13 @@
 -- Lanes and the bytes that they are kept in undo each other.
-use Rattle.std.proofs.Common.{◌≡◌, ◌∙◌, refl, sym, ap, ap₂, ℕ, zero, suc, ◌+◌, ◌*◌, ◌/◌, ◌%◌, ◌^◌, ◌<◌, Bool, cond, ◌==◌, List, [], ◌∷◌, ◌++◌, length, take, drop, arith}
+use Rattle.std.proofs.Common.{◌≡◌, ◌∙◌, refl, sym, ap, ap₂, ℕ, zero, suc, ◌+◌, ◌*◌, ◌/◌, ◌%◌, ◌^◌, ◌<◌, Bool, cond, ◌==◌, List, [], ◌∷◌, ◌++◌, length, take, drop, Fits, w8, w64, arith, flat_map}
 use Rattle.std.proofs.Math.Seq.{drop-append_seam, take-append_seam}
 use Rattle.std.proofs.Math.Nat.{two-pow-succ}
 use Rattle.std.proofs.lemmas.List.{take-append-drop, length-take, length-drop, nil_from_length}
 use Rattle.std.proofs.Math.Nat.{mod-lt}
-use lib.Lanes.{Each1, mask_l, digits_l}
-use Rattle.bw_lanes.specs.Lanes.{bits_from_least, lanes_of_bytes, number_of_bits, bytes_from, bytes_of_lanes}
-use Rattle.bw_lanes.proofs.BitLemmas.{length-bits_from_least, bits_from_least_more, bits_of_mask}
+use Rattle.std.proofs.lemmas.Simd.{below_from_Fits}
+use lib.Lanes.{Each1, mask_l, number_l, digits_l}
+use Rattle.bw_lanes.specs.Lanes.{bits_from_least, lanes_of_bytes, lanes_of_words, number_of_bits, bytes_from, bytes_of_lanes}
+use Rattle.bw_lanes.proofs.BitLemmas.{length-bits_from_least, bits_from_least_more, bits_of_mask, bits_of_digits, bits_of_number, of_bit}
 
 number_of_bits-mask : (bits : List Bool) → number_of_bits bits ≡ mask_l bits
 number_of_bits-mask [] = refl
@@ -19,13 +20,8 @@ number_of_bits_from_least : (count n : ℕ) → n < 2 ^ count → number_of_bits
 unfolding bits_from_least
 number_of_bits_from_least zero n small = omega (arith, small)
 number_of_bits_from_least (suc count) n small =
-    let half = number_of_bits_from_least count (n / 2) (omega (arith, small, two-pow-succ count)) in
-    ap number_of_bits (bits_from_least_more count n) ∙ ap (λ k. cond (n % 2 == 1) 1 0 + 2 * k) half ∙ omega (arith, worth (n % 2) (omega arith))
-  where
-    worth : (b : ℕ) → b < 2 → cond (b == 1) 1 0 ≡ b
-    worth zero lt = refl
-    worth (suc zero) lt = refl
-    worth (suc (suc b)) lt = absurd (omega arith)
+    ap number_of_bits (bits_from_least_more count n) ∙ ap (λ k. cond (n % 2 == 1) 1 0 + 2 * k) (number_of_bits_from_least count (n / 2) (omega (arith, two-pow-succ count)))
+    ∙ omega (arith, of_bit (λ b. cond (b == 1) 1 0 ≡ b) refl refl (n % 2) (omega arith))
 
 lanes_of_bytes_from : (count : ℕ) (lanes : List Bool) → length lanes ≡ 8 * count → lanes_of_bytes (bytes_from count lanes) ≡ lanes
 unfolding lanes_of_bytes
@@ -59,15 +55,25 @@ pub bytes_of_lanes_of_bytes : (bytes : List ℕ) → length bytes ≡ 64 → Eac
 unfolding bytes_of_lanes
 bytes_of_lanes_of_bytes bytes long small = ap (λ k. bytes_from k (lanes_of_bytes bytes)) (sym long) ∙ bytes_from_lanes bytes small
 
-digits_are_small : (p count n : ℕ) → 0 < p → Each1 (λ digit. digit < p) (digits_l p count n)
-digits_are_small p zero n some = tt
-digits_are_small p (suc count) n some = (mod-lt n some, digits_are_small p count (n / p) some)
+digits_fit : (p count n : ℕ) → 0 < p → (length (digits_l p count n) ≡ count) × Each1 (λ digit. digit < p) (digits_l p count n)
+digits_fit p zero n some = (refl, tt)
+digits_fit p (suc count) n some = let more = digits_fit p count (n / p) some in (ap suc more.0, (mod-lt n some, more.1))
 
-length-digits_l : (p count n : ℕ) → length (digits_l p count n) ≡ count
-length-digits_l p zero n = refl
-length-digits_l p (suc count) n = ap suc (length-digits_l p count (n / p))
+-- numbers of so many bits, recoded as numbers of other many bits
+recoded : (width other count : ℕ) (numbers : List ℕ) → Each1 (λ n. n < 2 ^ other) numbers → count * width ≡ length numbers * other
+    → flat_map (bits_from_least width) (digits_l (2 ^ width) count (number_l (2 ^ other) numbers)) ≡ flat_map (bits_from_least other) numbers
+recoded width other count numbers small same =
+    let n = number_l (2 ^ other) numbers in
+    bits_of_digits width count n ∙ ap (λ k. bits_from_least k n) same ∙ bits_of_number other numbers small
 
--- the digits of a number in bytes are those of its bits
-pub digits_of_lanes : (n : ℕ) (lanes : List Bool) → lanes_of_bytes (digits_l 256 64 n) ≡ lanes → digits_l 256 64 n ≡ bytes_of_lanes lanes
-digits_of_lanes n lanes is =
-    sym (bytes_of_lanes_of_bytes (digits_l 256 64 n) (length-digits_l 256 64 n) (digits_are_small 256 64 n (omega arith))) ∙ ap bytes_of_lanes is
+pub words_recoded : (bytes : List ℕ) → length bytes ≡ 64 → Each1 (Fits w8) bytes → lanes_of_words (digits_l (2 ^ 64) 8 (number_l (2 ^ 8) bytes)) ≡ lanes_of_bytes bytes
+unfolding lanes_of_words lanes_of_bytes
+words_recoded bytes long fit = recoded 64 8 8 bytes (below_from_Fits w8 bytes fit) (omega (arith, long))
+
+pub bytes_recoded : (words : List ℕ) → length words ≡ 8 → Each1 (Fits w64) words → digits_l (2 ^ 8) 64 (number_l (2 ^ 64) words) ≡ bytes_of_lanes (lanes_of_words words)
+unfolding lanes_of_words lanes_of_bytes
+bytes_recoded words long small =
+    let n = number_l (2 ^ 64) words in
+    let fit = digits_fit 256 64 n (omega arith) in
+    sym (bytes_of_lanes_of_bytes (digits_l 256 64 n) fit.0 fit.1)
+    ∙ ap bytes_of_lanes (recoded 8 64 64 words (below_from_Fits w64 words small) (omega (arith, long)))

@@ -1,23 +1,24 @@
--- The lanes of words, and of words that are joined.
-use Rattle.std.proofs.Common.{get_or, ◌≡◌, ◌∙◌, refl, sym, ap, ap₂, ℕ, zero, suc, ◌+◌, ◌-◌, ◌*◌, ◌/◌, ◌%◌, ◌^◌, ◌<◌, ◌≤◌, Bool, true, false, not, cond, ◌==◌, ◌&&◌, ◌||◌, List, [], ◌∷◌, ◌++◌, map, flat_map, replicate, length, count_by, arith, w64, length-append, append_assoc, append-nil, inl, inr}
-use Rattle.std.proofs.Math.Nat.{eq-zero-or-pos}
-use Rattle.std.proofs.Math.Bool.{and-true}
+-- The lanes of words, of words that are joined and of those whose first lanes are 1, and the parts of 64 rows, one a word.
+use Rattle.std.proofs.Common.{get_or, ◌≡◌, ◌∙◌, refl, sym, ap, ap₂, ℕ, zero, suc, ◌+◌, ◌-◌, ◌*◌, ◌/◌, ◌%◌, ◌^◌, ◌<◌, ◌≤◌, Bool, true, false, not, cond, ◌==◌, ◌&&◌, ◌||◌, List, [], ◌∷◌, ◌++◌, map, flat_map, replicate, length, take, set, count_by, Fits, arith, w64, max, length-append, append_assoc, append-nil, min, add-zero, zero-add, drop, take_all, bit_or, count_ones, bit_xor, bit_and}
 use Rattle.std.proofs.Math.Nat.{two-pow-succ}
-use Rattle.std.proofs.lemmas.Bool.{eq-eqb, ne_eqb}
-use Rattle.std.proofs.lemmas.Nat.{le_or_l, ones_le_self}
-use Rattle.std.proofs.lemmas.List.{nil_from_length}
+use Rattle.std.proofs.Math.Bool.{and-true, and_assoc}
+use Rattle.std.proofs.lemmas.Bool.{eq-eqb}
+use Rattle.std.proofs.lemmas.Nat.{le_or_l, ones_le_self, one_shl, pow_pos}
+use Rattle.std.proofs.lemmas.List.{map-append, length-map, length-take, take_more, take_more_set, replicate-append-replicate, take-append-drop, take-take, length-drop, drop_all}
 use Rattle.std.proofs.lemmas.List.Folds.{list_all-append}
+use Rattle.std.proofs.lemmas.List.Concat.{flat_map-append}
+use Rattle.std.proofs.lemmas.Bool.Decides.{nat_tests}
 use Rattle.std.proofs.lemmas.List.Sums.{sum_by-append, sum_by-cons, count_by-le-length}
-use Rattle.std.specs.Int.{bit_not}
-use Rattle.std.specs.Int.RustNames.{bit_or, count_ones, bit_xor}
+use Rattle.std.specs.Int.{bit_at, bit_not}
 use Rattle.std.specs.Int.Bits.{or_zero_l}
 use Rattle.std.specs.Int.Count.{ones_step}
-use lib.Bits.{bit_and}
-use lib.Lanes.{zip2, Each1, fold_l, sum_l}
+use lib.Lanes.{zip2, Each1, fold_l, mask_l, put_chunk}
 use Rattle.std.specs.List.{list_all}
 use Rattle.bw_lanes.specs.Lanes.{bits_from_least, lanes_of_words, lanes_of_bytes, differ}
-use Rattle.std.proofs.lemmas.Nat.Bits.{shr_and_one}
-use Rattle.bw_lanes.proofs.BitLemmas.{bit_in_numbers, length-bits_from_least, bits_from_least_more, bits_of_not, bits_of_and, bits_of_or, bits_of_xor}
+use Rattle.std.proofs.lemmas.Nat.Bits.{shr_and_one, bit_at_or, bit_at_xor}
+use Rattle.bw_lanes.proofs.BitLemmas.{bit_in_numbers, length-bits_of_numbers, length-bits_from_least, bits_from_least_more, bits_of_not, bits_of_and, bits_joined, of_bit, bits_of_flags}
+use Rattle.std.proofs.lemmas.Simd.{length-put_chunk, get_or-zip2, length-replicate, length-zip2, put_chunk_is, take_more_put_chunk}
+use Rattle.std.proofs.Math.Seq.{take-add, drop-cons, drop-append_seam, take-append_seam, drop-drop}
 
 pub zip2-append : {A B C : Type 0} (f : A → B → C) (xs xs' : List A) (ys ys' : List B) → length xs ≡ length ys → zip2 f (xs ++ xs') (ys ++ ys') ≡ zip2 f xs ys ++ zip2 f xs' ys'
 zip2-append f [] xs' [] ys' same = refl
@@ -25,130 +26,94 @@ zip2-append f [] xs' (b ∷ ys) ys' same = absurd (omega arith)
 zip2-append f (a ∷ xs) xs' [] ys' same = absurd (omega arith)
 zip2-append f (a ∷ xs) xs' (b ∷ ys) ys' same = ap (λ l. f a b ∷ l) (zip2-append f xs xs' ys ys' (omega arith))
 
-pub map-append : {A B : Type 0} (f : A → B) (xs ys : List A) → map f (xs ++ ys) ≡ map f xs ++ map f ys
-map-append f [] ys = refl
-map-append f (a ∷ xs) ys = ap (λ l. f a ∷ l) (map-append f xs ys)
-
 -- words that are joined bit by bit
-pub lanes_joined : (f : Bool → Bool → Bool) (join : ℕ → ℕ → ℕ) → ((a b : ℕ) → bits_from_least 64 (join a b) ≡ zip2 f (bits_from_least 64 a) (bits_from_least 64 b))
+lanes_joined : (f : Bool → Bool → Bool) (join : ℕ → ℕ → ℕ) → ((count a b : ℕ) → bits_from_least count (join a b) ≡ zip2 f (bits_from_least count a) (bits_from_least count b))
     → (xs ys : List ℕ) → length xs ≡ length ys → lanes_of_words (zip2 join xs ys) ≡ zip2 f (lanes_of_words xs) (lanes_of_words ys)
 unfolding lanes_of_words
 lanes_joined f join each [] ys same = refl
 lanes_joined f join each (a ∷ xs) [] same = absurd (omega arith)
 lanes_joined f join each (a ∷ xs) (b ∷ ys) same =
-    ap₂ ◌++◌ (each a b) (lanes_joined f join each xs ys (omega arith))
+    ap₂ ◌++◌ (each 64 a b) (lanes_joined f join each xs ys (omega arith))
     ∙ sym (zip2-append f (bits_from_least 64 a) (lanes_of_words xs) (bits_from_least 64 b) (lanes_of_words ys) (length-bits_from_least 64 a ∙ sym (length-bits_from_least 64 b)))
 
-pub lanes_of_not : (words : List ℕ) → Each1 (λ word. word < 2 ^ 64) words → lanes_of_words (map (bit_not w64) words) ≡ map not (lanes_of_words words)
+pub lanes_of_not : (words : List ℕ) → Each1 (Fits w64) words → lanes_of_words (map (bit_not w64) words) ≡ map not (lanes_of_words words)
 unfolding lanes_of_words
 lanes_of_not [] small = refl
 lanes_of_not (word ∷ words) small =
-    ap₂ ◌++◌ (bits_of_not word small.0) (lanes_of_not words small.1) ∙ sym (map-append not (bits_from_least 64 word) (lanes_of_words words))
+    ap₂ ◌++◌ (bits_of_not word small.0.fits) (lanes_of_not words small.1) ∙ sym (map-append not (bits_from_least 64 word) (lanes_of_words words))
 
 pub length-lanes_of_words : (words : List ℕ) → length (lanes_of_words words) ≡ 64 * length words
 unfolding lanes_of_words
-length-lanes_of_words [] = refl
-length-lanes_of_words (word ∷ words) =
-    omega (arith, length-append (bits_from_least 64 word) (lanes_of_words words), length-bits_from_least 64 word, length-lanes_of_words words)
+length-lanes_of_words words = length-bits_of_numbers 64 words
 
 -- the lanes of words that come after others
 pub lanes_of_words-append : (xs ys : List ℕ) → lanes_of_words (xs ++ ys) ≡ lanes_of_words xs ++ lanes_of_words ys
 unfolding lanes_of_words
-lanes_of_words-append [] ys = refl
-lanes_of_words-append (x ∷ xs) ys = ap (λ l. bits_from_least 64 x ++ l) (lanes_of_words-append xs ys) ∙ sym (append_assoc (bits_from_least 64 x) (lanes_of_words xs) (lanes_of_words ys))
+lanes_of_words-append xs ys = flat_map-append (bits_from_least 64) xs ys
 
 pub lanes_of_word : (word : ℕ) → lanes_of_words (word ∷ []) ≡ bits_from_least 64 word
 unfolding lanes_of_words
 lanes_of_word word = append-nil (bits_from_least 64 word)
 
+pub lanes_more : (word : ℕ) (words : List ℕ) → length words ≡ 8 → word < 8
+    → lanes_of_words (take (word + 1) words) ≡ lanes_of_words (take word words) ++ bits_from_least 64 (get_or words word 0)
+lanes_more word words eight lt =
+    ap lanes_of_words (take_more words word 0 (omega (arith, eight))) ∙ lanes_of_words-append (take word words) (get_or words word 0 ∷ []) ∙ ap (λ l. lanes_of_words (take word words) ++ l) (lanes_of_word (get_or words word 0))
+
 -- a number of so many bits is 0 exactly where none of them is 1
 pub zero_bits : (count n : ℕ) → n < 2 ^ count → (n == 0) ≡ list_all not (bits_from_least count n)
-zero_bits zero n small =
-    let none : n ≡ 0 = omega arith in
-    eq-eqb n 0 none ∙ sym (ap (list_all not) (nil_from_length (bits_from_least 0 n) (length-bits_from_least 0 n)))
+unfolding bits_from_least
+zero_bits zero n small = eq-eqb n 0 (omega arith)
 zero_bits (suc count) n small =
-    let half : n / 2 < 2 ^ count = omega (arith, two-pow-succ count) in
-    least_and_rest n (n % 2) (n / 2) (omega arith) (omega arith) ∙ ap (λ b. not (n % 2 == 1) && b) (zero_bits count (n / 2) half) ∙ sym (ap (list_all not) (bits_from_least_more count n))
+    least_and_rest n ∙ ap (λ b. not (n % 2 == 1) && b) (zero_bits count (n / 2) (omega (arith, two-pow-succ count))) ∙ sym (ap (list_all not) (bits_from_least_more count n))
   where
-    least_and_rest : (n low high : ℕ) → n ≡ 2 * high + low → low < 2 → (n == 0) ≡ (not (low == 1) && (high == 0))
-    least_and_rest n zero high is lt = elim (eq-zero-or-pos high) [
-      | inl none ↦ eq-eqb n 0 (omega arith) ∙ sym (eq-eqb high 0 none)
-      | inr some ↦ ne_eqb n 0 (λ e. omega arith) ∙ sym (ne_eqb high 0 (λ e. omega arith))
-    ]
-    least_and_rest n (suc zero) high is lt = ne_eqb n 0 (λ e. omega arith)
-    least_and_rest n (suc (suc low)) high is lt = absurd (omega arith)
+    least_and_rest : (n : ℕ) → (n == 0) ≡ (not (n % 2 == 1) && (n / 2 == 0))
+    least_and_rest n = grind (arith, nat_tests)
 
 pub either_is_zero : (a b : ℕ) → (bit_or a b == 0) ≡ ((a == 0) && (b == 0))
-either_is_zero a b = elim (eq-zero-or-pos a) [
-  | inl none ↦ ap (λ k. k == 0) (ap (λ k. bit_or k b) none ∙ or_zero_l b) ∙ sym (ap (λ t. t && (b == 0)) (eq-eqb a 0 none))
-  | inr some ↦ ne_eqb (bit_or a b) 0 (λ e. omega (arith, le_or_l a b)) ∙ sym (ap (λ t. t && (b == 0)) (ne_eqb a 0 (λ e. omega arith)))
-]
-
-and_assoc : (a b c : Bool) → ((a && b) && c) ≡ (a && (b && c))
-and_assoc true b c = refl
-and_assoc false b c = refl
+either_is_zero a b = grind (arith, nat_tests, le_or_l a b, or_zero_l b)
 
 -- words joined by or are 0 exactly where no lane is 1
-pub zero_words : (a : ℕ) (words : List ℕ) → Each1 (λ word. word < 2 ^ 64) words → (fold_l bit_or a words == 0) ≡ ((a == 0) && list_all not (lanes_of_words words))
+zero_words : (a : ℕ) (words : List ℕ) → Each1 (Fits w64) words → (fold_l bit_or a words == 0) ≡ ((a == 0) && list_all not (lanes_of_words words))
 unfolding lanes_of_words
 zero_words a [] small = sym (and-true (a == 0))
 zero_words a (word ∷ words) small =
-    zero_words (bit_or a word) words small.1
-    ∙ ap (λ t. t && list_all not (lanes_of_words words)) (either_is_zero a word)
-    ∙ and_assoc (a == 0) (word == 0) (list_all not (lanes_of_words words))
-    ∙ ap (λ t. (a == 0) && (t && list_all not (lanes_of_words words))) (zero_bits 64 word small.0)
-    ∙ ap (λ t. (a == 0) && t) (sym (list_all-append not (bits_from_least 64 word) (lanes_of_words words)))
+    zero_words (bit_or a word) words small.1 ∙ ap (λ t. t && list_all not (lanes_of_words words)) (either_is_zero a word) ∙ and_assoc (a == 0) (word == 0) (list_all not (lanes_of_words words))
+    ∙ ap (λ t. (a == 0) && t) (ap (λ t. t && list_all not (lanes_of_words words)) (zero_bits 64 word small.0.fits) ∙ sym (list_all-append not (bits_from_least 64 word) (lanes_of_words words)))
+
+pub no_word : (words : List ℕ) → Each1 (Fits w64) words → (fold_l bit_or 0 words == 0) ≡ list_all not (lanes_of_words words)
+no_word words small = zero_words 0 words small
 
 -- a number of so many bits has as many ones as bits that are 1
 pub ones_in_bits : (count n : ℕ) → n < 2 ^ count → count_ones n ≡ count_by (λ lane. lane) (bits_from_least count n)
-ones_in_bits zero n small =
-    let none : n ≡ 0 = omega arith in
-    omega (arith, ones_le_self n, ap (count_by (λ (lane : Bool). lane)) (nil_from_length (bits_from_least 0 n) (length-bits_from_least 0 n)))
+unfolding bits_from_least
+ones_in_bits zero n small = omega (arith, ones_le_self n)
 ones_in_bits (suc count) n small =
-    let half : n / 2 < 2 ^ count = omega (arith, two-pow-succ count) in
-    ones_step n ∙ ap₂ ◌+◌ (worth (n % 2) (omega arith)) (ones_in_bits count (n / 2) half)
+    ones_step n ∙ ap₂ ◌+◌ (of_bit (λ b. b ≡ cond (b == 1) 1 0) refl refl (n % 2) (omega arith)) (ones_in_bits count (n / 2) (omega (arith, two-pow-succ count)))
     ∙ sym (ap (count_by (λ (lane : Bool). lane)) (bits_from_least_more count n) ∙ sum_by-cons (λ lane. cond lane 1 0) (n % 2 == 1) (bits_from_least count (n / 2)))
-  where
-    worth : (low : ℕ) → low < 2 → low ≡ cond (low == 1) 1 0
-    worth zero lt = refl
-    worth (suc zero) lt = refl
-    worth (suc (suc low)) lt = absurd (omega arith)
-
-pub ones_in_words : (words : List ℕ) → Each1 (λ word. word < 2 ^ 64) words → sum_l (map count_ones words) ≡ count_by (λ lane. lane) (lanes_of_words words)
-unfolding lanes_of_words
-ones_in_words [] small = refl
-ones_in_words (word ∷ words) small =
-    ap₂ ◌+◌ (ones_in_bits 64 word small.0) (ones_in_words words small.1) ∙ sym (sum_by-append (λ lane. cond lane 1 0) (bits_from_least 64 word) (lanes_of_words words))
-
-pub lanes_that_are_one : (words : List ℕ) → length words ≡ 8 → count_by (λ lane. lane) (lanes_of_words words) ≤ 512
-lanes_that_are_one words eight = omega (arith, count_by-le-length (λ lane. lane) (lanes_of_words words), length-lanes_of_words words)
 
 pub length-lanes_of_bytes : (bytes : List ℕ) → length (lanes_of_bytes bytes) ≡ 8 * length bytes
 unfolding lanes_of_bytes
-length-lanes_of_bytes [] = refl
-length-lanes_of_bytes (byte ∷ bytes) =
-    omega (arith, length-append (bits_from_least 8 byte) (lanes_of_bytes bytes), length-bits_from_least 8 byte, length-lanes_of_bytes bytes)
+length-lanes_of_bytes bytes = length-bits_of_numbers 8 bytes
 
--- bytes with the lanes of 8 words
-pub bytes_of_plane : (bytes words : List ℕ) → length words ≡ 8 → lanes_of_bytes bytes ≡ lanes_of_words words → length bytes ≡ 64
-bytes_of_plane bytes words eight same = omega (arith, length-lanes_of_bytes bytes, length-lanes_of_words words, ap length same)
+pub lanes_of_and : (xs ys : List ℕ) → length xs ≡ length ys → lanes_of_words (zip2 bit_and xs ys) ≡ zip2 (λ x y. x && y) (lanes_of_words xs) (lanes_of_words ys)
+lanes_of_and = lanes_joined (λ x y. x && y) bit_and bits_of_and
 
-pub lanes_of_and : (xs ys : List ℕ) → length xs ≡ 8 → length ys ≡ 8 → lanes_of_words (zip2 bit_and xs ys) ≡ zip2 (λ x y. x && y) (lanes_of_words xs) (lanes_of_words ys)
-lanes_of_and xs ys eight other = lanes_joined (λ x y. x && y) bit_and (bits_of_and 64) xs ys (eight ∙ sym other)
+pub lanes_of_or : (xs ys : List ℕ) → length xs ≡ length ys → lanes_of_words (zip2 bit_or xs ys) ≡ zip2 (λ x y. x || y) (lanes_of_words xs) (lanes_of_words ys)
+lanes_of_or = lanes_joined (λ x y. x || y) bit_or (bits_joined max (λ x y. x || y) bit_or bit_at_or refl refl refl refl)
 
-pub lanes_of_or : (xs ys : List ℕ) → length xs ≡ 8 → length ys ≡ 8 → lanes_of_words (zip2 bit_or xs ys) ≡ zip2 (λ x y. x || y) (lanes_of_words xs) (lanes_of_words ys)
-lanes_of_or xs ys eight other = lanes_joined (λ x y. x || y) bit_or (bits_of_or 64) xs ys (eight ∙ sym other)
-
-pub lanes_of_xor : (xs ys : List ℕ) → length xs ≡ 8 → length ys ≡ 8 → lanes_of_words (zip2 bit_xor xs ys) ≡ zip2 differ (lanes_of_words xs) (lanes_of_words ys)
-lanes_of_xor xs ys eight other = lanes_joined differ bit_xor (bits_of_xor 64) xs ys (eight ∙ sym other)
+pub lanes_of_xor : (xs ys : List ℕ) → length xs ≡ length ys → lanes_of_words (zip2 bit_xor xs ys) ≡ zip2 differ (lanes_of_words xs) (lanes_of_words ys)
+lanes_of_xor = lanes_joined differ bit_xor (bits_joined (λ x y. (x + y) % 2) differ bit_xor bit_at_xor refl refl refl refl)
 
 -- the lane of a row in a plane that is kept as words
-pub lane_of_words : (words : List ℕ) (row : ℕ) → row < 64 * length words → get_or (lanes_of_words words) row false ≡ (bit_and (get_or words (row / 64) 0 / 2 ^ (row % 64)) 1 == 1)
+pub lane_at : (words : List ℕ) (row : ℕ) → row < 64 * length words → get_or (lanes_of_words words) row false ≡ (bit_at (get_or words (row / 64) 0) (row % 64) == 1)
 unfolding lanes_of_words
-lane_of_words words row lt =
+lane_at words row lt =
     let place : row ≡ 64 * (row / 64) + row % 64 = omega arith in
     ap (λ i. get_or (flat_map (bits_from_least 64) words) i false) place ∙ bit_in_numbers 64 words (row / 64) (row % 64) (omega arith) (omega arith)
-    ∙ ap (λ b. b == 1) (sym (shr_and_one (get_or words (row / 64) 0) (row % 64)))
+
+pub lane_of_words : (words : List ℕ) (row : ℕ) → row < 64 * length words → get_or (lanes_of_words words) row false ≡ (bit_and (get_or words (row / 64) 0 / 2 ^ (row % 64)) 1 == 1)
+lane_of_words words row lt = lane_at words row lt ∙ ap (λ b. b == 1) (sym (shr_and_one (get_or words (row / 64) 0) (row % 64)))
 
 -- planes of zeros and of ones
 pub zeros_are_zero : lanes_of_words (replicate 8 0) ≡ replicate 512 false
@@ -158,3 +123,142 @@ zeros_are_zero = refl
 pub ones_are_one : lanes_of_words (replicate 8 (2 ^ 64 - 1)) ≡ replicate 512 true
 unfolding lanes_of_words bits_from_least
 ones_are_one = refl
+
+pub no_lanes : lanes_of_words [] ≡ []
+unfolding lanes_of_words
+no_lanes = refl
+
+-- one word more that is made
+pub lanes_set : (word : ℕ) (words : List ℕ) (made : ℕ) → length words ≡ 8 → word < 8 → lanes_of_words (take (word + 1) (set words word made)) ≡ lanes_of_words (take word words) ++ bits_from_least 64 made
+lanes_set word words made eight lt =
+    ap lanes_of_words (take_more_set words word made (omega arith)) ∙ lanes_of_words-append (take word words) (made ∷ []) ∙ ap (λ l. lanes_of_words (take word words) ++ l) (lanes_of_word made)
+
+-- the ones of a plane's words so far
+pub ones_more : (word : ℕ) (words : List ℕ) → length words ≡ 8 → word < 8
+    → count_by (λ lane. lane) (lanes_of_words (take (word + 1) words))
+    ≡ count_by (λ lane. lane) (lanes_of_words (take word words)) + count_by (λ lane. lane) (bits_from_least 64 (get_or words word 0))
+ones_more word words eight lt = ap (count_by (λ lane. lane)) (lanes_more word words eight lt) ∙ sum_by-append (λ lane. cond lane 1 0) (lanes_of_words (take word words)) (bits_from_least 64 (get_or words word 0))
+
+pub few_ones : (n : ℕ) → count_by (λ lane. lane) (bits_from_least 64 n) ≤ 64
+few_ones n = omega (arith, count_by-le-length (λ lane. lane) (bits_from_least 64 n), length-bits_from_least 64 n)
+
+pub word_of_both : (a b : List ℕ) (word : ℕ) → length a ≡ 8 → length b ≡ 8 → word < 8 → get_or (zip2 bit_and a b) word 0 ≡ bit_and (get_or a word 0) (get_or b word 0)
+word_of_both a b word here there lt = get_or-zip2 bit_and a b word 0 0 0 (omega arith) (omega arith)
+
+pub length-both : (a b : List ℕ) → length a ≡ 8 → length b ≡ 8 → length (zip2 bit_and a b) ≡ 8
+length-both a b here there = length-zip2 bit_and a b (here ∙ sym there) ∙ here
+
+pub both_whole : (word : ℕ) (a b : List ℕ) → length a ≡ 8 → length b ≡ 8 → 8 ≤ word → take word (zip2 bit_and a b) ≡ zip2 bit_and a b
+both_whole word a b here there le = take_all word (zip2 bit_and a b) (omega (arith, length-both a b))
+
+pub ruleset ones_so_far = (no_lanes, ones_more, few_ones)
+
+pub ruleset ones_of_both = (no_lanes, ones_more, few_ones, word_of_both, length-both, both_whole, lanes_of_and)
+
+pub length-first : (word : ℕ) (words : List ℕ) → length words ≡ 8 → word ≤ 8 → length (lanes_of_words (take word words)) ≡ 64 * word
+length-first word words eight le = omega (arith, length-lanes_of_words (take word words), length-take word words)
+
+pub mapped_right : {A B C D : Type 0} (f : A → C → D) (g : B → C) (xs : List A) (ys : List B) → zip2 f xs (map g ys) ≡ zip2 (λ x y. f x (g y)) xs ys
+mapped_right f g [] ys = refl
+mapped_right f g (x ∷ xs) [] = refl
+mapped_right f g (x ∷ xs) (y ∷ ys) = ap (λ l. f x (g y) ∷ l) (mapped_right f g xs ys)
+
+-- so many ones and then zeros
+abbrev pub run : ℕ → ℕ → List Bool
+run ones zeros = replicate ones true ++ replicate zeros false
+
+mask_of_run : (ones zeros : ℕ) → mask_l (run ones zeros) + 1 ≡ 2 ^ ones
+mask_of_run zero zero = refl
+mask_of_run zero (suc zeros) = omega (arith, mask_of_run zero zeros)
+mask_of_run (suc ones) zeros = omega (arith, mask_of_run ones zeros, two-pow-succ ones)
+
+bits_of_run : (n ones zeros : ℕ) → n + 1 ≡ 2 ^ ones → ones + zeros ≡ 64 → bits_from_least 64 n ≡ run ones zeros
+bits_of_run n ones zeros is all = bits_of_flags (run ones zeros) n (omega (arith, length-append {A = Bool}, length-replicate {A = Bool})) (omega (arith, mask_of_run ones zeros))
+
+pub first_run : (n : ℕ) → n < 64 → bits_from_least 64 (1 * 2 ^ n % 2 ^ 64 - 1) ≡ run (min n 64) (64 - n)
+first_run n lt =
+    let least : n ≡ min n 64 = omega arith in
+    bits_of_run _ _ _ (omega (arith, one_shl n 64 lt, pow_pos n, ap (λ k. 2 ^ k) least)) (omega arith)
+
+pub whole_run : (n : ℕ) → 64 ≤ n → bits_from_least 64 (2 ^ 64 - 1) ≡ run (min n 64) (64 - n)
+whole_run n le = let least : 64 ≡ min n 64 = omega arith in bits_of_run _ _ _ (ap (λ k. 2 ^ k) least) (omega arith)
+
+pub ruleset runs = (first_run, whole_run)
+
+joined : (a b c d : ℕ) → min b c ≡ 0 → run a b ++ run c d ≡ run (a + c) (b + d)
+joined a zero c d none = simp (append-nil, zero-add, ← append_assoc, replicate-append-replicate)
+joined a (suc b) zero d none = simp (append_assoc, replicate-append-replicate, add-zero)
+joined a (suc b) (suc c) d none = absurd (omega arith)
+
+pub mask_more : (word rows count made : ℕ) (words : List ℕ) → length words ≡ 8 → word < 8
+    → lanes_of_words (take word words) ≡ run (min rows (64 * word)) (64 * word - rows)
+    → count ≡ rows - 64 * word → bits_from_least 64 made ≡ run (min count 64) (64 - count)
+    → lanes_of_words (take (word + 1) (set words word made)) ≡ run (min rows (64 * (word + 1))) (64 * (word + 1) - rows)
+mask_more word rows count made words eight lt before left is =
+    lanes_set word words made eight lt ∙ ap₂ ◌++◌ before is ∙ joined _ _ _ _ (omega arith) ∙ ap₂ run (omega arith) (omega arith)
+
+-- the part of a word
+abbrev pub part : {A : Type 0} → ℕ → List A → List A
+part word xs = take 64 (take (512 - 64 * word) (drop (64 * word) xs))
+
+pub part_is : {A : Type 0} (word : ℕ) (xs : List A) → word < 8 → part word xs ≡ take 64 (drop (64 * word) xs)
+part_is word xs lt = take-take 64 (512 - 64 * word) (drop (64 * word) xs) (omega arith)
+
+pub length-part : {A : Type 0} (word : ℕ) (xs : List A) → length xs ≡ 512 → word < 8 → length (part word xs) ≡ 64
+length-part word xs all lt = ap length (part_is word xs lt) ∙ omega (arith, length-take 64 (drop (64 * word) xs), length-drop (64 * word) xs)
+
+pub before_and_part : {A : Type 0} (word : ℕ) (xs : List A) → word < 8 → take (64 * (word + 1)) xs ≡ take (64 * word) xs ++ part word xs
+before_and_part word xs lt =
+    let next : 64 * (word + 1) ≡ 64 * word + 64 = omega arith in
+    ap (λ n. take n xs) next ∙ take-add (64 * word) 64 xs ∙ ap (λ l. take (64 * word) xs ++ l) (sym (part_is word xs lt))
+
+pub zipped_more : {A B C : Type 0} (f : A → B → C) (word : ℕ) (xs : List A) (ys : List B) → length xs ≡ 512 → length ys ≡ 512 → word < 8
+    → zip2 f (take (64 * (word + 1)) xs) (take (64 * (word + 1)) ys) ≡ zip2 f (take (64 * word) xs) (take (64 * word) ys) ++ zip2 f (part word xs) (part word ys)
+zipped_more f word xs ys here there lt =
+    ap₂ (zip2 f) (before_and_part word xs lt) (before_and_part word ys lt)
+    ∙ zip2-append f (take (64 * word) xs) (part word xs) (take (64 * word) ys) (part word ys) (omega (arith, length-take (64 * word) xs, length-take (64 * word) ys))
+
+pub zipped_all : {A B C : Type 0} (f : A → B → C) (word : ℕ) (xs : List A) (ys : List B) → length xs ≡ 512 → length ys ≡ 512 → 8 ≤ word
+    → zip2 f (take (64 * word) xs) (take (64 * word) ys) ≡ zip2 f xs ys
+zipped_all f word xs ys here there le = ap₂ (zip2 f) (take_all (64 * word) xs (omega arith)) (take_all (64 * word) ys (omega arith))
+
+-- a list whose first parts were zipped with another one's, and the others are as they were
+abbrev pub written : {B : Type 0} → (ℕ → B → ℕ) → ℕ → List ℕ → List B → List ℕ
+written f word old ys = zip2 f (take (64 * word) old) (take (64 * word) ys) ++ drop (64 * word) old
+
+pub written_more : {B : Type 0} (f : ℕ → B → ℕ) (word : ℕ) (old rows some new : List ℕ) (ys here : List B) → length old ≡ 512 → length ys ≡ 512 → word < 8
+    → rows ≡ written f word old ys → here ≡ part word ys → some ≡ zip2 f (part word rows) here → new ≡ put_chunk (64 * word) rows some → new ≡ written f (word + 1) old ys
+written_more f word old rows some new ys here long size lt so_far of is made =
+    let at = 64 * word in
+    let front = zip2 f (take at old) (take at ys) in
+    let before : length front ≡ at = omega (arith, length-zip2 f (take at old) (take at ys) (omega (arith, length-take at old, length-take at ys)), length-take at old) in
+    let behind : drop at rows ≡ drop at old = ap₂ drop (sym before) so_far ∙ drop-append_seam front (drop at old) in
+    let first : take at rows ≡ front = ap₂ take (sym before) so_far ∙ take-append_seam front (drop at old) in
+    let made_of : some ≡ zip2 f (part word old) (part word ys) = is ∙ ap₂ (λ l k. zip2 f (take 64 (take (512 - at) l)) k) behind of in
+    let all = length-part word old long lt in
+    let count : length some ≡ 64 = ap length made_of ∙ length-zip2 f (part word old) (part word ys) (all ∙ sym (length-part word ys size lt)) ∙ all in
+    let next : at + 64 ≡ 64 * (word + 1) = omega arith in
+    made ∙ put_chunk_is at rows some (omega (arith, ap length behind, length-drop at rows, length-drop at old)) ∙ ap₂ ◌++◌ first (ap₂ (λ k l. some ++ drop k l) count behind)
+    ∙ sym (append_assoc front some (drop 64 (drop at old)))
+    ∙ ap₂ ◌++◌ (ap (λ l. front ++ l) made_of ∙ sym (zipped_more f word old ys long size lt)) (drop-drop 64 at old ∙ ap (λ n. drop n old) next)
+
+pub written_all : {B : Type 0} (f : ℕ → B → ℕ) (word : ℕ) (old : List ℕ) (ys : List B) → length old ≡ 512 → length ys ≡ 512 → 8 ≤ word → written f word old ys ≡ zip2 f old ys
+written_all f word old ys long size le = ap₂ ◌++◌ (zipped_all f word old ys long size le) (drop_all (64 * word) old (omega arith)) ∙ append-nil (zip2 f old ys)
+
+-- the part of a word's lanes
+pub part_of_lanes : (word : ℕ) (words : List ℕ) → length words ≡ 8 → word < 8 → bits_from_least 64 (get_or words word 0) ≡ part word (lanes_of_words words)
+unfolding lanes_of_words
+part_of_lanes word words eight lt =
+    let here = get_or words word 0 in
+    let first = lanes_of_words (take word words) in
+    let rest = lanes_of_words (drop word words) in
+    let whole : lanes_of_words words ≡ first ++ rest = ap lanes_of_words (sym (take-append-drop word words)) ∙ lanes_of_words-append (take word words) (drop word words) in
+    let dropped : drop (64 * word) (lanes_of_words words) ≡ rest = ap₂ drop (sym (length-first word words eight (omega arith))) whole ∙ drop-append_seam first rest in
+    sym (part_is word (lanes_of_words words) lt ∙ ap (take 64) (dropped ∙ ap lanes_of_words (drop-cons words word 0 (omega arith)))
+    ∙ ap (λ k. take k (bits_from_least 64 here ++ lanes_of_words (drop (suc word) words))) (sym (length-bits_from_least 64 here)) ∙ take-append_seam (bits_from_least 64 here) _)
+
+-- the bytes of a plane's first words, and of one more
+pub put_more : (word : ℕ) (bytes some : List ℕ) → length bytes ≡ 512 → length some ≡ 64 → word < 8 → take (64 * (word + 1)) (put_chunk (64 * word) bytes some) ≡ take (64 * word) bytes ++ some
+put_more word bytes some all long lt = take_more_put_chunk (64 * word) bytes some (64 * (word + 1)) (omega arith) (omega arith)
+
+pub ruleset put_bytes = (no_lanes, put_more, lanes_more, map-append, length-put_chunk, length-map, length-bits_from_least)

@@ -10,6 +10,7 @@ use crate::plane::Plane;
 use std::simd::prelude::*;
 
 /// The rows whose byte is below c. Byte i is row i's.
+#[tactic(auto, using(crate::proofs::WordLemmas::no_lanes))]
 #[inline(always)]
 pub fn bytes_lt(bytes: &[u8; LANES], c: u8) -> Plane
     ensures { lanes_of_words result ≡ map (λ byte. nat_lt byte c) bytes.now }
@@ -22,6 +23,7 @@ pub fn bytes_lt(bytes: &[u8; LANES], c: u8) -> Plane
 }
 
 /// The rows whose byte is c. Byte i is row i's.
+#[tactic(auto, using(crate::proofs::WordLemmas::no_lanes))]
 #[inline(always)]
 pub fn bytes_eq(bytes: &[u8; LANES], c: u8) -> Plane
     ensures { lanes_of_words result ≡ map (λ byte. byte == c) bytes.now }
@@ -34,6 +36,7 @@ pub fn bytes_eq(bytes: &[u8; LANES], c: u8) -> Plane
 }
 
 /// The rows in whose byte a bit is 1, of which bit 0 is the least. Byte i is row i's.
+#[tactic(auto, using(crate::proofs::WordLemmas::no_lanes))]
 pub fn bytes_bit(bytes: &[u8; LANES], bit: u32) -> Plane
     requires { bit < 8 }
     ensures { lanes_of_words result ≡ map (λ byte. bit_at byte bit == 1) bytes.now }
@@ -46,6 +49,7 @@ pub fn bytes_bit(bytes: &[u8; LANES], bit: u32) -> Plane
 }
 
 /// The rows whose bytes in so many slices, one after the other, are all 0. Byte i of a slice is row i's.
+#[tactic(auto, using(crate::proofs::WordLemmas::no_lanes))]
 pub fn bytes_none(slices: &[u8], count: usize) -> Plane
     requires { 512 * count ≤ length slices.now }
     ensures { lanes_of_words result
@@ -60,6 +64,7 @@ pub fn bytes_none(slices: &[u8], count: usize) -> Plane
 
 /// Whether a row among some has a byte that isn't 0 in so many slices, one after the other. Byte i of a slice is row i's. Of 64
 /// rows of which none is among them no byte is read.
+#[tactic(auto, using(crate::proofs::WordLemmas::no_lanes))]
 #[inline(always)]
 pub fn bytes_any(slices: &[u8], count: usize, rows: &Plane) -> bool
     requires { 512 * count ≤ length slices.now }
@@ -85,6 +90,7 @@ fn any_of_word(slices: &[u8], count: usize, first: usize, rows: u64) -> bool
 }
 
 /// The bytes of 64 rows, from one on, in so many slices, joined by or.
+#[tactic(auto, using(crate::proofs::ByteLemmas::joined_so_far))]
 #[inline(always)]
 fn joined(slices: &[u8], count: usize, first: usize) -> u8x64
     requires slices { 512 * count ≤ length slices.now }

@@ -1,6 +1,5 @@
 //! The last lane of some that is 1.
-ghost use Rattle.std.specs.Prelude.{◌≡◌, ◌-◌, ◌<◌, ◌≤◌, ◌+◌, ℕ, None, IfSome};
-ghost use Rattle.std.specs.Int.{bit_at};
+ghost use Rattle.std.specs.Prelude.{◌≡◌, ◌-◌, ◌<◌, ◌≤◌, ◌+◌, ◌*◌, ◌/◌, ◌%◌, ℕ, true, false, slice_index_or, None, IfSome};
 ghost use Rattle.bw_lanes.specs.Lanes.{lanes_of_words};
 ghost use Rattle.bw_lanes.specs.Last.{AreClear, IsLast};
 
@@ -14,23 +13,25 @@ pub fn last_between(plane: &Plane, first: usize, end: usize) -> Option<usize>
 {
     let mut past = end;
     while past > first {
-        let word = (past - 1) / 64;
-        let count = past - 64 * word;
-        let clear = clear_below(plane[word], count as u32) as usize;
-        if clear < count {
-            let lane = past - 1 - clear;
+        let top = past - 1;
+        let clear = clear_below(plane, top);
+        if clear <= top % 64 {
+            let lane = top - clear;
             return if lane < first { None } else { Some(lane) };
         }
-        past = 64 * word;
+        past = top - top % 64;
     }
     None
 }
 
-/// How many of a word's lowest bits, of so many, are 0 from the highest of them down to the next that is 1; 64 where none is.
-fn clear_below(word: u64, count: u32) -> u32
-    requires { (1 ≤ count) × (count ≤ 64) }
-    ensures clear { (bit : ℕ) → bit < count → count ≤ bit + result → bit_at word bit ≡ 0 }
-    ensures set { result < count → bit_at word (count - 1 - result) ≡ 1 }
+/// How many lanes are 0, from one of a word down to the next below it that is 1; more than are left in the word where none is.
+#[tactic(auto, using(crate::proofs::LastLemmas::lanes_below))]
+fn clear_below(plane: &Plane, top: usize) -> usize
+    requires { top < 512 }
+    ensures clear { (lane : ℕ) → 64 * (top / 64) ≤ lane → lane ≤ top → top < lane + result
+        → slice_index_or (lanes_of_words plane.now) lane false ≡ false }
+    ensures set { result ≤ top % 64
+        → slice_index_or (lanes_of_words plane.now) (top - result) false ≡ true }
 {
-    (word << (64 - count)).leading_zeros()
+    (plane[top / 64] << (63 - top % 64)).leading_zeros() as usize
 }

@@ -1,7 +1,7 @@
 //! Some of 512 rows, a byte each, and what stands in a slice in these rows, by vectors of 64 bytes.
 ghost use Rattle.std.specs.Prelude.{◌≡◌, ◌==◌, ◌&&◌, ◌<◌, ◌≤◌, ◌*◌, ℕ, List, Bool, length, min, max, sum, map, if◌then◌else◌};
 ghost use Rattle.std.specs.List.{fold};
-ghost use lib.Lanes.{Each1, zip2, sum_l, put_chunk};
+ghost use lib.Lanes.{zip2, sum_l, put_chunk};
 ghost use Rattle.bw_lanes.specs.Lanes.{bits_from_least, lanes_of_words};
 ghost use Rattle.bw_lanes.specs.Picked.{as_byte, bytes_picked};
 
@@ -24,6 +24,7 @@ const BIT_OF_ROW: [u8; 64] = [
 
 // Inline, behind a loop that makes the plane, it was compiled to take each byte by itself: a sum took seven times as long.
 /// A byte a row: 255 where its lane is 1, and else 0.
+#[tactic(auto, using(crate::proofs::WordLemmas::put_bytes))]
 #[inline(never)]
 pub fn bytes_of_plane(plane: &Plane) -> [u8; LANES]
     ensures { result ≡ map as_byte (lanes_of_words plane.now) }
@@ -36,6 +37,7 @@ pub fn bytes_of_plane(plane: &Plane) -> [u8; LANES]
 }
 
 /// Puts the bytes of the 64 rows of a word in their place.
+#[tactic(auto, using(crate::proofs::PickedLemmas::put_is))]
 pub(crate) fn put(bytes: &mut [u8; LANES], word: usize, some: u8x64)
     requires { word < 8 }
     ensures { bytes.new ≡ put_chunk (64 * word) bytes.old some }
@@ -44,6 +46,7 @@ pub(crate) fn put(bytes: &mut [u8; LANES], word: usize, some: u8x64)
 }
 
 /// The same of one word.
+#[tactic(auto, using(crate::proofs::PickedLemmas::bytes_computed))]
 pub(crate) fn bytes_of_word(word: u64) -> u8x64
     ensures { result ≡ map as_byte (bits_from_least 64 word) }
 {
@@ -56,6 +59,7 @@ pub(crate) fn bytes_of_word(word: u64) -> u8x64
 
 /// The sum of the bytes of some rows, which are given as [`bytes_of_plane`] spreads a plane: 255 for a row that counts, 0 for
 /// another.
+#[tactic(auto, using(std::proofs::lemmas::Simd::adds_fit, std::proofs::lemmas::Simd::sum_fits))]
 pub fn sum_in(bytes: &[u8; LANES], rows: &[u8; LANES]) -> u32
     ensures sum { (lanes : List Bool) → rows.now ≡ map as_byte lanes
         → result ≡ sum (bytes_picked 0 lanes bytes.now) }
@@ -70,10 +74,10 @@ pub fn sum_in(bytes: &[u8; LANES], rows: &[u8; LANES]) -> u32
 }
 
 /// The sums of four bytes each.
+#[tactic(auto, using(crate::proofs::PickedLemmas::sums_of_fours))]
 fn fours(bytes: u8x64) -> u32x16
     ensures sum { sum_l result ≡ sum_l bytes }
     ensures bound { sum_l result ≤ 16320 }
-    ensures sixteen { length result ≡ 16 }
 {
     bytes.dot4(u8x64::splat(1))
 }
@@ -125,8 +129,7 @@ fn kept(rows: u8x64, bytes: u8x64, c: u8) -> u8x64
 
 /// The lesser byte in each lane.
 fn lesser<const N: usize>(a: Simd<u8, N>, b: Simd<u8, N>) -> Simd<u8, N>
-    ensures lesser { result ≡ zip2 min a.entry b.entry }
-    ensures small { Each1 (λ byte. byte < 256) result }
+    ensures { result ≡ zip2 min a.entry b.entry }
 {
     a.simd_min(b)
 }
@@ -140,7 +143,7 @@ fn greater<const N: usize>(a: Simd<u8, N>, b: Simd<u8, N>) -> Simd<u8, N>
 
 /// The least of 64 bytes, by halves.
 fn least_of(bytes: u8x64) -> u8
-    ensures { result ≡ fold min 255 bytes }
+    ensures { min 255 result ≡ fold min 255 bytes }
 {
     let b = lesser(bytes.extract::<0, 32>(), bytes.extract::<32, 32>());
     let b = lesser(b.extract::<0, 16>(), b.extract::<16, 16>());
@@ -153,7 +156,7 @@ fn least_of(bytes: u8x64) -> u8
 
 /// The greatest of 64 bytes, by halves.
 fn greatest_of(bytes: u8x64) -> u8
-    ensures { result ≡ fold max 0 bytes }
+    ensures { max 0 result ≡ fold max 0 bytes }
 {
     let b = greater(bytes.extract::<0, 32>(), bytes.extract::<32, 32>());
     let b = greater(b.extract::<0, 16>(), b.extract::<16, 16>());

@@ -9,10 +9,8 @@ use std::simd::prelude::*;
 /// One bit of each of 512 rows: row i's is bit i mod 64, the least first, of word i / 64.
 pub type Plane = [u64; 8];
 
-/// The first row of each word.
-const FIRST_ROWS: [u64; 8] = [0, 64, 128, 192, 256, 320, 384, 448];
-
 /// The lanes that are 1 in both.
+#[tactic(auto, using(crate::proofs::WordLemmas::lanes_of_and))]
 pub fn and(a: &Plane, b: &Plane) -> Plane
     ensures { lanes_of_words result
         ≡ zip2 (λ x y. x && y) (lanes_of_words a.now) (lanes_of_words b.now) }
@@ -21,6 +19,7 @@ pub fn and(a: &Plane, b: &Plane) -> Plane
 }
 
 /// The lanes that are 1 in either.
+#[tactic(auto, using(crate::proofs::WordLemmas::lanes_of_or))]
 pub fn or(a: &Plane, b: &Plane) -> Plane
     ensures { lanes_of_words result
         ≡ zip2 (λ x y. x || y) (lanes_of_words a.now) (lanes_of_words b.now) }
@@ -29,6 +28,7 @@ pub fn or(a: &Plane, b: &Plane) -> Plane
 }
 
 /// The lanes that differ.
+#[tactic(auto, using(crate::proofs::WordLemmas::lanes_of_xor))]
 pub fn xor(a: &Plane, b: &Plane) -> Plane
     ensures { lanes_of_words result ≡ zip2 differ (lanes_of_words a.now) (lanes_of_words b.now) }
 {
@@ -50,6 +50,7 @@ pub fn is_zero(plane: &Plane) -> bool
 }
 
 /// The lane of a row, from 0.
+#[tactic(auto, using(crate::proofs::WordLemmas::lane_of_words))]
 pub fn lane(plane: &Plane, row: usize) -> bool
     requires { row < 512 }
     ensures { result ≡ slice_index_or (lanes_of_words plane.now) row false }
@@ -58,14 +59,20 @@ pub fn lane(plane: &Plane, row: usize) -> bool
 }
 
 /// How many lanes are 1.
+#[tactic(auto, using(crate::proofs::WordLemmas::ones_so_far))]
 pub fn count(plane: &Plane) -> u32
     ensures ones { result ≡ count_by (λ lane. lane) (lanes_of_words plane.now) }
     ensures bound { result ≤ 512 }
 {
-    ones(u64x8::from_array(*plane)) as u32
+    let mut ones = 0;
+    for word in 0..8 {
+        ones += ones_of(plane[word]);
+    }
+    ones
 }
 
 /// How many lanes are 1 in both.
+#[tactic(auto, using(crate::proofs::WordLemmas::ones_of_both))]
 pub fn count_and(a: &Plane, b: &Plane) -> u32
     ensures ones { result ≡ count_by (λ lane. lane)
         (zip2 (λ x y. x && y) (lanes_of_words a.now) (lanes_of_words b.now)) }
@@ -79,6 +86,7 @@ pub fn count_and(a: &Plane, b: &Plane) -> u32
 }
 
 /// How many bits of a word are 1.
+#[tactic(auto, using(crate::proofs::WordLemmas::ones_in_bits))]
 fn ones_of(word: u64) -> u32
     ensures { result ≡ count_by (λ lane. lane) (bits_from_least 64 word) }
 {
@@ -86,14 +94,33 @@ fn ones_of(word: u64) -> u32
 }
 
 /// The plane in which the first rows, so many, are 1, and the others 0.
+#[tactic(auto, using(crate::proofs::WordLemmas::no_lanes))]
 pub fn mask(rows: u32) -> Plane
     requires { rows ≤ 512 }
     ensures { lanes_of_words result ≡ replicate rows true ++ replicate (512 - rows) false }
 {
-    first_ones(rows_left(rows)).to_array()
+    let mut words = [0; 8];
+    for word in 0..8 {
+        words[word] = first_ones(rows.saturating_sub(64 * word as u32));
+    }
+    words
+}
+
+/// A word whose lowest bits, so many and at most all, are 1, and the others 0.
+#[tactic(auto, using(crate::proofs::WordLemmas::runs))]
+fn first_ones(count: u32) -> u64
+    ensures { bits_from_least 64 result
+        ≡ replicate (min count 64) true ++ replicate (64 - count) false }
+{
+    if count < 64 {
+        (1 << count) - 1
+    } else {
+        u64::MAX
+    }
 }
 
 /// The lanes that are 0.
+#[tactic(auto, using(crate::proofs::WordLemmas::lanes_of_not))]
 fn inverted(words: u64x8) -> u64x8
     ensures { lanes_of_words result ≡ map not (lanes_of_words words) }
 {
@@ -101,34 +128,9 @@ fn inverted(words: u64x8) -> u64x8
 }
 
 /// Whether no lane is 1.
+#[tactic(auto, using(crate::proofs::WordLemmas::no_word))]
 fn has_no_one(words: u64x8) -> bool
     ensures { result ≡ list_all not (lanes_of_words words) }
 {
     words.reduce_or() == 0
-}
-
-/// How many lanes are 1.
-fn ones(words: u64x8) -> u64
-    ensures ones { result ≡ count_by (λ lane. lane) (lanes_of_words words) }
-    ensures bound { result ≤ 512 }
-{
-    words.count_ones().strict_reduce_sum()
-}
-
-/// How many rows, of so many, are left for each word.
-fn rows_left(rows: u32) -> u64x8
-    requires { rows ≤ 512 }
-    ensures { result ≡ map (λ first. rows - first) FIRST_ROWS }
-{
-    u64x8::splat(rows as u64).saturating_sub(u64x8::from_array(FIRST_ROWS))
-}
-
-/// A word for each count: its lowest bits, so many and at most all, are 1, and the others 0.
-fn first_ones(counts: u64x8) -> u64x8
-    ensures { lanes_of_words result
-        ≡ flat_map (λ n. replicate (min n 64) true ++ replicate (64 - n) false) counts }
-{
-    let ones = u64x8::splat(u64::MAX);
-    let some = !(ones << counts.simd_min(u64x8::splat(63)));
-    counts.simd_lt(u64x8::splat(64)).select(some, ones)
 }

@@ -21,6 +21,7 @@ pub fn to_bytes(plane: &Plane) -> [u8; 64]
 }
 
 /// The words of bytes, the least byte of each first.
+#[tactic(auto, using(crate::proofs::StoredLemmas::words_recoded))]
 fn words_of(bytes: u8x64) -> u64x8
     ensures { lanes_of_words result ≡ lanes_of_bytes bytes }
 {
@@ -28,6 +29,7 @@ fn words_of(bytes: u8x64) -> u64x8
 }
 
 /// The bytes of words, the least of each first.
+#[tactic(auto, using(crate::proofs::StoredLemmas::bytes_recoded))]
 fn bytes_of(words: u64x8) -> u8x64
     ensures { result ≡ bytes_of_lanes (lanes_of_words words) }
 {

@@ -34,13 +34,13 @@ codes_agree f g width bytes same =
     let code = λ (row : ℕ). spelled (row_bits bytes row) 0 width in
     map-map f code rows ∙ (λ i. map (λ row. same (code row) (spelled_below (row_bits bytes row) 0 width) i) rows) ∙ sym (map-map g code rows)
 
+pub small_in_rows : (width : ℕ) (bytes rows : List ℕ) → AllByRecursion (λ code. code < 2 ^ width) (map (λ row. spelled (row_bits bytes row) 0 width) rows)
+small_in_rows width bytes [] = tt
+small_in_rows width bytes (row ∷ rows) = (spelled_below (row_bits bytes row) 0 width, small_in_rows width bytes rows)
+
 pub codes_small : (width : ℕ) (bytes : List ℕ) → AllByRecursion (λ code. code < 2 ^ width) (planes_codes width bytes)
 unfolding planes_codes
-codes_small width bytes = each (range_with_len 0 group_size)
-  where
-    each : (rows : List ℕ) → AllByRecursion (λ code. code < 2 ^ width) (map (λ row. spelled (row_bits bytes row) 0 width) rows)
-    each [] = tt
-    each (row ∷ rows) = (spelled_below (row_bits bytes row) 0 width, each rows)
+codes_small width bytes = small_in_rows width bytes (range_with_len 0 group_size)
 
 -- the code in a lane
 pub code_below : (width lane : ℕ) (bytes : List ℕ) → lane < 512 → get_or (planes_codes width bytes) lane 0 < 2 ^ width

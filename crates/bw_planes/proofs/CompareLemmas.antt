@@ -1,5 +1,5 @@
 -- Some bits of codes, compared bit by bit with a constant: from the top bit down, or from the least one up.
-use Rattle.std.proofs.Common.{◌≡◌, ◌∙◌, refl, sym, ap, ap₂, subst, ℕ, ◌+◌, ◌-◌, ◌*◌, ◌/◌, ◌%◌, ◌^◌, ◌<◌, Bool, true, false, not, cond, ltb, eqb, ◌==◌, ◌&&◌, ◌||◌, List, [], ◌∷◌, map, length, bit_and, replicate, min, inl, inr, arith}
+use Rattle.std.proofs.Common.{◌≡◌, ◌∙◌, sym, ap, ap₂, subst, ℕ, ◌+◌, ◌-◌, ◌*◌, ◌/◌, ◌%◌, ◌^◌, ◌<◌, Bool, true, false, not, cond, ltb, eqb, ◌==◌, ◌&&◌, ◌||◌, List, map, length, bit_and, replicate, min, inl, inr, arith}
 use Rattle.std.proofs.Math.Nat.{div-eq_of_lt, mod-eq_of_lt, mod-lt}
 use Rattle.std.proofs.Math.Pow.{pow_mono, shr_lt}
 use Rattle.std.proofs.lemmas.Bool.{cases_lt}
@@ -8,14 +8,13 @@ use Rattle.std.proofs.lemmas.Nat.{div-add-mod', shr-shr, pow_pos}
 use Rattle.std.proofs.lemmas.Nat.Bits.{shr_and_one}
 use Rattle.std.proofs.lemmas.Simd.{zip2_of_maps, splat_is_map}
 use lib.Lanes.{zip2}
+use Rattle.bw_lanes.proofs.WordLemmas.{mapped_right}
 use Rattle.bw_model.specs.Code.{has_bit}
 use Rattle.bw_model.specs.Stored.{byte_of}
 use Rattle.bw_planes.specs.Kept.{low_more}
 
 pub zip2_map_right : {A B C D : Type 0} (f : A → C → D) (g : B → C) (xs : List A) (ys : List B) → zip2 f xs (map g ys) ≡ zip2 (λ x y. f x (g y)) xs ys
-zip2_map_right f g [] ys = refl
-zip2_map_right f g (x ∷ xs) [] = refl
-zip2_map_right f g (x ∷ xs) (y ∷ ys) = ap (λ l. f x (g y) ∷ l) (zip2_map_right f g xs ys)
+zip2_map_right = mapped_right
 
 -- the same in every lane
 pub everywhere : (codes : List ℕ) (test : ℕ → Bool) (b : Bool) (lanes : List Bool) → length codes ≡ 512 → lanes ≡ replicate 512 b → ((code : ℕ) → b ≡ test code) → lanes ≡ map test codes
@@ -32,69 +31,43 @@ above_all n count c some = elim (cases_lt c (2 ^ count)) [
   | inr not_less ↦ omega (arith, mod-lt n (pow_pos count))
 ]
 
--- before a bit is compared, none is below
-pub none_below : (n c : ℕ) → true ≡ not (ltb (n % 2 ^ 0) (c % 2 ^ 0))
-none_below n c =
-    let no_bits : n % 2 ^ 0 ≡ 0 = omega arith in
-    let none : c % 2 ^ 0 ≡ 0 = omega arith in
-    sym (ap₂ (λ x y. not (ltb x y)) no_bits none)
+-- before a bit is compared, there is nothing to tell
+pub none_compared : (test : ℕ → ℕ → Bool) → true ≡ test 0 0 → (n c : ℕ) → true ≡ test (n % 2 ^ 0) (c % 2 ^ 0)
+none_compared test same n c =
+    let no_bits : 0 ≡ n % 2 ^ 0 = omega arith in
+    let none : 0 ≡ c % 2 ^ 0 = omega arith in
+    same ∙ ap₂ test no_bits none
 
--- numbers are in order by their highest bit, and where that is the same, by those below it
-at_least_more : (s t p : ℕ) (b one : Bool) → s < p → t < p → cond one (not (ltb s t) && b) (not (ltb s t) || b) ≡ not (ltb (cond b p 0 + s) (cond one p 0 + t))
-at_least_more s t p true true ls lt = grind (arith, nat_tests, ls, lt)
-at_least_more s t p true false ls lt = grind (arith, nat_tests, ls, lt)
-at_least_more s t p false true ls lt = grind (arith, nat_tests, ls, lt)
-at_least_more s t p false false ls lt = grind (arith, nat_tests, ls, lt)
+-- A test of numbers by their highest bit and those below it: in codes, with one bit more.
+abbrev pub IsByBit : (ℕ → ℕ → Bool) → (Bool → Bool → Bool → Bool) → Type 0
+IsByBit test step = (s t p : ℕ) (b one : Bool) → s < p → t < p → step one (test s t) b ≡ test (cond b p 0 + s) (cond one p 0 + t)
 
-pub at_least_next : (codes : List ℕ) (low place c : ℕ) (at_least plane : List Bool)
-    → at_least ≡ map (λ code. not (ltb (code / 2 ^ low % 2 ^ place) (c % 2 ^ place))) codes → plane ≡ map (λ code. has_bit code (low + place)) codes
-    → zip2 (λ a p. cond (bit_and (c / 2 ^ place) 1 == 1) (a && p) (a || p)) at_least plane ≡ map (λ code. not (ltb (code / 2 ^ low % 2 ^ (place + 1)) (c % 2 ^ (place + 1)))) codes
-at_least_next codes low place c at_least plane so_far here =
-    (λ i. zip2 (λ a p. cond (shr_and_one c place i == 1) (a && p) (a || p)) at_least plane)
-    ∙ zip2_of_maps (λ a p. cond (has_bit c place) (a && p) (a || p)) (λ code. not (ltb (code / 2 ^ low % 2 ^ place) (c % 2 ^ place))) (λ code. has_bit code (low + place)) codes so_far here
-    ∙ (λ i. map (λ code. step code i) codes)
+pub at_least_by_bit : IsByBit (λ s t. not (ltb s t)) (λ one a p. cond one (a && p) (a || p))
+at_least_by_bit s t p b one ls lt = grind (arith, nat_tests, ls, lt)
+
+pub equal_by_bit : IsByBit eqb (λ one e p. e && cond one p (not p))
+equal_by_bit s t p b one ls lt = grind (arith, nat_tests, ls, lt)
+
+pub compared_next : (test : ℕ → ℕ → Bool) (step : Bool → Bool → Bool → Bool) → IsByBit test step → (codes : List ℕ) (low place c : ℕ) (so_far plane : List Bool)
+    → so_far ≡ map (λ code. test (code / 2 ^ low % 2 ^ place) (c % 2 ^ place)) codes → plane ≡ map (λ code. has_bit code (low + place)) codes
+    → zip2 (step (bit_and (c / 2 ^ place) 1 == 1)) so_far plane ≡ map (λ code. test (code / 2 ^ low % 2 ^ (place + 1)) (c % 2 ^ (place + 1))) codes
+compared_next test step by_bit codes low place c so_far plane is here =
+    (λ i. zip2 (step (shr_and_one c place i == 1)) so_far plane)
+    ∙ zip2_of_maps (step (has_bit c place)) (λ code. test (code / 2 ^ low % 2 ^ place) (c % 2 ^ place)) (λ code. has_bit code (low + place)) codes is here ∙ (λ i. map (λ code. more code i) codes)
   where
-    step : (code : ℕ) → cond (has_bit c place) (not (ltb (code / 2 ^ low % 2 ^ place) (c % 2 ^ place)) && has_bit code (low + place)) (not (ltb (code / 2 ^ low % 2 ^ place) (c % 2 ^ place)) || has_bit code (low + place))
-        ≡ not (ltb (code / 2 ^ low % 2 ^ (place + 1)) (c % 2 ^ (place + 1)))
-    step code =
+    more : (code : ℕ) → step (has_bit c place) (test (code / 2 ^ low % 2 ^ place) (c % 2 ^ place)) (has_bit code (low + place)) ≡ test (code / 2 ^ low % 2 ^ (place + 1)) (c % 2 ^ (place + 1))
+    more code =
         let n = code / 2 ^ low in
-        ap (λ b. cond (has_bit c place) (not (ltb (n % 2 ^ place) (c % 2 ^ place)) && b) (not (ltb (n % 2 ^ place) (c % 2 ^ place)) || b)) (bit_from code low place)
-        ∙ at_least_more (n % 2 ^ place) (c % 2 ^ place) (2 ^ place) (has_bit n place) (has_bit c place) (mod-lt n (pow_pos place)) (mod-lt c (pow_pos place))
-        ∙ sym (ap₂ (λ x y. not (ltb x y)) (low_more n place) (low_more c place))
+        ap (step (has_bit c place) (test (n % 2 ^ place) (c % 2 ^ place))) (bit_from code low place)
+        ∙ by_bit (n % 2 ^ place) (c % 2 ^ place) (2 ^ place) (has_bit n place) (has_bit c place) (mod-lt n (pow_pos place)) (mod-lt c (pow_pos place))
+        ∙ sym (ap₂ test (low_more n place) (low_more c place))
 
--- a constant that has no 1 above so many bits
-pub whole_constant : (c count : ℕ) → c / 2 ^ count ≡ 0 → c % 2 ^ count ≡ c
-whole_constant c count none = omega (arith, div-add-mod' c (2 ^ count), ap (λ q. q * 2 ^ count) none)
-
--- before a bit is compared, all are equal
-pub all_equal : (n c : ℕ) → true ≡ eqb (n % 2 ^ 0) (c % 2 ^ 0)
-all_equal n c =
-    let no_bits : n % 2 ^ 0 ≡ 0 = omega arith in
-    let none : c % 2 ^ 0 ≡ 0 = omega arith in
-    sym (ap₂ (λ x y. eqb x y) no_bits none)
-
--- numbers are equal where their highest bit is, and those below it are
-same_bit : (s t p : ℕ) (b one : Bool) → s < p → t < p → (eqb s t && cond one b (not b)) ≡ eqb (cond b p 0 + s) (cond one p 0 + t)
-same_bit s t p true true ls lt = grind (arith, nat_tests, ls, lt)
-same_bit s t p true false ls lt = grind (arith, nat_tests, ls, lt)
-same_bit s t p false true ls lt = grind (arith, nat_tests, ls, lt)
-same_bit s t p false false ls lt = grind (arith, nat_tests, ls, lt)
-
-pub equal_next : (codes : List ℕ) (low place c : ℕ) (equal plane : List Bool)
-    → equal ≡ map (λ code. eqb (code / 2 ^ low % 2 ^ place) (c % 2 ^ place)) codes → plane ≡ map (λ code. has_bit code (low + place)) codes
-    → zip2 (λ e p. e && cond (bit_and (c / 2 ^ place) 1 == 1) p (not p)) equal plane ≡ map (λ code. eqb (code / 2 ^ low % 2 ^ (place + 1)) (c % 2 ^ (place + 1))) codes
-equal_next codes low place c equal plane so_far here =
-    (λ i. zip2 (λ e p. e && cond (shr_and_one c place i == 1) p (not p)) equal plane)
-    ∙ zip2_of_maps (λ e p. e && cond (has_bit c place) p (not p)) (λ code. eqb (code / 2 ^ low % 2 ^ place) (c % 2 ^ place)) (λ code. has_bit code (low + place)) codes so_far here
-    ∙ (λ i. map (λ code. step code i) codes)
-  where
-    step : (code : ℕ) → (eqb (code / 2 ^ low % 2 ^ place) (c % 2 ^ place) && cond (has_bit c place) (has_bit code (low + place)) (not (has_bit code (low + place))))
-        ≡ eqb (code / 2 ^ low % 2 ^ (place + 1)) (c % 2 ^ (place + 1))
-    step code =
-        let n = code / 2 ^ low in
-        ap (λ b. eqb (n % 2 ^ place) (c % 2 ^ place) && cond (has_bit c place) b (not b)) (bit_from code low place)
-        ∙ same_bit (n % 2 ^ place) (c % 2 ^ place) (2 ^ place) (has_bit n place) (has_bit c place) (mod-lt n (pow_pos place)) (mod-lt c (pow_pos place))
-        ∙ sym (ap₂ (λ x y. eqb x y) (low_more n place) (low_more c place))
+-- with a constant that has no 1 above so many bits
+pub whole_compared : (test : ℕ → ℕ → Bool) (codes : List ℕ) (low count bits c : ℕ) (lanes : List Bool) → count ≡ bits → c / 2 ^ count ≡ 0
+    → lanes ≡ map (λ code. test (code / 2 ^ low % 2 ^ bits) (c % 2 ^ bits)) codes → lanes ≡ map (λ code. test (code / 2 ^ low % 2 ^ count) c) codes
+whole_compared test codes low count bits c lanes same none is =
+    let whole : c % 2 ^ count ≡ c = omega (arith, div-add-mod' c (2 ^ count), ap (λ q. q * 2 ^ count) none) in
+    is ∙ ap (λ k. map (λ code. test (code / 2 ^ low % 2 ^ k) (c % 2 ^ k)) codes) (sym same) ∙ ap (λ m. map (λ code. test (code / 2 ^ low % 2 ^ count) m) codes) whole
 
 -- the bits of a byte of a number of so many digits are this byte
 pub byte_bits : (code width slice count : ℕ) → code < 2 ^ width → 8 * slice < width → count ≡ min (width - 8 * slice) 8 → code / 2 ^ (8 * slice) % 2 ^ count ≡ byte_of slice code
@@ -112,8 +85,7 @@ pub above_or_not : (n most : ℕ) → not (ltb n (most + 1)) ≡ ltb most n
 above_or_not n most = grind (arith, nat_tests)
 
 pub not_not : (b : Bool) → not (not b) ≡ b
-not_not true = refl
-not_not false = refl
+not_not b = grind (arith, nat_tests)
 
 -- before a bit is looked at, none is known to be used
 pub none_used : (n : ℕ) → false ≡ not (n % 2 ^ 0 == 0)
@@ -126,5 +98,4 @@ used_next codes bit used plane so_far here =
     ∙ (λ i. map (λ code. (one_more (code % 2 ^ bit) (2 ^ bit) (has_bit code bit) (pow_pos bit) ∙ ap (λ n. not (n == 0)) (sym (low_more code bit))) i) codes)
   where
     one_more : (s p : ℕ) (b : Bool) → 0 < p → (not (eqb s 0) || b) ≡ not (eqb (cond b p 0 + s) 0)
-    one_more s p true some = grind (arith, nat_tests, some)
-    one_more s p false some = grind (arith, nat_tests, some)
+    one_more s p b some = grind (arith, nat_tests, some)

@@ -1,41 +1,38 @@
 -- The sum of the codes in some lanes: word by word, and in a word by the bits of the codes.
-use Rattle.std.proofs.Common.{◌≡◌, ◌∙◌, refl, sym, ap, ap₂, ℕ, zero, suc, ◌+◌, ◌-◌, ◌*◌, ◌/◌, ◌%◌, ◌^◌, ◌<◌, ◌≤◌, Bool, true, false, cond, List, [], ◌∷◌, ◌++◌, map, length, take, drop, get_or, take_all, sum, sum_by, count_by, arith}
-use Rattle.std.specs.List.{AllByRecursion}
+use Rattle.std.proofs.Common.{◌≡◌, ◌∙◌, refl, sym, subst, ap, ap₂, ℕ, suc, ◌+◌, ◌-◌, ◌*◌, ◌/◌, ◌%◌, ◌^◌, ◌<◌, ◌≤◌, Bool, true, false, cond, List, [], ◌∷◌, ◌++◌, map, length, take, drop, get_or, take_all, sum, sum_by, count_by, arith}
+use Rattle.std.specs.List.{AllByRecursion, range_with_len}
 use Rattle.std.specs.Int.{bit_at}
 use Rattle.std.proofs.Math.Nat.{mod-eq_of_lt, mul-le-mul}
 use Rattle.std.proofs.Math.Pow.{pow_mono}
-use Rattle.std.proofs.Math.Seq.{take-add, take-append-add, drop-append-add, drop-drop, drop-nil}
+use Rattle.std.proofs.Math.Seq.{drop-append_seam, take-append_seam, drop-drop}
 use Rattle.std.proofs.lemmas.Nat.{mod-pow-add, pow-add}
 use Rattle.std.proofs.lemmas.Nat.Bits.{bit_at-lt}
-use Rattle.std.proofs.lemmas.List.{take-take, drop-take, take-map, drop-map, take_more, length-take}
+use Rattle.std.proofs.lemmas.List.{take-append-drop, length-drop, take-take, drop-take, take-map, drop-map, length-take}
+use Rattle.std.proofs.lemmas.List.Concat.{flat_map-append}
 use Rattle.std.proofs.lemmas.List.Sums.{sum_by-cons, sum_by-append}
 use Rattle.bw_lanes.specs.Lanes.{bits_from_least, lanes_of_words, lanes_of_bytes}
-use Rattle.bw_lanes.proofs.BitLemmas.{length-bits_from_least}
-use Rattle.bw_lanes.proofs.WordLemmas.{length-lanes_of_words, lanes_of_words-append, lanes_of_word}
+use Rattle.bw_lanes.proofs.WordLemmas.{length-lanes_of_bytes, length-first, lanes_more, before_and_part, part_is}
+use Rattle.bw_model.specs.Groups.{group_size}
+use Rattle.bw_model.specs.Variable.{spelled}
 use Rattle.bw_model.specs.Code.{has_bit}
 use Rattle.bw_model.specs.Selection.{picked}
+use Rattle.bw_model.proofs.GroupLemmas.{picked-append}
 use Rattle.bw_model.proofs.BitsLemmas.{bit_worth}
-use Rattle.bw_planes.specs.Planes.{plane_lanes, planes_codes, codes_in_word}
+use Rattle.bw_planes.specs.Planes.{plane_lanes, row_bits, planes_codes, codes_in_word}
 use Rattle.bw_planes.specs.Kept.{plane_of_codes}
-use Rattle.bw_planes.proofs.CodeLemmas.{high_more, codes_small}
+use Rattle.bw_planes.proofs.CodeLemmas.{high_more, small_in_rows}
 
-take_lanes : (k : ℕ) (bytes : List ℕ) → lanes_of_bytes (take k bytes) ≡ take (8 * k) (lanes_of_bytes bytes)
+lanes_range : (k n : ℕ) (bytes : List ℕ) → k + n ≤ length bytes → lanes_of_bytes (take n (drop k bytes)) ≡ take (8 * n) (drop (8 * k) (lanes_of_bytes bytes))
 unfolding lanes_of_bytes
-take_lanes zero bytes = refl
-take_lanes (suc k) [] = sym (take_all (8 * suc k) [] (omega arith))
-take_lanes (suc k) (byte ∷ bytes) =
-    let bits = bits_from_least 8 byte in
-    let next : length bits + 8 * k ≡ 8 * suc k = omega (arith, length-bits_from_least 8 byte) in
-    ap (λ l. bits ++ l) (take_lanes k bytes) ∙ sym (take-append-add bits (lanes_of_bytes bytes) (8 * k)) ∙ ap (λ n. take n (bits ++ lanes_of_bytes bytes)) next
-
-drop_lanes : (k : ℕ) (bytes : List ℕ) → lanes_of_bytes (drop k bytes) ≡ drop (8 * k) (lanes_of_bytes bytes)
-unfolding lanes_of_bytes
-drop_lanes zero bytes = refl
-drop_lanes (suc k) [] = sym (drop-nil (8 * suc k))
-drop_lanes (suc k) (byte ∷ bytes) =
-    let bits = bits_from_least 8 byte in
-    let next : length bits + 8 * k ≡ 8 * suc k = omega (arith, length-bits_from_least 8 byte) in
-    drop_lanes k bytes ∙ sym (drop-append-add bits (lanes_of_bytes bytes) (8 * k)) ∙ ap (λ n. drop n (bits ++ lanes_of_bytes bytes)) next
+lanes_range k n bytes le =
+    let first = lanes_of_bytes (take k bytes) in
+    let here = lanes_of_bytes (take n (drop k bytes)) in
+    let rest = lanes_of_bytes (drop n (drop k bytes)) in
+    let split = λ (at : ℕ) (l : List ℕ). sym (flat_map-append (bits_from_least 8) (take at l) (drop at l)) ∙ ap lanes_of_bytes (take-append-drop at l) in
+    let all : first ++ (here ++ rest) ≡ lanes_of_bytes bytes = ap (λ l. first ++ l) (split n (drop k bytes)) ∙ split k bytes in
+    let before : length first ≡ 8 * k = omega (arith, length-lanes_of_bytes (take k bytes), length-take k bytes) in
+    let long : length here ≡ 8 * n = omega (arith, length-lanes_of_bytes (take n (drop k bytes)), length-take n (drop k bytes), length-drop k bytes) in
+    sym (ap₂ take (sym long) (ap₂ drop (sym before) (sym all) ∙ drop-append_seam first (here ++ rest)) ∙ take-append_seam here rest)
 
 -- the lanes of a word of a plane are the bits of its codes
 pub word_of_codes : (width plane word : ℕ) (bytes : List ℕ) → length bytes ≡ 64 * width → plane < width → word < 8
@@ -50,7 +47,7 @@ word_of_codes width plane word bytes long there lt =
     let within : take 8 (drop (8 * word) behind) ≡ take 8 (drop (8 * word) (take 64 behind)) =
     sym (take-take 8 (64 - 8 * word) (drop (8 * word) behind) (omega arith)) ∙ ap (take 8) (sym (drop-take (8 * word) (64 - 8 * word) behind) ∙ ap (λ n. drop (8 * word) (take n behind)) all) in
     ap (λ l. lanes_of_bytes (take 8 l)) (sym (drop-drop (8 * word) (64 * plane) bytes)) ∙ ap lanes_of_bytes within
-    ∙ take_lanes 8 (drop (8 * word) (take 64 behind)) ∙ ap (take 64) (drop_lanes (8 * word) (take 64 behind) ∙ ap (λ n. drop n (plane_lanes bytes plane)) place)
+    ∙ lanes_range (8 * word) 8 (take 64 behind) (omega (arith, length-take 64 behind, length-drop (64 * plane) bytes)) ∙ ap (λ n. take 64 (drop n (plane_lanes bytes plane))) place
     ∙ ap (λ l. take 64 (drop (64 * word) l)) (ap (plane_lanes bytes) same ∙ plane_of_codes width bit bytes long (omega (arith, there)))
     ∙ ap (take 64) (drop-map (λ code. has_bit code bit) (64 * word) codes) ∙ take-map (λ code. has_bit code bit) 64 (drop (64 * word) codes)
 
@@ -76,17 +73,11 @@ no_numbers low [] = refl
 no_numbers low (code ∷ codes) = omega (arith, sum_by-cons (λ code. code / 2 ^ low % 2 ^ 0) code codes, no_numbers low codes)
 
 pub small_in_word : (width word : ℕ) (bytes : List ℕ) → AllByRecursion (λ code. code < 2 ^ width) (codes_in_word word (planes_codes width bytes))
-small_in_word width word bytes = all_take 64 (drop (64 * word) (planes_codes width bytes)) (all_drop (64 * word) (planes_codes width bytes) (codes_small width bytes))
-  where
-    all_take : (n : ℕ) (codes : List ℕ) → AllByRecursion (λ code. code < 2 ^ width) codes → AllByRecursion (λ code. code < 2 ^ width) (take n codes)
-    all_take zero codes all = tt
-    all_take (suc n) [] all = tt
-    all_take (suc n) (code ∷ codes) all = (all.0, all_take n codes all.1)
-
-    all_drop : (n : ℕ) (codes : List ℕ) → AllByRecursion (λ code. code < 2 ^ width) codes → AllByRecursion (λ code. code < 2 ^ width) (drop n codes)
-    all_drop zero codes all = all
-    all_drop (suc n) [] all = tt
-    all_drop (suc n) (code ∷ codes) all = all_drop n codes all.1
+unfolding planes_codes
+small_in_word width word bytes =
+    let rows = range_with_len 0 group_size in
+    let code = λ (row : ℕ). spelled (row_bits bytes row) 0 width in
+    subst (AllByRecursion (λ code. code < 2 ^ width)) (sym (ap (take 64) (drop-map code (64 * word) rows) ∙ take-map code 64 (drop (64 * word) rows))) (small_in_rows width bytes (take 64 (drop (64 * word) rows)))
 
 -- what the low bits of codes and the others add up to
 pub numbers_joined : (few rest : ℕ) (codes : List ℕ) → AllByRecursion (λ code. code < 2 ^ (rest + few)) codes
@@ -124,25 +115,15 @@ few_joined few rest lower upper here there le =
 abbrev pub picked_before : ℕ → List ℕ → List ℕ → List ℕ
 picked_before word lanes codes = picked (lanes_of_words (take word lanes)) (take (64 * word) codes)
 
-picked-append : (lanes others : List Bool) (codes more : List ℕ) → length lanes ≡ length codes → picked (lanes ++ others) (codes ++ more) ≡ picked lanes codes ++ picked others more
-picked-append [] others [] more same = refl
-picked-append [] others (code ∷ codes) more same = absurd (omega arith)
-picked-append (lane ∷ lanes) others [] more same = absurd (omega arith)
-picked-append (true ∷ lanes) others (code ∷ codes) more same = ap (λ l. code ∷ l) (picked-append lanes others codes more (omega arith))
-picked-append (false ∷ lanes) others (code ∷ codes) more same = picked-append lanes others codes more (omega arith)
-
 pub sum_more : (word : ℕ) (lanes codes : List ℕ) → length lanes ≡ 8 → length codes ≡ 512 → word < 8
     → sum (picked_before (word + 1) lanes codes) ≡ sum (picked_before word lanes codes) + sum (picked (bits_from_least 64 (get_or lanes word 0)) (codes_in_word word codes))
 sum_more word lanes codes eight long lt =
     let rows = get_or lanes word 0 in
     let front = lanes_of_words (take word lanes) in
-    let next : 64 * (word + 1) ≡ 64 * word + 64 = omega arith in
-    let same : length front ≡ length (take (64 * word) codes) = omega (arith, length-lanes_of_words (take word lanes), length-take word lanes, length-take (64 * word) codes, eight, long) in
-    ap sum (ap₂ picked
-    (ap lanes_of_words (take_more lanes word 0 (omega (arith, eight))) ∙ lanes_of_words-append (take word lanes) (rows ∷ []) ∙ ap (λ l. front ++ l) (lanes_of_word rows))
-    (ap (λ n. take n codes) next ∙ take-add (64 * word) 64 codes)
-    ∙ picked-append front (bits_from_least 64 rows) (take (64 * word) codes) (codes_in_word word codes) same)
-    ∙ sum_by-append (λ n. n) (picked front (take (64 * word) codes)) (picked (bits_from_least 64 rows) (codes_in_word word codes))
+    let before = take (64 * word) codes in
+    ap₂ (λ l m. sum (picked l m)) (lanes_more word lanes eight lt) (before_and_part word codes lt ∙ ap (λ l. before ++ l) (part_is word codes lt))
+    ∙ ap sum (picked-append front (bits_from_least 64 rows) before (codes_in_word word codes) (omega (arith, length-first word lanes eight (omega arith), length-take (64 * word) codes)))
+    ∙ sum_by-append (λ n. n) (picked front before) (picked (bits_from_least 64 rows) (codes_in_word word codes))
 
 pub sum_whole : (word : ℕ) (lanes codes : List ℕ) → length lanes ≡ 8 → length codes ≡ 512 → word ≡ 8 → sum (picked_before word lanes codes) ≡ sum (picked (lanes_of_words lanes) codes)
 sum_whole word lanes codes eight long end =

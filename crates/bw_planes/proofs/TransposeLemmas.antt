@@ -1,7 +1,8 @@
 -- Bytes of codes made of their bits, from the top one down, in many lanes at once.
-use Rattle.std.proofs.Common.{◌≡◌, ◌∙◌, refl, sym, ap, ℕ, zero, suc, ◌+◌, ◌*◌, ◌/◌, ◌%◌, ◌^◌, ◌<◌, Bool, ◌==◌, List, map, length, replicate, add-one, arith}
+use Rattle.std.proofs.Common.{◌≡◌, ◌∙◌, sym, ap, ℕ, suc, ◌+◌, ◌/◌, ◌%◌, ◌^◌, ◌<◌, Bool, ◌==◌, List, map, length, replicate, add-one, arith}
 use Rattle.std.proofs.Math.Nat.{mod-lt}
 use Rattle.std.proofs.Math.Pow.{pow_mono}
+use Rattle.std.proofs.lemmas.Bool.Decides.{nat_tests}
 use Rattle.std.proofs.lemmas.Nat.{shr-shr, mod-pow-add, pow_pos}
 use Rattle.std.proofs.lemmas.Simd.{zip2_of_maps, splat_is_map}
 use lib.Lanes.{zip2}
@@ -24,12 +25,8 @@ one_more : (n count : ℕ) → count < 8 → with_bit (n / 2 % 2 ^ count) (n % 2
 one_more n count few =
     let low = mod-lt n (pow_pos (count + 1)) in
     let most = pow_mono {i = count + 1} {j = 8} (omega arith) in
-    last (n % 2) refl (omega arith) (mod-pow-add n count 1) (omega (arith, low, most))
-  where
-    last : (r : ℕ) → n % 2 ≡ r → r < 2 → n % 2 ^ (count + 1) ≡ n / 2 ^ 1 % 2 ^ count * 2 ^ 1 + n % 2 ^ 1 → n % 2 ^ (count + 1) < 256 → with_bit (n / 2 % 2 ^ count) (r == 1) ≡ n % 2 ^ (count + 1)
-    last zero is lt split fits = omega (arith, split, fits)
-    last (suc zero) is lt split fits = omega (arith, split, fits)
-    last (suc (suc r)) is lt split fits = absurd (omega arith)
+    let split = mod-pow-add n count 1 in
+    grind (arith, nat_tests, split, low, most)
 
 pub bit_more : (above bit count : ℕ) (codes held : List ℕ) (plane : List Bool) → above ≡ suc bit → count < 8 → held ≡ bits_from above count codes → plane ≡ map (λ code. has_bit code bit) codes
     → zip2 with_bit held plane ≡ bits_from bit (count + 1) codes

@@ -1,13 +1,16 @@
 -- The greatest and the least of numbers, byte by byte from the most significant down.
-use Rattle.std.proofs.Common.{◌≡◌, ◌∙◌, refl, sym, ap, subst, ◌⊎◌, inl, inr, ℕ, ◌+◌, ◌*◌, ◌/◌, ◌%◌, ◌^◌, ◌<◌, ◌≤◌, min, max, Bool, true, false, cond, ◌==◌, ◌&&◌, List, [], ◌∷◌, map, filter, Some, arith}
-use Rattle.std.specs.List.{fold, reduce, AllByRecursion}
+use Rattle.std.proofs.Common.{◌≡◌, ◌∙◌, refl, sym, ap, subst, ◌⊎◌, inl, inr, ℕ, ◌+◌, ◌*◌, ◌/◌, ◌%◌, ◌^◌, ◌<◌, min, max, Bool, true, false, cond, ◌==◌, ◌&&◌, List, [], ◌∷◌, map, filter, Some, arith, fold}
+use Rattle.std.specs.List.{reduce, AllByRecursion}
 use Rattle.std.proofs.lemmas.Bool.{cases_lt, eqb-true, eqb-false, eq-eqb}
+use Rattle.std.proofs.lemmas.Bool.Decides.{nat_tests}
 use Rattle.std.proofs.lemmas.Nat.{pow_pos}
 use lib.Lanes.{zip2}
 use Rattle.bw_lanes.specs.Picked.{bytes_picked}
+use Rattle.bw_lanes.proofs.WordLemmas.{mapped_right}
 use Rattle.bw_model.specs.Selection.{picked}
 use Rattle.bw_segment.proofs.PickedLemmas.{is_none, picked_both}
 use Rattle.bw_segment.proofs.DescentLemmas.{Chooses, IsDescended, descended_as, all_kept, reduce_kept, below}
+use Rattle.bw_model.specs.Stored.{byte_of}
 use Rattle.bw_slices.specs.Kept.{next_byte}
 use Rattle.bw_slices.proofs.CodeLemmas.{next_small}
 
@@ -19,17 +22,11 @@ abbrev pub blank : Bool → ℕ
 blank greatest = cond greatest 0 255
 
 pub blank_small : (g : Bool) → blank g < 256
-blank_small true = omega arith
-blank_small false = omega arith
+blank_small g = grind (arith, nat_tests)
 
 one_of : (g : Bool) (a b : ℕ) → (choice g a b ≡ a) ⊎ (choice g a b ≡ b)
-one_of g a b = go g (cases_lt a b)
-  where
-    go : (g : Bool) → (a < b) ⊎ (b ≤ a) → (choice g a b ≡ a) ⊎ (choice g a b ≡ b)
-    go true (inl lt) = inr (omega arith)
-    go true (inr le) = inl (omega arith)
-    go false (inl lt) = inl (omega arith)
-    go false (inr le) = inr (omega arith)
+one_of true a b = elim (cases_lt a b) [ inl lt ↦ inr (omega arith) | inr le ↦ inl (omega arith) ]
+one_of false a b = elim (cases_lt a b) [ inl lt ↦ inl (omega arith) | inr le ↦ inr (omega arith) ]
 
 pub itself : (g : Bool) (a : ℕ) → choice g a a ≡ a
 itself true a = omega arith
@@ -41,11 +38,7 @@ unchanged false a small = (omega arith, omega arith)
 
 -- what two numbers have, the choice between them has
 of_both : (P : ℕ → Type 0) (g : Bool) (a b : ℕ) → P a → P b → P (choice g a b)
-of_both P g a b pa pb = go (one_of g a b)
-  where
-    go : (choice g a b ≡ a) ⊎ (choice g a b ≡ b) → P (choice g a b)
-    go (inl is) = subst P (sym is) pa
-    go (inr is) = subst P (sym is) pb
+of_both P g a b pa pb = elim (one_of g a b) [ inl is ↦ subst P (sym is) pa | inr is ↦ subst P (sym is) pb ]
 
 chosen_has : (P : ℕ → Type 0) (g : Bool) (a : ℕ) (ns : List ℕ) → P a → AllByRecursion P ns → P (fold (choice g) a ns)
 chosen_has P g a [] first all = first
@@ -64,42 +57,32 @@ chosen_picked g bit a (false ∷ lanes) (n ∷ ns) small =
     ap (λ k. fold (choice g) k (bytes_picked (blank g) lanes (map (λ n. n / 2 ^ bit % 256) ns))) (unchanged g a small).0 ∙ chosen_picked g bit a lanes ns small
 
 -- the numbers that are kept by their bytes
-tested : (f : ℕ → ℕ) (c : ℕ) (lanes : List Bool) (ns : List ℕ) → zip2 (λ lane byte. lane && (byte == c)) lanes (map f ns) ≡ zip2 (λ a b. a && b) lanes (map (λ n. f n == c) ns)
-tested f c [] ns = refl
-tested f c (lane ∷ lanes) [] = refl
-tested f c (lane ∷ lanes) (n ∷ ns) = ap (λ l. (lane && (f n == c)) ∷ l) (tested f c lanes ns)
-
 pub kept_picked : (f : ℕ → ℕ) (c : ℕ) (lanes : List Bool) (ns : List ℕ) → picked (zip2 (λ lane byte. lane && (byte == c)) lanes (map f ns)) ns ≡ filter (λ n. f n == c) (picked lanes ns)
-kept_picked f c lanes ns = ap (λ l. picked l ns) (tested f c lanes ns) ∙ picked_both (λ n. f n == c) lanes ns
+kept_picked f c lanes ns =
+    ap (λ l. picked l ns) (mapped_right (λ lane byte. lane && (byte == c)) f lanes ns ∙ sym (mapped_right (λ a b. a && b) (λ n. f n == c) lanes ns)) ∙ picked_both (λ n. f n == c) lanes ns
 
 -- The byte c is chosen among those of numbers: some number has it, and none has one that were chosen before it.
 module _ (g : Bool) (byte : ℕ → ℕ) (c : ℕ) where
   one_more : (n : ℕ) (ns : List ℕ) → is_none (filter (λ n. byte n == c) ns) ≡ false → is_none (filter (λ n. byte n == c) (n ∷ ns)) ≡ false
-  one_more n ns has = go (byte n == c)
+  one_more n ns has = put (byte n == c)
     where
-      go : (b : Bool) → is_none (cond b (n ∷ filter (λ n. byte n == c) ns) (filter (λ n. byte n == c) ns)) ≡ false
-      go true = refl
-      go false = has
+      put : (b : Bool) → is_none (cond b (n ∷ filter (λ n. byte n == c) ns) (filter (λ n. byte n == c) ns)) ≡ false
+      put true = refl
+      put false = has
 
   first_has : (n : ℕ) (ns : List ℕ) → c ≡ byte n → is_none (filter (λ n. byte n == c) (n ∷ ns)) ≡ false
   first_has n ns is = ap (λ b. is_none (cond b (n ∷ filter (λ n. byte n == c) ns) (filter (λ n. byte n == c) ns))) (eq-eqb (byte n) c (sym is))
 
   found_from : (a : ℕ) (ns : List ℕ) → c ≡ fold (choice g) a (map byte ns) → (c ≡ a) ⊎ (is_none (filter (λ n. byte n == c) ns) ≡ false)
   found_from a [] is = inl is
-  found_from a (n ∷ ns) is = go (found_from (choice g a (byte n)) ns is) (one_of g a (byte n))
-    where
-      go : (c ≡ choice g a (byte n)) ⊎ (is_none (filter (λ n. byte n == c) ns) ≡ false) → (choice g a (byte n) ≡ a) ⊎ (choice g a (byte n) ≡ byte n) → (c ≡ a) ⊎ (is_none (filter (λ n. byte n == c) (n ∷ ns)) ≡ false)
-      go (inl same) (inl old) = inl (same ∙ old)
-      go (inl same) (inr new) = inr (first_has n ns (same ∙ new))
-      go (inr has) which = inr (one_more n ns has)
+  found_from a (n ∷ ns) is = elim (found_from (choice g a (byte n)) ns is) [
+    | inl same ↦ elim (one_of g a (byte n)) [ inl old ↦ inl (same ∙ old) | inr new ↦ inr (first_has n ns (same ∙ new)) ]
+    | inr has ↦ inr (one_more n ns has)
+  ]
 
   found : (ns : List ℕ) → ((n : ℕ) → byte n < 256) → c ≡ fold (choice g) (blank g) (map byte ns) → is_none ns ≡ false → is_none (filter (λ n. byte n == c) ns) ≡ false
   found [] small is some = cc
-  found (n ∷ ns) small is some = go (found_from (choice g (blank g) (byte n)) ns is)
-    where
-      go : (c ≡ choice g (blank g) (byte n)) ⊎ (is_none (filter (λ n. byte n == c) ns) ≡ false) → is_none (filter (λ n. byte n == c) (n ∷ ns)) ≡ false
-      go (inl same) = first_has n ns (same ∙ (unchanged g (byte n) (small n)).1)
-      go (inr has) = one_more n ns has
+  found (n ∷ ns) small is some = elim (found_from (choice g (blank g) (byte n)) ns is) [ inl same ↦ first_has n ns (same ∙ (unchanged g (byte n) (small n)).1) | inr has ↦ one_more n ns has ]
 
   apart : (g : Bool) (a b : ℕ) → choice g c (choice g a b) ≡ c → (choice g c a ≡ c) × (choice g c b ≡ c)
   apart true a b is = (omega arith, omega arith)
@@ -113,29 +96,13 @@ module _ (g : Bool) (byte : ℕ → ℕ) (c : ℕ) where
       (both.0, (both.1, later.1))
 
 -- of two numbers with the same bytes before it, the one with the byte that is chosen is chosen
+lower : (bit head x y : ℕ) → x / 2 ^ (bit + 8) ≡ head → y / 2 ^ (bit + 8) ≡ head → x / 2 ^ bit % 256 < y / 2 ^ bit % 256 → x < y
+lower bit head x y hx hy lt = below x y (2 ^ bit) (pow_pos bit) (omega (arith, next_byte x bit, next_byte y bit))
+
 nearer : (g : Bool) (a b bit head byte : ℕ) → a / 2 ^ (bit + 8) ≡ head → b / 2 ^ (bit + 8) ≡ head → choice g byte (b / 2 ^ bit % 256) ≡ byte → a / 2 ^ bit % 256 ≡ byte → (b / 2 ^ bit % 256 ≡ byte → ⊥)
     → (choice g a b ≡ a) × (choice g b a ≡ a)
-nearer g a b bit head byte same alike first has other = go g first
-  where
-    lower : (x y : ℕ) → x / 2 ^ (bit + 8) ≡ head → y / 2 ^ (bit + 8) ≡ head → x / 2 ^ bit % 256 < y / 2 ^ bit % 256 → x < y
-    lower x y hx hy lt = below x y (2 ^ bit) (pow_pos bit) (omega (arith, next_byte x bit, next_byte y bit, hx, hy, lt))
-
-    strict : (x y : ℕ) → x ≤ y → (x ≡ y → ⊥) → x < y
-    strict x y le ne = step (cases_lt x y)
-      where
-        step : (x < y) ⊎ (y ≤ x) → x < y
-        step (inl lt) = lt
-        step (inr ge) = absurd (ne (omega arith))
-
-    go : (g : Bool) → choice g byte (b / 2 ^ bit % 256) ≡ byte → (choice g a b ≡ a) × (choice g b a ≡ a)
-    go true is =
-        let less = strict (b / 2 ^ bit % 256) byte (omega (arith, is)) other in
-        let lt = lower b a alike same (omega (arith, less, has)) in
-        (omega (arith, lt), omega (arith, lt))
-    go false is =
-        let less = strict byte (b / 2 ^ bit % 256) (omega (arith, is)) (λ e. other (sym e)) in
-        let lt = lower a b same alike (omega (arith, less, has)) in
-        (omega (arith, lt), omega (arith, lt))
+nearer true a b bit head byte same alike is has other = let lt = lower bit head b a alike same (omega arith) in (omega arith, omega arith)
+nearer false a b bit head byte same alike is has other = let lt = lower bit head a b same alike (omega arith) in (omega arith, omega arith)
 
 chooses : (g : Bool) (bit head byte : ℕ) → Chooses (choice g) (λ n. n / 2 ^ bit % 256 == byte) (λ n. (n / 2 ^ (bit + 8) ≡ head) × (choice g byte (n / 2 ^ bit % 256) ≡ byte))
 chooses g bit head byte = record {
@@ -149,9 +116,9 @@ both_hold P Q [] p q = tt
 both_hold P Q (n ∷ ns) p q = ((p.0, q.0), both_hold P Q ns p.1 q.1)
 
 -- one byte further down: those with the byte that is chosen are left
-pub next_chosen : (g : Bool) (all left : List ℕ) (bit places head byte : ℕ) → byte < 256 → byte ≡ fold (choice g) (blank g) (map (λ n. n / 2 ^ bit % 256) left)
+next_byte_chosen : (g : Bool) (all left : List ℕ) (bit places head byte : ℕ) → byte < 256 → byte ≡ fold (choice g) (blank g) (map (λ n. n / 2 ^ bit % 256) left)
     → IsDescended (choice g) all left (bit + 8) places head → IsDescended (choice g) all (filter (λ n. n / 2 ^ bit % 256 == byte) left) bit (places + 8) (256 * head + byte)
-next_chosen g all left bit places head byte fits is so_far =
+next_byte_chosen g all left bit places head byte fits is so_far =
     let digit = λ (n : ℕ). n / 2 ^ bit % 256 in
     let some = found g digit byte left (λ n. omega arith) is so_far.some in
     let both = both_hold (λ n. n / 2 ^ (bit + 8) ≡ head) (λ n. choice g byte (digit n) ≡ byte) left so_far.heads (chosen_first g digit byte (blank g) left is).1 in
@@ -164,6 +131,10 @@ next_chosen g all left bit places head byte fits is so_far =
     }
 
 -- the same under other names
-pub renamed : (f : ℕ → ℕ → ℕ) (all left other : List ℕ) (bit bit' places places' head head' : ℕ) → left ≡ other → bit ≡ bit' → places ≡ places' → head ≡ head' → IsDescended f all left bit places head → IsDescended f all other bit' places' head'
-renamed f all left other bit bit' places places' head head' same_left same_bit same_places same_head so_far =
-    subst (λ p. IsDescended f all other bit' p head') same_places (descended_as f all left other bit bit' places head head' same_left same_bit same_head so_far)
+pub next_chosen : (g : Bool) (all left other : List ℕ) (slice high low places more head byte value : ℕ) → high ≡ 8 * slice + 8 → low ≡ 8 * slice → more ≡ places + 8 → value ≡ byte
+    → other ≡ filter (λ n. byte_of slice n == byte) left → byte < 256 → byte ≡ fold (choice g) (blank g) (map (byte_of slice) left) → IsDescended (choice g) all left high places head
+    → IsDescended (choice g) all other low more (256 * head + value)
+next_chosen g all left other slice high low places more head byte value above here next same are fits is so_far =
+    let before = descended_as (choice g) all left left high (8 * slice + 8) places head head refl above refl so_far in
+    subst (λ p. IsDescended (choice g) all other low p (256 * head + value)) (sym next) (descended_as (choice g) all _ other (8 * slice) low (places + 8) (256 * head + byte) _ (sym are) (sym here)
+    (ap (λ k. 256 * head + k) (sym same)) (next_byte_chosen g all left (8 * slice) places head byte fits is before))

@@ -1,34 +1,46 @@
--- The codes that slices spell: how large they are, and what the lanes tell of them.
-use Rattle.std.proofs.Common.{◌≡◌, ◌∙◌, refl, sym, ap, ap₂, ℕ, zero, suc, ◌+◌, ◌*◌, ◌^◌, ◌<◌, ◌≤◌, Bool, not, eqb, ◌==◌, ◌&&◌, List, [], ◌∷◌, map, length, get_or, replicate, arith}
-use Rattle.std.specs.List.{range_with_len, list_all, All, AllByRecursion}
+-- The codes that slices spell: how large they are, what the lanes tell of them, and sums of those that lanes pick.
+use Rattle.std.proofs.Common.{◌≡◌, ◌∙◌, refl, sym, ap, ap₂, ℕ, zero, suc, ◌+◌, ◌*◌, ◌^◌, ◌<◌, ◌≤◌, Bool, not, eqb, ◌==◌, ◌&&◌, List, [], ◌∷◌, map, length, get_or, ◌/◌, Fits, w64, arith, ◌%◌, true, false, sum, sum_by, inl, inr, cond, ◌++◌, take, drop, set, length-set, bit_and, All}
+use Rattle.std.specs.List.{range_with_len, list_all, AllByRecursion}
 use Rattle.std.proofs.Math.Pow.{pow_mono}
 use Rattle.std.proofs.lemmas.Bool.Decides.{nat_tests}
-use Rattle.std.proofs.lemmas.List.FromFn.{get_or-map-range_with_len}
-use Rattle.std.proofs.lemmas.Nat.{pow-add}
+use Rattle.std.proofs.lemmas.List.FromFn.{get_or-map-range_with_len, fill_by_all, length-map-range_with_len}
+use Rattle.std.proofs.lemmas.Nat.{pow-add, and_le_l}
 use Rattle.std.proofs.lemmas.Simd.{map-map}
-use Rattle.bw_lanes.specs.Lanes.{lanes_of_words, are_zero}
-use Rattle.bw_lanes.proofs.WordLemmas.{length-lanes_of_words}
+use Rattle.bw_lanes.specs.Lanes.{lanes_of_words, are_zero, bits_from_least}
+use Rattle.bw_lanes.proofs.WordLemmas.{length-lanes_of_words, zero_bits, no_lanes, lanes_more, length-first, before_and_part, part_is}
 use Rattle.bw_model.specs.Groups.{group_size}
 use Rattle.bw_model.specs.Selection.{picked}
 use Rattle.bw_segment.proofs.PickedLemmas.{is_none, none_picked}
 use Rattle.bw_slices.specs.Slices.{number_from, slices_codes}
-use Rattle.bw_slices.specs.Kept.{bytes_in, length-slices_codes}
+use Rattle.bw_slices.specs.Kept.{bytes_in, length-slices_codes, next_byte}
+use Rattle.std.proofs.Math.Nat.{div-eq_of_lt, mul-le-mul_right}
+use Rattle.std.proofs.lemmas.List.Sums.{sum_by-cons, sum_by-append}
+use Rattle.bw_lanes.specs.Picked.{bytes_picked}
+use Rattle.bw_model.specs.Stored.{byte_of}
+use Rattle.std.specs.Int.{bit_at, bit_not}
+use Rattle.std.proofs.lemmas.Bool.{cases_eq, cases_lt, eq-eqb}
+use Rattle.std.proofs.lemmas.List.{length-take, get_or-set_same, get_or-set_other}
+use Rattle.std.proofs.lemmas.List.Elements.{All-take, All-drop}
+use Rattle.std.proofs.lemmas.Nat.Bits.{bit_at_clear_same, bit_at_clear_other}
+use Rattle.bw_model.proofs.GroupLemmas.{picked-append}
 
 -- one byte more
 pub next_small : (head byte places : ℕ) → head < 2 ^ places → byte < 256 → 256 * head + byte < 2 ^ (places + 8)
 next_small head byte places small one = omega (arith, small, one, pow-add 2 places 8)
 
+pub next_within : (head byte places next : ℕ) → next ≡ places + 1 → head < 2 ^ (8 * places) → byte < 256 → 256 * head + byte < 2 ^ (8 * next)
+next_within head byte places next is small one = let more : 8 * next ≡ 8 * places + 8 = omega arith in rw more (next_small head byte (8 * places) small one)
+
 -- and that fits 64 bits
-pub byte_more : (code byte place : ℕ) → code < 2 ^ (8 * place) → byte < 256 → place < 8 → 256 * code + byte < 2 ^ 64
-byte_more code byte place small one few =
-    let most = pow_mono {i = 8 * place} {j = 56} (omega arith) in
-    omega (arith, small, one, most)
+pub byte_more : (code byte place : ℕ) → code < 2 ^ (8 * place) → byte < 256 → place < 8 → Fits w64 (256 * code + byte)
+byte_more code byte place small one few = let most = pow_mono {i = 8 * place} {j = 56} (omega arith) in record { fits = omega arith }
+
+pub bytes_before : (code place : ℕ) → code < 2 ^ (8 * place) → place < 8 → Fits w64 (256 * code)
+bytes_before code place small few = let fits = byte_more code 0 place small (omega arith) few in record { fits = omega (arith, fits.fits) }
 
 pub number_below : (byte : ℕ → ℕ) (count : ℕ) → ((place : ℕ) → byte place < 256) → number_from byte count < 2 ^ (8 * count)
 number_below byte zero small = omega arith
-number_below byte (suc count) small =
-    let next : 8 * suc count ≡ 8 * count + 8 = omega arith in
-    omega (arith, next_small (number_from byte count) (byte count) (8 * count) (number_below byte count small) (small count), ap (λ k. 2 ^ k) next)
+number_below byte (suc count) small = next_within (number_from byte count) (byte count) count _ (omega arith) (number_below byte count small) (small count)
 
 -- so many bytes spell a number of so many
 pub codes_below : (bytes : List ℕ) (count : ℕ) → ((at : ℕ) → get_or bytes at 0 < 256) → AllByRecursion (λ code. code < 2 ^ (8 * count)) (slices_codes count bytes)
@@ -39,9 +51,11 @@ codes_below bytes count small = each (range_with_len 0 group_size)
     each [] = tt
     each (row ∷ rows) = (number_below (bytes_in bytes row) count (λ place. small (512 * place + row)), each rows)
 
-pub all_within : (k m : ℕ) (ns : List ℕ) → k ≤ m → All (λ n. n < k) ns → AllByRecursion (λ n. n < m) ns
-all_within k m [] le small = tt
-all_within k m (n ∷ ns) le small = (let first = small 0 0 (omega arith) in omega (arith, first), all_within k m ns le (λ i d lt. small (suc i) d (omega arith)))
+pub all_within : (width bits : ℕ) (ns : List ℕ) → width ≤ bits → All (λ n. n < 2 ^ width) ns → AllByRecursion (λ n. n < 2 ^ bits) ns
+all_within width bits [] le small = tt
+all_within width bits (n ∷ ns) le small =
+    let first = small 0 0 (omega arith) in
+    let wide = pow_mono {i = width} {j = bits} le in (omega (arith, first, wide), all_within width bits ns le (λ i d lt. small (suc i) d (omega arith)))
 
 -- the code in a lane
 pub code_in_lane : (bytes : List ℕ) (count lane : ℕ) → lane < 512 → number_from (bytes_in bytes lane) count ≡ get_or (slices_codes count bytes) lane 0
@@ -66,7 +80,112 @@ used_is bytes count =
 pub none_left : (bytes words : List ℕ) (count : ℕ) → length words ≡ 8 → list_all not (lanes_of_words words) ≡ is_none (picked (lanes_of_words words) (slices_codes count bytes))
 none_left bytes words count eight = none_picked (lanes_of_words words) (slices_codes count bytes) (omega (arith, length-slices_codes count bytes, length-lanes_of_words words))
 
--- lanes that all tell the same
-pub all_tell : (P : ℕ → Type 0) (f : ℕ → Bool) (b : Bool) → ((n : ℕ) → P n → f n ≡ b) → (ns : List ℕ) → AllByRecursion P ns → replicate (length ns) b ≡ map f ns
-all_tell P f b is [] all = refl
-all_tell P f b is (n ∷ ns) all = ap₂ ◌∷◌ (sym (is n all.0)) (all_tell P f b is ns all.1)
+pub ruleset of_bytes = (map-map)
+
+pub within_slices : (n width slices : ℕ) → slices ≡ (width + 7) / 8 → n < 2 ^ width → n < 2 ^ (8 * slices)
+within_slices n width slices all small = let wide = pow_mono {i = width} {j = 8 * slices} (omega arith) in omega arith
+
+-- the bytes that are picked are those of the numbers that are picked
+pub sum_picked : (f : ℕ → ℕ) (lanes : List Bool) (ns : List ℕ) → sum (bytes_picked 0 lanes (map f ns)) ≡ sum_by f (picked lanes ns)
+sum_picked f [] ns = refl
+sum_picked f (lane ∷ lanes) [] = refl
+sum_picked f (true ∷ lanes) (n ∷ ns) = sum_by-cons (λ k. k) (f n) (bytes_picked 0 lanes (map f ns)) ∙ ap (λ k. f n + k) (sum_picked f lanes ns) ∙ sym (sum_by-cons f n (picked lanes ns))
+sum_picked f (false ∷ lanes) (n ∷ ns) = sum_by-cons (λ k. k) 0 (bytes_picked 0 lanes (map f ns)) ∙ omega (arith, sum_picked f lanes ns)
+
+sum_next : (bit : ℕ) (ns : List ℕ) → sum_by (λ n. n / 2 ^ bit) ns ≡ 256 * sum_by (λ n. n / 2 ^ (bit + 8)) ns + sum_by (λ n. n / 2 ^ bit % 256) ns
+sum_next bit [] = refl
+sum_next bit (n ∷ ns) =
+    omega (arith, sum_by-cons (λ n. n / 2 ^ bit) n ns, sum_by-cons (λ n. n / 2 ^ (bit + 8)) n ns, sum_by-cons (λ n. n / 2 ^ bit % 256) n ns, next_byte n bit, sum_next bit ns)
+
+pub sum_more : (high low slice head part : ℕ) (ns : List ℕ) → high ≡ 8 * slice + 8 → low ≡ 8 * slice → head ≡ sum_by (λ n. n / 2 ^ high) ns → part ≡ sum_by (byte_of slice) ns
+    → 256 * head + part ≡ sum_by (λ n. n / 2 ^ low) ns
+sum_more high low slice head part ns above here so_far is =
+    ap₂ (λ s b. 256 * s + b) (so_far ∙ ap (λ bit. sum_by (λ n. n / 2 ^ bit) ns) above) is ∙ sym (sum_next (8 * slice) ns) ∙ ap (λ bit. sum_by (λ n. n / 2 ^ bit) ns) (sym here)
+
+pub sum_of_high : (bit : ℕ) (ns : List ℕ) → AllByRecursion (λ n. n < 2 ^ bit) ns → 0 ≡ sum_by (λ n. n / 2 ^ bit) ns
+sum_of_high bit [] small = refl
+sum_of_high bit (n ∷ ns) small = ap₂ ◌+◌ (sym (div-eq_of_lt small.0)) (sum_of_high bit ns small.1) ∙ sym (sum_by-cons (λ n. n / 2 ^ bit) n ns)
+
+pub sum_of_all : (bit : ℕ) (ns : List ℕ) → bit ≡ 0 → sum_by (λ n. n / 2 ^ bit) ns ≡ sum ns
+sum_of_all bit [] none = refl
+sum_of_all bit (n ∷ ns) none =
+    let whole : n / 2 ^ bit ≡ n = ap (λ k. n / 2 ^ k) none ∙ omega arith in sum_by-cons (λ n. n / 2 ^ bit) n ns ∙ ap₂ ◌+◌ whole (sum_of_all bit ns none) ∙ sym (sum_by-cons (λ n. n) n ns)
+
+-- numbers below 2 ^ 63 in some lanes
+small_sums : (lanes : List Bool) (ns : List ℕ) → AllByRecursion (λ n. n < 2 ^ 63) ns → sum (picked lanes ns) ≤ length ns * 2 ^ 63
+small_sums [] ns small = omega arith
+small_sums (lane ∷ lanes) [] small = omega arith
+small_sums (true ∷ lanes) (n ∷ ns) small = let first = small.0 in omega (arith, sum_by-cons (λ n. n) n (picked lanes ns), small_sums lanes ns small.1, first)
+small_sums (false ∷ lanes) (n ∷ ns) small = omega (arith, small_sums lanes ns small.1)
+
+pub sum_small : (width most : ℕ) (lanes : List Bool) (ns : List ℕ) → width ≤ 63 → length ns ≤ most → All (λ n. n < 2 ^ width) ns → sum (picked lanes ns) ≤ most * 2 ^ 63
+sum_small width most lanes ns few long small =
+    omega (arith, small_sums lanes ns (all_within width 63 ns few small), mul-le-mul_right {m = length ns} {n = most} (2 ^ 63) long)
+
+-- 64 of some codes
+pub picked_small : (lanes : List Bool) (first width : ℕ) (codes : List ℕ) → width ≤ 63 → All (λ code. code < 2 ^ width) codes → sum (picked lanes (take 64 (drop first codes))) ≤ 2 ^ 69
+picked_small lanes first width codes few small =
+    sum_small width 64 lanes (take 64 (drop first codes)) few (omega (arith, length-take 64 (drop first codes))) (All-take (λ code. code < 2 ^ width) 64 (drop first codes) (All-drop (λ code. code < 2 ^ width) first codes small))
+
+nothing_picked : (lanes : List Bool) (items : List ℕ) → list_all not lanes ≡ true → sum (picked lanes items) ≡ 0
+nothing_picked [] items none = refl
+nothing_picked (lane ∷ lanes) [] none = refl
+nothing_picked (true ∷ lanes) (item ∷ items) none = cc
+nothing_picked (false ∷ lanes) (item ∷ items) none = nothing_picked lanes items none
+
+pub no_bits : (n : ℕ) (items : List ℕ) → n ≡ 0 → sum (picked (bits_from_least 64 n) items) ≡ 0
+no_bits n items none = nothing_picked (bits_from_least 64 n) items (sym (zero_bits 64 n (omega arith)) ∙ eq-eqb n 0 none)
+
+first_item : (lane : Bool) (lanes : List Bool) (item : ℕ) (items : List ℕ) → sum (picked (lane ∷ lanes) (item ∷ items)) ≡ cond lane item 0 + sum (picked lanes items)
+first_item true lanes item items = sum_by-cons (λ k. k) item (picked lanes items)
+first_item false lanes item items = omega arith
+
+-- without one of the lanes
+one_less : (lanes : List Bool) (items : List ℕ) (t : ℕ) → get_or lanes t false ≡ true → t < length items → sum (picked lanes items) ≡ get_or items t 0 + sum (picked (set lanes t false) items)
+one_less [] items t is lt = cc
+one_less (lane ∷ lanes) [] t is lt = absurd (omega arith)
+one_less (lane ∷ lanes) (item ∷ items) zero is lt = first_item lane lanes item items ∙ ap (λ b. cond b item 0 + sum (picked lanes items)) is
+one_less (lane ∷ lanes) (item ∷ items) (suc t) is lt =
+    omega (arith, first_item lane lanes item items, first_item lane (set lanes t false) item items, one_less lanes items t is (omega arith))
+
+-- a word without one of its bits
+abbrev pub without : ℕ → ℕ → ℕ
+without n t = bit_and n (bit_not w64 (1 * 2 ^ t % 2 ^ 64))
+
+without_is : (n t : ℕ) → t < 64 → set (bits_from_least 64 n) t false ≡ bits_from_least 64 (without n t)
+unfolding bits_from_least
+without_is n t lt =
+    let bits = map (λ i. bit_at n i == 1) (range_with_len 0 64) in
+    let long = length-map-range_with_len (λ i. bit_at n i == 1) 0 64 in
+    fill_by_all (λ i. bit_at (without n t) i == 1) (set bits t false) 64 false (length-set bits t false ∙ long) (λ i below. elim (cases_eq i t) [
+      | inl same ↦ ap (λ k. get_or (set bits t false) k false) same ∙ get_or-set_same bits t false false (omega (arith, long)) ∙ ap (λ b. b == 1) (sym (bit_at_clear_same w64 n t lt) ∙ ap (bit_at (without n t)) (sym same))
+      | inr apart ↦ get_or-set_other bits t i false false apart ∙ get_or-map-range_with_len (λ i. bit_at n i == 1) 0 64 i i false below (omega arith) ∙ ap (λ b. b == 1) (sym (bit_at_clear_other w64 n t lt i (omega arith) apart))
+    ])
+
+pub bit_cleared : (n t : ℕ) (items : List ℕ) → t < 64 → length items ≡ 64 → bit_at n t ≡ 1 → sum (picked (bits_from_least 64 n) items) ≡ get_or items t 0 + sum (picked (bits_from_least 64 (without n t)) items)
+unfolding bits_from_least
+bit_cleared n t items lt long one =
+    one_less (bits_from_least 64 n) items t (get_or-map-range_with_len (λ i. bit_at n i == 1) 0 64 t t false lt (omega arith) ∙ eq-eqb (bit_at n t) 1 one) (omega arith) ∙ ap (λ l. get_or items t 0 + sum (picked l items)) (without_is n t lt)
+
+-- is less than with it
+pub without_less : (n t : ℕ) → t < 64 → bit_at n t ≡ 1 → without n t < n
+without_less n t lt set = elim (cases_lt (without n t) n) [
+  | inl less ↦ less
+  | inr le ↦
+      let same : without n t ≡ n = omega (arith, and_le_l n (bit_not w64 (1 * 2 ^ t % 2 ^ 64))) in
+      absurd (omega (arith, bit_at_clear_same w64 n t lt, ap (λ k. bit_at k t) same, set))
+]
+
+-- one word more
+pub word_more : (word : ℕ) (words codes : List ℕ) → length words ≡ 8 → length codes ≡ 512 → word < 8
+    → sum (picked (lanes_of_words (take (word + 1) words)) (take (64 * (word + 1)) codes))
+    ≡ sum (picked (lanes_of_words (take word words)) (take (64 * word) codes)) + sum (picked (bits_from_least 64 (get_or words word 0)) (take 64 (drop (64 * word) codes)))
+word_more word words codes eight long lt =
+    let front = lanes_of_words (take word words) in
+    let before = take (64 * word) codes in
+    let here = bits_from_least 64 (get_or words word 0) in
+    let part = take 64 (drop (64 * word) codes) in
+    ap₂ (λ l m. sum (picked l m)) (lanes_more word words eight lt) (before_and_part word codes lt ∙ ap (λ l. before ++ l) (part_is word codes lt))
+    ∙ ap sum (picked-append front here before part (omega (arith, length-first word words eight (omega arith), length-take (64 * word) codes))) ∙ sum_by-append (λ n. n) (picked front before) (picked here part)
+
+pub ruleset few_sums = (no_lanes, word_more, length-slices_codes)

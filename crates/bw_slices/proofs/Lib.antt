@@ -1,5 +1,3 @@
 pub mod AboveLemmas
 pub mod ChosenLemmas
 pub mod CodeLemmas
-pub mod FewLemmas
-pub mod SumLemmas

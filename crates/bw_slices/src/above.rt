@@ -10,6 +10,7 @@ use bw_lanes::Plane;
 use std::simd::prelude::*;
 
 /// The lanes in which the number that so many slices spell is above one of so many bytes.
+#[tactic(auto, using(bw_lanes::proofs::WordLemmas::no_lanes))]
 pub(crate) fn above(bytes: &[u8], slices: usize, most: u64) -> Plane
     requires size { 512 * slices ≤ length bytes.now }
     requires few { slices ≤ 8 }

@@ -10,6 +10,7 @@ use crate::above::any_above;
 use bw_lanes::{Plane, bytes_any};
 
 /// Whether a number that so many slices spell is above one of so many bytes.
+#[tactic(auto, using(crate::proofs::AboveLemmas::none_above_none))]
 pub(crate) fn is_any_above(bytes: &[u8], slices: usize, most: u64) -> bool
     requires size { 512 * slices ≤ length bytes.now }
     requires few { slices ≤ 8 }

@@ -40,6 +40,7 @@ impl Layout for Slices {
         not(&bytes_none(bytes, slices_in(width)))
     }
 
+    #[tactic(auto, using(crate::proofs::CodeLemmas::within_slices))]
     fn above(width: u32, bytes: &[u8], most: u64) -> Plane {
         above(bytes, slices_in(width), most)
     }
@@ -59,11 +60,13 @@ impl Layout for Slices {
         bytes_bit(slice_of(width, bytes, bit as usize / 8), bit % 8)
     }
 
+    #[tactic(auto, using(crate::proofs::CodeLemmas::of_bytes))]
     #[inline(always)]
     fn byte_lt(width: u32, bytes: &[u8], slice: usize, c: u8) -> Plane {
         bytes_lt(slice_of(width, bytes, slice), c)
     }
 
+    #[tactic(auto, using(crate::proofs::CodeLemmas::of_bytes))]
     #[inline(always)]
     fn byte_eq(width: u32, bytes: &[u8], slice: usize, c: u8) -> Plane {
         bytes_eq(slice_of(width, bytes, slice), c)
@@ -92,6 +95,7 @@ impl Layout for Slices {
         chosen_code(width, bytes, lanes, true)
     }
 
+    #[tactic(auto, using(crate::proofs::CodeLemmas::code_in_lane))]
     fn code(width: u32, bytes: &[u8], lane: usize) -> u64 {
         let slices = slices_in(width);
         let mut code = 0;

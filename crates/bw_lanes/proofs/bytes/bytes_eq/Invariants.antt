@@ -5,6 +5,5 @@ use Rattle.bw_lanes.proofs.bytes.bytes_eq.Given as goal
 abbrev pub invariant-loop-word : goal.invariant-loop-word
 invariant-loop-word l = record {
   eight : length l.words ≡ 8;
-  all : length l.bytes ≡ 512;
   lanes : lanes_of_words (take l.word l.words) ≡ map (λ byte. byte == l.c) (take (64 * l.word) l.bytes);
 }

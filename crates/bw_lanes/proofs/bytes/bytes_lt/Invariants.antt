@@ -1,11 +1,9 @@
-use Rattle.std.proofs.Common.{◌≡◌, ◌*◌, map, take, length}
-use Rattle.std.specs.Prelude.{nat_lt}
+use Rattle.std.proofs.Common.{◌≡◌, ◌*◌, map, take, length, nat_lt}
 use Rattle.bw_lanes.specs.Lanes.{lanes_of_words}
 use Rattle.bw_lanes.proofs.bytes.bytes_lt.Given as goal
 
 abbrev pub invariant-loop-word : goal.invariant-loop-word
 invariant-loop-word l = record {
   eight : length l.words ≡ 8;
-  all : length l.bytes ≡ 512;
   lanes : lanes_of_words (take l.word l.words) ≡ map (λ byte. nat_lt byte l.c) (take (64 * l.word) l.bytes);
 }

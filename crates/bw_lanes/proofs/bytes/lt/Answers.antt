@@ -1,6 +1,6 @@
-use Rattle.std.proofs.Common.{rules}
-use Rattle.bw_lanes.proofs.ByteLemmas.{below_splat}
+use Rattle.std.proofs.Common.{ltb}
+use Rattle.bw_lanes.proofs.ByteLemmas.{compared}
 use Rattle.bw_lanes.proofs.bytes.lt.Goals as goal
 
 pub returns : goal.returns
-returns c = search (rules, below_splat)
+returns c = compared ltb c.args.bytes c.args.c c.fits-bytes.0

@@ -1,4 +1,4 @@
-use Rattle.bw_lanes.proofs.ChoiceLemmas.{greater_computed}
+use Rattle.bw_lanes.proofs.PickedLemmas.{greater_computed}
 use Rattle.bw_lanes.proofs.picked.greater.Goals as goal
 
 pub returns : goal.returns

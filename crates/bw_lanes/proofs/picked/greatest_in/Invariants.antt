@@ -1,5 +1,4 @@
-use Rattle.std.proofs.Common.{◌≡◌, ◌*◌, take, max, bit_and}
-use Rattle.std.specs.List.{fold}
+use Rattle.std.proofs.Common.{◌≡◌, ◌*◌, take, max, bit_and, fold}
 use lib.Lanes.{zip2}
 use Rattle.bw_lanes.proofs.picked.greatest_in.Given as goal
 

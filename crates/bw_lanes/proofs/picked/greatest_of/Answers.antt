@@ -1,5 +1,5 @@
-use Rattle.std.proofs.Common.{◌∙◌, max, arith}
-use Rattle.bw_lanes.proofs.ChoiceLemmas.{greatest_is_choice, halved, last}
+use Rattle.std.proofs.Common.{◌∙◌, sym, ap, max, get_or, fold}
+use Rattle.bw_lanes.proofs.PickedLemmas.{greatest_is_choice, halved}
 use Rattle.bw_lanes.proofs.picked.greatest_of.Goals as goal
 
 pub returns : goal.returns
@@ -10,4 +10,5 @@ returns c =
     let b4 = halved max greatest_is_choice 0 4 c.greater-b-3.result c.greater-b-4.result b3.0 c.greater-b-4.ensures in
     let b5 = halved max greatest_is_choice 0 2 c.greater-b-4.result c.greater-b-5.result b4.0 c.greater-b-5.ensures in
     let b6 = halved max greatest_is_choice 0 1 c.greater-b-5.result c.greater-b-6.result b5.0 c.greater-b-6.ensures in
-    last max greatest_is_choice 0 c.greater-b-6.result b6.0 (omega arith) ∙ b6.1 ∙ b5.1 ∙ b4.1 ∙ b3.1 ∙ b2.1 ∙ b.1
+    let one = c.greater-b-6.ensures in
+    ap (λ l. max 0 (get_or l 0 0)) one ∙ sym (ap (fold max 0) one) ∙ b6.1 ∙ b5.1 ∙ b4.1 ∙ b3.1 ∙ b2.1 ∙ b.1

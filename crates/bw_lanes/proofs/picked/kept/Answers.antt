@@ -2,4 +2,4 @@ use Rattle.bw_lanes.proofs.PickedLemmas.{kept_computed}
 use Rattle.bw_lanes.proofs.picked.kept.Goals as goal
 
 pub returns : goal.returns
-returns c = kept_computed c.args.rows c.args.bytes c.args.c c.fits-rows.0 c.fits-bytes.0
+returns c = kept_computed c.args.rows c.args.bytes c.args.c c.fits-bytes.0

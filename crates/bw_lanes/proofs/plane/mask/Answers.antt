@@ -1,6 +1,6 @@
 use Rattle.std.proofs.Common.{rules}
-use Rattle.bw_lanes.proofs.MaskLemmas.{lanes_of_mask}
+use Rattle.bw_lanes.proofs.WordLemmas.{mask_more}
 use Rattle.bw_lanes.proofs.plane.mask.Goals as goal
 
-pub returns : goal.returns
-returns c = search (rules, lanes_of_mask)
+pub loop-word-preserved : goal.loop-word-preserved
+loop-word-preserved c = record { eight = search rules; lanes = search (rules, mask_more) }

@@ -1,7 +1,7 @@
 use Rattle.std.proofs.Common.{◌∙◌, ap, ℕ, ◌+◌, ◌-◌, ◌%◌}
 use lib.Lanes.{zip2}
 use Rattle.bw_lanes.specs.Lanes.{bits_from_least}
-use Rattle.bw_lanes.proofs.ShiftLemmas.{shifted_computed}
+use Rattle.bw_lanes.proofs.PickedLemmas.{shifted_computed}
 use Rattle.bw_lanes.proofs.shifted.with_bits.Goals as goal
 
 pub returns : goal.returns

@@ -1,25 +1,23 @@
-use Rattle.std.proofs.Common.{◌≡◌, ◌∙◌, ap, ◌/◌, ◌%◌, ◌^◌, true, not, ltb, map, arith}
+use Rattle.std.proofs.Common.{◌≡◌, ◌∙◌, refl, ap, ◌/◌, ◌%◌, ◌^◌, ◌&&◌, ◌||◌, true, cond, not, ltb, map, arith}
 use Rattle.bw_lanes.specs.Lanes.{lanes_of_words}
 use Rattle.bw_lanes.proofs.WordLemmas.{ones_are_one}
 use Rattle.bw_planes.specs.Planes.{planes_codes}
 use Rattle.bw_planes.proofs.CodeLemmas.{codes_long}
-use Rattle.bw_planes.proofs.CompareLemmas.{everywhere, none_below, at_least_next}
+use Rattle.bw_planes.proofs.CompareLemmas.{everywhere, none_compared, compared_next, at_least_by_bit}
 use Rattle.bw_planes.proofs.compare.low_at_least.Goals as goal
 
 pub loop-place-init : goal.loop-place-init
 loop-place-init c =
-    let width = c.args.width in
-    let bytes = c.args.bytes.now in
-    everywhere (planes_codes width bytes) (λ code. not (ltb (code / 2 ^ c.args.low % 2 ^ 0) (c.args.c % 2 ^ 0))) true _ (codes_long width bytes) ones_are_one
-    (λ code. none_below (code / 2 ^ c.args.low) c.args.c)
+    let codes = planes_codes c.args.width c.args.bytes.now in
+    everywhere codes (λ code. not (ltb (code / 2 ^ c.args.low % 2 ^ 0) (c.args.c % 2 ^ 0))) true _ (codes_long c.args.width c.args.bytes.now) ones_are_one (λ code. none_compared (λ s t. not (ltb s t)) refl (code / 2 ^ c.args.low) c.args.c)
 
 pub loop-place-preserved : goal.loop-place-preserved
 loop-place-preserved c =
     c.risen-at_least.ensures
-    ∙ at_least_next (planes_codes c.args.width c.args.bytes.now) c.args.low c.loop-place.place c.args.c (lanes_of_words c.loop-place.at_least) (lanes_of_words c.plane_of-plane.result) c.loop-place.invariant c.plane_of-plane.ensures
+    ∙ compared_next (λ s t. not (ltb s t)) (λ one a p. cond one (a && p) (a || p)) at_least_by_bit (planes_codes c.args.width c.args.bytes.now) c.args.low c.loop-place.place c.args.c (lanes_of_words c.loop-place.at_least) (lanes_of_words c.plane_of-plane.result)
+    c.loop-place.invariant c.plane_of-plane.ensures
 
 pub returns : goal.returns
 returns c =
-    let codes = planes_codes c.args.width c.args.bytes.now in
     let end : c.loop-place.place ≡ c.args.count = omega arith in
-    c.loop-place.invariant ∙ ap (λ k. map (λ code. not (ltb (code / 2 ^ c.args.low % 2 ^ k) (c.args.c % 2 ^ k))) codes) end
+    c.loop-place.invariant ∙ ap (λ k. map (λ code. not (ltb (code / 2 ^ c.args.low % 2 ^ k) (c.args.c % 2 ^ k))) (planes_codes c.args.width c.args.bytes.now)) end

@@ -1,4 +1,4 @@
-use Rattle.std.proofs.Common.{◌≡◌, ◌∙◌, sym, ap, suc, ◌+◌, ◌-◌, ◌*◌, ◌/◌, ◌<◌, ℕ, map, length, take, drop, get_or, arith}
+use Rattle.std.proofs.Common.{◌≡◌, ◌∙◌, sym, ap, suc, ◌+◌, ◌-◌, ◌*◌, ◌/◌, map, length, take, drop, arith}
 use Rattle.std.proofs.lemmas.List.{take-take}
 use Rattle.bw_model.specs.Stored.{byte_of}
 use Rattle.bw_slices.specs.Slices.{slices_codes}
@@ -10,9 +10,8 @@ returns c =
     let bytes = c.args.bytes.now in
     let slices = (c.args.width + 7) / 8 in
     let place = slices - suc c.args.slice in
-    let small : (at : ℕ) → get_or bytes at 0 < 256 = λ at. let fits = c.type_inv.bytes at in omega (arith, fits) in
     let start : 512 * (c.slices_in.result - 1 - c.args.slice) ≡ 512 * place = omega (arith, c.slices_in.ensures.slices) in
     let slice : slices - suc place ≡ c.args.slice = omega (arith, c.requires.slice) in
     c.in-Some.ensures.cases.same ∙ take-take 512 (length bytes - 512 * (c.slices_in.result - 1 - c.args.slice)) (drop (512 * (c.slices_in.result - 1 - c.args.slice)) bytes) (omega (arith, c.requires.slice, c.requires.size, c.slices_in.ensures.slices))
-    ∙ ap (λ at. take 512 (drop at bytes)) start ∙ sym (slice_of_codes slices place bytes (omega (arith, c.requires.size)) small (omega (arith, c.requires.slice)))
+    ∙ ap (λ at. take 512 (drop at bytes)) start ∙ sym (slice_of_codes slices place bytes (omega (arith, c.requires.size)) (λ at. (c.type_inv.bytes at).fits) (omega (arith, c.requires.slice)))
     ∙ ap (λ s. map (byte_of s) (slices_codes slices bytes)) slice

@@ -5,19 +5,13 @@ use Rattle.bw_slices.proofs.layout.SlicesLayout.any_above.Goals as goal
 
 pub overflow_sub-slices_in : goal.overflow_sub-slices_in
 overflow_sub-slices_in c =
-    let within = (lowest_ones c.args.most (8 * (c.trailing_ones.result / 8)) c.args.width c.requires.most c.requires.width.1 (omega (arith, c.trailing_ones.ensures))).1 in
-    omega (arith, within, c.slices_in.ensures.slices)
+    omega (arith, (lowest_ones c.args.most (8 * (c.trailing_ones.result / 8)) c.args.width c.requires.most c.requires.width.1 (omega arith)).1)
 
 pub is_any_above-requires-clause-most : goal.is_any_above-requires-clause-most
-is_any_above-requires-clause-most c =
-    let low = c.trailing_ones.result / 8 in
-    let within = (lowest_ones c.args.most (8 * low) c.args.width c.requires.most c.requires.width.1 (omega (arith, c.trailing_ones.ensures))).1 in
-    without_ones c.args.most (8 * low) (8 * (c.slices_in.result - low)) c.args.width c.requires.most (omega (arith, within, c.slices_in.ensures.slices))
+is_any_above-requires-clause-most c = without_ones c.args.most _ _ c.args.width c.requires.most (omega arith)
 
 pub returns : goal.returns
 returns c =
     let low = c.trailing_ones.result / 8 in
-    let ones = lowest_ones c.args.most (8 * low) c.args.width c.requires.most c.requires.width.1 (omega (arith, c.trailing_ones.ensures)) in
-    let within = ones.1 in
-    c.is_any_above.ensures
-    ∙ front_tells c.args.bytes.now (c.slices_in.result - low) low c.args.most ((c.args.width + 7) / 8) (λ at. let fits = c.type_inv.bytes at in omega (arith, fits)) ones.0 (omega (arith, within, c.slices_in.ensures.slices))
+    let ones = lowest_ones c.args.most (8 * low) c.args.width c.requires.most c.requires.width.1 (omega arith) in
+    c.is_any_above.ensures ∙ front_tells c.args.bytes.now (c.slices_in.result - low) low c.args.most ((c.args.width + 7) / 8) (λ at. (c.type_inv.bytes at).fits) ones.0 (omega (arith, ones.1))

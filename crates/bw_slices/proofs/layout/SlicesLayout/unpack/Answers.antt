@@ -9,7 +9,7 @@ loop-place-init c =
     let slices = (c.args.width + 7) / 8 in
     let count = c.slices_in-slices.ensures.slices in
     c.put_byte.ensures ∙ top_byte (8 * slices) (c.slices_in-slices.result - 1) (slices_codes slices c.args.bytes.now) c.slice_of.result.now (omega (arith, count))
-    (codes_below c.args.bytes.now slices (λ at. let fits = c.type_inv.bytes at in omega (arith, fits))) c.slice_of.ensures
+    (codes_below c.args.bytes.now slices (λ at. (c.type_inv.bytes at).fits)) c.slice_of.ensures
 
 pub loop-place-preserved : goal.loop-place-preserved
 loop-place-preserved c =
@@ -21,7 +21,7 @@ loop-place-preserved c =
     let after : count - 1 - place ≡ count - (place + 1) = omega arith in
     c.push_byte.ensures
     ∙ byte_more (8 * slices) (count - place) (count - 1 - place) codes c.loop-place.codes slice.result.now (omega (arith, c.loop-place-test.true)) (omega (arith, c.requires.width))
-    (codes_below c.args.bytes.now slices (λ at. let fits = c.type_inv.bytes at in omega (arith, fits))) c.loop-place.invariant slice.ensures
+    (codes_below c.args.bytes.now slices (λ at. (c.type_inv.bytes at).fits)) c.loop-place.invariant slice.ensures
     ∙ ap (λ k. codes_from k codes) after
 
 pub returns : goal.returns

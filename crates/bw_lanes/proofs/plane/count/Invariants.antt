@@ -1,0 +1,10 @@
+use Rattle.std.proofs.Common.{◌≡◌, ◌*◌, ◌≤◌, count_by, take}
+use Rattle.bw_lanes.specs.Lanes.{lanes_of_words}
+use Rattle.bw_lanes.proofs.plane.count.Given as goal
+
+-- the lanes of the words so far
+abbrev pub invariant-loop-word : goal.invariant-loop-word
+invariant-loop-word l = record {
+  ones : l.ones ≡ count_by (λ lane. lane) (lanes_of_words (take l.word l.plane));
+  few : l.ones ≤ 64 * l.word;
+}
