@@ -9,7 +9,7 @@ ghost use Rattle.bw_planes.specs.Kept.{planes_keep_codes};
 
 use crate::compare::{at_least, eq};
 use crate::sum::sum_in_word;
-use bw_lanes::{Plane, and, bytes_bit, is_zero, load, not, or, push_bit, to_bytes};
+use bw_lanes::{LANES, Plane, and, bytes_bit, is_zero, load, not, or, push_bit, to_bytes};
 use bw_model::Fault;
 use bw_segment::{Layout, push_byte, put_byte, slices_of};
 
@@ -24,7 +24,7 @@ impl Layout for Planes {
         64 * width as usize
     }
 
-    fn push_codes(bytes: &mut Vec<u8>, width: u32, codes: &[u64; 512]) -> Result<(), Fault> {
+    fn push_codes(bytes: &mut Vec<u8>, width: u32, codes: &[u64; LANES]) -> Result<(), Fault> {
         let slices = slices_of(codes, (width as usize + 7) / 8);
         for place in 0..width {
             let bit = width - 1 - place;
@@ -130,7 +130,7 @@ impl Layout for Planes {
         code
     }
 
-    fn unpack(width: u32, bytes: &[u8], codes: &mut [u64; 512]) {
+    fn unpack(width: u32, bytes: &[u8], codes: &mut [u64; LANES]) {
         let slices = (width as usize + 7) / 8;
         put_byte(codes, &byte_at(width, bytes, slices - 1));
         for place in 1..slices {
@@ -173,7 +173,7 @@ pub(crate) fn plane_of(width: u32, bytes: &[u8], bit: usize) -> Plane
 
 /// A byte of each code, of which byte 0 is the least: the planes of its bits are shifted into a byte of each lane, from the
 /// top one down.
-fn byte_at(width: u32, bytes: &[u8], slice: usize) -> [u8; 512]
+fn byte_at(width: u32, bytes: &[u8], slice: usize) -> [u8; LANES]
     requires width { (1 ≤ width) × (width ≤ 63) }
     requires size { length bytes.now ≡ 64 * width }
     requires slice { 8 * slice < width }
@@ -181,7 +181,7 @@ fn byte_at(width: u32, bytes: &[u8], slice: usize) -> [u8; 512]
 {
     let low = 8 * slice as u32;
     let count = (width - low).min(8);
-    let mut byte = [0; 512];
+    let mut byte = [0; LANES];
     for place in 0..count {
         push_bit(
             &mut byte,

@@ -6,7 +6,7 @@ ghost use Rattle.bw_lanes.specs.Lanes.{bits_from_least, lanes_of_words};
 ghost use Rattle.bw_model.specs.Stored.{byte_of};
 ghost use Rattle.bw_slices.specs.Slices.{slices_codes};
 
-use bw_lanes::Plane;
+use bw_lanes::{LANES, Plane};
 use std::simd::prelude::*;
 
 /// The lanes in which the number that so many slices spell is above one of so many bytes.
@@ -51,7 +51,7 @@ fn set_above(bytes: &[u8], slices: usize, first: usize, most: u64) -> u8x64
 {
     let mut set = u8x64::splat(0);
     for slice in 0..slices {
-        let here = u8x64::from_slice(&bytes[512 * (slices - 1 - slice) + first..]);
+        let here = u8x64::from_slice(&bytes[LANES * (slices - 1 - slice) + first..]);
         set = next_above(set, here, byte_at(most, slice));
     }
     set

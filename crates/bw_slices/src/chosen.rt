@@ -7,7 +7,7 @@ ghost use Rattle.bw_model.specs.Selection.{picked};
 ghost use Rattle.bw_slices.specs.Slices.{slices_codes};
 
 use crate::read::{slice_of, slices_in};
-use bw_lanes::{Plane, bytes_of_plane, greatest_in, is_zero, keep_in, least_in};
+use bw_lanes::{LANES, Plane, bytes_of_plane, greatest_in, is_zero, keep_in, least_in};
 
 /// The greatest of the codes in some lanes, or the least; none where there are no lanes. From the most significant byte
 /// down the lanes that remain are those with the greatest, or the least, byte among them.
@@ -35,7 +35,7 @@ pub(crate) fn chosen_code(width: u32, bytes: &[u8], lanes: &Plane, greatest: boo
 }
 
 /// The greatest of the bytes of some rows, or the least; 0, or 255, where there are none.
-fn chosen_in(bytes: &[u8; 512], rows: &[u8; 512], greatest: bool) -> u8
+fn chosen_in(bytes: &[u8; LANES], rows: &[u8; LANES], greatest: bool) -> u8
     ensures { (lanes : List Bool) → rows.now ≡ map as_byte lanes
         → result ≡ fold (if greatest then max else min) (if greatest then 0 else 255)
         (bytes_picked (if greatest then 0 else 255) lanes bytes.now) }

@@ -8,7 +8,7 @@ use crate::chosen::chosen_code;
 use crate::few::sum_of_few;
 use crate::read::{slice_of, slices_in};
 use bw_lanes::{
-    Plane, bytes_bit, bytes_eq, bytes_lt, bytes_none, bytes_of_plane, count, not, sum_in,
+    LANES, Plane, bytes_bit, bytes_eq, bytes_lt, bytes_none, bytes_of_plane, count, not, sum_in,
 };
 use bw_model::Fault;
 use bw_segment::{Layout, bytes_of, push_byte, put_byte};
@@ -24,10 +24,10 @@ impl Layout for Slices {
     ghost packing = { slice_packing };
 
     fn size(width: u32) -> usize {
-        512 * slices_in(width)
+        LANES * slices_in(width)
     }
 
-    fn push_codes(bytes: &mut Vec<u8>, width: u32, codes: &[u64; 512]) -> Result<(), Fault> {
+    fn push_codes(bytes: &mut Vec<u8>, width: u32, codes: &[u64; LANES]) -> Result<(), Fault> {
         let slices = slices_in(width);
         for place in 0..slices {
             let added = bytes_of(codes, slices - 1 - place);
@@ -100,12 +100,12 @@ impl Layout for Slices {
         let slices = slices_in(width);
         let mut code = 0;
         for place in 0..slices {
-            code = 256 * code + u64::from(bytes[512 * place + lane]);
+            code = 256 * code + u64::from(bytes[LANES * place + lane]);
         }
         code
     }
 
-    fn unpack(width: u32, bytes: &[u8], codes: &mut [u64; 512]) {
+    fn unpack(width: u32, bytes: &[u8], codes: &mut [u64; LANES]) {
         let slices = slices_in(width);
         put_byte(codes, slice_of(width, bytes, slices - 1));
         for place in 1..slices {

@@ -3,6 +3,8 @@ ghost use Rattle.std.specs.Prelude.{◌≡◌, ◌+◌, ◌*◌, ◌/◌, ◌<�
 ghost use Rattle.bw_model.specs.Stored.{byte_of};
 ghost use Rattle.bw_slices.specs.Slices.{slices_codes};
 
+use bw_lanes::LANES;
+
 /// How many bytes codes of so many binary digits have.
 #[inline(always)]
 pub(crate) fn slices_in(width: u32) -> usize
@@ -15,13 +17,13 @@ pub(crate) fn slices_in(width: u32) -> usize
 
 /// A byte of each code, of which byte 0 is the least.
 #[inline(always)]
-pub(crate) fn slice_of(width: u32, bytes: &[u8], slice: usize) -> &[u8; 512]
+pub(crate) fn slice_of(width: u32, bytes: &[u8], slice: usize) -> &[u8; LANES]
     requires width { (1 ≤ width) × (width ≤ 63) }
     requires size { length bytes.now ≡ 512 * ((width + 7) / 8) }
     requires slice { 8 * slice < width }
     ensures { result.now ≡ map (byte_of slice) (slices_codes ((width + 7) / 8) bytes.now) }
 {
-    let start = 512 * (slices_in(width) - 1 - slice);
+    let start = LANES * (slices_in(width) - 1 - slice);
     let Some(bytes) = bytes[start..].first_chunk() else {
         unreachable!()
     };
