@@ -326,7 +326,8 @@ module _ (schema : Schema) where
     go (Err other) f e = cc
 
   -- what the machine has read begins a statement, under fewer demands too
-  begun : (other : Refusal) (front gap tokens : List Lexeme) (last : List Symbol) → Path (is_met schema) (AStatement ∷ []) tokens last →
+  begun : (other : Refusal) (front gap tokens : List Lexeme) (last : List Symbol) →
+      Path (is_met schema) (AStatement ∷ []) tokens last →
       tokens ≡ front ++ gap → Begins schema other front
   begun other front gap tokens last p e =
       let part = path_split schema (AStatement ∷ []) front gap last (subst (λ t. Path (is_met schema) (AStatement ∷ []) t last) e p) in
@@ -398,7 +399,8 @@ module _ (schema : Schema) (tokens before behind : List Lexeme) (t : Lexeme) (la
         | later h ↦ behind_it h
       ]
     where
-      two : (gap : List Lexeme) → before ≡ (front ++ u ∷ []) ++ gap → Digits digits ∷ rest ≡ gap ++ t ∷ behind → Near Literal (length front)
+      two : (gap : List Lexeme) → before ≡ (front ++ u ∷ []) ++ gap → Digits digits ∷ rest ≡ gap ++ t ∷ behind →
+          Near Literal (length front)
       two [] g h = let is : t ≡ Digits digits = cc in
           astride front u digits s (g ∙ append-nil (front ++ u ∷ [])) is (refl {a = length front}) (refl {a = Literal})
       two (c ∷ gap) g h =
@@ -469,7 +471,8 @@ module _ (schema : Schema) (tokens before behind : List Lexeme) (t : Lexeme) (la
   unsigned_alone plain front u digits s f g =
       let both : true ≡ false = sym s ∙ sym (sign_last false front u) ∙ ap (after_sign false) (sym f) ∙ plain in cc
 
-  at_the_sign : after_sign false before ≡ true → step (is_met schema) last t ≡ Err Literal → (digits : List ℕ) → t ≡ Digits digits →
+  at_the_sign : after_sign false before ≡ true → step (is_met schema) last t ≡ Err Literal → (digits : List ℕ) →
+      t ≡ Digits digits →
       FirstFault schema tokens (record { why = Literal; left = suc (suc (length behind)) })
   at_the_sign signed stop digits is =
       let u = last_sign before signed in
@@ -483,7 +486,8 @@ module _ (schema : Schema) (tokens before behind : List Lexeme) (t : Lexeme) (la
   stop_first : (signed : Bool) → after_sign false before ≡ signed → (why : Refusal) → step (is_met schema) last t ≡ Err why →
       FirstFault schema tokens (record { why = why; left = left_at why signed (length behind) })
   stop_first true s Literal stop = go t refl ((step_refuses schema t Literal last stop).1 refl) where
-    go : (u : Lexeme) → t ≡ u → is_digits u ≡ true → FirstFault schema tokens (record { why = Literal; left = suc (suc (length behind)) })
+    go : (u : Lexeme) → t ≡ u → is_digits u ≡ true →
+        FirstFault schema tokens (record { why = Literal; left = suc (suc (length behind)) })
     go (Digits digits) is d = at_the_sign s stop digits is
     go _ is d = cc
   stop_first false s Literal stop = at_the_token Literal stop (unsigned_alone s)

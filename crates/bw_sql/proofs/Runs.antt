@@ -29,7 +29,8 @@ use Rattle.bw_sql.proofs.Cases.{bool_cases, option_cases}
 use Rattle.bw_sql.proofs.Spellings.{mark_is, word_is}
 use Rattle.bw_sql.proofs.Machine.{Symbol, Choice, AWord, Opening, Closing, AnOperand, PredicateTail, RangeTail, CommaTail, APrimary, TestTail, PartTail, ItemList, AnItem, AnArgument, ATable, ASelection, AnEnd, AStatement, a_part, one_of, of_aggregate, in_brackets, operand_choice, primary_choice, decide, may_end, all_may_end, ask, chosen, step, proceed, run}
 
-assoc : {A B C : Type 0} (m : Result A Halt) (f : A → Result B Halt) (g : B → Result C Halt) → ((m >>= f) >>= g) ≡ (m >>= λ x. f x >>= g)
+assoc : {A B C : Type 0} (m : Result A Halt) (f : A → Result B Halt) (g : B → Result C Halt) →
+    ((m >>= f) >>= g) ≡ (m >>= λ x. f x >>= g)
 assoc (Ok x) f g = refl
 assoc (Err halt) f g = refl
 
@@ -391,7 +392,8 @@ module _ (schema : Schema) where
       ∙ chain (keyword_at word.From tokens) _ _ _ (λ rest e. table_runs _ rest
       ∙ chain (table_at schema rest) _ _ _ (λ after f. selection_runs stack after))
 
-  pub statement_runs : (tokens : List Lexeme) → run schema false (AStatement ∷ []) tokens ≡ (statement_at schema tokens >>= λ q. Ok tt)
+  pub statement_runs : (tokens : List Lexeme) →
+      run schema false (AStatement ∷ []) tokens ≡ (statement_at schema tokens >>= λ q. Ok tt)
   unfolding run step decide all_may_end may_end statement_at keyword_at after_keyword
   statement_runs (Reserved word.Select ∷ tokens) = list_runs _ tokens
       ∙ chain (items_at schema tokens) _ _ _ (λ xs e. expression_runs (AnEnd ∷ []) xs.1

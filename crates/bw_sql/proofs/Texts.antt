@@ -138,7 +138,8 @@ refusal_of_code _ = refl
 first_same : (schema : Schema) (tokens : List Lexeme) (why other : Refusal) (place at : ℕ) → IsFirst schema tokens why place →
     IsFirst schema tokens other at → (why ≡ other) × (place ≡ at)
 first_same schema tokens why other place at f g = same (f.first other at g.stands) (g.first why place f.stands) where
-  same : ((place < at) ⊎ ((place ≡ at) × (code_of why ≤ code_of other))) → ((at < place) ⊎ ((at ≡ place) × (code_of other ≤ code_of why))) →
+  same : ((place < at) ⊎ ((place ≡ at) × (code_of why ≤ code_of other))) →
+      ((at < place) ⊎ ((at ≡ place) × (code_of other ≤ code_of why))) →
       (why ≡ other) × (place ≡ at)
   same (inl h) (inl g) = absurd (omega arith)
   same (inl h) (inr g) = absurd (omega (arith, g.0))
@@ -164,7 +165,8 @@ module _ (schema : Schema) (text : List ℕ) (tokens : List Spot) where
       (only_at_end schema (tokens_of tokens) p.0 p.1 why place stands).2 asked.0 asked.1
 
   -- a refusal, by its place among the tokens and behind them
-  refused_at : (stop : Option ℕ) (why : Refusal) (place : ℕ) → IsCut 0 text tokens stop → IsFirst schema (tokens_of tokens) why place →
+  refused_at : (stop : Option ℕ) (why : Refusal) (place : ℕ) → IsCut 0 text tokens stop →
+      IsFirst schema (tokens_of tokens) why place →
       (length tokens ≤ place → (place ≡ length tokens) × (why ≡ Syntax)) → (found : Option Spot) → slice_get tokens place ≡ found →
       IsRefusal schema text (fault_at found stop (length text) why)
   refused_at stop why place cut f last (Some spot) e = token_refused cut f e
@@ -200,7 +202,8 @@ module _ (schema : Schema) (text : List ℕ) (tokens : List Spot) where
       let same : fault ≡ fault_at (slice_get tokens g.place) stop (length text) halt.why = cc in
       rw same (refused_at stop halt.why g.place cut g.first (last g) (slice_get tokens g.place) refl)
     where
-      last : (g : FirstFault schema (tokens_of tokens) halt) → length tokens ≤ g.place → (g.place ≡ length tokens) × (halt.why ≡ Syntax)
+      last : (g : FirstFault schema (tokens_of tokens) halt) → length tokens ≤ g.place →
+          (g.place ≡ length tokens) × (halt.why ≡ Syntax)
       last g h =
           let same = length-map tokens (λ spot. spot.token) in
           (omega (arith, h, g.left, same), g.last (omega (arith, h, same)))
