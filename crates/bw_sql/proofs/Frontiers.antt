@@ -298,32 +298,25 @@ path_push t (there d p) e = there d (path_push t p e)
 beyond : (tokens before behind : List Lexeme) (t : Lexeme) → tokens ≡ before ++ t ∷ behind → length before < length tokens
 beyond tokens before behind t e = omega (arith, ap length e, length-append before (t ∷ behind))
 
-equal : (a : ℕ) → (a == a) ≡ true
-equal a = grind (arith, nat_tests)
-
 module _ (schema : Schema) where
   -- what is refused under the demands of the refusal's number isn't spelled under them
   not_asked : (why : Refusal) (d : Demand) → refusal d ≡ why → is_met schema d ≡ false → asked_for schema why d ≡ true → ⊥
-  not_asked why d e u m = let f = rw (e, equal (code_of why), u) at m in cc
+  not_asked why d e u m =
+      let equal : (code_of why == code_of why) ≡ true = grind (arith, nat_tests) in let f = rw (e, equal, u) at m in cc
 
-  refused_unspelled : (halt : Halt) (tokens : List Lexeme) (q : Asked) → statement_at schema tokens ≡ Err halt →
+  refused_unspelled : (halt : Halt) (tokens : List Lexeme) (q : Asked) →
+      run schema false (AStatement ∷ []) tokens ≡ Err halt →
       StatementIs schema.columns.items (asked_for schema halt.why) tokens q → ⊥
   refused_unspelled halt tokens q e spelled = go (statement_read schema (asked_for schema halt.why) spelled) where
+    read : (r : Result Asked Halt) → statement_at schema tokens ≡ r → ◌≡◌ {A = Result (Unit {0}) Halt} (r >>= λ q. Ok tt) (Err halt)
+    read r f = sym (statement_runs schema tokens ∙ ap (λ r. r >>= λ q. Ok tt) f) ∙ e
+
     go : Outcome schema (asked_for schema halt.why) (statement_at schema tokens) q → ⊥
-    go (reads f) = let g : ◌≡◌ {A = Result Asked Halt} (Ok q) (Err halt) = sym f ∙ e in cc
+    go (reads f) = let g = read _ f in cc
     go (excused d left m u f) =
-        let g : ◌≡◌ {A = Result Asked Halt} (Err (record { why = refusal d; left = left })) (Err halt) = sym f ∙ e in
+        let g = read _ f in
         let same : record { why = refusal d; left = left } ≡ halt = cc in
         not_asked halt.why d (ap (λ (h : Halt). h.why) same) u m
-
-  -- the machine halts as reading does
-  reading_halts : (tokens : List Lexeme) (halt : Halt) → run schema false (AStatement ∷ []) tokens ≡ Err halt →
-      statement_at schema tokens ≡ Err halt
-  reading_halts tokens halt e = go (statement_at schema tokens) refl (sym (statement_runs schema tokens) ∙ e) where
-    go : (r : Result Asked Halt) → statement_at schema tokens ≡ r →
-        ◌≡◌ {A = Result (Unit {0}) Halt} (r >>= λ q. Ok tt) (Err halt) → statement_at schema tokens ≡ Err halt
-    go (Ok q) f e = cc
-    go (Err other) f e = cc
 
   -- what the machine has read begins a statement, under fewer demands too
   begun : (other : Refusal) (front gap tokens : List Lexeme) (last : List Symbol) →
@@ -347,7 +340,8 @@ module _ (schema : Schema) (tokens : List Lexeme) (last : List Symbol) (p : Path
   end_first : statement_at schema tokens ≡ Err (record { why = Syntax; left = 0 }) → IsFirst schema tokens Syntax (length tokens)
   end_first e = record {
     stands = at_end (begun schema Syntax tokens [] tokens last p (sym (append-nil tokens)))
-        (λ q s. refused_unspelled schema (record { why = Syntax; left = 0 }) tokens q e s);
+        (λ q s. refused_unspelled schema (record { why = Syntax; left = 0 }) tokens q
+        (statement_runs schema tokens ∙ ap (λ r. r >>= λ q. Ok tt) e) s);
     first = λ other at s. let only = only_at_end other at s in inr (sym only.0, rw only.1 (omega arith));
   }
 
@@ -362,7 +356,7 @@ module _ (schema : Schema) (tokens before behind : List Lexeme) (t : Lexeme) (la
       let halt : Halt = record { why = why; left = left_at why (after_sign false before) (length v.more) } in
       let halts : run schema false (AStatement ∷ []) (before ++ t ∷ v.more) ≡ Err halt =
       run_path schema false p (t ∷ v.more) ∙ (rw stop refl) in
-      refused_unspelled schema halt all v.query (reading_halts schema all halt (rw (append_assoc before (t ∷ []) v.more) halts)) v.spelled
+      refused_unspelled schema halt all v.query (rw (append_assoc before (t ∷ []) v.more) halts) v.spelled
 
   passes : (other : Refusal) → code_of other < code_of why → Begins schema other (before ++ t ∷ [])
   passes other low =
