@@ -465,28 +465,23 @@ module _ (schema : Schema) (tokens before behind : List Lexeme) (t : Lexeme) (la
   unsigned_alone plain front u digits s f g =
       let both : true ≡ false = sym s ∙ sym (sign_last false front u) ∙ ap (after_sign false) (sym f) ∙ plain in cc
 
-  at_the_sign : after_sign false before ≡ true → step (is_met schema) last t ≡ Err Literal → (digits : List ℕ) →
-      t ≡ Digits digits →
-      FirstFault schema tokens (record { why = Literal; left = suc (suc (length behind)) })
-  at_the_sign signed stop digits is =
-      let u = last_sign before signed in
-      record {
-        place = length u.0;
-        first = sign_first schema tokens before behind t last Literal e p stop digits is u.0 u.1 u.3 u.2 refl;
-        left = omega (arith, ap length e, length-append before (t ∷ behind), ap length u.2, length-append u.0 (u.1 ∷ []));
-        last = λ h. absurd (omega (arith, beyond tokens before behind t e, ap length u.2, length-append u.0 (u.1 ∷ [])));
-      }
-
-  stop_first : (signed : Bool) → after_sign false before ≡ signed → (why : Refusal) → step (is_met schema) last t ≡ Err why →
+  stop_first : (why : Refusal) (signed : Bool) → after_sign false before ≡ signed → step (is_met schema) last t ≡ Err why →
       FirstFault schema tokens (record { why = why; left = left_at why signed (length behind) })
-  stop_first true s Literal stop = go t refl ((step_refuses schema t Literal last stop).1 refl) where
-    go : (u : Lexeme) → t ≡ u → is_digits u ≡ true →
+  stop_first Literal true s stop = go t refl ((step_refuses schema t Literal last stop).1 refl) where
+    go : (v : Lexeme) → t ≡ v → is_digits v ≡ true →
         FirstFault schema tokens (record { why = Literal; left = suc (suc (length behind)) })
-    go (Digits digits) is d = at_the_sign s stop digits is
+    go (Digits digits) is d =
+        let u = last_sign before s in
+        let one = length-append u.0 (u.1 ∷ []) in
+        record {
+          place = length u.0;
+          first = sign_first schema tokens before behind t last Literal e p stop digits is u.0 u.1 u.3 u.2 refl;
+          left = omega (arith, ap length e, length-append before (t ∷ behind), ap length u.2, one);
+          last = λ h. absurd (omega (arith, beyond tokens before behind t e, ap length u.2, one));
+        }
     go _ is d = cc
-  stop_first false s Literal stop = at_the_token Literal stop (unsigned_alone s)
-  stop_first false s why stop = at_the_token why stop (unsigned_alone s)
-  stop_first true s why stop = at_the_token why stop (literal_alone why stop (λ l. cc))
+  stop_first Literal false s stop = at_the_token Literal stop (unsigned_alone s)
+  stop_first why signed s stop = at_the_token why stop (literal_alone why stop (λ l. cc))
 
 -- how a statement's tokens are read
 pub ran_so : (schema : Schema) (tokens : List Lexeme) (r : Result Asked Halt) → statement_at schema tokens ≡ r →
@@ -503,4 +498,4 @@ first_fault schema tokens halt e = go e (ran_so schema tokens (Err halt) e) wher
   go e (ends last p) =
       record { place = length tokens; first = end_first schema tokens last p e; left = omega arith; last = λ h. refl }
   go e (stops before behind t last why g p stop) =
-      stop_first schema tokens before behind t last g p (after_sign false before) refl why stop
+      stop_first schema tokens before behind t last g p why (after_sign false before) refl stop
