@@ -186,8 +186,9 @@ module _ (schema : Schema) (met : Demand → Bool) where
         (n : ℕ) → n + depth ≡ deepest_nesting → after_keyword word.Is rest ≡ None →
         Outcome schema met (factor_in schema (nested schema n) tokens) (c, rest)
     factor_read (test (tested c t)) n h e = rw (primary_begins c) (test_read (tested c t) n h e)
-    factor_read (not_test {depth = depth} {tokens = tokens} m c) zero h e = excused (Depth (suc depth)) (suc (length tokens)) m (too_deep depth h) refl
-    factor_read (not_test {depth = depth} m c) (suc n) h e = let deeper : n + suc depth ≡ deepest_nesting = omega arith in and_then _ (test_read c n deeper e) (reads refl)
+    factor_read (not_test {depth = depth} {tokens = tokens} m c) zero h e =
+        excused (Depth (suc depth)) (suc (length tokens)) m (too_deep depth h) refl
+    factor_read (not_test m c) (suc n) h e = and_then _ (test_read c n (omega arith) e) (reads refl)
 
     test_read : {depth : ℕ} {tokens rest : List Lexeme} {c : CondTree} → TestIs columns met depth tokens rest c →
         (n : ℕ) → n + depth ≡ deepest_nesting → after_keyword word.Is rest ≡ None →
@@ -200,9 +201,9 @@ module _ (schema : Schema) (met : Demand → Bool) where
         PrimaryIs columns met depth tokens rest c → (n : ℕ) → n + depth ≡ deepest_nesting →
         Outcome schema met (primary_in schema (nested schema n) tokens) (c, rest)
     primary_read (predicate (compared x c)) n h = rw (operand_begins x).0 (and_then _ (operand_read x) (compared_read c))
-    primary_read (bracket {depth = depth} {tokens = tokens} m c) zero h = excused (Depth (suc depth)) (suc (length tokens)) m (too_deep depth h) refl
-    primary_read (bracket {depth = depth} m c) (suc n) h = let deeper : n + suc depth ≡ deepest_nesting = omega arith in
-        and_then _ (joined_read c n deeper ((refl, refl), refl)) (reads refl)
+    primary_read (bracket {depth = depth} {tokens = tokens} m c) zero h =
+        excused (Depth (suc depth)) (suc (length tokens)) m (too_deep depth h) refl
+    primary_read (bracket m c) (suc n) h = and_then _ (joined_read c n (omega arith) ((refl, refl), refl)) (reads refl)
 
   aggregated_read : (of : Aggregate) (text : List ℕ) (rest : List Lexeme) → met (IsColumn text) ≡ true →
       Outcome schema met (aggregated_at schema of (Name text ∷ rest)) (of_column of (column_number columns text), rest)
