@@ -122,10 +122,6 @@ err_is_memory schema text (Ok query) exact q s = tt
 err_is_memory schema text (Err fault) exact q s = bool_cases (is_memory fault) (λ m. m)
     (λ m. absurd (not_refused schema text q fault s (exact s.short m)))
 
-at_or_behind : (place at : ℕ) (P : Type 0) → ((place < at) ⊎ ((place ≡ at) × P)) → place ≤ at
-at_or_behind place at P (inl h) = omega arith
-at_or_behind place at P (inr h) = omega (arith, h.0)
-
 -- the first fault is one
 refusal_of : ℕ → Option Refusal
 refusal_of n = find (λ why. code_of why == n) (Syntax ∷ UnknownTable ∷ UnknownColumn ∷ Literal ∷ MixedItems ∷ Nesting ∷ [])
@@ -176,7 +172,10 @@ module _ (schema : Schema) (text : List ℕ) (tokens : List Spot) where
       (end_refused cut (subst (λ w. IsFirst schema (tokens_of tokens) w (length tokens)) p.1
       (subst (λ at. IsFirst schema (tokens_of tokens) why at) p.0 f)))
   refused_at (Some at) why place cut f last None e =
-      byte_refused cut (λ other p g. omega (arith, past tokens place e, at_or_behind _ _ _ (f.first other p g.stands)))
+      byte_refused cut (λ other p g. elim (f.first other p g.stands) [
+        | inl h ↦ omega (arith, past tokens place e)
+        | inr h ↦ omega (arith, past tokens place e, h.0)
+      ])
 
   -- where reading halts is the first fault
   halted_at : (stop : Option ℕ) (halt : Halt) → statement_at schema (tokens_of tokens) ≡ Err halt → (why : Refusal) (place : ℕ) →
