@@ -88,7 +88,8 @@ pub record Split (p : ℕ → Bool) (text front back : List ℕ) : Type 0 where
   pub front_is : front ≡ take_while p text
   pub cut : text ≡ front ++ back
 
-pub split : (p : ℕ → Bool) (n : ℕ) (text front back : List ℕ) → n ≡ prefix_len p text → front ≡ take n text → back ≡ drop n text → Split p text front back
+pub split : (p : ℕ → Bool) (n : ℕ) (text front back : List ℕ) → n ≡ prefix_len p text → front ≡ take n text →
+    back ≡ drop n text → Split p text front back
 split p n text front back is f b = record {
   front_is = f ∙ ap (λ k. take k text) is;
   cut = sym (take-append-drop n text) ∙ (rw (f, b) refl);
@@ -160,7 +161,8 @@ module _ (text : List ℕ) (c : ℕ) (rest : List ℕ) (e : text ≡ c ∷ rest)
   delimiter_at tail after (Token (Compare op)) g h = (Compare op, h)
   delimiter_at tail after (Token (Punct mark)) g h = (Punct mark, h)
 
-  delimiter_only : (other after : List ℕ) (any : Piece) → text ≡ other ++ after → IsPiece other any → (t : Lexeme) × IsDelimiter other t
+  delimiter_only : (other after : List ℕ) (any : Piece) → text ≡ other ++ after → IsPiece other any →
+      (t : Lexeme) × IsDelimiter other t
   delimiter_only [] after any g h = let none = piece_run [] any h in cc
   delimiter_only (x ∷ tail) after any g h =
       let f : c ∷ rest ≡ x ∷ (tail ++ after) = sym e ∙ g in
@@ -210,7 +212,8 @@ shrinks rest after piece longest =
     let some = some_front longest.front piece longest.is in
     omega (arith, ap length longest.cut, length-append longest.front after)
 
-pub spots_push : (xs ys : List Placed) (placed : Placed) (tokens : List Spot) → ys ≡ xs ++ placed ∷ [] → spots ys ++ tokens ≡ spots xs ++ spot placed ∷ tokens
+pub spots_push : (xs ys : List Placed) (placed : Placed) (tokens : List Spot) → ys ≡ xs ++ placed ∷ [] →
+    spots ys ++ tokens ≡ spots xs ++ spot placed ∷ tokens
 spots_push xs ys placed tokens e = rw (e, map-append, append_assoc) refl
 
 -- two fronts of a text that are as long are the same
@@ -276,7 +279,8 @@ moved : (at n m : ℕ) (after rest : List ℕ) (tokens : List Spot) (stop : Opti
 moved at n m after rest tokens stop e f cut = rw (e, f) at cut
 
 goes_on : {at : ℕ} {text : List ℕ} {tokens : List Spot} {stop : Option ℕ} → IsCut at text tokens stop → (rest : List ℕ) (p : Piece)
-    (a : IsLongest text rest p) → (others : List Spot) × IsCut (at + length a.front) rest others stop × (tokens ≡ pushed p at others)
+    (a : IsLongest text rest p) →
+    (others : List Spot) × IsCut (at + length a.front) rest others stop × (tokens ≡ pushed p at others)
 goes_on ended rest p a = absurd (omega (arith, shrinks [] rest p a))
 goes_on (stopped h none) rest p a = absurd (none a.front rest p a.cut a.is)
 goes_on (gap {at = at} {tokens = tokens} b more) rest p a =
@@ -331,7 +335,8 @@ begun c rest =
     bool_cases (begins_comment text) (λ e. a_thing _ Gap (comment_longest text c rest _ _ refl e (front_where is_in_comment text))) (λ n.
     by_delimiter b w d n (begins c rest)))))
   where
-    by_delimiter : is_blank c ≡ false → begins_word c ≡ false → is_ascii_digit c ≡ false → begins_comment (c ∷ rest) ≡ false → First IsDelimiter (c ∷ rest) → First IsPiece (c ∷ rest)
+    by_delimiter : is_blank c ≡ false → begins_word c ≡ false → is_ascii_digit c ≡ false →
+        begins_comment (c ∷ rest) ≡ false → First IsDelimiter (c ∷ rest) → First IsPiece (c ∷ rest)
     by_delimiter b w d n (nothing none) = nothing (no_piece (c ∷ rest) c rest refl b w d n none)
     by_delimiter b w d n (a_thing after t best) = a_thing after (Token t) (delimiter_longest (c ∷ rest) c rest refl b w d n after t best)
 

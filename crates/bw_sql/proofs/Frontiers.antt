@@ -298,35 +298,29 @@ path_push t (there d p) e = there d (path_push t p e)
 beyond : (tokens before behind : List Lexeme) (t : Lexeme) → tokens ≡ before ++ t ∷ behind → length before < length tokens
 beyond tokens before behind t e = omega (arith, ap length e, length-append before (t ∷ behind))
 
-equal : (a : ℕ) → (a == a) ≡ true
-equal a = grind (arith, nat_tests)
-
 module _ (schema : Schema) where
   -- what is refused under the demands of the refusal's number isn't spelled under them
   not_asked : (why : Refusal) (d : Demand) → refusal d ≡ why → is_met schema d ≡ false → asked_for schema why d ≡ true → ⊥
-  not_asked why d e u m = let f = rw (e, equal (code_of why), u) at m in cc
+  not_asked why d e u m =
+      let equal : (code_of why == code_of why) ≡ true = grind (arith, nat_tests) in let f = rw (e, equal, u) at m in cc
 
-  refused_unspelled : (halt : Halt) (tokens : List Lexeme) (q : Asked) → statement_at schema tokens ≡ Err halt →
+  refused_unspelled : (halt : Halt) (tokens : List Lexeme) (q : Asked) →
+      run schema false (AStatement ∷ []) tokens ≡ Err halt →
       StatementIs schema.columns.items (asked_for schema halt.why) tokens q → ⊥
   refused_unspelled halt tokens q e spelled = go (statement_read schema (asked_for schema halt.why) spelled) where
+    read : (r : Result Asked Halt) → statement_at schema tokens ≡ r → ◌≡◌ {A = Result (Unit {0}) Halt} (r >>= λ q. Ok tt) (Err halt)
+    read r f = sym (statement_runs schema tokens ∙ ap (λ r. r >>= λ q. Ok tt) f) ∙ e
+
     go : Outcome schema (asked_for schema halt.why) (statement_at schema tokens) q → ⊥
-    go (reads f) = let g : ◌≡◌ {A = Result Asked Halt} (Ok q) (Err halt) = sym f ∙ e in cc
+    go (reads f) = let g = read _ f in cc
     go (excused d left m u f) =
-        let g : ◌≡◌ {A = Result Asked Halt} (Err (record { why = refusal d; left = left })) (Err halt) = sym f ∙ e in
+        let g = read _ f in
         let same : record { why = refusal d; left = left } ≡ halt = cc in
         not_asked halt.why d (ap (λ (h : Halt). h.why) same) u m
 
-  -- the machine halts as reading does
-  reading_halts : (tokens : List Lexeme) (halt : Halt) → run schema false (AStatement ∷ []) tokens ≡ Err halt →
-      statement_at schema tokens ≡ Err halt
-  reading_halts tokens halt e = go (statement_at schema tokens) refl (sym (statement_runs schema tokens) ∙ e) where
-    go : (r : Result Asked Halt) → statement_at schema tokens ≡ r →
-        ◌≡◌ {A = Result (Unit {0}) Halt} (r >>= λ q. Ok tt) (Err halt) → statement_at schema tokens ≡ Err halt
-    go (Ok q) f e = cc
-    go (Err other) f e = cc
-
   -- what the machine has read begins a statement, under fewer demands too
-  begun : (other : Refusal) (front gap tokens : List Lexeme) (last : List Symbol) → Path (is_met schema) (AStatement ∷ []) tokens last →
+  begun : (other : Refusal) (front gap tokens : List Lexeme) (last : List Symbol) →
+      Path (is_met schema) (AStatement ∷ []) tokens last →
       tokens ≡ front ++ gap → Begins schema other front
   begun other front gap tokens last p e =
       let part = path_split schema (AStatement ∷ []) front gap last (subst (λ t. Path (is_met schema) (AStatement ∷ []) t last) e p) in
@@ -346,7 +340,8 @@ module _ (schema : Schema) (tokens : List Lexeme) (last : List Symbol) (p : Path
   end_first : statement_at schema tokens ≡ Err (record { why = Syntax; left = 0 }) → IsFirst schema tokens Syntax (length tokens)
   end_first e = record {
     stands = at_end (begun schema Syntax tokens [] tokens last p (sym (append-nil tokens)))
-        (λ q s. refused_unspelled schema (record { why = Syntax; left = 0 }) tokens q e s);
+        (λ q s. refused_unspelled schema (record { why = Syntax; left = 0 }) tokens q
+        (statement_runs schema tokens ∙ ap (λ r. r >>= λ q. Ok tt) e) s);
     first = λ other at s. let only = only_at_end other at s in inr (sym only.0, rw only.1 (omega arith));
   }
 
@@ -361,7 +356,7 @@ module _ (schema : Schema) (tokens before behind : List Lexeme) (t : Lexeme) (la
       let halt : Halt = record { why = why; left = left_at why (after_sign false before) (length v.more) } in
       let halts : run schema false (AStatement ∷ []) (before ++ t ∷ v.more) ≡ Err halt =
       run_path schema false p (t ∷ v.more) ∙ (rw stop refl) in
-      refused_unspelled schema halt all v.query (reading_halts schema all halt (rw (append_assoc before (t ∷ []) v.more) halts)) v.spelled
+      refused_unspelled schema halt all v.query (rw (append_assoc before (t ∷ []) v.more) halts) v.spelled
 
   passes : (other : Refusal) → code_of other < code_of why → Begins schema other (before ++ t ∷ [])
   passes other low =
@@ -398,7 +393,8 @@ module _ (schema : Schema) (tokens before behind : List Lexeme) (t : Lexeme) (la
         | later h ↦ behind_it h
       ]
     where
-      two : (gap : List Lexeme) → before ≡ (front ++ u ∷ []) ++ gap → Digits digits ∷ rest ≡ gap ++ t ∷ behind → Near Literal (length front)
+      two : (gap : List Lexeme) → before ≡ (front ++ u ∷ []) ++ gap → Digits digits ∷ rest ≡ gap ++ t ∷ behind →
+          Near Literal (length front)
       two [] g h = let is : t ≡ Digits digits = cc in
           astride front u digits s (g ∙ append-nil (front ++ u ∷ [])) is (refl {a = length front}) (refl {a = Literal})
       two (c ∷ gap) g h =
@@ -469,26 +465,23 @@ module _ (schema : Schema) (tokens before behind : List Lexeme) (t : Lexeme) (la
   unsigned_alone plain front u digits s f g =
       let both : true ≡ false = sym s ∙ sym (sign_last false front u) ∙ ap (after_sign false) (sym f) ∙ plain in cc
 
-  at_the_sign : after_sign false before ≡ true → step (is_met schema) last t ≡ Err Literal → (digits : List ℕ) → t ≡ Digits digits →
-      FirstFault schema tokens (record { why = Literal; left = suc (suc (length behind)) })
-  at_the_sign signed stop digits is =
-      let u = last_sign before signed in
-      record {
-        place = length u.0;
-        first = sign_first schema tokens before behind t last Literal e p stop digits is u.0 u.1 u.3 u.2 refl;
-        left = omega (arith, ap length e, length-append before (t ∷ behind), ap length u.2, length-append u.0 (u.1 ∷ []));
-        last = λ h. absurd (omega (arith, beyond tokens before behind t e, ap length u.2, length-append u.0 (u.1 ∷ [])));
-      }
-
-  stop_first : (signed : Bool) → after_sign false before ≡ signed → (why : Refusal) → step (is_met schema) last t ≡ Err why →
+  stop_first : (why : Refusal) (signed : Bool) → after_sign false before ≡ signed → step (is_met schema) last t ≡ Err why →
       FirstFault schema tokens (record { why = why; left = left_at why signed (length behind) })
-  stop_first true s Literal stop = go t refl ((step_refuses schema t Literal last stop).1 refl) where
-    go : (u : Lexeme) → t ≡ u → is_digits u ≡ true → FirstFault schema tokens (record { why = Literal; left = suc (suc (length behind)) })
-    go (Digits digits) is d = at_the_sign s stop digits is
+  stop_first Literal true s stop = go t refl ((step_refuses schema t Literal last stop).1 refl) where
+    go : (v : Lexeme) → t ≡ v → is_digits v ≡ true →
+        FirstFault schema tokens (record { why = Literal; left = suc (suc (length behind)) })
+    go (Digits digits) is d =
+        let u = last_sign before s in
+        let one = length-append u.0 (u.1 ∷ []) in
+        record {
+          place = length u.0;
+          first = sign_first schema tokens before behind t last Literal e p stop digits is u.0 u.1 u.3 u.2 refl;
+          left = omega (arith, ap length e, length-append before (t ∷ behind), ap length u.2, one);
+          last = λ h. absurd (omega (arith, beyond tokens before behind t e, ap length u.2, one));
+        }
     go _ is d = cc
-  stop_first false s Literal stop = at_the_token Literal stop (unsigned_alone s)
-  stop_first false s why stop = at_the_token why stop (unsigned_alone s)
-  stop_first true s why stop = at_the_token why stop (literal_alone why stop (λ l. cc))
+  stop_first Literal false s stop = at_the_token Literal stop (unsigned_alone s)
+  stop_first why signed s stop = at_the_token why stop (literal_alone why stop (λ l. cc))
 
 -- how a statement's tokens are read
 pub ran_so : (schema : Schema) (tokens : List Lexeme) (r : Result Asked Halt) → statement_at schema tokens ≡ r →
@@ -505,4 +498,4 @@ first_fault schema tokens halt e = go e (ran_so schema tokens (Err halt) e) wher
   go e (ends last p) =
       record { place = length tokens; first = end_first schema tokens last p e; left = omega arith; last = λ h. refl }
   go e (stops before behind t last why g p stop) =
-      stop_first schema tokens before behind t last g p (after_sign false before) refl why stop
+      stop_first schema tokens before behind t last g p why (after_sign false before) refl stop

@@ -29,7 +29,8 @@ use Rattle.bw_sql.proofs.Cases.{bool_cases, option_cases}
 use Rattle.bw_sql.proofs.Spellings.{mark_is, word_is}
 use Rattle.bw_sql.proofs.Machine.{Symbol, Choice, AWord, Opening, Closing, AnOperand, PredicateTail, RangeTail, CommaTail, APrimary, TestTail, PartTail, ItemList, AnItem, AnArgument, ATable, ASelection, AnEnd, AStatement, a_part, one_of, of_aggregate, in_brackets, operand_choice, primary_choice, decide, may_end, all_may_end, ask, chosen, step, proceed, run}
 
-assoc : {A B C : Type 0} (m : Result A Halt) (f : A → Result B Halt) (g : B → Result C Halt) → ((m >>= f) >>= g) ≡ (m >>= λ x. f x >>= g)
+assoc : {A B C : Type 0} (m : Result A Halt) (f : A → Result B Halt) (g : B → Result C Halt) →
+    ((m >>= f) >>= g) ≡ (m >>= λ x. f x >>= g)
 assoc (Ok x) f g = refl
 assoc (Err halt) f g = refl
 
@@ -178,7 +179,8 @@ module _ (schema : Schema) where
 
   operands_run : Runs schema (λ stack. AnOperand ∷ CommaTail None ∷ stack) (operands_at schema)
   operands_run stack tokens = operand_runs schema _ tokens
-      ∙ chain (operand_at schema tokens) _ _ _ (λ y e. tail_runs schema (CommaTail None) _ _ _ (comma_laws None _ (operand_runs schema)) (length y.1) stack y.1 (omega arith)
+      ∙ chain (operand_at schema tokens) _ _ _ (λ y e.
+      tail_runs schema (CommaTail None) _ _ _ (comma_laws None _ (operand_runs schema)) (length y.1) stack y.1 (omega arith)
       ∙ chain (repeated (length y.1) (after_mark mark.Comma) (operand_at schema) y.1) _ _ _ (λ ys f. refl))
 
   list_in_runs : (x : Operand) → Runs schema (λ stack. Opening ∷ AnOperand ∷ CommaTail None ∷ Closing ∷ stack)
@@ -242,19 +244,16 @@ module _ (schema : Schema) (n depth : ℕ) (level : LevelRuns schema depth (nest
   test_runs stack (t ∷ tokens) = primary_chosen [] (TestTail ∷ stack) (step (is_met schema) (TestTail ∷ stack) t) t tokens
       ∙ chain (primary_in schema (nested schema n) (t ∷ tokens)) _ _ _ (λ c e. test_tail schema c.0 stack c.1)
 
-  test_chosen : (stack : List Symbol) (passed : Result (List Symbol) Refusal) (t : Lexeme) (tokens : List Lexeme) →
-      proceed false (chosen (is_met schema) (primary_choice depth (TestTail ∷ []) t) stack passed) (length tokens)
-      (λ next. run schema (is_sign t) next tokens) ≡
-      (test_in schema (nested schema n) (t ∷ tokens) >>= λ c. run schema false stack c.1)
+  test_chosen : Chooses schema (λ behind. primary_choice depth (TestTail ∷ behind)) (test_in schema (nested schema n))
   unfolding test_in
-  test_chosen stack passed t tokens = primary_chosen (TestTail ∷ []) stack passed t tokens
-      ∙ chain (primary_in schema (nested schema n) (t ∷ tokens)) _ _ _ (λ c e. test_tail schema c.0 stack c.1)
+  test_chosen behind stack passed t tokens = primary_chosen (TestTail ∷ behind) stack passed t tokens
+      ∙ chain (primary_in schema (nested schema n) (t ∷ tokens)) _ _ _ (λ c e. test_tail schema c.0 (behind ++ stack) c.1)
 
   factor_runs : Runs schema (a_part connective.And depth) (part_in schema (nested schema n) connective.And)
   unfolding run step decide all_may_end may_end factor_in after_keyword part_in test_in primary_in after_mark predicate_at operand_at literal_at digits_at sign_at
   factor_runs stack [] = refl
   factor_runs stack (Reserved word.Not ∷ tokens) = level.negated_runs stack tokens
-  factor_runs stack (t ∷ tokens) = test_chosen stack (step (is_met schema) stack t) t tokens
+  factor_runs stack (t ∷ tokens) = test_chosen [] stack (step (is_met schema) stack t) t tokens
 
   abbrev PartLaws : Connective → Type 0
   PartLaws by = TailLaws schema (PartTail by depth) (a_part by depth) (after_keyword (word_of by)) (part_in schema (nested schema n) by)
@@ -304,8 +303,7 @@ level_runs schema zero depth e = record {
   negated_runs = λ stack next. rw (too_deep depth e) refl;
 }
 level_runs schema (suc n) depth e =
-    let less : n + suc depth ≡ deepest_nesting = omega arith in
-    let level = level_runs schema n (suc depth) less in
+    let level = level_runs schema n (suc depth) (omega arith) in
     record {
       enclosed_runs = λ behind stack next. rw (not_too_deep n depth e)
           (condition_runs schema n (suc depth) level (Closing ∷ behind ++ stack) next
@@ -333,11 +331,14 @@ module _ (schema : Schema) where
   table_runs stack (Name text ∷ tokens) = bool_cases (same_text schema.name text) (λ e. rw e refl) (λ e. rw e refl)
   table_runs stack _ = refl
 
+  by_column : {P : Type 0} (text : List ℕ) → (column_named schema.columns.items text ≡ None → P) →
+      ((n : ℕ) → column_named schema.columns.items text ≡ Some n → P) → P
+  by_column text = option_cases (column_named schema.columns.items text)
+
   argument_runs : (kind : Aggregate) → Runs schema (λ stack. AnArgument kind ∷ stack) (aggregated_at schema kind)
   unfolding run step decide all_may_end may_end meets aggregated_at after_mark column_at name_at
   argument_runs aggregate.Count stack (Punct mark.Star ∷ tokens) = refl
-  argument_runs kind stack (Name text ∷ tokens) =
-      option_cases (column_named schema.columns.items text) (λ e. rw e refl) (λ n e. rw e refl)
+  argument_runs kind stack (Name text ∷ tokens) = by_column text (λ e. rw e refl) (λ n e. rw e refl)
   argument_runs kind stack _ = refl
 
   aggregate_runs : (kind : Aggregate) → Runs schema (of_aggregate kind) (argument_at schema kind)
@@ -348,12 +349,10 @@ module _ (schema : Schema) where
 
   pub next_item_runs : (first : Bool) → Runs schema (λ stack. AnItem first ∷ stack) (next_item_at schema first)
   unfolding run step decide all_may_end may_end meets next_item_at of_one_kind item_at after_aggregate after_keyword column_at name_at
-  next_item_runs true stack (Name text ∷ tokens) =
-      option_cases (column_named schema.columns.items text) (λ e. rw e refl) (λ n e. rw e refl)
+  next_item_runs true stack (Name text ∷ tokens) = by_column text (λ e. rw e refl) (λ n e. rw e refl)
   next_item_runs true stack (Reserved word.Count ∷ tokens) = refl
   next_item_runs true stack _ = refl
-  next_item_runs false stack (Name text ∷ tokens) =
-      option_cases (column_named schema.columns.items text) (λ e. rw e refl) (λ n e. rw e refl)
+  next_item_runs false stack (Name text ∷ tokens) = by_column text (λ e. rw e refl) (λ n e. rw e refl)
   next_item_runs false stack (Reserved word.Count ∷ tokens) = aggregate_runs aggregate.Count stack tokens
   next_item_runs false stack (Reserved word.Sum ∷ tokens) = aggregate_runs aggregate.Sum stack tokens
   next_item_runs false stack (Reserved word.Min ∷ tokens) = aggregate_runs aggregate.Min stack tokens
@@ -362,7 +361,9 @@ module _ (schema : Schema) where
 
   more_items_run : (x : Item) (kind : Bool) → Runs schema (λ stack. CommaTail (Some kind) ∷ stack)
       (λ tokens. with_front (x ∷ []) (more_items schema kind tokens))
-  more_items_run x kind stack tokens = tail_runs schema (CommaTail (Some kind)) _ _ _ (comma_laws schema (Some kind) _ (next_item_runs kind)) (length tokens) stack tokens (omega arith)
+  more_items_run x kind stack tokens =
+      let laws = comma_laws schema (Some kind) _ (next_item_runs kind) in
+      tail_runs schema (CommaTail (Some kind)) _ _ _ laws (length tokens) stack tokens (omega arith)
       ∙ chain (more_items schema kind tokens) _ _ _ (λ xs e. refl)
 
   first_aggregate : (kind : Aggregate) → Runs schema (λ stack. of_aggregate kind (CommaTail (Some false) ∷ stack))
@@ -373,8 +374,7 @@ module _ (schema : Schema) where
   list_runs : Runs schema (λ stack. ItemList ∷ stack) (items_at schema)
   unfolding run step decide all_may_end may_end meets items_at after_mark item_at after_aggregate after_keyword column_at name_at
   list_runs stack (Punct mark.Star ∷ tokens) = refl
-  list_runs stack (Name text ∷ tokens) = option_cases (column_named schema.columns.items text) (λ e. rw e refl)
-      (λ n e. rw e (more_items_run (Plain n) true stack tokens))
+  list_runs stack (Name text ∷ tokens) = by_column text (λ e. rw e refl) (λ n e. rw e (more_items_run (Plain n) true stack tokens))
   list_runs stack (Reserved word.Count ∷ tokens) = first_aggregate aggregate.Count stack tokens
   list_runs stack (Reserved word.Sum ∷ tokens) = first_aggregate aggregate.Sum stack tokens
   list_runs stack (Reserved word.Min ∷ tokens) = first_aggregate aggregate.Min stack tokens
@@ -391,7 +391,8 @@ module _ (schema : Schema) where
       ∙ chain (keyword_at word.From tokens) _ _ _ (λ rest e. table_runs _ rest
       ∙ chain (table_at schema rest) _ _ _ (λ after f. selection_runs stack after))
 
-  pub statement_runs : (tokens : List Lexeme) → run schema false (AStatement ∷ []) tokens ≡ (statement_at schema tokens >>= λ q. Ok tt)
+  pub statement_runs : (tokens : List Lexeme) →
+      run schema false (AStatement ∷ []) tokens ≡ (statement_at schema tokens >>= λ q. Ok tt)
   unfolding run step decide all_may_end may_end statement_at keyword_at after_keyword
   statement_runs (Reserved word.Select ∷ tokens) = list_runs _ tokens
       ∙ chain (items_at schema tokens) _ _ _ (λ xs e. expression_runs (AnEnd ∷ []) xs.1

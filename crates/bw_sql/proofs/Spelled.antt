@@ -33,7 +33,8 @@ pub data Outcome (schema : Schema) (met : Demand → Bool) {A : Type 0} (reading
       reading ≡ Err (record { why = refusal demand; left = left }) → Outcome schema met reading x
 
 -- the number of digits that fit is the one that they spell
-pub fitting : (is_negative : Bool) (digits : List ℕ) (n : ℤ) → number_of is_negative digits ≡ Some n → n ≡ signed is_negative digits
+pub fitting : (is_negative : Bool) (digits : List ℕ) (n : ℤ) → number_of is_negative digits ≡ Some n →
+    n ≡ signed is_negative digits
 unfolding number_of
 fitting true digits n e =
     bool_cases (nat_le (digits_value digits) (2 ^ 63)) (λ b. let f = rw b at e in cc) (λ b. let f = rw b at e in cc)
@@ -94,7 +95,8 @@ module _ (schema : Schema) (met : Demand → Bool) where
       (λ e. excused (Fits is_negative digits) (length tokens) m (ap is_some e) (ap (λ o. wanted o Literal tokens) e))
       (λ n e. reads (ap (λ o. wanted o Literal tokens) e ∙ ap Ok (fitting is_negative digits n e)))
 
-  operand_read : {tokens rest : List Lexeme} {x : Operand} → OperandIs columns met tokens rest x → Outcome schema met (operand_at schema tokens) (x, rest)
+  operand_read : {tokens rest : List Lexeme} {x : Operand} → OperandIs columns met tokens rest x →
+      Outcome schema met (operand_at schema tokens) (x, rest)
   unfolding operand_at after_keyword after_mark column_at name_at literal_at sign_at digits_at
   operand_read null = reads refl
   operand_read (column m) = and_then _ (and_then _ (column_wanted _ _ m) (reads refl)) (reads refl)
@@ -114,7 +116,8 @@ module _ (schema : Schema) (met : Demand → Bool) where
   commas_read one reads_one takes (one_more x xs) (suc n) h e = and_from _ (reads_one _ _ _ x)
       (λ f. and_then _ (commas_read one reads_one takes xs n (omega (arith, takes _ _ _ f)) e) (reads refl))
 
-  range_read : {tokens rest : List Lexeme} {x : Operand} {c : CondTree} → RangeIs columns met x tokens rest c → Outcome schema met (range_or_list_at schema x tokens) (c, rest)
+  range_read : {tokens rest : List Lexeme} {x : Operand} {c : CondTree} → RangeIs columns met x tokens rest c →
+      Outcome schema met (range_or_list_at schema x tokens) (c, rest)
   unfolding range_or_list_at after_keyword after_mark keyword_at mark_at
   range_read (between y z) = and_then _ (operand_read y) (and_then _ (operand_read z) (reads refl))
   range_read (among {others = others} y ys) = and_then _ (and_then _ (operand_read y) (and_then _ (commas_read _ (λ tokens rest x p. operand_read p)
@@ -131,12 +134,14 @@ module _ (schema : Schema) (met : Demand → Bool) where
   compared_read is_not_null = reads refl
 
   -- an operand begins with no bracket and no NOT
-  operand_begins : {tokens rest : List Lexeme} {x : Operand} → OperandIs columns met tokens rest x → (after_mark mark.Open tokens ≡ None) × (after_keyword word.Not tokens ≡ None)
+  operand_begins : {tokens rest : List Lexeme} {x : Operand} → OperandIs columns met tokens rest x →
+      (after_mark mark.Open tokens ≡ None) × (after_keyword word.Not tokens ≡ None)
   unfolding after_mark after_keyword
   operand_begins null = (refl, refl)
   operand_begins _ = (refl, refl)
 
-  primary_begins : {depth : ℕ} {tokens rest : List Lexeme} {c : CondTree} → PrimaryIs columns met depth tokens rest c → after_keyword word.Not tokens ≡ None
+  primary_begins : {depth : ℕ} {tokens rest : List Lexeme} {c : CondTree} →
+      PrimaryIs columns met depth tokens rest c → after_keyword word.Not tokens ≡ None
   unfolding after_keyword
   primary_begins (predicate (compared x c)) = (operand_begins x).1
   primary_begins (bracket m c) = refl
@@ -177,24 +182,28 @@ module _ (schema : Schema) (met : Demand → Bool) where
     part_read (factor c) n h e = factor_read c n h e
     part_read (term c) n h e = joined_read c n h e
 
-    factor_read : {depth : ℕ} {tokens rest : List Lexeme} {c : CondTree} → FactorIs columns met depth tokens rest c → (n : ℕ) → n + depth ≡ deepest_nesting → after_keyword word.Is rest ≡ None →
+    factor_read : {depth : ℕ} {tokens rest : List Lexeme} {c : CondTree} → FactorIs columns met depth tokens rest c →
+        (n : ℕ) → n + depth ≡ deepest_nesting → after_keyword word.Is rest ≡ None →
         Outcome schema met (factor_in schema (nested schema n) tokens) (c, rest)
     factor_read (test (tested c t)) n h e = rw (primary_begins c) (test_read (tested c t) n h e)
-    factor_read (not_test {depth = depth} {tokens = tokens} m c) zero h e = excused (Depth (suc depth)) (suc (length tokens)) m (too_deep depth h) refl
-    factor_read (not_test {depth = depth} m c) (suc n) h e = let deeper : n + suc depth ≡ deepest_nesting = omega arith in and_then _ (test_read c n deeper e) (reads refl)
+    factor_read (not_test {depth = depth} {tokens = tokens} m c) zero h e =
+        excused (Depth (suc depth)) (suc (length tokens)) m (too_deep depth h) refl
+    factor_read (not_test m c) (suc n) h e = and_then _ (test_read c n (omega arith) e) (reads refl)
 
-    test_read : {depth : ℕ} {tokens rest : List Lexeme} {c : CondTree} → TestIs columns met depth tokens rest c → (n : ℕ) → n + depth ≡ deepest_nesting → after_keyword word.Is rest ≡ None →
+    test_read : {depth : ℕ} {tokens rest : List Lexeme} {c : CondTree} → TestIs columns met depth tokens rest c →
+        (n : ℕ) → n + depth ≡ deepest_nesting → after_keyword word.Is rest ≡ None →
         Outcome schema met (test_in schema (nested schema n) tokens) (c, rest)
     test_read (tested c untested) n h e = and_then _ (primary_read c n h) (rw e (reads refl))
     test_read (tested c (is t)) n h e = and_then _ (primary_read c n h) (rw ((truth_read t).1, (truth_read t).0) (reads refl))
     test_read (tested c (is_not t)) n h e = and_then _ (primary_read c n h) (rw (truth_read t).0 (reads refl))
 
-    primary_read : {depth : ℕ} {tokens rest : List Lexeme} {c : CondTree} → PrimaryIs columns met depth tokens rest c → (n : ℕ) → n + depth ≡ deepest_nesting →
+    primary_read : {depth : ℕ} {tokens rest : List Lexeme} {c : CondTree} →
+        PrimaryIs columns met depth tokens rest c → (n : ℕ) → n + depth ≡ deepest_nesting →
         Outcome schema met (primary_in schema (nested schema n) tokens) (c, rest)
     primary_read (predicate (compared x c)) n h = rw (operand_begins x).0 (and_then _ (operand_read x) (compared_read c))
-    primary_read (bracket {depth = depth} {tokens = tokens} m c) zero h = excused (Depth (suc depth)) (suc (length tokens)) m (too_deep depth h) refl
-    primary_read (bracket {depth = depth} m c) (suc n) h = let deeper : n + suc depth ≡ deepest_nesting = omega arith in
-        and_then _ (joined_read c n deeper ((refl, refl), refl)) (reads refl)
+    primary_read (bracket {depth = depth} {tokens = tokens} m c) zero h =
+        excused (Depth (suc depth)) (suc (length tokens)) m (too_deep depth h) refl
+    primary_read (bracket m c) (suc n) h = and_then _ (joined_read c n (omega arith) ((refl, refl), refl)) (reads refl)
 
   aggregated_read : (of : Aggregate) (text : List ℕ) (rest : List Lexeme) → met (IsColumn text) ≡ true →
       Outcome schema met (aggregated_at schema of (Name text ∷ rest)) (of_column of (column_number columns text), rest)
@@ -202,13 +211,16 @@ module _ (schema : Schema) (met : Demand → Bool) where
   aggregated_read kind.Count text rest m = and_then _ (and_then _ (column_wanted _ _ m) (reads refl)) (reads refl)
   aggregated_read _ text rest m = and_then _ (and_then _ (column_wanted _ _ m) (reads refl)) (reads refl)
 
-  item_read : {kind : Bool} {tokens rest : List Lexeme} {item : Item} → ItemIs columns met kind tokens rest item → Outcome schema met (item_at schema tokens) (item, rest)
+  item_read : {kind : Bool} {tokens rest : List Lexeme} {item : Item} → ItemIs columns met kind tokens rest item →
+      Outcome schema met (item_at schema tokens) (item, rest)
   unfolding item_at column_at name_at after_aggregate aggregated_at after_keyword after_mark mark_at
   item_read (plain m) = and_then _ (and_then _ (column_wanted _ _ m) (reads refl)) (reads refl)
   item_read count_all = reads refl
   item_read (aggregate of m) = rw (aggregate_comes of _) (and_then _ (aggregated_read of _ _ m) (reads refl))
 
-  kind_read : {kind : Bool} {tokens rest : List Lexeme} {item : Item} (first : Bool) → met (OfOneKind first kind) ≡ true → ItemIs columns met kind tokens rest item → Outcome schema met (of_one_kind schema first tokens) tt
+  kind_read : {kind : Bool} {tokens rest : List Lexeme} {item : Item} (first : Bool) →
+      met (OfOneKind first kind) ≡ true → ItemIs columns met kind tokens rest item →
+      Outcome schema met (of_one_kind schema first tokens) tt
   unfolding of_one_kind column_at name_at after_aggregate after_keyword meets
   kind_read true m (plain p) = reads refl
   kind_read true m count_all = excused (OfOneKind true false) _ m refl refl
@@ -222,12 +234,14 @@ module _ (schema : Schema) (met : Demand → Bool) where
   unfolding next_item_at
   next_read first tokens rest x (next_item m p) = and_then _ (kind_read first m p) (item_read p)
 
-  item_begins : {kind : Bool} {tokens rest : List Lexeme} {item : Item} → ItemIs columns met kind tokens rest item → (after_mark mark.Star tokens ≡ None) × (begins_with_name tokens ≡ kind)
+  item_begins : {kind : Bool} {tokens rest : List Lexeme} {item : Item} → ItemIs columns met kind tokens rest item →
+      (after_mark mark.Star tokens ≡ None) × (begins_with_name tokens ≡ kind)
   unfolding after_mark
   item_begins (plain m) = (refl, refl)
   item_begins _ = (refl, refl)
 
-  list_read : {tokens rest : List Lexeme} {xs : List Item} → ItemsAre columns met tokens rest xs → after_mark mark.Comma rest ≡ None → Outcome schema met (items_at schema tokens) (xs, rest)
+  list_read : {tokens rest : List Lexeme} {xs : List Item} → ItemsAre columns met tokens rest xs →
+      after_mark mark.Comma rest ≡ None → Outcome schema met (items_at schema tokens) (xs, rest)
   unfolding items_at after_mark
   list_read star e = reads refl
   list_read (items {first = first} {others = others} x xs) e = rw ((item_begins x).0, (item_begins x).1) (and_then _ (item_read x)
@@ -239,17 +253,20 @@ module _ (schema : Schema) (met : Demand → Bool) where
   end_read bare = (refl, refl, ((refl, refl), refl))
   end_read _ = (refl, refl, ((refl, refl), refl))
 
-  selection_read : {tokens last : List Lexeme} {c : CondTree} → SelectionIs columns met tokens last c → EndIs last → Outcome schema met (selection_at schema tokens) (c, last)
+  selection_read : {tokens last : List Lexeme} {c : CondTree} → SelectionIs columns met tokens last c → EndIs last →
+      Outcome schema met (selection_at schema tokens) (c, last)
   unfolding selection_at after_keyword condition_in joined_in part_in
   selection_read all_rows e = rw (end_read e).1 (reads refl)
   selection_read (rows_where c) e = joined_read c deepest_nesting refl (end_read e).2
 
-  table_read : {table : List ℕ} {rest : List Lexeme} → met (IsTable table) ≡ true → Outcome schema met (table_at schema (Name table ∷ rest)) rest
+  table_read : {table : List ℕ} {rest : List Lexeme} → met (IsTable table) ≡ true →
+      Outcome schema met (table_at schema (Name table ∷ rest)) rest
   unfolding table_at name_at meets
   table_read {table = table} {rest = rest} m = bool_cases (same_text schema.name table) (λ e. rw e (reads refl))
       (λ e. excused (IsTable table) (suc (length rest)) m e (rw e refl))
 
-  pub statement_read : {tokens : List Lexeme} {q : Asked} → StatementIs columns met tokens q → Outcome schema met (statement_at schema tokens) q
+  pub statement_read : {tokens : List Lexeme} {q : Asked} → StatementIs columns met tokens q →
+      Outcome schema met (statement_at schema tokens) q
   unfolding statement_at table_expression_at keyword_at after_keyword after_mark
   statement_read (statement xs m c e) =
       and_then _ (list_read xs refl) (and_then _ (and_then _ (table_read m) (selection_read c e)) (rw (end_read e).0 (reads refl)))

@@ -118,7 +118,8 @@ at_most_two : (t : Lexeme) (bytes : List ℕ) → IsDelimiter bytes t → length
 at_most_two t (c ∷ d ∷ x ∷ more) h = let f = (known t (c ∷ d ∷ x ∷ more) h).is in cc
 at_most_two t _ h = omega arith
 
-pub long_longest : (text : List ℕ) (c : ℕ) (rest : List ℕ) (d : ℕ) (after : List ℕ) (t : Lexeme) → text ≡ c ∷ rest → rest ≡ d ∷ after →
+pub long_longest : (text : List ℕ) (c : ℕ) (rest : List ℕ) (d : ℕ) (after : List ℕ) (t : Lexeme) → text ≡ c ∷ rest →
+    rest ≡ d ∷ after →
     IsDelimiter (c ∷ d ∷ []) t → IsLongestDelimiter text after t
 long_longest text c rest d after t e f h = record {
   front = c ∷ d ∷ [];
@@ -127,7 +128,8 @@ long_longest text c rest d after t e f h = record {
   longest = λ other rest' any g is. at_most_two any other is;
 }
 
-at_most_one : (c : ℕ) (rest : List ℕ) → NoLong c rest → (other after : List ℕ) (any : Lexeme) → c ∷ rest ≡ other ++ after → IsDelimiter other any →
+at_most_one : (c : ℕ) (rest : List ℕ) → NoLong c rest → (other after : List ℕ) (any : Lexeme) →
+    c ∷ rest ≡ other ++ after → IsDelimiter other any →
     length other ≤ 1
 at_most_one c rest none (x ∷ d ∷ []) after any g is =
     let same : x ≡ c = cc in
@@ -136,7 +138,8 @@ at_most_one c rest none (x ∷ d ∷ []) after any g is =
 at_most_one c rest none (x ∷ d ∷ y ∷ more) after any g is = let f = (known any (x ∷ d ∷ y ∷ more) is).is in cc
 at_most_one c rest none _ after any g is = omega arith
 
-pub short_longest : (text : List ℕ) (c : ℕ) (rest : List ℕ) (t : Lexeme) → text ≡ c ∷ rest → NoLong c rest → IsDelimiter (c ∷ []) t →
+pub short_longest : (text : List ℕ) (c : ℕ) (rest : List ℕ) (t : Lexeme) → text ≡ c ∷ rest → NoLong c rest →
+    IsDelimiter (c ∷ []) t →
     IsLongestDelimiter text rest t
 short_longest text c rest t e none h = record {
   front = c ∷ [];
@@ -145,7 +148,8 @@ short_longest text c rest t e none h = record {
   longest = λ other after any g is. at_most_one c rest none other after any (sym e ∙ g) is;
 }
 
-pub none_begins : (c : ℕ) (rest : List ℕ) → NoLong c rest → ((t : Lexeme) → IsDelimiter (c ∷ []) t → ⊥) → BeginsNoDelimiter (c ∷ rest)
+pub none_begins : (c : ℕ) (rest : List ℕ) → NoLong c rest → ((t : Lexeme) → IsDelimiter (c ∷ []) t → ⊥) →
+    BeginsNoDelimiter (c ∷ rest)
 none_begins c rest none short [] after t g is = let f = (known t [] is).is in cc
 none_begins c rest none short (x ∷ []) after t g is = let same : x ≡ c = cc in short t (subst (λ y. IsDelimiter (y ∷ []) t) same is)
 none_begins c rest none short (x ∷ d ∷ more) after t g is =

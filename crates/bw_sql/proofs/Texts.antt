@@ -122,10 +122,6 @@ err_is_memory schema text (Ok query) exact q s = tt
 err_is_memory schema text (Err fault) exact q s = bool_cases (is_memory fault) (λ m. m)
     (λ m. absurd (not_refused schema text q fault s (exact s.short m)))
 
-at_or_behind : (place at : ℕ) (P : Type 0) → ((place < at) ⊎ ((place ≡ at) × P)) → place ≤ at
-at_or_behind place at P (inl h) = omega arith
-at_or_behind place at P (inr h) = omega (arith, h.0)
-
 -- the first fault is one
 refusal_of : ℕ → Option Refusal
 refusal_of n = find (λ why. code_of why == n) (Syntax ∷ UnknownTable ∷ UnknownColumn ∷ Literal ∷ MixedItems ∷ Nesting ∷ [])
@@ -138,7 +134,8 @@ refusal_of_code _ = refl
 first_same : (schema : Schema) (tokens : List Lexeme) (why other : Refusal) (place at : ℕ) → IsFirst schema tokens why place →
     IsFirst schema tokens other at → (why ≡ other) × (place ≡ at)
 first_same schema tokens why other place at f g = same (f.first other at g.stands) (g.first why place f.stands) where
-  same : ((place < at) ⊎ ((place ≡ at) × (code_of why ≤ code_of other))) → ((at < place) ⊎ ((at ≡ place) × (code_of other ≤ code_of why))) →
+  same : ((place < at) ⊎ ((place ≡ at) × (code_of why ≤ code_of other))) →
+      ((at < place) ⊎ ((at ≡ place) × (code_of other ≤ code_of why))) →
       (why ≡ other) × (place ≡ at)
   same (inl h) (inl g) = absurd (omega arith)
   same (inl h) (inr g) = absurd (omega (arith, g.0))
@@ -164,7 +161,8 @@ module _ (schema : Schema) (text : List ℕ) (tokens : List Spot) where
       (only_at_end schema (tokens_of tokens) p.0 p.1 why place stands).2 asked.0 asked.1
 
   -- a refusal, by its place among the tokens and behind them
-  refused_at : (stop : Option ℕ) (why : Refusal) (place : ℕ) → IsCut 0 text tokens stop → IsFirst schema (tokens_of tokens) why place →
+  refused_at : (stop : Option ℕ) (why : Refusal) (place : ℕ) → IsCut 0 text tokens stop →
+      IsFirst schema (tokens_of tokens) why place →
       (length tokens ≤ place → (place ≡ length tokens) × (why ≡ Syntax)) → (found : Option Spot) → slice_get tokens place ≡ found →
       IsRefusal schema text (fault_at found stop (length text) why)
   refused_at stop why place cut f last (Some spot) e = token_refused cut f e
@@ -174,7 +172,10 @@ module _ (schema : Schema) (text : List ℕ) (tokens : List Spot) where
       (end_refused cut (subst (λ w. IsFirst schema (tokens_of tokens) w (length tokens)) p.1
       (subst (λ at. IsFirst schema (tokens_of tokens) why at) p.0 f)))
   refused_at (Some at) why place cut f last None e =
-      byte_refused cut (λ other p g. omega (arith, past tokens place e, at_or_behind _ _ _ (f.first other p g.stands)))
+      byte_refused cut (λ other p g. elim (f.first other p g.stands) [
+        | inl h ↦ omega (arith, past tokens place e)
+        | inr h ↦ omega (arith, past tokens place e, h.0)
+      ])
 
   -- where reading halts is the first fault
   halted_at : (stop : Option ℕ) (halt : Halt) → statement_at schema (tokens_of tokens) ≡ Err halt → (why : Refusal) (place : ℕ) →
@@ -200,7 +201,8 @@ module _ (schema : Schema) (text : List ℕ) (tokens : List Spot) where
       let same : fault ≡ fault_at (slice_get tokens g.place) stop (length text) halt.why = cc in
       rw same (refused_at stop halt.why g.place cut g.first (last g) (slice_get tokens g.place) refl)
     where
-      last : (g : FirstFault schema (tokens_of tokens) halt) → length tokens ≤ g.place → (g.place ≡ length tokens) × (halt.why ≡ Syntax)
+      last : (g : FirstFault schema (tokens_of tokens) halt) → length tokens ≤ g.place →
+          (g.place ≡ length tokens) × (halt.why ≡ Syntax)
       last g h =
           let same = length-map tokens (λ spot. spot.token) in
           (omega (arith, h, g.left, same), g.last (omega (arith, h, same)))

@@ -65,7 +65,8 @@ kind_is schema true kind m = m
 kind_is schema false true m = cc
 kind_is schema false false m = refl
 
-named_within : (columns : List Column) (text : List ℕ) (i : ℕ) → column_named columns text ≡ Some i → nat_lt i (length columns) ≡ true
+named_within : (columns : List Column) (text : List ℕ) (i : ℕ) → column_named columns text ≡ Some i →
+    nat_lt i (length columns) ≡ true
 unfolding column_named
 named_within [] text i e = cc
 named_within (c ∷ cs) text i e = lt-ltb i (length (c ∷ cs)) (position-Some (λ (column : Column). same_text column.name text) (c ∷ cs) i c e).0
@@ -93,7 +94,8 @@ module _ (schema : Schema) where
   operand_within (column m) = column_within _ m
   operand_within _ = refl
 
-  range_good : {tokens rest : List Lexeme} {x : Operand} {c : CondTree} → is_within n x ≡ true → RangeIs cs (is_met schema) x tokens rest c → Good n c
+  range_good : {tokens rest : List Lexeme} {x : Operand} {c : CondTree} → is_within n x ≡ true →
+      RangeIs cs (is_met schema) x tokens rest c → Good n c
   range_good h (between y z) = (rw (h, operand_within y, operand_within z) refl, refl)
   range_good h (among y ys) = (rw (h, operand_within y, commas_all (is_within n) (λ tokens rest x p. operand_within p) ys) refl, le-leb 1 _ (omega arith))
 
@@ -120,7 +122,8 @@ module _ (schema : Schema) where
     part_good (factor p) = factor_good p
     part_good (term p) = parts_good p
 
-    factor_good : {depth : ℕ} {tokens rest : List Lexeme} {c : CondTree} → FactorIs cs (is_met schema) depth tokens rest c → Good n c
+    factor_good : {depth : ℕ} {tokens rest : List Lexeme} {c : CondTree} →
+        FactorIs cs (is_met schema) depth tokens rest c → Good n c
     factor_good (test p) = test_good p
     factor_good (not_test m p) = test_good p
 
@@ -129,7 +132,8 @@ module _ (schema : Schema) where
     test_good (tested p (is t)) = primary_good p
     test_good (tested p (is_not t)) = primary_good p
 
-    primary_good : {depth : ℕ} {tokens rest : List Lexeme} {c : CondTree} → PrimaryIs cs (is_met schema) depth tokens rest c → Good n c
+    primary_good : {depth : ℕ} {tokens rest : List Lexeme} {c : CondTree} →
+        PrimaryIs cs (is_met schema) depth tokens rest c → Good n c
     primary_good (predicate (compared x p)) = compared_good (operand_within x) p
     primary_good (bracket m p) = parts_good p
 
@@ -137,7 +141,8 @@ module _ (schema : Schema) where
   selection_good all_rows = (refl, refl)
   selection_good (rows_where p) = parts_good p
 
-  item_good : {kind : Bool} {tokens rest : List Lexeme} {item : Item} → ItemIs cs (is_met schema) kind tokens rest item → (item_within n item ≡ true) × (is_of_kind kind item ≡ true)
+  item_good : {kind : Bool} {tokens rest : List Lexeme} {item : Item} →
+      ItemIs cs (is_met schema) kind tokens rest item → (item_within n item ≡ true) × (is_of_kind kind item ≡ true)
   item_good (plain m) = (column_within _ m, refl)
   item_good count_all = (refl, refl)
   item_good (aggregate kind.Count m) = (column_within _ m, refl)
@@ -167,7 +172,8 @@ pub record GoodQuery (columns : ℕ) (query : Asked) : Type 0 where
   pub some : 1 ≤ length query.items
   pub kinds : AreOfOneKind query.items
 
-pub query_good : (schema : Schema) (tokens : List Lexeme) (query : Asked) → IsQuery schema tokens query → GoodQuery (vec_len schema.columns) query
+pub query_good : (schema : Schema) (tokens : List Lexeme) (query : Asked) → IsQuery schema tokens query →
+    GoodQuery (vec_len schema.columns) query
 query_good schema tokens query (statement list m selection end) =
     let xs = items_good schema list in
     let c = selection_good schema selection in

@@ -38,7 +38,8 @@ decreases-condition l = 16 * l.levels + 9
 abbrev pub invariant-more_parts-loop-next : goal.invariant-more_parts-loop-next
 invariant-more_parts-loop-next l = record {
   shorter : length l.left.tokens.now ≤ length l.tokens;
-  read : Repeats (after_keyword (word_of l.connective)) (part_in l.schema (nested l.schema l.levels) l.connective) (map tree_of l.parts.items) (length l.left.tokens.now) (lexemes l.left.tokens.now)
+  read : Repeats (after_keyword (word_of l.connective)) (part_in l.schema (nested l.schema l.levels) l.connective)
+      (map tree_of l.parts.items) (length l.left.tokens.now) (lexemes l.left.tokens.now)
       (with_front (map tree_of l.initial.parts.items) (more_parts_in l.schema (nested l.schema l.levels) l.connective (lexemes l.tokens)));
 }
 

@@ -4,7 +4,11 @@ use Rattle.bw_sql.proofs.Cuts.{blank_longest, word_longest, digits_longest, comm
 use Rattle.bw_sql.proofs.lexer.first_piece.Goals as goal
 
 pub returns-in_err-token : goal.returns-in_err-token
-returns-in_err-token c = rw c.from_residual-in_err-token.ensures (no_piece _ _ _ c.in_ok-first.ensures.cases.0 (sym c.is_blank.ensures ∙ c.if-is_blank.false) (sym c.begins_word.ensures ∙ c.if-begins_word.false) (sym c.is_ascii_digit.ensures.value ∙ c.if-is_ascii_digit.false) (sym c.begins_comment.ensures ∙ c.if-begins_comment.false) c.in_err-token.ensures)
+returns-in_err-token c =
+    rw c.from_residual-in_err-token.ensures (no_piece _ _ _ c.in_ok-first.ensures.cases.0
+    (sym c.is_blank.ensures ∙ c.if-is_blank.false) (sym c.begins_word.ensures ∙ c.if-begins_word.false)
+    (sym c.is_ascii_digit.ensures.value ∙ c.if-is_ascii_digit.false) (sym c.begins_comment.ensures ∙ c.if-begins_comment.false)
+    c.in_err-token.ensures)
 
 pub returns-then-is_blank : goal.returns-then-is_blank
 returns-then-is_blank c = blank_longest _ _ _ c.in_ok-first.ensures.cases.0 (sym c.is_blank.ensures ∙ c.if-is_blank.true)
@@ -27,4 +31,8 @@ returns-then-begins_comment c =
     (split _ _ _ _ _ c.comment_len.ensures.is s.front s.back)
 
 pub returns-in_ok-token : goal.returns-in_ok-token
-returns-in_ok-token c = delimiter_longest _ _ _ c.in_ok-first.ensures.cases.0 (sym c.is_blank.ensures ∙ c.if-is_blank.false) (sym c.begins_word.ensures ∙ c.if-begins_word.false) (sym c.is_ascii_digit.ensures.value ∙ c.if-is_ascii_digit.false) (sym c.begins_comment.ensures ∙ c.if-begins_comment.false) _ _ c.in_ok-token.ensures
+returns-in_ok-token c =
+    delimiter_longest _ _ _ c.in_ok-first.ensures.cases.0
+    (sym c.is_blank.ensures ∙ c.if-is_blank.false) (sym c.begins_word.ensures ∙ c.if-begins_word.false)
+    (sym c.is_ascii_digit.ensures.value ∙ c.if-is_ascii_digit.false) (sym c.begins_comment.ensures ∙ c.if-begins_comment.false)
+    _ _ c.in_ok-token.ensures

@@ -6,7 +6,8 @@ use Rattle.bw_sql.proofs.lexer.lex.Given as goal
 abbrev pub invariant-loop-rest : goal.invariant-loop-rest
 invariant-loop-rest l = record {
   shorter : length l.rest ≤ length l.text;
-  so_far : (tokens : List Spot) (stop : Option ℕ) → IsCut (length l.text - length l.rest) l.rest tokens stop → IsCut 0 l.text (spots l.tokens.items ++ tokens) stop;
+  so_far : (tokens : List Spot) (stop : Option ℕ) → IsCut (length l.text - length l.rest) l.rest tokens stop →
+      IsCut 0 l.text (spots l.tokens.items ++ tokens) stop;
 }
 
 abbrev pub decreases-loop-rest : goal.decreases-loop-rest
