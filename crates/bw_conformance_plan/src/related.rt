@@ -1,5 +1,5 @@
 //! Comparisons of columns with one another: skips, where no row has the two equal so far.
-use crate::proposals::{Numbers, cost_of, judged, rows_of};
+use crate::rows::{Numbers, cost_of, judged, rows_of};
 use bw_model::{Row, Schema, code};
 use std::alloc::Global;
 use std::process::Abort;

@@ -6,7 +6,7 @@ use Rattle.bw_model.specs.declared.row.Row.{Row}
 use Rattle.bw_model.specs.Column.{admits_values}
 use Rattle.bw_model.specs.Groups.{group_size}
 use Rattle.bw_model.specs.Row.{values_of}
-use Rattle.bw_conformance_cert.proofs.proposals.assert_group.Goals as goal
+use Rattle.bw_conformance_plan.proofs.rows.assert_group.Goals as goal
 
 pub returns : goal.returns
 unfolding group_size

@@ -1,5 +1,5 @@
 //! Lists of numbers: what fits into a program, and the rows that it picks.
-use crate::proposals::{Numbers, cost_of, judged, rows_of};
+use crate::rows::{Numbers, cost_of, judged, rows_of};
 use bw_model::{Row, Schema, code};
 use std::alloc::Global;
 use std::process::Abort;

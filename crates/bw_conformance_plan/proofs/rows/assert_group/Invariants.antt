@@ -2,7 +2,7 @@ use Rattle.std.proofs.Common.{◌≡◌, true, take}
 use Rattle.std.specs.List.{list_all}
 use Rattle.bw_model.specs.Column.{admits_values}
 use Rattle.bw_model.specs.Row.{values_of}
-use Rattle.bw_conformance_cert.proofs.proposals.assert_group.Given as goal
+use Rattle.bw_conformance_plan.proofs.rows.assert_group.Given as goal
 
 -- the rows so far are admitted
 abbrev pub invariant-loop-row : goal.invariant-loop-row

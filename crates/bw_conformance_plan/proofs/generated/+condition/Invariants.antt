@@ -1,4 +1,4 @@
-use Rattle.bw_conformance_cert.proofs.generated.+condition.Given as goal
+use Rattle.bw_conformance_plan.proofs.generated.+condition.Given as goal
 
 abbrev pub decreases-condition : goal.decreases-condition
 decreases-condition l = l.depth

@@ -1,5 +1,5 @@
 //! Conditions of every kind, made up by a source of numbers.
-use crate::proposals::{Numbers, cost_of, rows_of};
+use crate::rows::{Numbers, cost_of, rows_of};
 use bw_model::Schema;
 use std::alloc::{AllocError, Global};
 use std::process::Abort;
