@@ -50,7 +50,12 @@ fn put_all(column: &Column, codes: &[u64; LANES], values: &mut [Value; LANES])
 }
 
 /// The same in the lanes where a byte in `nulls` is 0, and null in the others.
-fn put_values(column: &Column, codes: &[u64; LANES], nulls: &[u8; LANES], values: &mut [Value; LANES])
+fn put_values(
+    column: &Column,
+    codes: &[u64; LANES],
+    nulls: &[u8; LANES],
+    values: &mut [Value; LANES],
+)
     requires { All (λ code. code ≤ span_of column.now) codes.now }
     ensures { (lane : ℕ) → lane < 512 → slice_index_or values.new lane None
         ≡ (if slice_index nulls.now lane == 0
