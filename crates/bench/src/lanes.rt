@@ -9,7 +9,7 @@ use crate::failure::Failure;
 use bw_lanes::{Plane, bytes_bit, bytes_eq, bytes_lt};
 use bw_model::{Row, Schema};
 use bw_planes::{PlaneSegment, Planes};
-use bw_segment::{Segment, Shape, is_group};
+use bw_segment::{Layout, PackedSegment, Segment, Shape, is_group};
 use bw_slices::{SliceSegment, Slices};
 use std::alloc::Global;
 use std::rc::Rc;
@@ -100,30 +100,32 @@ fn time_segments<R: Print + Eprint + Clock>(
     alloc: Global,
     calls: u32,
 ) -> Result<(), Failure> {
+    time_builds::<R, Planes>(rt, alloc, calls, "build planes")?;
+    time_builds::<R, Slices>(rt, alloc, calls, "build slices")
+}
+
+/// Times the building of a segment in a layout.
+fn time_builds<R: Print + Eprint + Clock, L: Layout>(
+    rt: &R,
+    alloc: Global,
+    calls: u32,
+    name: &str,
+) -> Result<(), Failure> {
     let schema = Schema::parse(alloc, SCHEMA)?;
     let rows = rows_of(alloc)?;
-    let planes = Rc::new(alloc, Shape::of::<Planes>(alloc, &schema)?)?;
-    let slices = Rc::new(alloc, Shape::of::<Slices>(alloc, &schema)?)?;
-    if !is_group(&planes.schema, &rows) || !is_group(&slices.schema, &rows) {
+    let shape = Rc::new(alloc, Shape::of::<L>(alloc, &schema)?)?;
+    if !is_group(&shape.schema, &rows) {
         return Err(Failure::Rows);
     }
-    let start = Instant::now(rt)?;
-    let mut seen = 0;
     let builds = calls / 64;
-    for call in 0..builds {
-        if let Ok(segment) = PlaneSegment::build_shared(alloc, &planes, &rows) {
-            seen ^= byte_of(segment.bytes(), call);
-        }
-    }
-    tell(rt, "build planes", builds, start, seen)?;
-    seen = 0;
+    let mut seen = 0;
     let start = Instant::now(rt)?;
     for call in 0..builds {
-        if let Ok(segment) = SliceSegment::build_shared(alloc, &slices, &rows) {
+        if let Ok(segment) = PackedSegment::<L>::build_shared(alloc, &shape, &rows) {
             seen ^= byte_of(segment.bytes(), call);
         }
     }
-    tell(rt, "build slices", builds, start, seen)
+    tell(rt, name, builds, start, seen)
 }
 
 /// Four columns whose blocks are judged: 8 bits, 5 bits that may be null, 20 bits, and 32 bits that may be null.
