@@ -18,8 +18,8 @@ pub(crate) const PLANES: u32 = 8;
 pub(crate) struct Case {
     pub(crate) segment: PlaneSegment,
     pub(crate) program: Program,
-    pub(crate) ghost fits: { IsTrue (fits segment.shape.value.schema.columns.items program) },
-    pub(crate) ghost planes: { width_at segment.shape.value.schema.columns.items 0 ≡ 8 },
+    pub(crate) ghost fits: { IsTrue (fits segment.placement.value.schema.columns.items program) },
+    pub(crate) ghost planes: { width_at segment.placement.value.schema.columns.items 0 ≡ 8 },
 }
 
 impl Case {

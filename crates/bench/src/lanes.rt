@@ -9,7 +9,7 @@ use crate::failure::Failure;
 use bw_lanes::{Plane, bytes_bit, bytes_eq, bytes_lt};
 use bw_model::{Row, Schema};
 use bw_planes::{PlaneSegment, Planes};
-use bw_segment::{Layout, PackedSegment, Segment, Shape, is_group};
+use bw_segment::{CodeLayout, PackedSegment, Placement, Segment, is_group};
 use bw_slices::{SliceSegment, Slices};
 use std::alloc::Global;
 use std::rc::Rc;
@@ -105,7 +105,7 @@ fn time_segments<R: Print + Eprint + Clock>(
 }
 
 /// Times the building of a segment in a layout.
-fn time_builds<R: Print + Eprint + Clock, L: Layout>(
+fn time_builds<R: Print + Eprint + Clock, L: CodeLayout>(
     rt: &R,
     alloc: Global,
     calls: u32,
@@ -113,15 +113,15 @@ fn time_builds<R: Print + Eprint + Clock, L: Layout>(
 ) -> Result<(), Failure> {
     let schema = Schema::parse(alloc, SCHEMA)?;
     let rows = rows_of(alloc)?;
-    let shape = Rc::new(alloc, Shape::of::<L>(alloc, &schema)?)?;
-    if !is_group(&shape.schema, &rows) {
+    let placement = Rc::new(alloc, Placement::of::<L>(alloc, &schema)?)?;
+    if !is_group(&placement.schema, &rows) {
         return Err(Failure::Rows);
     }
     let builds = calls / 64;
     let mut seen = 0;
     let start = Instant::now(rt)?;
     for call in 0..builds {
-        if let Ok(segment) = PackedSegment::<L>::build_shared(alloc, &shape, &rows) {
+        if let Ok(segment) = PackedSegment::<L>::build_shared(alloc, &placement, &rows) {
             seen ^= byte_of(segment.bytes(), call);
         }
     }
@@ -151,36 +151,36 @@ fn drawn_rows(alloc: Global) -> Result<Vec<Row>, Failure> {
 }
 
 /// The faults of all blocks in planes, joined; none is 0.
-fn judged_planes(shape: &Shape, rows: u32, bytes: &[u8]) -> u64
+fn judged_planes(placement: &Placement, rows: u32, bytes: &[u8]) -> u64
     requires { rows ≤ group_size }
 {
     let mut faults = 0;
     let mut rest = bytes;
-    for col in 0..shape.schema.columns.len() {
-        let size = PlaneSegment::block_size(shape, col);
+    for col in 0..placement.schema.columns.len() {
+        let size = PlaneSegment::block_size(placement, col);
         if rest.len() < size {
             return 1;
         }
         let (block, others) = rest.split_at(size);
-        faults |= u64::from(PlaneSegment::judge(shape, col, rows, block).unwrap_or(0));
+        faults |= u64::from(PlaneSegment::judge(placement, col, rows, block).unwrap_or(0));
         rest = others;
     }
     faults
 }
 
 /// The faults of all blocks in slices, joined; none is 0.
-fn judged_slices(shape: &Shape, rows: u32, bytes: &[u8]) -> u64
+fn judged_slices(placement: &Placement, rows: u32, bytes: &[u8]) -> u64
     requires { rows ≤ group_size }
 {
     let mut faults = 0;
     let mut rest = bytes;
-    for col in 0..shape.schema.columns.len() {
-        let size = SliceSegment::block_size(shape, col);
+    for col in 0..placement.schema.columns.len() {
+        let size = SliceSegment::block_size(placement, col);
         if rest.len() < size {
             return 1;
         }
         let (block, others) = rest.split_at(size);
-        faults |= u64::from(SliceSegment::judge(shape, col, rows, block).unwrap_or(0));
+        faults |= u64::from(SliceSegment::judge(placement, col, rows, block).unwrap_or(0));
         rest = others;
     }
     faults
@@ -217,7 +217,7 @@ fn time_judging_planes<R: Print + Eprint + Clock>(
         if let Some(first) = bytes.first_mut() {
             *first = (call & 0xFF) as u8;
         }
-        seen ^= judged_planes(&segment.shape, segment.rows_in(), &bytes) ^ u64::from(call);
+        seen ^= judged_planes(&segment.placement, segment.rows_in(), &bytes) ^ u64::from(call);
     }
     tell(rt, "judge planes", judgings, start, seen)
 }
@@ -239,7 +239,7 @@ fn time_judging_slices<R: Print + Eprint + Clock>(
         if let Some(first) = bytes.first_mut() {
             *first = (call & 0xFF) as u8;
         }
-        seen ^= judged_slices(&segment.shape, segment.rows_in(), &bytes) ^ u64::from(call);
+        seen ^= judged_slices(&segment.placement, segment.rows_in(), &bytes) ^ u64::from(call);
     }
     tell(rt, "judge slices", judgings, start, seen)
 }

@@ -13,5 +13,5 @@ pub(crate) fn is_kept(cond: &Prepared, row: &Row) -> bool
     ensures { (asked : Cond) → IsPreparedFrom asked cond.now
         → result ≡ is_kept asked (values_of row.now) }
 {
-    cond.truth(row) == Truth::Yes
+    cond.truth(row) == Truth::True
 }

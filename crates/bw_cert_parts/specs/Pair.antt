@@ -70,15 +70,15 @@ by_line end rule lines = taken end (option_and_then rule (next_entry lines)) lin
 
 -- IS NULL of a column that has this null variable, or none
 abbrev pub null_test : Facts → Option ℕ → ConditionEntry → Option Pair
-null_test facts None entry = fixed truth.No entry
+null_test facts None entry = fixed truth.False entry
 null_test facts (Some variable) (NullTest number) = null_cited facts variable number
 null_test facts (Some variable) _ = None
 
 -- IS NULL
 unfoldable pub is_null_test : List Column → Facts → Operand → ConditionEntry → Option Pair
 is_null_test columns facts (Col column) entry = null_test facts (null_variable columns column) entry
-is_null_test columns facts (Lit n) entry = fixed truth.No entry
-is_null_test columns facts Null entry = fixed truth.Yes entry
+is_null_test columns facts (Lit n) entry = fixed truth.False entry
+is_null_test columns facts Null entry = fixed truth.True entry
 
 -- AND is TRUE where both parts are, and FALSE where one of them is; OR the other way round.
 unfoldable pub joined_pair : Facts → Junction → Pair → Pair → ConditionEntry → Option Pair
@@ -104,8 +104,8 @@ unknown_pair facts None number = None
 
 -- IS TRUE, IS FALSE and IS UNKNOWN
 unfoldable pub tested_pair : Facts → Truth → Pair → ConditionEntry → Option Pair
-tested_pair facts truth.Yes pair (Is i) = with_opposite facts pair.yes i
-tested_pair facts truth.No pair (Is i) = with_opposite facts pair.no i
+tested_pair facts truth.True pair (Is i) = with_opposite facts pair.yes i
+tested_pair facts truth.False pair (Is i) = with_opposite facts pair.no i
 tested_pair facts truth.Unknown pair (IsUnknown i j) =
     unknown_pair facts (cited facts connective.Or pair.yes pair.no i) j
 tested_pair facts _ pair _ = None
@@ -133,7 +133,7 @@ module _ (columns : List Column) (facts : Facts) (end : ℕ) where
 
   -- the lines of a condition, from those of its parts
   abbrev pub pair_step : Cond-F (List BodyLine → Reading) → List BodyLine → Reading
-  pair_step layer.Always lines = by_line end (fixed truth.Yes) lines
+  pair_step layer.Always lines = by_line end (fixed truth.True) lines
   pair_step (layer.Cmp op x y) lines = by_line end (comparison columns facts op x y) lines
   pair_step (layer.Between x y z) lines =
       let low = by_line end (comparison columns facts Ge x y) in

@@ -26,8 +26,8 @@ impl Pair {
         ensures { result ≡ constant_pair truth }
     {
         match truth {
-            Truth::Yes => Pair::new(1, 0),
-            Truth::No => Pair::new(0, 1),
+            Truth::True => Pair::new(1, 0),
+            Truth::False => Pair::new(0, 1),
             Truth::Unknown => Pair::new(0, 0),
         }
     }

@@ -45,7 +45,7 @@ pub fn pair<'a>(
     ensures code { IfErr result (λ fault. fault.code ≡ CONDITION_LINE) }
 {
     match cond {
-        Cond::Always => constant(Truth::Yes, lines, end),
+        Cond::Always => constant(Truth::True, lines, end),
         Cond::Cmp(op, x, y) => compared(schema, diagram, *op, *x, *y, lines, end),
         Cond::Between(x, y, z) => between(schema, diagram, *x, *y, *z, lines, end),
         Cond::Among(x, items) => among(schema, diagram, *x, items, lines, end),
@@ -232,10 +232,10 @@ fn is_null_test(
     match x {
         Operand::Col(column) => match schema.var_null(column) {
             Some(variable) => null_test(diagram, variable, entry),
-            None => fixed(Truth::No, entry),
+            None => fixed(Truth::False, entry),
         },
-        Operand::Lit(_) => fixed(Truth::No, entry),
-        Operand::Null => fixed(Truth::Yes, entry),
+        Operand::Lit(_) => fixed(Truth::False, entry),
+        Operand::Null => fixed(Truth::True, entry),
     }
 }
 
@@ -338,8 +338,8 @@ fn tested_pair(
     ensures { result ≡ tested_pair diagram.now wanted pair entry }
 {
     match (wanted, entry) {
-        (Truth::Yes, ConditionEntry::Is(i)) => with_opposite(diagram, pair.yes, i),
-        (Truth::No, ConditionEntry::Is(i)) => with_opposite(diagram, pair.no, i),
+        (Truth::True, ConditionEntry::Is(i)) => with_opposite(diagram, pair.yes, i),
+        (Truth::False, ConditionEntry::Is(i)) => with_opposite(diagram, pair.no, i),
         (Truth::Unknown, ConditionEntry::IsUnknown(i, j)) => {
             let known = diagram.cited(Connective::Or, pair.yes, pair.no, i)?;
             Pair::of_both(diagram.cited(Connective::Diff, 1, known, j), Some(known))

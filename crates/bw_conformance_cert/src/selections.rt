@@ -36,7 +36,7 @@ fn assert_truth(rt: &impl Abort, schema: &Schema, cond: &Cond, rows: &[Row], pla
         let bit = plane[i / 64] >> (i % 64) & 1 == 1;
         let expected = match rows.get(i) {
             None => false,
-            Some(row) => schema.admits(row) && truth(cond, row) == Truth::Yes,
+            Some(row) => schema.admits(row) && truth(cond, row) == Truth::True,
         };
         assert_eq!(rt; bit, expected, "row {i}");
     }

@@ -142,7 +142,7 @@ fn picked(
     let mut picked = 0u64;
     for (i, row) in rows.iter().enumerate() {
         assert!(rt; row.values.len() == schema.columns.len());
-        let is_true = truth(cond, row) == Truth::Yes;
+        let is_true = truth(cond, row) == Truth::True;
         assert!(rt; i < 512);
         assert!(rt; lane(&plane, i) == is_true, "{text} on {:?}", row.values);
         picked = picked.saturating_add(u64::from(is_true));

@@ -2,7 +2,7 @@
 use crate::segments::{SCHEMA, TABLE, compared, ones, rows_of};
 use bw_model::{Fault, Schema};
 use bw_planes::{PlaneSegment, Planes};
-use bw_segment::{Segment, Shape, columns_of, is_group, values_in_lanes};
+use bw_segment::{Segment, Placement, columns_of, is_group, values_in_lanes};
 use std::alloc::Global;
 use std::test::Fail;
 
@@ -61,11 +61,11 @@ fn judged(
     col: usize,
     changes: [(usize, u8); 2],
 ) -> Result<Option<u16>, Fault> {
-    let shape: &Shape = &segment.shape;
-    if col >= shape.schema.columns.len() || col >= 2 {
+    let placement: &Placement = &segment.placement;
+    if col >= placement.schema.columns.len() || col >= 2 {
         return Ok(None);
     }
-    let size = PlaneSegment::block_size(shape, col);
+    let size = PlaneSegment::block_size(placement, col);
     let start = STARTS[col];
     let bytes = segment.bytes();
     let [(first, a), (second, b)] = changes;
@@ -75,7 +75,7 @@ fn judged(
     let mut block = Vec::from_slice(alloc, &bytes[start..start + size])?;
     block[first] = a;
     block[second] = b;
-    Ok(PlaneSegment::judge(shape, col, segment.rows_in(), &block))
+    Ok(PlaneSegment::judge(placement, col, segment.rows_in(), &block))
 }
 
 #[test]
@@ -84,8 +84,8 @@ fn blocks_are_judged(rt: HostRuntime) -> Result<(), Fail> {
     let rows = rows_of(rt.alloc(), &TABLE)?;
     assert!(rt; is_group(&schema, &rows));
     let segment = PlaneSegment::build(rt.alloc(), &schema, &rows)?;
-    let shape: &Shape = &segment.shape;
-    assert_eq!(rt; PlaneSegment::segment_size(shape), segment.bytes().len());
+    let placement: &Placement = &segment.placement;
+    assert_eq!(rt; PlaneSegment::segment_size(placement), segment.bytes().len());
     assert_eq!(rt;
         judged(rt.alloc(), &segment, 0, [(0, 0x02), (0, 0x02)])?,
         None
@@ -130,12 +130,12 @@ fn segments_are_appended(rt: HostRuntime) -> Result<(), Fail> {
     let schema = Schema::parse(rt.alloc(), SCHEMA)?;
     let rows = rows_of(rt.alloc(), &TABLE)?;
     assert!(rt; is_group(&schema, &rows));
-    let shape = Shape::of::<Planes>(rt.alloc(), &schema)?;
-    assert!(rt; is_group(&shape.schema, &rows));
+    let placement = Placement::of::<Planes>(rt.alloc(), &schema)?;
+    assert!(rt; is_group(&placement.schema, &rows));
     let segment = PlaneSegment::build(rt.alloc(), &schema, &rows)?;
     let mut bytes = vec![in rt.alloc(); 7]?;
-    let kept = columns_of(rt.alloc(), &shape.schema, &rows)?;
-    PlaneSegment::append(rt.alloc(), &mut bytes, &shape, &kept)?;
+    let kept = columns_of(rt.alloc(), &placement.schema, &rows)?;
+    PlaneSegment::append(rt.alloc(), &mut bytes, &placement, &kept)?;
     assert_eq!(rt; &bytes[1..], segment.bytes());
     Ok(())
 }

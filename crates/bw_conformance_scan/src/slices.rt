@@ -1,7 +1,7 @@
 //! The slices of a worked table, and what is read of them.
 use crate::segments::{SCHEMA, TABLE, compared, ones, rows_of};
 use bw_model::{Fault, Schema};
-use bw_segment::{Segment, Shape, columns_of, is_group, values_in_lanes};
+use bw_segment::{Segment, Placement, columns_of, is_group, values_in_lanes};
 use bw_slices::{SliceSegment, Slices};
 use std::alloc::Global;
 use std::test::Fail;
@@ -57,11 +57,11 @@ fn judged(
     col: usize,
     changes: [(usize, u8); 2],
 ) -> Result<Option<u16>, Fault> {
-    let shape: &Shape = &segment.shape;
-    if col >= shape.schema.columns.len() || col >= 2 {
+    let placement: &Placement = &segment.placement;
+    if col >= placement.schema.columns.len() || col >= 2 {
         return Ok(None);
     }
-    let size = SliceSegment::block_size(shape, col);
+    let size = SliceSegment::block_size(placement, col);
     let start = STARTS[col];
     let bytes = segment.bytes();
     let [(first, a), (second, b)] = changes;
@@ -71,7 +71,7 @@ fn judged(
     let mut block = Vec::from_slice(alloc, &bytes[start..start + size])?;
     block[first] = a;
     block[second] = b;
-    Ok(SliceSegment::judge(shape, col, segment.rows_in(), &block))
+    Ok(SliceSegment::judge(placement, col, segment.rows_in(), &block))
 }
 
 #[test]
@@ -80,8 +80,8 @@ fn blocks_are_judged(rt: HostRuntime) -> Result<(), Fail> {
     let rows = rows_of(rt.alloc(), &TABLE)?;
     assert!(rt; is_group(&schema, &rows));
     let segment = SliceSegment::build(rt.alloc(), &schema, &rows)?;
-    let shape: &Shape = &segment.shape;
-    assert_eq!(rt; SliceSegment::segment_size(shape), segment.bytes().len());
+    let placement: &Placement = &segment.placement;
+    assert_eq!(rt; SliceSegment::segment_size(placement), segment.bytes().len());
     assert_eq!(rt;
         judged(rt.alloc(), &segment, 0, [(0, 0x00), (1, 0xFF)])?,
         None
@@ -130,12 +130,12 @@ fn segments_are_appended(rt: HostRuntime) -> Result<(), Fail> {
     let schema = Schema::parse(rt.alloc(), SCHEMA)?;
     let rows = rows_of(rt.alloc(), &TABLE)?;
     assert!(rt; is_group(&schema, &rows));
-    let shape = Shape::of::<Slices>(rt.alloc(), &schema)?;
-    assert!(rt; is_group(&shape.schema, &rows));
+    let placement = Placement::of::<Slices>(rt.alloc(), &schema)?;
+    assert!(rt; is_group(&placement.schema, &rows));
     let segment = SliceSegment::build(rt.alloc(), &schema, &rows)?;
     let mut bytes = vec![in rt.alloc(); 7]?;
-    let kept = columns_of(rt.alloc(), &shape.schema, &rows)?;
-    SliceSegment::append(rt.alloc(), &mut bytes, &shape, &kept)?;
+    let kept = columns_of(rt.alloc(), &placement.schema, &rows)?;
+    SliceSegment::append(rt.alloc(), &mut bytes, &placement, &kept)?;
     assert_eq!(rt; &bytes[1..], segment.bytes());
     Ok(())
 }

@@ -1,6 +1,6 @@
 //! Worked table files, and the tables that they are of.
 ghost use Rattle.std.specs.Prelude.{◌≡◌, All, IfOk, length, map};
-ghost use Rattle.bw_file.specs.FileText.{AreRows};
+ghost use Rattle.bw_file.specs.FileBytes.{AreRows};
 ghost use Rattle.bw_model.specs.Row.{values_of};
 
 use bw_file::{Layout, Table, decode, encode};

@@ -12,9 +12,9 @@ use Rattle.bw_model.specs.Groups.{group_size, groups_of, together}
 use Rattle.bw_model.specs.Row.{Value}
 use Rattle.bw_model.proofs.GroupLemmas.{groups_of-nothing, groups_of-first}
 use Rattle.bw_segment.proofs.LayoutLemmas.{block_added}
-use Rattle.bw_segment.proofs.SoundLemmas.{length-rows_spelled, spelled_group, text_again}
+use Rattle.bw_segment.proofs.SoundLemmas.{length-rows_spelled, spelled_group, bytes_again}
 use Rattle.bw_file.specs.declared.layout.Layout.{Layout}
-use Rattle.bw_file.specs.Blocks.{form_of, block_size, block_fault, AreSound, IsSound, segment_text, rows_spelled}
+use Rattle.bw_file.specs.Blocks.{form_of, block_size, block_fault, AreSound, IsSound, segment_bytes, rows_spelled}
 use Rattle.bw_file.specs.Reading.{Tail, give, field}
 use Rattle.bw_file.specs.TableReading.{sound_at, one_block, blocks, segment, group_sizes, has_bytes, end, body}
 use Rattle.bw_file.proofs.ReaderLemmas.{group_sizes-some, group_sizes-none}
@@ -93,7 +93,7 @@ blocks_take layout schema rows (suc more) number before t x fits own sound e =
     }
 
 record SegmentTaken (layout : Layout) (schema : List Column) (size : ℕ) (t : Tail) (x : List (List Value) × Tail) : Type 0 where
-  takes : TakesBoth t (segment_text layout schema x.0) x.1
+  takes : TakesBoth t (segment_bytes layout schema x.0) x.1
   admitted : list_all (admits_values schema) x.0 ≡ true
 
 nothing_sound : (layout : Layout) (schema : List Column) (rows : ℕ) → AreSound layout schema rows 0 []
@@ -108,10 +108,10 @@ segment_takes layout schema size t x fits some few e =
     let zero_plus : 0 + length schema ≡ length schema = omega arith in
     let sound : IsSound layout schema size a.0.0 = subst (λ (k : ℕ). AreSound layout schema size k a.0.0) zero_plus b.sound in
     let law = is_packing layout in
-    let again : segment_text layout schema (rows_spelled layout schema size a.0.0) ≡ a.0.0 = text_again (form_of layout) law schema size a.0.0 few sound (all_bytes a.0.0 b.fits) in
+    let again : segment_bytes layout schema (rows_spelled layout schema size a.0.0) ≡ a.0.0 = bytes_again (form_of layout) law schema size a.0.0 few sound (all_bytes a.0.0 b.fits) in
     let group = spelled_group (form_of layout) law schema size a.0.0 few sound [] some in
     let made : List (List Value) × Tail = (rows_spelled layout schema size a.0.0, a.0.1) in
-    let takes : TakesBoth t (segment_text layout schema (rows_spelled layout schema size a.0.0)) a.0.1 = rw (again, b.behind) b.takes in
+    let takes : TakesBoth t (segment_bytes layout schema (rows_spelled layout schema size a.0.0)) a.0.1 = rw (again, b.behind) b.takes in
     subst (λ (y : List (List Value) × Tail). SegmentTaken layout schema size t y) (ok_is made x a.2)
     (record { takes = takes; admitted = group.admitted })
 
@@ -213,7 +213,7 @@ groups_found layout schema (size ∷ sizes) rows before t x sized e =
 pub record GroupsTaken (layout : Layout) (schema : List Column) (before : List (List (List Value))) (t : Tail) (found : List (List (List Value))) : Type 0 where
   pub groups : List (List (List Value))
   pub behind : found ≡ before ++ groups
-  pub text : t.bytes ≡ flat_map (segment_text layout schema) groups
+  pub text : t.bytes ≡ flat_map (segment_bytes layout schema) groups
   pub admitted : list_all (admits_values schema) (together groups) ≡ true
 
 pub body_take : (layout : Layout) (schema : List Column) (sizes : List ℕ) (rows : ℕ) (before : List (List (List Value))) (t : Tail) (x : List (List (List Value)) × Tail)
@@ -232,6 +232,6 @@ body_take layout schema (size ∷ sizes) rows before t x fits sized e =
     record {
       groups = a.0.0 ∷ r.groups;
       behind = r.behind ∙ append_assoc before (a.0.0 ∷ []) r.groups;
-      text = g.takes.parts ∙ ap (λ (l : List ℕ). segment_text layout schema a.0.0 ++ l) r.text;
+      text = g.takes.parts ∙ ap (λ (l : List ℕ). segment_bytes layout schema a.0.0 ++ l) r.text;
       admitted = list_all-append (admits_values schema) a.0.0 (together r.groups) ∙ rw (g.admitted, r.admitted) refl;
     }

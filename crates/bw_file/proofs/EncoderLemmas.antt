@@ -15,8 +15,8 @@ use Rattle.bw_model.proofs.GroupLemmas.{groups_of-nothing, groups_of-first}
 use Rattle.bw_file.specs.declared.encoder.Encoder.{Encoder}
 use Rattle.bw_file.specs.Encoder.{Holds, IsAsBefore}
 use Rattle.bw_file.specs.declared.layout.Layout.{Layout}
-use Rattle.bw_file.specs.Blocks.{segment_text}
-use Rattle.bw_file.specs.FileText.{AreRows, magic, front_text, header_text, segments_text, text_of_version, file_text, version_for}
+use Rattle.bw_file.specs.Blocks.{segment_bytes}
+use Rattle.bw_file.specs.FileBytes.{AreRows, magic, front_bytes, header_bytes, segments_bytes, bytes_of_version, file_bytes, version_for}
 use Rattle.bw_model.specs.Name.{is_name}
 use Rattle.bw_model.specs.Keyword.{is_reserved}
 use Rattle.bw_model.specs.Text.{is_word}
@@ -66,32 +66,32 @@ groups_more (suc count) before group whole some few =
 -- the text of such rows
 pub segments_more : (layout : Layout) (columns : List Column) (count : ℕ) (head : List ℕ) (before group : List (List Value)) → length before ≡ group_size * count
     → 1 ≤ length group → length group ≤ group_size
-    → (head ++ segments_text layout columns before) ++ segment_text layout columns group ≡ head ++ segments_text layout columns (before ++ group)
-unfolding segments_text
+    → (head ++ segments_bytes layout columns before) ++ segment_bytes layout columns group ≡ head ++ segments_bytes layout columns (before ++ group)
+unfolding segments_bytes
 segments_more layout columns count head before group whole some few =
-    flat_map_more (segment_text layout columns) head (groups_of before) group
-    ∙ ap (λ (groups : List (List (List Value))). head ++ flat_map (segment_text layout columns) groups) (sym (groups_more count before group whole some few))
+    flat_map_more (segment_bytes layout columns) head (groups_of before) group
+    ∙ ap (λ (groups : List (List (List Value))). head ++ flat_map (segment_bytes layout columns) groups) (sym (groups_more count before group whole some few))
 
 -- so the number of rows is put into a header
 pub rows_put : (version : ℕ) (layout : Layout) (name : List ℕ) (columns : List Column) (rows : ℕ) (rest : List ℕ)
-    → take 12 (header_text version layout name columns 0 ++ rest) ++ to_le_bytes w32 rows ++ drop 16 (header_text version layout name columns 0 ++ rest)
-    ≡ header_text version layout name columns rows ++ rest
-unfolding header_text front_text magic
+    → take 12 (header_bytes version layout name columns 0 ++ rest) ++ to_le_bytes w32 rows ++ drop 16 (header_bytes version layout name columns 0 ++ rest)
+    ≡ header_bytes version layout name columns rows ++ rest
+unfolding header_bytes front_bytes magic
 rows_put version layout name columns rows rest = refl
 
 -- the text with the group that an encoder kept
-pub text_flushed : (encoder : Encoder) (rows : List (List Value)) (bytes : List ℕ) → 0 < encoder.filled → (holds : Holds encoder rows)
-    → bytes ≡ encoder.bytes.items ++ segment_text encoder.layout encoder.shape.schema.columns.items holds.group
-    → bytes ≡ header_text (version_for encoder.shape.schema.columns.items) encoder.layout encoder.shape.schema.name encoder.shape.schema.columns.items 0
-    ++ segments_text encoder.layout encoder.shape.schema.columns.items rows
+pub bytes_flushed : (encoder : Encoder) (rows : List (List Value)) (bytes : List ℕ) → 0 < encoder.filled → (holds : Holds encoder rows)
+    → bytes ≡ encoder.bytes.items ++ segment_bytes encoder.layout encoder.placement.schema.columns.items holds.group
+    → bytes ≡ header_bytes (version_for encoder.placement.schema.columns.items) encoder.layout encoder.placement.schema.name encoder.placement.schema.columns.items 0
+    ++ segments_bytes encoder.layout encoder.placement.schema.columns.items rows
 unfolding group_size
-text_flushed encoder rows bytes some holds added =
-    let columns = encoder.shape.schema.columns.items in
-    let head = header_text (version_for columns) encoder.layout encoder.shape.schema.name columns 0 in
+bytes_flushed encoder rows bytes some holds added =
+    let columns = encoder.placement.schema.columns.items in
+    let head = header_bytes (version_for columns) encoder.layout encoder.placement.schema.name columns 0 in
     let size = holds.filled in
-    added ∙ ap (λ (front : List ℕ). front ++ segment_text encoder.layout columns holds.group) holds.text
+    added ∙ ap (λ (front : List ℕ). front ++ segment_bytes encoder.layout columns holds.group) holds.text
     ∙ segments_more encoder.layout columns holds.groups head holds.before holds.group holds.whole (omega (arith, size)) (omega (arith, size, encoder.few))
-    ∙ ap (λ (all : List (List Value)). head ++ segments_text encoder.layout columns all) (sym holds.parts)
+    ∙ ap (λ (all : List (List Value)). head ++ segments_bytes encoder.layout columns all) (sym holds.parts)
 
 -- how many rows an encoder was given, where its group is whole
 pub whole_flushed : (encoder : Encoder) (rows : List (List Value)) → encoder.filled ≡ 512 → (holds : Holds encoder rows) → length rows ≡ group_size * suc holds.groups
@@ -108,32 +108,32 @@ admitted_more columns rows row are lt admitted = record {
 }
 
 -- a header takes sixteen bytes at least
-pub header_long : (version : ℕ) (layout : Layout) (name : List ℕ) (columns : List Column) (rows : ℕ) → 16 ≤ length (header_text version layout name columns rows)
-unfolding header_text front_text magic
+pub header_long : (version : ℕ) (layout : Layout) (name : List ℕ) (columns : List Column) (rows : ℕ) → 16 ≤ length (header_bytes version layout name columns rows)
+unfolding header_bytes front_bytes magic
 header_long version layout name columns rows = omega arith
 
 -- no rows have no text
-pub segments_none : (layout : Layout) (columns : List Column) (head : List ℕ) → head ≡ head ++ segments_text layout columns []
-unfolding segments_text
+pub segments_none : (layout : Layout) (columns : List Column) (head : List ℕ) → head ≡ head ++ segments_bytes layout columns []
+unfolding segments_bytes
 segments_none layout columns head = rw (groups_of-nothing {A = List Value}) (sym (append-nil head))
 
 -- the text of a table whose rows are all in it, once their number is
-pub text_finished : (encoder : Encoder) (rows : List (List Value)) (bytes text : List ℕ) (count : ℕ)
-    → bytes ≡ header_text (version_for encoder.shape.schema.columns.items) encoder.layout encoder.shape.schema.name encoder.shape.schema.columns.items 0
-    ++ segments_text encoder.layout encoder.shape.schema.columns.items rows
-    → count ≡ length rows → text ≡ take 12 bytes ++ to_le_bytes w32 count ++ drop 16 bytes → text ≡ file_text encoder.layout encoder.shape.schema rows
-unfolding text_of_version
-text_finished encoder rows bytes text count has same put =
-    let columns = encoder.shape.schema.columns.items in
+pub bytes_finished : (encoder : Encoder) (rows : List (List Value)) (bytes text : List ℕ) (count : ℕ)
+    → bytes ≡ header_bytes (version_for encoder.placement.schema.columns.items) encoder.layout encoder.placement.schema.name encoder.placement.schema.columns.items 0
+    ++ segments_bytes encoder.layout encoder.placement.schema.columns.items rows
+    → count ≡ length rows → text ≡ take 12 bytes ++ to_le_bytes w32 count ++ drop 16 bytes → text ≡ file_bytes encoder.layout encoder.placement.schema rows
+unfolding bytes_of_version
+bytes_finished encoder rows bytes text count has same put =
+    let columns = encoder.placement.schema.columns.items in
     put ∙ ap (λ (front : List ℕ). take 12 front ++ to_le_bytes w32 count ++ drop 16 front) has
-    ∙ rows_put (version_for columns) encoder.layout encoder.shape.schema.name columns count (segments_text encoder.layout columns rows)
-    ∙ ap (λ (n : ℕ). header_text (version_for columns) encoder.layout encoder.shape.schema.name columns n ++ segments_text encoder.layout columns rows) same
+    ∙ rows_put (version_for columns) encoder.layout encoder.placement.schema.name columns count (segments_bytes encoder.layout columns rows)
+    ∙ ap (λ (n : ℕ). header_bytes (version_for columns) encoder.layout encoder.placement.schema.name columns n ++ segments_bytes encoder.layout columns rows) same
 
 -- an encoder that keeps no rows has them all in its text
-pub text_held : (encoder : Encoder) (rows : List (List Value)) → encoder.filled ≡ 0 → (holds : Holds encoder rows)
-    → encoder.bytes.items ≡ header_text (version_for encoder.shape.schema.columns.items) encoder.layout encoder.shape.schema.name encoder.shape.schema.columns.items 0
-    ++ segments_text encoder.layout encoder.shape.schema.columns.items rows
-text_held encoder rows none holds =
+pub bytes_held_by : (encoder : Encoder) (rows : List (List Value)) → encoder.filled ≡ 0 → (holds : Holds encoder rows)
+    → encoder.bytes.items ≡ header_bytes (version_for encoder.placement.schema.columns.items) encoder.layout encoder.placement.schema.name encoder.placement.schema.columns.items 0
+    ++ segments_bytes encoder.layout encoder.placement.schema.columns.items rows
+bytes_held_by encoder rows none holds =
     let none_left : holds.group ≡ [] = nil_from_length holds.group (omega (arith, none, holds.filled)) in
     let all : rows ≡ holds.before = holds.parts ∙ rw none_left (append-nil holds.before) in rw all holds.text
 

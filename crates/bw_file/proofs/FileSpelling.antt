@@ -10,17 +10,17 @@ use Rattle.bw_model.specs.Groups.{together, groups_of}
 use Rattle.bw_model.specs.Row.{Value}
 use Rattle.bw_model.specs.SchemaText.{column_shape, SchemaShape, schema_shape}
 use Rattle.bw_file.specs.declared.layout.Layout.{Layout}
-use Rattle.bw_file.specs.Blocks.{segment_text}
-use Rattle.bw_file.specs.FileText.{IsSchema, IsFileText, file_text, file_text2, text_of_version, front_text, name_text, header_text, segments_text, version_for, are_bounds, column_text}
+use Rattle.bw_file.specs.Blocks.{segment_bytes}
+use Rattle.bw_file.specs.FileBytes.{IsSchema, IsFileBytes, file_bytes, file_bytes2, bytes_of_version, front_bytes, name_bytes, header_bytes, segments_bytes, version_for, are_bounds, column_bytes}
 use Rattle.bw_file.specs.Reading.{Tail, tail}
 use Rattle.bw_file.specs.TableReading.{group_sizes, body, HeaderShape, header, Found, found_in, IsReadAs, IsReadBehind}
 use Rattle.bw_model.proofs.SameColumns.{columns_same}
-use Rattle.bw_file.proofs.SpellingLemmas.{IsBytes, TakesBoth, shape_text, fits_version, head_text, IsHeader, header_takes}
+use Rattle.bw_file.proofs.SpellingLemmas.{IsBytes, TakesBoth, schema_bytes, fits_version, head_bytes, IsHeader, header_takes}
 use Rattle.bw_file.proofs.BodySpelling.{groups_found, body_take}
 
-shapes_spelled : (columns : List Column) → flat_map shape_text (map column_shape columns) ≡ flat_map (λ (c : Column). column_text c.name c.lo c.hi c.nullable) columns
+shapes_spelled : (columns : List Column) → flat_map schema_bytes (map column_shape columns) ≡ flat_map (λ (c : Column). column_bytes c.name c.lo c.hi c.nullable) columns
 shapes_spelled [] = refl
-shapes_spelled (c ∷ columns) = ap (λ (l : List ℕ). column_text c.name c.lo c.hi c.nullable ++ l) (shapes_spelled columns)
+shapes_spelled (c ∷ columns) = ap (λ (l : List ℕ). column_bytes c.name c.lo c.hi c.nullable ++ l) (shapes_spelled columns)
 
 pub shapes_fit : (version : ℕ) (columns : List Column) → list_all (fits_version version) (map column_shape columns) ≡ list_all (λ (c : Column). are_bounds version c.lo c.hi) columns
 shapes_fit version [] = refl
@@ -28,16 +28,16 @@ shapes_fit version (c ∷ columns) = ap (λ (b : Bool). are_bounds version c.lo 
 
 -- the text of a header, by its shape
 pub head_is : (version rows : ℕ) (layout : Layout) (schema : Schema)
-    → head_text (record { version = version; layout = layout; rows = rows; schema = schema_shape schema }) ≡ header_text version layout schema.name schema.columns.items rows
-unfolding header_text
+    → head_bytes (record { version = version; layout = layout; rows = rows; schema = schema_shape schema }) ≡ header_bytes version layout schema.name schema.columns.items rows
+unfolding header_bytes
 head_is version rows layout schema =
     let columns = schema.columns.items in
-    ap (λ (n : ℕ). front_text version layout n rows ++ name_text schema.name ++ flat_map shape_text (map column_shape columns)) (length-map columns column_shape)
-    ∙ ap (λ (l : List ℕ). front_text version layout (length columns) rows ++ name_text schema.name ++ l) (shapes_spelled columns)
+    ap (λ (n : ℕ). front_bytes version layout n rows ++ name_bytes schema.name ++ flat_map schema_bytes (map column_shape columns)) (length-map columns column_shape)
+    ∙ ap (λ (l : List ℕ). front_bytes version layout (length columns) rows ++ name_bytes schema.name ++ l) (shapes_spelled columns)
 
 of_version : (version : ℕ) (layout : Layout) (schema : Schema) (rows : List (List Value)) (bytes : List ℕ) → (version ≡ 1) ⊎ (version ≡ 2)
-    → list_all (λ (c : Column). are_bounds version c.lo c.hi) schema.columns.items ≡ true → bytes ≡ text_of_version version layout schema.name schema.columns.items rows
-    → (bytes ≡ file_text layout schema rows) ⊎ (bytes ≡ file_text2 layout schema rows)
+    → list_all (λ (c : Column). are_bounds version c.lo c.hi) schema.columns.items ≡ true → bytes ≡ bytes_of_version version layout schema.name schema.columns.items rows
+    → (bytes ≡ file_bytes layout schema rows) ⊎ (bytes ≡ file_bytes2 layout schema rows)
 of_version version layout schema rows bytes (inl one) narrow text =
     let room : list_all (λ (c : Column). are_bounds 1 c.lo c.hi) schema.columns.items ≡ true = rw one at narrow in
     let same : version_for schema.columns.items ≡ 1 = rw room refl in
@@ -57,11 +57,11 @@ body_found layout shape (Err fault) found e = absurd cc
 record Spelled (bytes : List ℕ) (found : Found) : Type 0 where
   schema : Schema
   shape : schema_shape schema ≡ found.schema
-  text : IsFileText bytes found.layout schema found.rows
+  text : IsFileBytes bytes found.layout schema found.rows
 
-spelled_with : (bytes : List ℕ) (h : HeaderShape) (t : Tail) (schema : Schema) (y : List (List (List Value)) × Tail) → TakesBoth (tail 0 bytes) (head_text h) t → IsHeader h
+spelled_with : (bytes : List ℕ) (h : HeaderShape) (t : Tail) (schema : Schema) (y : List (List (List Value)) × Tail) → TakesBoth (tail 0 bytes) (head_bytes h) t → IsHeader h
     → schema_shape schema ≡ h.schema → body h.layout schema.columns.items (group_sizes h.rows) [] t ≡ Ok y → Spelled bytes (of_groups h.layout h.schema y.0)
-unfolding text_of_version segments_text
+unfolding bytes_of_version segments_bytes
 spelled_with bytes h t schema y head known same e =
     let columns = schema.columns.items in
     let b = body_take h.layout columns (group_sizes h.rows) h.rows [] t y head.rest refl e in
@@ -69,11 +69,11 @@ spelled_with bytes h t schema y head known same e =
     let f = groups_found h.layout columns (group_sizes h.rows) h.rows [] t y refl e in
     let cut : groups_of rows ≡ y.0 = rw f.behind f.cut in
     let count : length rows ≡ h.rows = rw f.behind f.count in
-    let body_text : t.bytes ≡ segments_text h.layout columns rows = b.text ∙ ap (flat_map (segment_text h.layout columns)) (sym b.behind ∙ sym cut) in
-    let shaped : head_text h ≡ header_text h.version h.layout schema.name columns (length rows) =
-    ap (λ (s : SchemaShape). head_text (record { version = h.version; layout = h.layout; rows = h.rows; schema = s })) (sym same)
-    ∙ head_is h.version h.rows h.layout schema ∙ ap (header_text h.version h.layout schema.name columns) (sym count) in
-    let whole : bytes ≡ text_of_version h.version h.layout schema.name columns rows = head.parts ∙ ap (λ (l : List ℕ). head_text h ++ l) body_text ∙ ap (λ (l : List ℕ). l ++ segments_text h.layout columns rows) shaped in
+    let body_bytes : t.bytes ≡ segments_bytes h.layout columns rows = b.text ∙ ap (flat_map (segment_bytes h.layout columns)) (sym b.behind ∙ sym cut) in
+    let shaped : head_bytes h ≡ header_bytes h.version h.layout schema.name columns (length rows) =
+    ap (λ (s : SchemaShape). head_bytes (record { version = h.version; layout = h.layout; rows = h.rows; schema = s })) (sym same)
+    ∙ head_is h.version h.rows h.layout schema ∙ ap (header_bytes h.version h.layout schema.name columns) (sym count) in
+    let whole : bytes ≡ bytes_of_version h.version h.layout schema.name columns rows = head.parts ∙ ap (λ (l : List ℕ). head_bytes h ++ l) body_bytes ∙ ap (λ (l : List ℕ). l ++ segments_bytes h.layout columns rows) shaped in
     let narrow : list_all (λ (c : Column). are_bounds h.version c.lo c.hi) columns ≡ true =
     sym (shapes_fit h.version columns) ∙ ap (λ (s : SchemaShape). list_all (fits_version h.version) s.columns) same ∙ known.bounds in
     let admitted : list_all (admits_values columns) rows ≡ true = rw b.behind b.admitted in
@@ -96,14 +96,14 @@ read_behind bytes (Err fault) found fits e read = absurd (cc read)
 
 -- so what is read of bytes is spelled by them
 pub read_is_spelled : (bytes : List ℕ) (found : Found) → IsBytes bytes → IsReadAs bytes (Ok found)
-    → (schema : Schema) × (schema_shape schema ≡ found.schema) × IsFileText bytes found.layout schema found.rows
+    → (schema : Schema) × (schema_shape schema ≡ found.schema) × IsFileBytes bytes found.layout schema found.rows
 read_is_spelled bytes found fits read =
-    let s = read_behind bytes (header (tail 0 bytes)) found fits refl read in (s.schema, s.shape, s.text)
+    let s = read_behind bytes (header (tail 0 bytes)) found fits refl read in (s.schema, s.placement, s.text)
 
 -- and by any schema of that shape
 pub read_is_spelled_by : (bytes : List ℕ) (found : Found) (schema : Schema) → IsBytes bytes → schema_shape schema ≡ found.schema → IsReadAs bytes (Ok found)
-    → IsFileText bytes found.layout schema found.rows
-unfolding text_of_version
+    → IsFileBytes bytes found.layout schema found.rows
+unfolding bytes_of_version
 read_is_spelled_by bytes found schema fits same read =
     let s = read_is_spelled bytes found fits read in
     let shapes : schema_shape s.0 ≡ schema_shape schema = s.1 ∙ sym same in

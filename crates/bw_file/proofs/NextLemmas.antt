@@ -19,14 +19,14 @@ pub all_groups : (start now : State) (reader : TableReader) (groups : List (List
     → groups ≡ groups_of (together groups)
 unfolding end
 all_groups start now reader groups all so_far =
-    let found = groups_found reader.layout reader.shape.value.schema.columns.items (group_sizes reader.rows) reader.rows [] (tail so_far.behind.offset (so_far.on.bytes ++ [])) (groups, tail now.offset []) refl (at_end start now reader groups all so_far []) in
+    let found = groups_found reader.layout reader.placement.value.schema.columns.items (group_sizes reader.rows) reader.rows [] (tail so_far.behind.offset (so_far.on.bytes ++ [])) (groups, tail now.offset []) refl (at_end start now reader groups all so_far []) in
     let same : groups ≡ found.groups = found.behind in
     sym (subst (λ (l : List (List (List Value))). groups_of (together l) ≡ l) (sym same) found.cut)
 
 module _ {S : Type 0} (source next_source : S) (old now : State) (reader next : TableReader) (same : SameTable reader next) where
   pub segment_given : (given : AnySegment) (size : ℕ) → settled next ≡ None → reader.given < reader.rows → settled reader ≡ None → size ≡ min group_size (reader.rows - reader.given)
-      → next.given ≡ reader.given + size → any_layout given ≡ reader.layout → (any_meaning given).name ≡ reader.shape.value.schema.name → (any_meaning given).columns ≡ reader.shape.value.schema.columns.items
-      → length (any_meaning given).rows ≡ size → GoesOn (segment reader.layout reader.shape.value.schema.columns.items size) old (give (any_meaning given).rows) now
+      → next.given ≡ reader.given + size → any_layout given ≡ reader.layout → (any_meaning given).name ≡ reader.placement.value.schema.name → (any_meaning given).columns ≡ reader.placement.value.schema.columns.items
+      → length (any_meaning given).rows ≡ size → GoesOn (segment reader.layout reader.placement.value.schema.columns.items size) old (give (any_meaning given).rows) now
       → GivesNext source next_source old now reader next (Ok (Some given))
   segment_given given size reading left unsettled sized counted layout name columns count read = record {
     given = λ start groups so_far. so_far_more start old now reader next groups (any_meaning given).rows size same.version same.layout same.schema same.rows counted left sized so_far read;
@@ -43,16 +43,16 @@ module _ {S : Type 0} (source next_source : S) (old now : State) (reader next : 
   }
 
   pub segment_missed : (size : ℕ) (fault : Fault) → settled next ≡ Some (Err fault) → reader.given < reader.rows → settled reader ≡ None → size ≡ min group_size (reader.rows - reader.given)
-      → Fails (segment reader.layout reader.shape.value.schema.columns.items size) old now fault → next.given ≡ reader.given → GivesNext source next_source old now reader next (Err fault)
+      → Fails (segment reader.layout reader.placement.value.schema.columns.items size) old now fault → next.given ≡ reader.given → GivesNext source next_source old now reader next (Err fault)
   segment_missed size fault stopped left unsettled sized fails kept = record {
     given = tt;
     segment = tt;
     ended = tt;
     groups = tt;
     refused = λ _ start groups so_far. segment_refused start old now reader groups size fault left sized so_far fails;
-    fault = refused_by (segment reader.layout reader.shape.value.schema.columns.items size) old now fault (segment_own reader.layout reader.shape.value.schema.columns.items size) fails;
+    fault = refused_by (segment reader.layout reader.placement.value.schema.columns.items size) old now fault (segment_own reader.layout reader.placement.value.schema.columns.items size) fails;
     counted = omega (arith, kept);
-    read = λ _. record { bytes = fails.bytes; took = fails.took; unfinished = λ failed. inr (subst (λ (n : ℕ). NeedsMore (segment reader.layout reader.shape.value.schema.columns.items n) old.offset fails.bytes) sized (fails.unfinished failed)); failures = fails.failures };
+    read = λ _. record { bytes = fails.bytes; took = fails.took; unfinished = λ failed. inr (subst (λ (n : ℕ). NeedsMore (segment reader.layout reader.placement.value.schema.columns.items n) old.offset fails.bytes) sized (fails.unfinished failed)); failures = fails.failures };
     settles = stopped;
     repeats = λ answer set. absurd (cc (unsettled, set));
     same = same;

@@ -55,9 +55,9 @@ body_more layout columns rows left groups group size behind old new some sized p
     rw rest (passes (body layout columns (group_sizes rows) []) (segment layout columns size) (λ group. body layout columns (group_sizes (left - group_size)) (groups ++ group ∷ [])) group behind old new so_far q)
 
 pub so_far_more : (start old new : State) (reader next : TableReader) (groups : List (List (List Value))) (rows : List (List Value)) (size : ℕ)
-    → next.version ≡ reader.version → next.layout ≡ reader.layout → next.shape.value.schema ≡ reader.shape.value.schema → next.rows ≡ reader.rows → next.given ≡ reader.given + size
+    → next.version ≡ reader.version → next.layout ≡ reader.layout → next.placement.value.schema ≡ reader.placement.value.schema → next.rows ≡ reader.rows → next.given ≡ reader.given + size
     → reader.given < reader.rows → size ≡ min group_size (reader.rows - reader.given)
-    → SoFar start old reader groups → GoesOn (segment reader.layout reader.shape.value.schema.columns.items size) old (give rows) new
+    → SoFar start old reader groups → GoesOn (segment reader.layout reader.placement.value.schema.columns.items size) old (give rows) new
     → SoFar start new next (groups ++ rows ∷ [])
 so_far_more start old new reader next groups rows size same_version same_layout same_schema same_rows same_given left sized so_far more =
     let left_now : reader.rows - (reader.given + size) ≡ reader.rows - reader.given - size = omega arith in
@@ -66,7 +66,7 @@ so_far_more start old new reader next groups rows size same_version same_layout 
       first = so_far.first;
       head = rw (same_version, same_layout, same_schema, same_rows) so_far.head;
       on = rw (same_layout, same_schema, same_rows, same_given, left_now)
-          (body_more reader.layout reader.shape.value.schema.columns.items reader.rows (reader.rows - reader.given) groups rows size so_far.behind old new (omega arith) sized so_far.on more);
+          (body_more reader.layout reader.placement.value.schema.columns.items reader.rows (reader.rows - reader.given) groups rows size so_far.behind old new (omega arith) sized so_far.on more);
     }
 
 -- a file that ends within its header ends too early
@@ -109,7 +109,7 @@ head_at start behind h rest first p = rw first at (p.on rest)
 
 module _ (start old : State) (reader : TableReader) (groups : List (List (List Value))) (so_far : SoFar start old reader groups) where
   abbrev whole_body : Reading (List (List (List Value)))
-  whole_body = body reader.layout reader.shape.value.schema.columns.items (group_sizes reader.rows) []
+  whole_body = body reader.layout reader.placement.value.schema.columns.items (group_sizes reader.rows) []
 
   header_on : (rest : List ℕ) → header (tail 0 (so_far.head.bytes ++ rest)) ≡ Ok (header_told reader.version reader, tail so_far.behind.offset rest)
   header_on rest = head_at start so_far.behind (header_told reader.version reader) rest so_far.first so_far.head
@@ -132,14 +132,14 @@ module _ (start old : State) (reader : TableReader) (groups : List (List (List V
             let early : whole_body (tail so_far.behind.offset (take m more)) ≡ Err (at_byte 305 n) =
             rw place at (needed m (omega (arith, lt, same, length-append so_far.head.bytes more))) in
             rw (split, header_on (take m more))
-            (reader.shape.value.schema, refl, sym (ap (found_in reader.layout (schema_shape reader.shape.value.schema)) early))
+            (reader.placement.value.schema, refl, sym (ap (found_in reader.layout (schema_shape reader.placement.value.schema)) early))
       ]
 
   behind_unfinished : (more : List ℕ) → NeedsMore whole_body so_far.behind.offset more → IsReadAs (so_far.head.bytes ++ more) (Err (at_byte 305 (length (so_far.head.bytes ++ more))))
   behind_unfinished more p =
       let place : so_far.behind.offset + length more ≡ length (so_far.head.bytes ++ more) = omega (arith, so_far.first, so_far.head.took.counted, length-append so_far.head.bytes more) in
       let early : whole_body (tail so_far.behind.offset more) ≡ Err (at_byte 305 (length (so_far.head.bytes ++ more))) = rw place at p in
-      rw (header_on more) (reader.shape.value.schema, refl, sym (ap (found_in reader.layout (schema_shape reader.shape.value.schema)) early))
+      rw (header_on more) (reader.placement.value.schema, refl, sym (ap (found_in reader.layout (schema_shape reader.placement.value.schema)) early))
 
   -- the fault after the header is the file's
   behind_fault : (new : State) (more : List ℕ) (fault : Fault) → ((n : ℕ) → n < length (so_far.head.bytes ++ more) → LacksFault (so_far.head.bytes ++ more) n fault)
@@ -147,8 +147,8 @@ module _ (start old : State) (reader : TableReader) (groups : List (List (List V
   behind_fault new more fault needed has =
       let e : header (tail 0 ((so_far.head.bytes ++ more) ++ has.rest)) ≡ Ok (header_told reader.version reader, tail so_far.behind.offset (more ++ has.rest)) =
       rw append_assoc (header_on (more ++ has.rest)) in
-      let own_fault = sym (ap (found_in reader.layout (schema_shape reader.shape.value.schema)) has.gives) in
-      record { needed = needed; rest = has.rest; coming = has.coming; read = rw e (reader.shape.value.schema, refl, own_fault) }
+      let own_fault = sym (ap (found_in reader.layout (schema_shape reader.placement.value.schema)) has.gives) in
+      record { needed = needed; rest = has.rest; coming = has.coming; read = rw e (reader.placement.value.schema, refl, own_fault) }
 
   behind_refused : (new : State) (fault : Fault) → Fails whole_body so_far.behind new fault → AnswersFault start old new fault
   behind_refused new fault p = record {
@@ -162,11 +162,11 @@ module _ (start old : State) (reader : TableReader) (groups : List (List (List V
 
 pub segment_refused : (start old new : State) (reader : TableReader) (groups : List (List (List Value))) (size : ℕ) (fault : Fault)
     → reader.given < reader.rows → size ≡ min group_size (reader.rows - reader.given) → SoFar start old reader groups
-    → Fails (segment reader.layout reader.shape.value.schema.columns.items size) old new fault → AnswersFault start old new fault
+    → Fails (segment reader.layout reader.placement.value.schema.columns.items size) old new fault → AnswersFault start old new fault
 unfolding body
 segment_refused start old new reader groups size fault left sized so_far p =
     let layout = reader.layout in
-    let columns = reader.shape.value.schema.columns.items in
+    let columns = reader.placement.value.schema.columns.items in
     let rest = reader.rows - reader.given in
     let sizes : group_sizes rest ≡ size ∷ group_sizes (rest - group_size) = rw sized (group_sizes-some rest (omega arith)) in
     let on : GoesOn (body layout columns (group_sizes reader.rows) []) so_far.behind (body layout columns (size ∷ group_sizes (rest - group_size)) groups) old = rw sizes at so_far.on in
@@ -175,7 +175,7 @@ segment_refused start old new reader groups size fault left sized so_far p =
 
 -- where all groups were read, the end is wanted
 pub at_end : (start old : State) (reader : TableReader) (groups : List (List (List Value))) → reader.given ≡ reader.rows → (so_far : SoFar start old reader groups) → (rest : List ℕ)
-    → body reader.layout reader.shape.value.schema.columns.items (group_sizes reader.rows) [] (tail so_far.behind.offset (so_far.on.bytes ++ rest))
+    → body reader.layout reader.placement.value.schema.columns.items (group_sizes reader.rows) [] (tail so_far.behind.offset (so_far.on.bytes ++ rest))
     ≡ (end >>= λ _. give groups) (tail old.offset rest)
 unfolding body
 at_end start old reader groups all so_far rest =
@@ -188,10 +188,10 @@ read_so_far : (start old : State) (reader : TableReader) (groups : List (List (L
     → IsReadAs (so_far.head.bytes ++ so_far.on.bytes) (Ok (found_so_far reader groups))
 unfolding end
 read_so_far start old reader groups all so_far =
-    let read : body reader.layout reader.shape.value.schema.columns.items (group_sizes reader.rows) [] (tail so_far.behind.offset so_far.on.bytes) ≡ Ok (groups, tail old.offset []) =
+    let read : body reader.layout reader.placement.value.schema.columns.items (group_sizes reader.rows) [] (tail so_far.behind.offset so_far.on.bytes) ≡ Ok (groups, tail old.offset []) =
     rw append-nil at (at_end start old reader groups all so_far []) in
     rw (header_on start old reader groups so_far so_far.on.bytes)
-    (reader.shape.value.schema, refl, sym (ap (found_in reader.layout (schema_shape reader.shape.value.schema)) read))
+    (reader.placement.value.schema, refl, sym (ap (found_in reader.layout (schema_shape reader.placement.value.schema)) read))
 
 -- a byte more is a fault
 byte_more : (groups : List (List (List Value))) (at : ℕ) (bytes rest : List ℕ) → length bytes ≡ 1 → (end >>= λ _. give groups) (tail at (bytes ++ rest)) ≡ Err (at_byte 309 at)
@@ -251,7 +251,7 @@ end_missed start old new reader groups fault all so_far p = record {
   failures = p.failures;
   first = λ own.
       let has = p.refused (own_fault fault own) in
-      let whole = body reader.layout reader.shape.value.schema.columns.items (group_sizes reader.rows) [] in
+      let whole = body reader.layout reader.placement.value.schema.columns.items (group_sizes reader.rows) [] in
       let rest = coming_of new.known in
       let found : HasFault whole so_far.behind new (so_far.on.bytes ++ p.bytes) (at_byte 309 old.offset) = record {
         rest = rest;

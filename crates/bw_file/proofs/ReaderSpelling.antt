@@ -10,7 +10,7 @@ use Rattle.bw_model.specs.Row.{Value}
 use Rattle.bw_model.specs.SchemaText.{SchemaShape, schema_shape}
 use Rattle.bw_file.specs.declared.layout.Layout.{Layout}
 use Rattle.bw_file.specs.declared.table_reader.TableReader.{TableReader}
-use Rattle.bw_file.specs.FileText.{IsFileText}
+use Rattle.bw_file.specs.FileBytes.{IsFileBytes}
 use Rattle.bw_file.specs.Reading.{tail, State}
 use Rattle.bw_device.specs.Source.{is_input_fault}
 use Rattle.bw_file.specs.TableReading.{group_sizes, body, header, Found, found_as, IsReadBehind}
@@ -19,7 +19,7 @@ use Rattle.bw_file.proofs.BodySpelling.{groups_found}
 use Rattle.bw_model.proofs.SameColumns.{columns_same}
 use Rattle.bw_file.proofs.FileSpelling.{of_groups, body_found}
 use Rattle.bw_file.proofs.ReaderLemmas.{head_at}
-use Rattle.bw_file.proofs.SpelledFile.{spelled_is_read, text_read, done_is}
+use Rattle.bw_file.proofs.SpelledFile.{spelled_is_read, bytes_read, done_is}
 
 abbrev known_as : List ℕ → Option (List ℕ)
 known_as bytes = Some bytes
@@ -33,7 +33,7 @@ known_rest None new bytes taken e consumed = absurd cc
 known_rest (Some xs) None bytes taken e consumed = absurd consumed
 known_rest (Some xs) (Some ys) bytes taken e consumed = (ys, refl, sym (some_is xs bytes e) ∙ consumed)
 
-pub no_fault : (bytes : List ℕ) (layout : Layout) (schema : Schema) (rows : List (List Value)) → IsFileText bytes layout schema rows → (start old now : State) (fault : Fault)
+pub no_fault : (bytes : List ℕ) (layout : Layout) (schema : Schema) (rows : List (List Value)) → IsFileBytes bytes layout schema rows → (start old now : State) (fault : Fault)
     → start.known ≡ Some bytes → AnswersFault start old now fault → is_input_fault fault ≡ true
 no_fault bytes layout schema rows file start old now fault known p = go (is_input_fault fault) refl
   where
@@ -44,24 +44,24 @@ no_fault bytes layout schema rows file start old now fault known p = go (is_inpu
         let left = known_rest start.known now.known bytes p.bytes known p.took.consumed in
         let coming : left.0 ≡ has.rest = rw left.1 at has.coming in
         let all : bytes ≡ p.bytes ++ has.rest = left.2 ∙ ap (λ (more : List ℕ). p.bytes ++ more) coming in
-        let contrary = text_read bytes layout schema rows (Err fault) file (rw all has.read) in
+        let contrary = bytes_read bytes layout schema rows (Err fault) file (rw all has.read) in
         absurd (cc contrary)
 
-pub whole_table : (bytes : List ℕ) (layout : Layout) (schema : Schema) (rows : List (List Value)) → IsFileText bytes layout schema rows → (start now : State) (found : Found)
+pub whole_table : (bytes : List ℕ) (layout : Layout) (schema : Schema) (rows : List (List Value)) → IsFileBytes bytes layout schema rows → (start now : State) (found : Found)
     → start.known ≡ Some bytes → ReadWhole start now found → found ≡ found_as layout (schema_shape schema) rows
 whole_table bytes layout schema rows file start now found known p =
     let left = known_rest start.known now.known bytes p.bytes known p.took.consumed in
     let nothing : left.0 ≡ [] = rw left.1 at p.ended in
     let all : bytes ≡ p.bytes = left.2 ∙ ap (λ (more : List ℕ). p.bytes ++ more) nothing ∙ append-nil p.bytes in
-    sym (done_is _ _ (text_read bytes layout schema rows (Ok found) file (rw all p.read)))
+    sym (done_is _ _ (bytes_read bytes layout schema rows (Ok found) file (rw all p.read)))
 
-pub gave_first : (bytes : List ℕ) (layout : Layout) (schema : Schema) (rows : List (List Value)) → IsFileText bytes layout schema rows → (start now : State) (reader : TableReader)
+pub gave_first : (bytes : List ℕ) (layout : Layout) (schema : Schema) (rows : List (List Value)) → IsFileBytes bytes layout schema rows → (start now : State) (reader : TableReader)
     (groups : List (List (List Value))) → start.known ≡ Some bytes → SoFar start now reader groups → GaveFirst reader groups layout schema rows
 gave_first bytes layout schema rows file start now reader groups known so_far =
     let head = so_far.head in
     let on = so_far.on in
     let behind = so_far.behind in
-    let own = reader.shape.value.schema in
+    let own = reader.placement.value.schema in
     let h = header_told reader.version reader in
     let a = known_rest start.known behind.known bytes head.bytes known head.took.consumed in
     let b = known_rest behind.known now.known a.0 on.bytes a.1 on.took.consumed in

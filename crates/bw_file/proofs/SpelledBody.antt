@@ -11,9 +11,9 @@ use Rattle.bw_model.specs.Groups.{group_size, groups_of, together}
 use Rattle.bw_model.specs.Row.{Value}
 use Rattle.bw_model.proofs.BitsLemmas.{both}
 use Rattle.bw_model.proofs.GroupLemmas.{groups_of-nothing, groups_of-first, groups_of-sizes, groups_of-table}
-use Rattle.bw_segment.specs.Packing.{block_text, segment_text, rows_spelled}
+use Rattle.bw_segment.specs.Packing.{block_bytes, segment_bytes, rows_spelled}
 use Rattle.bw_segment.specs.Meaning.{Meaning, IsGroup}
-use Rattle.bw_segment.proofs.TextLemmas.{length-block, block_is_fine, rows_of_text}
+use Rattle.bw_segment.proofs.BytesLemmas.{length-block, block_is_fine, rows_of_bytes}
 use Rattle.bw_file.specs.declared.layout.Layout.{Layout}
 use Rattle.bw_file.specs.Blocks.{form_of, block_size, block_fault}
 use Rattle.bw_file.specs.Reading.{Tail, tail, passed}
@@ -28,7 +28,7 @@ group_under columns rows = record { name = []; columns = columns; rows = rows }
 -- the blocks of a group's rows
 module _ (layout : Layout) (columns : List Column) (rows : List (List Value)) (group : IsGroup (group_under columns rows)) where
   abbrev block : ℕ → List ℕ
-  block number = block_text (form_of layout) columns number rows
+  block number = block_bytes (form_of layout) columns number rows
 
   block_reads : (number : ℕ) → number < length columns → ReadsText (one_block layout columns (length rows) number) (block number) (block number)
   unfolding one_block
@@ -57,11 +57,11 @@ module _ (layout : Layout) (columns : List Column) (rows : List (List Value)) (g
       (block_reads number (omega (arith, within)))
       (subst (λ (n : ℕ). ReadsText (blocks layout columns (length rows) n more (before ++ block number)) (flat_map block (range_with_len (number + 1) more)) ((before ++ block number) ++ flat_map block (range_with_len (number + 1) more))) (add-one number) next))
 
-  pub segment_reads : ReadsText (segment layout columns (length rows)) (segment_text (form_of layout) columns rows) rows
-  unfolding segment segment_text
+  pub segment_reads : ReadsText (segment layout columns (length rows)) (segment_bytes (form_of layout) columns rows) rows
+  unfolding segment segment_bytes
   segment_reads =
       let text = flat_map block (range_with_len 0 (length columns)) in
-      subst (ReadsText (segment layout columns (length rows)) text) (rows_of_text (form_of layout) (is_packing layout) (group_under columns rows) group)
+      subst (ReadsText (segment layout columns (length rows)) text) (rows_of_bytes (form_of layout) (is_packing layout) (group_under columns rows) group)
       (text_gives (blocks layout columns (length rows) 0 (length columns) []) (λ bytes. rows_spelled (form_of layout) columns (length rows) bytes) text text
       (blocks_read (length columns) 0 [] (omega arith)))
 
@@ -73,14 +73,14 @@ abbrev Admits : List Column → List (List Value) → Type 0
 Admits columns group = list_all (admits_values columns) group ≡ true
 
 body_reads : (layout : Layout) (columns : List Column) (groups before : List (List (List Value))) (at : ℕ) → All HasSize groups → All (Admits columns) groups
-    → (t : Tail) × (body layout columns (map length groups) before (tail at (flat_map (segment_text (form_of layout) columns) groups)) ≡ Ok (before ++ groups, t))
+    → (t : Tail) × (body layout columns (map length groups) before (tail at (flat_map (segment_bytes (form_of layout) columns) groups)) ≡ Ok (before ++ groups, t))
 unfolding body end
 body_reads layout columns [] before at sized admitted = (tail at [], rw append-nil refl)
 body_reads layout columns (group ∷ groups) before at sized admitted =
     let size = All-head HasSize group groups sized in
     let is : IsGroup (group_under columns group) = record { some = size.0; few = size.1; admitted = All-head (Admits columns) group groups admitted } in
-    let text = segment_text (form_of layout) columns group in
-    let others = flat_map (segment_text (form_of layout) columns) groups in
+    let text = segment_bytes (form_of layout) columns group in
+    let others = flat_map (segment_bytes (form_of layout) columns) groups in
     let r = body_reads layout columns groups (before ++ group ∷ []) (at + length text) (All-tail HasSize group groups sized) (All-tail (Admits columns) group groups admitted) in
     let first = segment_reads layout columns group is at others in (
       r.0,
@@ -113,7 +113,7 @@ sizes_of_groups rows = sizes_within (length rows) rows (omega arith)
 
 -- what stands after a header is read as the groups of its rows
 pub groups_read : (layout : Layout) (columns : List Column) (rows : List (List Value)) (at : ℕ) → list_all (admits_values columns) rows ≡ true
-    → (t : Tail) × (body layout columns (group_sizes (length rows)) [] (tail at (flat_map (segment_text (form_of layout) columns) (groups_of rows))) ≡ Ok (groups_of rows, t))
+    → (t : Tail) × (body layout columns (group_sizes (length rows)) [] (tail at (flat_map (segment_bytes (form_of layout) columns) (groups_of rows))) ≡ Ok (groups_of rows, t))
 groups_read layout columns rows at admitted =
     let each = each_admitted columns (groups_of rows) (ap (list_all (admits_values columns)) (groups_of-table rows) ∙ admitted) in
     rw (sizes_of_groups rows) (body_reads layout columns (groups_of rows) [] at (groups_of-sizes rows) each)

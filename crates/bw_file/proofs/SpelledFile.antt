@@ -11,12 +11,12 @@ use Rattle.bw_model.specs.Row.{Value}
 use Rattle.bw_model.specs.SchemaText.{column_shape, SchemaShape, schema_shape, shape_names}
 use Rattle.bw_model.proofs.GroupLemmas.{groups_of-table}
 use Rattle.bw_file.specs.declared.layout.Layout.{Layout}
-use Rattle.bw_file.specs.FileText.{IsFileText, text_of_version, segments_text, version_for, are_bounds}
+use Rattle.bw_file.specs.FileBytes.{IsFileBytes, bytes_of_version, segments_bytes, version_for, are_bounds}
 use Rattle.bw_file.specs.Reading.{Tail, tail}
 use Rattle.bw_file.specs.TableReading.{group_sizes, body, HeaderShape, header, Found, found_as, found_in, IsReadBehind, IsReadAs}
 use Rattle.bw_model.proofs.SameColumns.{columns_same}
 use Rattle.bw_file.proofs.FileSpelling.{head_is, shapes_fit}
-use Rattle.bw_file.proofs.SpellingLemmas.{head_text, IsHeader}
+use Rattle.bw_file.proofs.SpellingLemmas.{head_bytes, IsHeader}
 use Rattle.bw_file.proofs.SpelledHeader.{IsWhole, header_reads}
 use Rattle.bw_file.proofs.SpelledBody.{groups_read}
 
@@ -48,9 +48,9 @@ room_in : (columns : List Column) → HasRoom (version_for columns) columns
 room_in columns = room_by columns (list_all (λ (c : Column). are_bounds 1 c.lo c.hi) columns) refl
 
 of_version : (version : ℕ) (bytes : List ℕ) (layout : Layout) (schema : Schema) (rows : List (List Value)) → (version ≡ 1) ⊎ (version ≡ 2)
-    → list_all (λ (c : Column). are_bounds version c.lo c.hi) schema.columns.items ≡ true → IsFileText bytes layout schema rows
-    → bytes ≡ text_of_version version layout schema.name schema.columns.items rows → IsReadAs bytes (Ok (found_as layout (schema_shape schema) rows))
-unfolding text_of_version segments_text
+    → list_all (λ (c : Column). are_bounds version c.lo c.hi) schema.columns.items ≡ true → IsFileBytes bytes layout schema rows
+    → bytes ≡ bytes_of_version version layout schema.name schema.columns.items rows → IsReadAs bytes (Ok (found_as layout (schema_shape schema) rows))
+unfolding bytes_of_version segments_bytes
 of_version version bytes layout schema rows one_or_two room file text =
     let columns = schema.columns.items in
     let h : HeaderShape = record { version = version; layout = layout; rows = length rows; schema = schema_shape schema } in
@@ -62,14 +62,14 @@ of_version version bytes layout schema rows one_or_two room file text =
       limited = omega (arith, count, schema.limited);
       apart = ap are_apart (names_same columns) ∙ schema.apart;
     } in
-    let behind = segments_text layout columns rows in
-    let parts : bytes ≡ head_text h ++ behind = text ∙ ap (λ (l : List ℕ). l ++ behind) (sym (head_is version (length rows) layout schema)) in
-    let e : header (tail 0 bytes) ≡ Ok (h, tail (0 + length (head_text h)) behind) = ap (λ (l : List ℕ). header (tail 0 l)) parts ∙ header_reads h is 0 behind in
-    let groups = groups_read layout columns rows (0 + length (head_text h)) file.admitted.admitted in
+    let behind = segments_bytes layout columns rows in
+    let parts : bytes ≡ head_bytes h ++ behind = text ∙ ap (λ (l : List ℕ). l ++ behind) (sym (head_is version (length rows) layout schema)) in
+    let e : header (tail 0 bytes) ≡ Ok (h, tail (0 + length (head_bytes h)) behind) = ap (λ (l : List ℕ). header (tail 0 l)) parts ∙ header_reads h is 0 behind in
+    let groups = groups_read layout columns rows (0 + length (head_bytes h)) file.admitted.admitted in
     let whole = ap (found_in layout (schema_shape schema)) groups.1 ∙ ap (λ (l : List (List Value)). Ok (found_as layout (schema_shape schema) l)) (groups_of-table rows) in
     rw e (schema, refl, sym whole)
 
-pub spelled_is_read : (bytes : List ℕ) (layout : Layout) (schema : Schema) (rows : List (List Value)) → IsFileText bytes layout schema rows
+pub spelled_is_read : (bytes : List ℕ) (layout : Layout) (schema : Schema) (rows : List (List Value)) → IsFileBytes bytes layout schema rows
     → IsReadAs bytes (Ok (found_as layout (schema_shape schema) rows))
 spelled_is_read bytes layout schema rows file =
     elim file.text [
@@ -94,12 +94,12 @@ pub done_is : (x y : Found) → done x ≡ done y → x ≡ y
 done_is x y e = cc
 
 pub of_one_table : (bytes : List ℕ) (layout other_layout : Layout) (schema other_schema : Schema) (rows other_rows : List (List Value))
-    → IsFileText bytes layout schema rows → IsFileText bytes other_layout other_schema other_rows
+    → IsFileBytes bytes layout schema rows → IsFileBytes bytes other_layout other_schema other_rows
     → found_as layout (schema_shape schema) rows ≡ found_as other_layout (schema_shape other_schema) other_rows
 of_one_table bytes layout other_layout schema other_schema rows other_rows one other =
     done_is _ _ (read_one_way bytes _ _ (spelled_is_read bytes layout schema rows one) (spelled_is_read bytes other_layout other_schema other_rows other))
 
 -- so what is read of a table's text is the table
-pub text_read : (bytes : List ℕ) (layout : Layout) (schema : Schema) (rows : List (List Value)) (read : Result Found Fault) → IsFileText bytes layout schema rows → IsReadAs bytes read
+pub bytes_read : (bytes : List ℕ) (layout : Layout) (schema : Schema) (rows : List (List Value)) (read : Result Found Fault) → IsFileBytes bytes layout schema rows → IsReadAs bytes read
     → Ok (found_as layout (schema_shape schema) rows) ≡ read
-text_read bytes layout schema rows read file is = read_one_way bytes (Ok (found_as layout (schema_shape schema) rows)) read (spelled_is_read bytes layout schema rows file) is
+bytes_read bytes layout schema rows read file is = read_one_way bytes (Ok (found_as layout (schema_shape schema) rows)) read (spelled_is_read bytes layout schema rows file) is

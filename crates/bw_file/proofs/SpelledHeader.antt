@@ -16,10 +16,10 @@ use Rattle.bw_model.specs.Text.{same_text}
 use Rattle.bw_model.proofs.BitsLemmas.{both}
 use Rattle.bw_file.specs.declared.layout.Layout.{Layout}
 use Rattle.bw_file.specs.declared.layout.Layout.TheVariants.{Planes, Slices}
-use Rattle.bw_file.specs.FileText.{magic, layout_byte, flag_byte, front_text, name_text, bound_text, column_text, are_bounds, IsColumn}
+use Rattle.bw_file.specs.FileBytes.{magic, layout_byte, flag_byte, front_bytes, name_bytes, bound_bytes, column_bytes, are_bounds, IsColumn}
 use Rattle.bw_file.specs.Reading.{Tail, tail, Reading, passed, ◌>>=◌, give, field, said_at, judged}
 use Rattle.bw_file.specs.TableReading.{magic_says, version_says, layout_says, count_says, rows_say, bound_in, bounds_say, nullable_says, name_says, name, column, columns, front_of, front, HeaderShape, header_of, header}
-use Rattle.bw_file.proofs.SpellingLemmas.{shape_text, fits_version, head_text, IsHeader}
+use Rattle.bw_file.proofs.SpellingLemmas.{schema_bytes, fits_version, head_bytes, IsHeader}
 
 -- reading gives this of a text, whatever stands after it
 abbrev pub ReadsText : {A : Type 0} → Reading A → List ℕ → A → Type 0
@@ -100,43 +100,43 @@ rows_read rows few =
     let room : nat_lt most_rows rows ≡ false = le-ltb _ _ few in
     rw (back, room) refl
 
-length-bound_text : (n : ℤ) → length (bound_text n) ≡ 8
-length-bound_text n = refl
+length-bound_bytes : (n : ℤ) → length (bound_bytes n) ≡ 8
+length-bound_bytes n = refl
 
-bound_read : (n : ℤ) → FitsSigned w64 n → bound_in (bound_text n) ≡ n
+bound_read : (n : ℤ) → FitsSigned w64 n → bound_in (bound_bytes n) ≡ n
 bound_read n fits =
     let small : cast_unsigned w64 n < 2 ^ 64 = Fits-lt-pow (Fits-of_z fits) in
     rw (from_le_bytes-to_le_bytes_8 (cast_unsigned w64 n) small) (to_z-of_z w64 n fits)
 
 bounds_read : (version : ℕ) (lo hi : ℤ) → FitsSigned w64 lo → FitsSigned w64 hi → are_bounds version lo hi ≡ true
-    → bounds_say version (bound_text lo ++ bound_text hi) ≡ Ok (record { lo = lo; hi = hi })
+    → bounds_say version (bound_bytes lo ++ bound_bytes hi) ≡ Ok (record { lo = lo; hi = hi })
 unfolding bounds_say
 bounds_read version lo hi low high ordered =
-    let first : bound_in (take 8 (bound_text lo ++ bound_text hi)) ≡ lo = ap bound_in (take_at (bound_text lo) (bound_text hi) 8 (length-bound_text lo)) ∙ bound_read lo low in
-    let second : bound_in (take 8 (drop 8 (bound_text lo ++ bound_text hi))) ≡ hi =
-    ap (λ (l : List ℕ). bound_in (take 8 l)) (drop_at (bound_text lo) (bound_text hi) 8 (length-bound_text lo))
-    ∙ ap bound_in (take_all 8 (bound_text hi) (omega (arith, length-bound_text hi))) ∙ bound_read hi high in
+    let first : bound_in (take 8 (bound_bytes lo ++ bound_bytes hi)) ≡ lo = ap bound_in (take_at (bound_bytes lo) (bound_bytes hi) 8 (length-bound_bytes lo)) ∙ bound_read lo low in
+    let second : bound_in (take 8 (drop 8 (bound_bytes lo ++ bound_bytes hi))) ≡ hi =
+    ap (λ (l : List ℕ). bound_in (take 8 l)) (drop_at (bound_bytes lo) (bound_bytes hi) 8 (length-bound_bytes lo))
+    ∙ ap bound_in (take_all 8 (bound_bytes hi) (omega (arith, length-bound_bytes hi))) ∙ bound_read hi high in
     rw (first, second, ordered) refl
 
 new_name : (before : List (List ℕ)) (text : List ℕ) → is_name text ≡ true → list_any (λ (other : List ℕ). same_text other text) before ≡ false → name_says before text ≡ Ok text
 unfolding name_says
 new_name before text is apart = rw (is, apart) refl
 
-name_reads : (before : List (List ℕ)) (text : List ℕ) → is_name text ≡ true → list_any (λ (other : List ℕ). same_text other text) before ≡ false → ReadsText (name before) (name_text text) text
+name_reads : (before : List (List ℕ)) (text : List ℕ) → is_name text ≡ true → list_any (λ (other : List ℕ). same_text other text) before ≡ false → ReadsText (name before) (name_bytes text) text
 unfolding name
 name_reads before text is apart at rest =
     text_then (field 1) (λ size. field (slice_index size 0) >>= λ bytes. said_at at (name_says before bytes)) (length text ∷ []) text (length text ∷ []) text
     (field_reads 1 (length text ∷ []) refl) (said_reads at (length text) (name_says before) text text refl (new_name before text is apart)) at rest
 
 column_reads : (version : ℕ) (before : List (List ℕ)) (c : ColumnShape) → IsColumn c → fits_version version c ≡ true
-    → list_any (λ (other : List ℕ). same_text other c.name) before ≡ false → ReadsText (column version before) (shape_text c) c
-unfolding column column_text
+    → list_any (λ (other : List ℕ). same_text other c.name) before ≡ false → ReadsText (column version before) (schema_bytes c) c
+unfolding column column_bytes
 column_reads version before c is room apart =
-    let bounds = bound_text c.lo ++ bound_text c.hi in
+    let bounds = bound_bytes c.lo ++ bound_bytes c.hi in
     let flag : List ℕ = flag_byte c.nullable ∷ [] in
-    text_as (column version before) (name_text c.name ++ (bounds ++ flag)) (shape_text c) c (sym (append_assoc (name_text c.name) bounds flag))
+    text_as (column version before) (name_bytes c.name ++ (bounds ++ flag)) (schema_bytes c) c (sym (append_assoc (name_bytes c.name) bounds flag))
     (text_then (name before) (λ text. judged 16 (bounds_say version) >>= λ bounds. judged 1 nullable_says >>= λ nullable. give (shape text bounds.lo bounds.hi nullable))
-    (name_text c.name) (bounds ++ flag) c.name c (name_reads before c.name is.name apart)
+    (name_bytes c.name) (bounds ++ flag) c.name c (name_reads before c.name is.name apart)
     (text_then (judged 16 (bounds_say version)) (λ bounds. judged 1 nullable_says >>= λ nullable. give (shape c.name bounds.lo bounds.hi nullable))
     bounds flag (record { lo = c.lo; hi = c.hi }) c
     (judged_reads 16 (bounds_say version) bounds (record { lo = c.lo; hi = c.hi }) refl (bounds_read version c.lo c.hi is.lo is.hi room))
@@ -166,7 +166,7 @@ names-more [] c more = refl
 names-more (b ∷ before) c more = ap (λ (names : List (List ℕ)). b.name ∷ names) (names-more before c more)
 
 columns_read : (version : ℕ) (before more : List ColumnShape) → All IsColumn more → list_all (fits_version version) more ≡ true
-    → are_apart (shape_names before ++ shape_names more) ≡ true → ReadsText (columns version before (length more)) (flat_map shape_text more) (before ++ more)
+    → are_apart (shape_names before ++ shape_names more) ≡ true → ReadsText (columns version before (length more)) (flat_map schema_bytes more) (before ++ more)
 unfolding columns
 columns_read version before [] is room apart = λ at rest.
     let there : at ≡ at + 0 = omega arith in
@@ -174,14 +174,14 @@ columns_read version before [] is room apart = λ at rest.
 columns_read version before (c ∷ more) is room apart =
     let fits = both (fits_version version c) (list_all (fits_version version) more) room in
     let next : are_apart (shape_names (before ++ c ∷ []) ++ shape_names more) ≡ true = ap are_apart (names-more before c more) ∙ apart in
-    subst (ReadsText (columns version before (suc (length more))) (flat_map shape_text (c ∷ more))) (append_assoc before (c ∷ []) more)
-    (text_then (column version (shape_names before)) (λ found. columns version (before ++ found ∷ []) (length more)) (shape_text c) (flat_map shape_text more) c ((before ++ c ∷ []) ++ more)
+    subst (ReadsText (columns version before (suc (length more))) (flat_map schema_bytes (c ∷ more))) (append_assoc before (c ∷ []) more)
+    (text_then (column version (shape_names before)) (λ found. columns version (before ++ found ∷ []) (length more)) (schema_bytes c) (flat_map schema_bytes more) c ((before ++ c ∷ []) ++ more)
     (column_reads version (shape_names before) c (All-head IsColumn c more is) fits.0 (apart_before c.name (shape_names before) (shape_names more) apart))
     (columns_read version (before ++ c ∷ []) more (All-tail IsColumn c more is) fits.1 next))
 
 front_reads : (version : ℕ) (layout : Layout) (columns rows : ℕ) → (version ≡ 1) ⊎ (version ≡ 2) → 1 ≤ columns → columns ≤ most_columns → rows ≤ most_rows
-    → ReadsText front (front_text version layout columns rows) (front_of version layout columns rows)
-unfolding front front_text
+    → ReadsText front (front_bytes version layout columns rows) (front_of version layout columns rows)
+unfolding front front_bytes
 front_reads version layout count rows one_or_two some limited few =
     let two : List ℕ = version ∷ layout_byte layout ∷ [] in
     let counted = to_le_bytes w16 count in
@@ -206,15 +206,15 @@ pub record IsWhole (h : HeaderShape) : Type 0 where
   pub limited : length h.schema.columns ≤ most_columns
   pub apart : are_apart (shape_names h.schema.columns) ≡ true
 
-pub header_reads : (h : HeaderShape) → IsWhole h → ReadsText header (head_text h) h
+pub header_reads : (h : HeaderShape) → IsWhole h → ReadsText header (head_bytes h) h
 unfolding header
 header_reads h is =
     let columns_of = h.schema.columns in
     let count = length columns_of in
-    let first = front_text h.version h.layout count h.rows in
-    let named = name_text h.schema.name in
+    let first = front_bytes h.version h.layout count h.rows in
+    let named = name_bytes h.schema.name in
     let found = front_of h.version h.layout count h.rows in
-    let texts = flat_map shape_text columns_of in
+    let texts = flat_map schema_bytes columns_of in
     text_as header (first ++ (named ++ texts)) (first ++ named ++ texts) h (sym (append_assoc first named texts))
     (text_then front (λ first. name [] >>= λ text. columns first.version [] first.columns >>= λ found. give (header_of first text found))
     first (named ++ texts) found h (front_reads h.version h.layout count h.rows is.header.version is.some is.limited is.header.few)

@@ -18,7 +18,7 @@ use Rattle.bw_model.specs.SchemaText.{ColumnShape, shape, shape_names}
 use Rattle.bw_file.specs.declared.fields.Bounds.{Bounds}
 use Rattle.bw_file.specs.declared.layout.Layout.{Layout}
 use Rattle.bw_file.specs.declared.layout.Layout.TheVariants.{Planes, Slices}
-use Rattle.bw_file.specs.FileText.{magic, layout_byte, flag_byte, front_text, name_text, bound_text, column_text, are_bounds, IsColumn, IsSchema}
+use Rattle.bw_file.specs.FileBytes.{magic, layout_byte, flag_byte, front_bytes, name_bytes, bound_bytes, column_bytes, are_bounds, IsColumn, IsSchema}
 use Rattle.bw_file.specs.Reading.{Tail, tail, Reading, passed, ◌>>=◌, give, field, said_at, judged}
 use Rattle.bw_file.specs.TableReading.{magic_says, version_says, layout_says, count_says, rows_say, bound_in, bounds_say, nullable_says, name_says, name, column, columns, FrontShape, front_of, front, HeaderShape, header_of, header}
 
@@ -171,7 +171,7 @@ rows_are text rows long fits e =
     let g = left (nat_lt most_rows (from_le_bytes w32 text)) (from_le_bytes w32 text) rows 310 e in
     (sym (le_bytes_4 text rows long fits (sym g.1)), rw (← g.1) (ltb-false _ _ g.0))
 
-bound_is : (text : List ℕ) → length text ≡ 8 → IsBytes text → bound_text (bound_in text) ≡ text
+bound_is : (text : List ℕ) → length text ≡ 8 → IsBytes text → bound_bytes (bound_in text) ≡ text
 bound_is text long fits =
     let small : from_le_bytes w64 text < 2 ^ 64 = omega (arith, fits 0, fits 1, fits 2, fits 3, fits 4, fits 5, fits 6, fits 7) in
     ap (to_le_bytes w64) (of_z-to_z w64 (from_le_bytes w64 text) small) ∙ le_bytes_8 text (from_le_bytes w64 text) long fits refl
@@ -181,7 +181,7 @@ cast_fits n = omega (arith, fits_in, read_fits w64 n)
 
 -- bounds of eight bytes each
 record AreBounds (version : ℕ) (text : List ℕ) (bounds : Bounds) : Type 0 where
-  spelled : text ≡ bound_text bounds.lo ++ bound_text bounds.hi
+  spelled : text ≡ bound_bytes bounds.lo ++ bound_bytes bounds.hi
   ordered : are_bounds version bounds.lo bounds.hi ≡ true
   lo : FitsSigned w64 bounds.lo
   hi : FitsSigned w64 bounds.hi
@@ -195,11 +195,11 @@ bounds_are version text bounds long fits e =
     let made : Bounds = record { lo = lo; hi = hi } in
     let g = chosen (are_bounds version lo hi) made bounds 304 e in
     let back : length (drop 8 text) ≡ 8 = omega (arith, length-drop 8 text) in
-    let first : bound_text lo ≡ take 8 text = bound_is (take 8 text) (length-take-le 8 text (omega (arith, long))) (IsBytes-take 8 text fits) in
+    let first : bound_bytes lo ≡ take 8 text = bound_is (take 8 text) (length-take-le 8 text (omega (arith, long))) (IsBytes-take 8 text fits) in
     let all : take 8 (drop 8 text) ≡ drop 8 text = take_all 8 (drop 8 text) (omega (arith, back)) in
-    let second : bound_text hi ≡ drop 8 text = bound_is (take 8 (drop 8 text)) (length-take-le 8 (drop 8 text) (omega (arith, back))) (IsBytes-take 8 (drop 8 text) (IsBytes-drop 8 text fits)) ∙ all in
-    let whole : bound_text lo ++ bound_text hi ≡ text =
-    ap (λ (l : List ℕ). l ++ bound_text hi) first ∙ ap (λ (l : List ℕ). take 8 text ++ l) second ∙ take-append-drop 8 text in
+    let second : bound_bytes hi ≡ drop 8 text = bound_is (take 8 (drop 8 text)) (length-take-le 8 (drop 8 text) (omega (arith, back))) (IsBytes-take 8 (drop 8 text) (IsBytes-drop 8 text fits)) ∙ all in
+    let whole : bound_bytes lo ++ bound_bytes hi ≡ text =
+    ap (λ (l : List ℕ). l ++ bound_bytes hi) first ∙ ap (λ (l : List ℕ). take 8 text ++ l) second ∙ take-append-drop 8 text in
     subst (AreBounds version text) g.1 (record {
       spelled = sym whole;
       ordered = g.0;
@@ -226,7 +226,7 @@ unfolding name_says
 named before text found e =
     let g = left _ text found 304 e in (g.1, ap is_name (sym g.1) ∙ neither _ _ g.0)
 
-name_takes : (before : List (List ℕ)) (t : Tail) (x : List ℕ × Tail) → IsBytes t.bytes → name before t ≡ Ok x → TakesBoth t (name_text x.0) x.1 × (is_name x.0 ≡ true)
+name_takes : (before : List (List ℕ)) (t : Tail) (x : List ℕ × Tail) → IsBytes t.bytes → name before t ≡ Ok x → TakesBoth t (name_bytes x.0) x.1 × (is_name x.0 ≡ true)
 unfolding name
 name_takes before t x fits e =
     let a = bind_ok (field 1 t) (λ size. field (slice_index size 0) >>= λ text. said_at t.at (name_says before text)) x e in
@@ -239,18 +239,18 @@ name_takes before t x fits e =
     let size : a.0.0 ≡ length x.0 ∷ [] = single a.0.0 fa.1 ∙ ap (λ (n : ℕ). n ∷ []) (sym fb.1 ∙ ap length same) in
     let whole : TakesBoth t ((length x.0 ∷ []) ++ x.0) b.0.1 =
     takes_then t a.0.1 b.0.1 (length x.0 ∷ []) x.0 (takes_as t a.0.1 a.0.0 (length x.0 ∷ []) fa.0 size) (takes_as a.0.1 b.0.1 b.0.0 x.0 fb.0 same) in
-    (subst (λ (u : Tail). TakesBoth t (name_text x.0) u) s.1 whole, is.1)
+    (subst (λ (u : Tail). TakesBoth t (name_bytes x.0) u) s.1 whole, is.1)
 
-abbrev pub shape_text : ColumnShape → List ℕ
-shape_text column = column_text column.name column.lo column.hi column.nullable
+abbrev pub schema_bytes : ColumnShape → List ℕ
+schema_bytes column = column_bytes column.name column.lo column.hi column.nullable
 
 -- bounds that a version has room for
 abbrev pub fits_version : ℕ → ColumnShape → Bool
 fits_version version column = are_bounds version column.lo column.hi
 
 column_takes : (version : ℕ) (before : List (List ℕ)) (t : Tail) (x : ColumnShape × Tail) → IsBytes t.bytes → column version before t ≡ Ok x
-    → TakesBoth t (shape_text x.0) x.1 × (fits_version version x.0 ≡ true) × IsColumn x.0
-unfolding column column_text
+    → TakesBoth t (schema_bytes x.0) x.1 × (fits_version version x.0 ≡ true) × IsColumn x.0
+unfolding column column_bytes
 column_takes version before t x fits e =
     let a = bind_ok (name before t) (λ text. judged 16 (bounds_say version) >>= λ bounds. judged 1 nullable_says >>= λ nullable. give (shape text bounds.lo bounds.hi nullable)) x e in
     let b = bind_ok (judged 16 (bounds_say version) a.0.1) (λ bounds. judged 1 nullable_says >>= λ nullable. give (shape a.0.0 bounds.lo bounds.hi nullable)) x a.2 in
@@ -261,18 +261,18 @@ column_takes version before t x fits e =
     let bs = bounds_are version jb.text b.0.0 jb.long jb.takes.fits jb.said in
     let tb = takes_as a.0.1 b.0.1 jb.text _ jb.takes bs.spelled in
     let tc = takes_as b.0.1 c.0.1 jc.text _ jc.takes (nullable_is jc.text c.0.0 jc.long jc.said) in
-    let whole = takes_then t b.0.1 c.0.1 (name_text a.0.0 ++ (bound_text b.0.0.lo ++ bound_text b.0.0.hi)) (flag_byte c.0.0 ∷ [])
-    (takes_then t a.0.1 b.0.1 (name_text a.0.0) (bound_text b.0.0.lo ++ bound_text b.0.0.hi) ta.0 tb) tc in
+    let whole = takes_then t b.0.1 c.0.1 (name_bytes a.0.0 ++ (bound_bytes b.0.0.lo ++ bound_bytes b.0.0.hi)) (flag_byte c.0.0 ∷ [])
+    (takes_then t a.0.1 b.0.1 (name_bytes a.0.0) (bound_bytes b.0.0.lo ++ bound_bytes b.0.0.hi) ta.0 tb) tc in
     let made : ColumnShape × Tail = (shape a.0.0 b.0.0.lo b.0.0.hi c.0.0, c.0.1) in
     let is : IsColumn made.0 = record { name = ta.1; lo = bs.lo; hi = bs.hi } in
-    subst (λ (y : ColumnShape × Tail). TakesBoth t (shape_text y.0) y.1 × (fits_version version y.0 ≡ true) × IsColumn y.0) (ok_is made x c.2) (whole, bs.ordered, is)
+    subst (λ (y : ColumnShape × Tail). TakesBoth t (schema_bytes y.0) y.1 × (fits_version version y.0 ≡ true) × IsColumn y.0) (ok_is made x c.2) (whole, bs.ordered, is)
 
 columns_take : (version count : ℕ) (before : List ColumnShape) (t : Tail) (x : List ColumnShape × Tail) → IsBytes t.bytes → columns version before count t ≡ Ok x
-    → (more : List ColumnShape) × (x.0 ≡ before ++ more) × (length more ≡ count) × TakesBoth t (flat_map shape_text more) x.1 × (list_all (fits_version version) more ≡ true) × All IsColumn more
+    → (more : List ColumnShape) × (x.0 ≡ before ++ more) × (length more ≡ count) × TakesBoth t (flat_map schema_bytes more) x.1 × (list_all (fits_version version) more ≡ true) × All IsColumn more
 unfolding columns
 columns_take version zero before t x fits e =
     let made : List ColumnShape × Tail = (before, t) in
-    subst (λ (y : List ColumnShape × Tail). (more : List ColumnShape) × (y.0 ≡ before ++ more) × (length more ≡ 0) × TakesBoth t (flat_map shape_text more) y.1 × (list_all (fits_version version) more ≡ true) × All IsColumn more)
+    subst (λ (y : List ColumnShape × Tail). (more : List ColumnShape) × (y.0 ≡ before ++ more) × (length more ≡ 0) × TakesBoth t (flat_map schema_bytes more) y.1 × (list_all (fits_version version) more ≡ true) × All IsColumn more)
     (ok_is made x e) ([], sym (append-nil before), refl, record { parts = refl; rest = fits }, refl, All-nil IsColumn)
 columns_take version (suc count) before t x fits e =
     let a = bind_ok (column version (shape_names before) t) (λ next. columns version (before ++ next ∷ []) count) x e in
@@ -281,7 +281,7 @@ columns_take version (suc count) before t x fits e =
       a.0.0 ∷ r.0,
       r.1 ∙ append_assoc before (a.0.0 ∷ []) r.0,
       ap suc r.2,
-      takes_then t a.0.1 x.1 (shape_text a.0.0) (flat_map shape_text r.0) ta.0 r.3,
+      takes_then t a.0.1 x.1 (schema_bytes a.0.0) (flat_map schema_bytes r.0) ta.0 r.3,
       rw (ta.1, r.4) refl,
       All-cons IsColumn a.0.0 r.0 ta.2 r.5,
     )
@@ -292,8 +292,8 @@ record IsFront (f : FrontShape) : Type 0 where
   few : f.rows ≤ most_rows
 
 front_takes : (t : Tail) (x : FrontShape × Tail) → IsBytes t.bytes → front t ≡ Ok x
-    → TakesBoth t (front_text x.0.version x.0.layout x.0.columns x.0.rows) x.1 × IsFront x.0
-unfolding front front_text
+    → TakesBoth t (front_bytes x.0.version x.0.layout x.0.columns x.0.rows) x.1 × IsFront x.0
+unfolding front front_bytes
 front_takes t x fits e =
     let a = bind_ok (judged 8 magic_says t) (λ _. judged 1 version_says >>= λ version. judged 1 layout_says >>= λ layout. judged 2 count_says >>= λ count. judged 4 rows_say >>= λ rows. give (front_of version layout count rows)) x e in
     let b = bind_ok (judged 1 version_says a.0.1) (λ version. judged 1 layout_says >>= λ layout. judged 2 count_says >>= λ count. judged 4 rows_say >>= λ rows. give (front_of version layout count rows)) x a.2 in
@@ -317,12 +317,12 @@ front_takes t x fits e =
     let tabcd = takes_then t c.0.1 d.0.1 (magic ++ (b.0.0 ∷ layout_byte c.0.0 ∷ [])) (to_le_bytes w16 d.0.0) tabc td in
     let whole = takes_then t d.0.1 g.0.1 (magic ++ (b.0.0 ∷ layout_byte c.0.0 ∷ []) ++ to_le_bytes w16 d.0.0) (to_le_bytes w32 g.0.0) tabcd tg in
     let made : FrontShape × Tail = (front_of b.0.0 c.0.0 d.0.0 g.0.0, g.0.1) in
-    subst (λ (y : FrontShape × Tail). TakesBoth t (front_text y.0.version y.0.layout y.0.columns y.0.rows) y.1 × IsFront y.0) (ok_is made x g.2)
+    subst (λ (y : FrontShape × Tail). TakesBoth t (front_bytes y.0.version y.0.layout y.0.columns y.0.rows) y.1 × IsFront y.0) (ok_is made x g.2)
     (whole, record { version = vs.1; few = rs.1 })
 
 -- the text of a header's shape
-abbrev pub head_text : HeaderShape → List ℕ
-head_text h = front_text h.version h.layout (length h.schema.columns) h.rows ++ name_text h.schema.name ++ flat_map shape_text h.schema.columns
+abbrev pub head_bytes : HeaderShape → List ℕ
+head_bytes h = front_bytes h.version h.layout (length h.schema.columns) h.rows ++ name_bytes h.schema.name ++ flat_map schema_bytes h.schema.columns
 
 pub record IsHeader (h : HeaderShape) : Type 0 where
   pub version : (h.version ≡ 1) ⊎ (h.version ≡ 2)
@@ -330,7 +330,7 @@ pub record IsHeader (h : HeaderShape) : Type 0 where
   pub bounds : list_all (fits_version h.version) h.schema.columns ≡ true
   pub schema : IsSchema h.schema
 
-pub header_takes : (t : Tail) (x : HeaderShape × Tail) → IsBytes t.bytes → header t ≡ Ok x → TakesBoth t (head_text x.0) x.1 × IsHeader x.0
+pub header_takes : (t : Tail) (x : HeaderShape × Tail) → IsBytes t.bytes → header t ≡ Ok x → TakesBoth t (head_bytes x.0) x.1 × IsHeader x.0
 unfolding header
 header_takes t x fits e =
     let a = bind_ok (front t) (λ first. name [] >>= λ text. columns first.version [] first.columns >>= λ found. give (header_of first text found)) x e in
@@ -340,13 +340,13 @@ header_takes t x fits e =
     let tb = name_takes [] a.0.1 b.0 ta.0.rest b.1 in
     let tc = columns_take a.0.0.version a.0.0.columns [] b.0.1 c.0 tb.0.rest c.1 in
     let found : c.0.0 ≡ tc.0 = tc.1 in
-    let text : TakesBoth b.0.1 (flat_map shape_text c.0.0) c.0.1 = rw found tc.3 in
+    let text : TakesBoth b.0.1 (flat_map schema_bytes c.0.0) c.0.1 = rw found tc.3 in
     let count : length c.0.0 ≡ a.0.0.columns = ap length found ∙ tc.2 in
-    let front_part : TakesBoth t (front_text a.0.0.version a.0.0.layout (length c.0.0) a.0.0.rows) a.0.1 = rw count ta.0 in
-    let whole = takes_then t b.0.1 c.0.1 (front_text a.0.0.version a.0.0.layout (length c.0.0) a.0.0.rows ++ name_text b.0.0) (flat_map shape_text c.0.0)
-    (takes_then t a.0.1 b.0.1 (front_text a.0.0.version a.0.0.layout (length c.0.0) a.0.0.rows) (name_text b.0.0) front_part tb.0) text in
+    let front_part : TakesBoth t (front_bytes a.0.0.version a.0.0.layout (length c.0.0) a.0.0.rows) a.0.1 = rw count ta.0 in
+    let whole = takes_then t b.0.1 c.0.1 (front_bytes a.0.0.version a.0.0.layout (length c.0.0) a.0.0.rows ++ name_bytes b.0.0) (flat_map schema_bytes c.0.0)
+    (takes_then t a.0.1 b.0.1 (front_bytes a.0.0.version a.0.0.layout (length c.0.0) a.0.0.rows) (name_bytes b.0.0) front_part tb.0) text in
     let bounds : list_all (fits_version a.0.0.version) c.0.0 ≡ true = rw found tc.4 in
     let schema : IsSchema (header_of a.0.0 b.0.0 c.0.0).schema = record { name = tb.1; columns = subst (All IsColumn) (sym found) tc.5 } in
     let made : HeaderShape × Tail = (header_of a.0.0 b.0.0 c.0.0, c.0.1) in
-    subst (λ (y : HeaderShape × Tail). TakesBoth t (head_text y.0) y.1 × IsHeader y.0) (ok_is made x c.2)
+    subst (λ (y : HeaderShape × Tail). TakesBoth t (head_bytes y.0) y.1 × IsHeader y.0) (ok_is made x c.2)
     (whole, record { version = ta.1.version; few = ta.1.few; bounds = bounds; schema = schema })

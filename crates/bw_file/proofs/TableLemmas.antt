@@ -22,7 +22,7 @@ use Rattle.bw_device.specs.Source.{is_read_fault}
 use Rattle.bw_file.specs.Reading.{State, state}
 use Rattle.bw_file.specs.TableReader.{AnswersFault, ReadWhole, found_so_far}
 use Rattle.bw_file.specs.TableReading.{Found, IsReadAs}
-use Rattle.bw_file.specs.FileText.{file_text}
+use Rattle.bw_file.specs.FileBytes.{file_bytes}
 use Rattle.bw_file.specs.AnySegment.{any_meaning, any_is_group}
 
 admitted_in : (columns : List Column) (rows : List (List Value)) (i : ℕ) → list_all (admits_values columns) rows ≡ true → i < length rows
@@ -52,18 +52,18 @@ row_admitted columns (r ∷ rows) zero row all lt is =
 row_admitted columns (r ∷ rows) (suc i) row all lt is =
     row_admitted columns rows i row (both (admits_values columns (values_of r)) (list_all (admits_values columns) (map values_of rows)) all).1 (omega (arith, lt)) is
 
-text_alike : (a b : Layout) (x y : Schema) (rows : List (List Value)) → a ≡ b → x.name ≡ y.name → x.columns.items ≡ y.columns.items → file_text a x rows ≡ file_text b y rows
-text_alike a b x y rows layout name columns = rw (layout, name, columns) refl
+bytes_alike : (a b : Layout) (x y : Schema) (rows : List (List Value)) → a ≡ b → x.name ≡ y.name → x.columns.items ≡ y.columns.items → file_bytes a x rows ≡ file_bytes b y rows
+bytes_alike a b x y rows layout name columns = rw (layout, name, columns) refl
 
 -- the text of what an encoder was given, where it was given all rows
-pub text_of_all : (encoder : Encoder) (layout : Layout) (schema : Schema) (rows : List Row) (count : ℕ) (bytes : List ℕ) → length rows ≤ count
+pub bytes_of_all : (encoder : Encoder) (layout : Layout) (schema : Schema) (rows : List Row) (count : ℕ) (bytes : List ℕ) → length rows ≤ count
     → encoder_layout encoder ≡ layout → (encoder_schema encoder).name ≡ schema.name → (encoder_schema encoder).columns.items ≡ schema.columns.items
-    → ((given : List (List Value)) → Holds encoder given → bytes ≡ file_text (encoder_layout encoder) (encoder_schema encoder) given)
-    → Holds encoder (map values_of (take count rows)) → bytes ≡ file_text layout schema (map values_of rows)
-text_of_all encoder layout schema rows count bytes all same_layout same_name same_columns text holds =
+    → ((given : List (List Value)) → Holds encoder given → bytes ≡ file_bytes (encoder_layout encoder) (encoder_schema encoder) given)
+    → Holds encoder (map values_of (take count rows)) → bytes ≡ file_bytes layout schema (map values_of rows)
+bytes_of_all encoder layout schema rows count bytes all same_layout same_name same_columns text holds =
     let whole : take count rows ≡ rows = take_all count rows all in
-    text (map values_of (take count rows)) holds ∙ text_alike (encoder_layout encoder) layout (encoder_schema encoder) schema (map values_of (take count rows)) same_layout same_name same_columns
-    ∙ ap (λ given. file_text layout schema (map values_of given)) whole
+    text (map values_of (take count rows)) holds ∙ bytes_alike (encoder_layout encoder) layout (encoder_schema encoder) schema (map values_of (take count rows)) same_layout same_name same_columns
+    ∙ ap (λ given. file_bytes layout schema (map values_of given)) whole
 
 -- a source that never fails answers no failed read, so what is refused is the first fault of its bytes
 no_read_failed : (failed : Bool) → 0 ≡ 0 + (if failed then 1 else 0) → failed ≡ false
@@ -84,6 +84,6 @@ whole_seen bytes last offset found p =
     rw all p.read
 
 pub found_same : (bytes : List ℕ) (reader : TableReader) (groups : List (List (List Value))) (layout : Layout) (schema : Schema) (rows : List (List Value)) → layout ≡ reader.layout
-    → schema.name ≡ reader.shape.value.schema.name → schema.columns.items ≡ reader.shape.value.schema.columns.items → rows ≡ together groups
+    → schema.name ≡ reader.placement.value.schema.name → schema.columns.items ≡ reader.placement.value.schema.columns.items → rows ≡ together groups
     → IsReadAs bytes (Ok (found_so_far reader groups)) → IsReadAs bytes (Ok (record { layout = layout; schema = schema_shape schema; rows = rows }))
 found_same bytes reader groups layout schema rows same_layout same_name same_columns same_rows read = rw (same_layout, same_name, same_columns, same_rows) read

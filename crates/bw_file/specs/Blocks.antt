@@ -7,7 +7,7 @@ use Rattle.bw_slices.specs.Slices.{slice_packing}
 use Rattle.bw_segment.specs.BlockFault as faults
 use Rattle.bw_segment.specs.Packed as packed
 use Rattle.bw_segment.specs.Packing as kept
-use Rattle.bw_segment.specs.declared.shape.Shape.{Shape}
+use Rattle.bw_segment.specs.declared.placement.Placement.{Placement}
 use Rattle.bw_file.specs.declared.layout.Layout.{Layout}
 use Rattle.bw_file.specs.declared.layout.Layout.TheVariants.{Planes, Slices}
 
@@ -31,7 +31,7 @@ abbrev pub segment_size : Layout → List Column → ℕ
 segment_size layout columns = kept.segment_size (form_of layout) columns
 
 -- a shape has the blocks where they begin in a segment of a layout
-abbrev pub IsPlaced : Layout → Shape → Type 0
+abbrev pub IsPlaced : Layout → Placement → Type 0
 IsPlaced layout shape = packed.IsPlaced (form_of layout) shape
 
 -- the first fault of a block of that size, in a segment of so many rows
@@ -49,8 +49,8 @@ abbrev pub IsSound : Layout → List Column → ℕ → List ℕ → Type 0
 IsSound layout columns count bytes = faults.IsSound (form_of layout) columns count bytes
 
 -- the bytes of a group's rows, the blocks of all columns in order
-abbrev pub segment_text : Layout → List Column → List (List Value) → List ℕ
-segment_text layout columns rows = kept.segment_text (form_of layout) columns rows
+abbrev pub segment_bytes : Layout → List Column → List (List Value) → List ℕ
+segment_bytes layout columns rows = kept.segment_bytes (form_of layout) columns rows
 
 -- the rows, so many, that the bytes of a segment spell
 abbrev pub rows_spelled : Layout → List Column → ℕ → List ℕ → List (List Value)

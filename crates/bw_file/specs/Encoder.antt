@@ -6,11 +6,11 @@ use Rattle.bw_model.specs.Row.{Value}
 use Rattle.bw_segment.specs.Columns.{KeepRows}
 use Rattle.bw_file.specs.declared.encoder.Encoder.{Encoder}
 use Rattle.bw_file.specs.declared.layout.Layout.{Layout}
-use Rattle.bw_file.specs.FileText.{AreRows, header_text, segments_text, version_for}
+use Rattle.bw_file.specs.FileBytes.{AreRows, header_bytes, segments_bytes, version_for}
 
 -- the table's schema, the layout, and how many rows were added
 abbrev pub encoder_schema : Encoder → Schema
-encoder_schema encoder = encoder.shape.schema
+encoder_schema encoder = encoder.placement.schema
 
 abbrev pub encoder_layout : Encoder → Layout
 encoder_layout encoder = encoder.layout
@@ -19,10 +19,10 @@ abbrev pub rows_in : Encoder → ℕ
 rows_in encoder = encoder.rows
 
 -- bytes are the text of these rows, but that the header tells of no rows yet
-abbrev pub IsTextOf : Layout → Schema → List ℕ → List (List Value) → Type 0
-IsTextOf layout schema bytes rows =
-    bytes ≡ header_text (version_for schema.columns.items) layout schema.name schema.columns.items 0
-    ++ segments_text layout schema.columns.items rows
+abbrev pub IsBytesOf : Layout → Schema → List ℕ → List (List Value) → Type 0
+IsBytesOf layout schema bytes rows =
+    bytes ≡ header_bytes (version_for schema.columns.items) layout schema.name schema.columns.items 0
+    ++ segments_bytes layout schema.columns.items rows
 
 -- The encoder was given these rows, which the columns admit: the text of the groups that are whole,
 -- after a header that tells of no rows yet, and less than a group that isn't yet in the text, or one
@@ -33,11 +33,11 @@ pub record Holds (encoder : Encoder) (rows : List (List Value)) : Type 0 where
   pub groups : ℕ
   pub parts : rows ≡ before ++ group
   pub whole : length before ≡ group_size * groups
-  pub text : IsTextOf encoder.layout encoder.shape.schema encoder.bytes.items before
-  pub kept : KeepRows encoder.shape.schema.columns.items group encoder.kept.items
+  pub text : IsBytesOf encoder.layout encoder.placement.schema encoder.bytes.items before
+  pub kept : KeepRows encoder.placement.schema.columns.items group encoder.kept.items
   pub filled : length group ≡ encoder.filled
   pub count : length rows ≡ encoder.rows
-  pub admitted : AreRows encoder.shape.schema.columns.items rows
+  pub admitted : AreRows encoder.placement.schema.columns.items rows
 
 -- the encoder, whichever rows it had been given, was given these too
 pub record TookRows (start : Encoder) (rows : List (List Value)) (now : Encoder) : Type 0 where
@@ -49,7 +49,7 @@ pub record TookRows (start : Encoder) (rows : List (List Value)) (now : Encoder)
 -- same layout, with the same text and the same rows after it.
 pub record IsAsBefore (old new : Encoder) : Type 0 where
   pub layout : new.layout ≡ old.layout
-  pub schema : new.shape.schema ≡ old.shape.schema
+  pub schema : new.placement.schema ≡ old.placement.schema
   pub text : new.bytes.items ≡ old.bytes.items
   pub kept : new.kept.items ≡ old.kept.items
   pub filled : new.filled ≡ old.filled

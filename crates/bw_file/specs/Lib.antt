@@ -1,7 +1,7 @@
 pub mod AnySegment
 pub mod Blocks
 pub mod Encoder
-pub mod FileText
+pub mod FileBytes
 pub mod Header
 pub mod Reading
 pub mod SegmentBytes

@@ -19,7 +19,7 @@ use Rattle.bw_file.specs.Reading.{State, Took, GoesOn, NeedsMore, failed_reads, 
 use Rattle.bw_file.specs.TableReading.{HeaderShape, header, body, segment, group_sizes, Found, found_as, IsReadAs, IsTableFault}
 
 abbrev pub schema_in : TableReader → Schema
-schema_in reader = reader.shape.value.schema
+schema_in reader = reader.placement.value.schema
 
 -- the version that the header tells
 abbrev pub version_in : TableReader → ℕ
@@ -55,7 +55,7 @@ header_told version reader =
       version = version;
       layout = reader.layout;
       rows = reader.rows;
-      schema = schema_shape reader.shape.value.schema;
+      schema = schema_shape reader.placement.value.schema;
     }
 
 -- A source, since the start of its file, gave the header that the reader tells of, and then these
@@ -66,22 +66,22 @@ pub record SoFar (start now : State) (reader : TableReader)
   pub first : start.offset ≡ 0
   pub head : GoesOn header start (give (header_told (version_in reader) reader)) behind
   pub on : GoesOn
-      (body reader.layout reader.shape.value.schema.columns.items
+      (body reader.layout reader.placement.value.schema.columns.items
       (group_sizes reader.rows) []) behind
-      (body reader.layout reader.shape.value.schema.columns.items
+      (body reader.layout reader.placement.value.schema.columns.items
       (group_sizes (reader.rows - reader.given)) groups) now
 
 -- the reader tells of the same table
 pub record SameTable (old new : TableReader) : Type 0 where
   pub version : new.version ≡ old.version
   pub layout : new.layout ≡ old.layout
-  pub schema : new.shape.value.schema ≡ old.shape.value.schema
+  pub schema : new.placement.value.schema ≡ old.placement.value.schema
   pub rows : new.rows ≡ old.rows
 
 -- the table of these groups
 abbrev pub found_so_far : TableReader → List (List (List Value)) → Found
 found_so_far reader groups =
-    found_as reader.layout (schema_shape reader.shape.value.schema) (together groups)
+    found_as reader.layout (schema_shape reader.placement.value.schema) (together groups)
 
 -- so many of the bytes, the first ones, don't settle whether a file has a fault: they end too early;
 -- or they are a table's, and a byte after them would be one
@@ -160,8 +160,8 @@ pub record DidRead {A : Type 0} (reader : TableReader) (old new : State)
 -- that are left
 pub record IsSegmentOf (reader : TableReader) (segment : AnySegment) : Type 0 where
   pub layout : any_layout segment ≡ reader.layout
-  pub name : (any_meaning segment).name ≡ reader.shape.value.schema.name
-  pub columns : (any_meaning segment).columns ≡ reader.shape.value.schema.columns.items
+  pub name : (any_meaning segment).name ≡ reader.placement.value.schema.name
+  pub columns : (any_meaning segment).columns ≡ reader.placement.value.schema.columns.items
   pub count : length (any_meaning segment).rows ≡ min group_size (reader.rows - reader.given)
 
 -- what is settled by an answer: nothing by a segment, that there is no more, or a fault

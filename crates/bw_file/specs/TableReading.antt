@@ -21,7 +21,7 @@ use Rattle.bw_file.specs.declared.fields.Bounds.{Bounds}
 use Rattle.bw_file.specs.declared.layout.Layout.{Layout}
 use Rattle.bw_file.specs.declared.layout.Layout.TheVariants.{Planes, Slices}
 use Rattle.bw_file.specs.Blocks.{block_size, block_fault, rows_spelled}
-use Rattle.bw_file.specs.FileText.{magic, are_bounds}
+use Rattle.bw_file.specs.FileBytes.{magic, are_bounds}
 use Rattle.bw_file.specs.Reading.{Tail, tail, Reading, ◌>>=◌, give, field, said_at, judged}
 
 -- the magic: another is 301

@@ -16,7 +16,7 @@ use crate::take::are_bytes;
 use bw_device::{Failed, Source};
 use bw_lanes::LANES;
 use bw_model::{Fault, code};
-use bw_segment::Shape;
+use bw_segment::Placement;
 use std::alloc::Global;
 use std::rc::Rc;
 
@@ -28,28 +28,28 @@ pub(crate) fn read_segment<S: Source>(
     source: &mut S,
     offset: &mut u64,
     layout: Layout,
-    shape: &Rc<Shape>,
+    placement: &Rc<Placement>,
     rows: u32,
 ) -> Result<AnySegment, Fault>
     requires countable { S.failures source.old < 2 ^ 64 - 1 }
     requires room { offset.old < 2 ^ 62 }
-    requires placed { IsPlaced layout shape.now.value }
+    requires placed { IsPlaced layout placement.now.value }
     requires some { 1 ≤ rows }
     requires few { rows ≤ group_size }
     ensures reads { Reads (λ found. (any_meaning found).rows)
-        (segment layout shape.now.value.schema.columns.items rows)
+        (segment layout placement.now.value.schema.columns.items rows)
         (state (S.to_come source.old) offset.old (S.failures source.old))
         (state (S.to_come source.new) offset.new (S.failures source.new)) result }
     ensures counted { OnOk result (offset.new ≤ offset.old + 2 ^ 19) }
     ensures layout { IfOk result (λ found. any_layout found ≡ layout) }
-    ensures name { IfOk result (λ found. (any_meaning found).name ≡ shape.now.value.schema.name) }
+    ensures name { IfOk result (λ found. (any_meaning found).name ≡ placement.now.value.schema.name) }
     ensures columns { IfOk result
-        (λ found. (any_meaning found).columns ≡ shape.now.value.schema.columns.items) }
+        (λ found. (any_meaning found).columns ≡ placement.now.value.schema.columns.items) }
     ensures count { IfOk result (λ found. length (any_meaning found).rows ≡ rows) }
 {
-    let same = shape.clone()?;
-    let mut bytes = SegmentBytes::of(alloc, source, segment_size(layout, shape))?;
-    read_blocks(source, offset, layout, shape, rows, &mut bytes)?;
+    let same = placement.clone()?;
+    let mut bytes = SegmentBytes::of(alloc, source, segment_size(layout, placement))?;
+    read_blocks(source, offset, layout, placement, rows, &mut bytes)?;
     let shared = bytes.into_shared(alloc)?;
     Ok(AnySegment::of_blocks(layout, same, rows, shared))
 }
@@ -59,37 +59,37 @@ fn read_blocks<S: Source>(
     source: &mut S,
     offset: &mut u64,
     layout: Layout,
-    shape: &Shape,
+    placement: &Placement,
     rows: u32,
     bytes: &mut SegmentBytes,
 ) -> Result<(), Fault>
     requires countable { S.failures source.old < 2 ^ 64 - 1 }
     requires room { offset.old < 2 ^ 62 }
     requires rows { rows ≤ group_size }
-    requires size { length (bytes_held bytes.old) ≡ segment_size layout shape.now.schema.columns.items }
+    requires size { length (bytes_held bytes.old) ≡ segment_size layout placement.now.schema.columns.items }
     requires next { AreNext bytes.old 0 (S.kept source.old) }
-    ensures reads { Reads (λ _. bytes_held bytes.new) (blocks layout shape.now.schema.columns.items rows 0
-        (length shape.now.schema.columns.items) [])
+    ensures reads { Reads (λ _. bytes_held bytes.new) (blocks layout placement.now.schema.columns.items rows 0
+        (length placement.now.schema.columns.items) [])
         (state (S.to_come source.old) offset.old (S.failures source.old))
         (state (S.to_come source.new) offset.new (S.failures source.new)) result }
     ensures counted { OnOk result (offset.new ≤ offset.old + 2 ^ 19) }
-    ensures sound { OnOk result (IsSound layout shape.now.schema.columns.items rows (bytes_held bytes.new)) }
+    ensures sound { OnOk result (IsSound layout placement.now.schema.columns.items rows (bytes_held bytes.new)) }
 {
     let mut start = 0;
-    for col in 0..shape.schema.columns.len() {
-        block_is_within(layout, shape, col);
-        read_block(source, offset, layout, shape, col, rows, bytes, start)?;
-        start += block_size(layout, shape, col);
+    for col in 0..placement.schema.columns.len() {
+        block_is_within(layout, placement, col);
+        read_block(source, offset, layout, placement, col, rows, bytes, start)?;
+        start += block_size(layout, placement, col);
     }
     Ok(())
 }
 
 /// A law: a column's block ends within the segment.
-fn block_is_within(layout: Layout, shape: &Shape, col: usize)
-    requires { col < length shape.now.schema.columns.items }
-    ensures { bytes_before layout shape.now.schema.columns.items col
-        + block_size layout shape.now.schema.columns.items col
-        ≤ segment_size layout shape.now.schema.columns.items }
+fn block_is_within(layout: Layout, placement: &Placement, col: usize)
+    requires { col < length placement.now.schema.columns.items }
+    ensures { bytes_before layout placement.now.schema.columns.items col
+        + block_size layout placement.now.schema.columns.items col
+        ≤ segment_size layout placement.now.schema.columns.items }
 {}
 
 /// Takes a column's block, which is to begin at `start` among the bytes, and judges it.
@@ -97,7 +97,7 @@ fn read_block<S: Source>(
     source: &mut S,
     offset: &mut u64,
     layout: Layout,
-    shape: &Shape,
+    placement: &Placement,
     col: usize,
     rows: u32,
     bytes: &mut SegmentBytes,
@@ -105,31 +105,31 @@ fn read_block<S: Source>(
 ) -> Result<(), Fault>
     requires countable { S.failures source.old < 2 ^ 64 - 1 }
     requires room { offset.old < 2 ^ 63 }
-    requires column { col < length shape.now.schema.columns.items }
+    requires column { col < length placement.now.schema.columns.items }
     requires rows { rows ≤ group_size }
-    requires within { start + block_size layout shape.now.schema.columns.items col ≤ length (bytes_held bytes.old) }
+    requires within { start + block_size layout placement.now.schema.columns.items col ≤ length (bytes_held bytes.old) }
     requires next { AreNext bytes.old start (S.kept source.old) }
-    ensures reads { Reads (λ _. block_from layout shape.now.schema.columns.items col start (bytes_held bytes.new))
-        (one_block layout shape.now.schema.columns.items rows col)
+    ensures reads { Reads (λ _. block_from layout placement.now.schema.columns.items col start (bytes_held bytes.new))
+        (one_block layout placement.now.schema.columns.items rows col)
         (state (S.to_come source.old) offset.old (S.failures source.old))
         (state (S.to_come source.new) offset.new (S.failures source.new)) result }
     ensures counted { OnOk result
-        (offset.new ≡ offset.old + block_size layout shape.now.schema.columns.items col) }
-    ensures good { OnOk result (block_fault layout shape.now.schema.columns.items col rows
-        (block_from layout shape.now.schema.columns.items col start (bytes_held bytes.new)) ≡ None) }
+        (offset.new ≡ offset.old + block_size layout placement.now.schema.columns.items col) }
+    ensures good { OnOk result (block_fault layout placement.now.schema.columns.items col rows
+        (block_from layout placement.now.schema.columns.items col start (bytes_held bytes.new)) ≡ None) }
     ensures next { OnOk result (AreNext bytes.new
-        (start + block_size layout shape.now.schema.columns.items col) (S.kept source.new)) }
+        (start + block_size layout placement.now.schema.columns.items col) (S.kept source.new)) }
     ensures before { take start (bytes_held bytes.new) ≡ take start (bytes_held bytes.old) }
     ensures long { length (bytes_held bytes.new) ≡ length (bytes_held bytes.old) }
 {
     let at = *offset;
-    let size = block_size(layout, shape, col);
+    let size = block_size(layout, placement, col);
     bytes.take(source, offset, start, size)?;
     let block = &bytes.as_slice()[start..start + size];
-    match judge(layout, shape, col, rows, block) {
+    match judge(layout, placement, col, rows, block) {
         None => Ok(()),
         Some(code) => {
-            let place = fault_place(layout, shape, col, rows, block, code);
+            let place = fault_place(layout, placement, col, rows, block, code);
             Err(Fault::at_byte(code, at + place as u64))
         }
     }
@@ -140,35 +140,41 @@ fn read_block<S: Source>(
 #[tactic(auto, unfolding(crate::specs::TableReading::fault_place))]
 fn fault_place(
     layout: Layout,
-    shape: &Shape,
+    placement: &Placement,
     col: usize,
     rows: u32,
     block: &[u8],
     code: u16,
 ) -> usize
-    requires column { col < length shape.now.schema.columns.items }
+    requires column { col < length placement.now.schema.columns.items }
     requires small { length block.now ≤ 4160 }
     ensures place { result
-        ≡ fault_place layout shape.now.schema.columns.items rows col block.now code }
+        ≡ fault_place layout placement.now.schema.columns.items rows col block.now code }
     ensures within { result ≤ 4160 }
 {
     if code == code::PADDING {
-        padding_place(layout, shape, col, rows, block)
+        padding_place(layout, placement, col, rows, block)
     } else {
         0
     }
 }
 
 /// The first byte of a block with a bit of a padding row.
-fn padding_place(layout: Layout, shape: &Shape, col: usize, rows: u32, block: &[u8]) -> usize
-    requires column { col < length shape.now.schema.columns.items }
+fn padding_place(
+    layout: Layout,
+    placement: &Placement,
+    col: usize,
+    rows: u32,
+    block: &[u8],
+) -> usize
+    requires column { col < length placement.now.schema.columns.items }
     requires small { length block.now ≤ 4160 }
     ensures place { result
-        ≡ padding_from layout shape.now.schema.columns.items rows col block.now 0 }
+        ≡ padding_from layout placement.now.schema.columns.items rows col block.now 0 }
     ensures within { result ≤ 4160 }
 {
     for at in 0..block.len() {
-        if has_padding(layout, shape, col, rows, at, block[at]) {
+        if has_padding(layout, placement, col, rows, at, block[at]) {
             return at;
         }
     }
@@ -177,14 +183,21 @@ fn padding_place(layout: Layout, shape: &Shape, col: usize, rows: u32, block: &[
 
 /// Whether the byte of a block at this place has a bit of a padding row.
 #[tactic(auto, unfolding(crate::specs::TableReading::has_padding))]
-fn has_padding(layout: Layout, shape: &Shape, col: usize, rows: u32, at: usize, byte: u8) -> bool
-    requires { col < length shape.now.schema.columns.items }
-    ensures { result ≡ has_padding layout shape.now.schema.columns.items rows col at byte }
+fn has_padding(
+    layout: Layout,
+    placement: &Placement,
+    col: usize,
+    rows: u32,
+    at: usize,
+    byte: u8,
+) -> bool
+    requires { col < length placement.now.schema.columns.items }
+    ensures { result ≡ has_padding layout placement.now.schema.columns.items rows col at byte }
 {
     match layout {
         Layout::Planes => plane_has_padding(rows, at % 64, byte),
         Layout::Slices => {
-            let nulls = shape.null_size(col);
+            let nulls = placement.null_size(col);
             if at < nulls {
                 plane_has_padding(rows, at, byte)
             } else {

@@ -6,15 +6,15 @@ ghost use Rattle.bw_model.specs.Column.{admits_values};
 ghost use Rattle.bw_model.specs.Fault.{no_memory};
 ghost use Rattle.bw_model.specs.Limits.{most_rows};
 ghost use Rattle.bw_model.specs.Row.{Value, values_of};
-ghost use Rattle.bw_file.specs.Blocks.{segment_text, IsPlaced};
-ghost use Rattle.bw_file.specs.FileText.{are_bounds, AreRows, file_text, front_text, header_text, name_text, column_text, bound_text, layout_byte, flag_byte, version_for};
+ghost use Rattle.bw_file.specs.Blocks.{segment_bytes, IsPlaced};
+ghost use Rattle.bw_file.specs.FileBytes.{are_bounds, AreRows, file_bytes, front_bytes, header_bytes, name_bytes, column_bytes, bound_bytes, layout_byte, flag_byte, version_for};
 
 use crate::fields::{MAGIC, are_bounds};
 use crate::layout::Layout;
-use crate::segments::{append, shape_of};
+use crate::segments::{append, placement_of};
 use bw_lanes::LANES;
 use bw_model::{Column, Fault, Name, Row, RowTaker, Schema};
-use bw_segment::{ColumnCodes, Shape, clear_rows, keep_row, no_rows};
+use bw_segment::{ColumnCodes, Placement, clear_rows, keep_row, no_rows};
 use byteorder::{ByteOrder, LittleEndian};
 use std::alloc::Global;
 
@@ -27,21 +27,21 @@ const ROW_COUNT_AT: usize = 12;
 pub struct Encoder {
     alloc: Global,
     layout: Layout,
-    shape: Shape,
+    placement: Placement,
     bytes: Vec<u8>,
     /// The rows that aren't in the text yet, `filled` many.
     kept: Vec<ColumnCodes>,
     filled: usize,
     rows: u32,
-    ghost placed: { IsPlaced layout shape },
+    ghost placed: { IsPlaced layout placement },
     ghost headed: { 16 ≤ length bytes.items },
-    ghost all: { length kept.items ≡ length shape.schema.columns.items },
+    ghost all: { length kept.items ≡ length placement.schema.columns.items },
     ghost few: { filled ≤ 512 },
     ghost countable: { rows ≤ most_rows },
 }
 
 impl Encoder {
-    ghost use Rattle.bw_file.specs.Encoder.{Holds, IsAsBefore, IsTextOf, encoder_schema, encoder_layout, rows_in};
+    ghost use Rattle.bw_file.specs.Encoder.{Holds, IsAsBefore, IsBytesOf, encoder_schema, encoder_layout, rows_in};
 
     /// An encoder of a table of this schema, to which no row was added. It keeps a copy of the
     /// schema.
@@ -54,14 +54,14 @@ impl Encoder {
         ensures holds { IfOk result (λ encoder. Holds encoder []) }
         ensures only_memory { IsOkUnless result no_memory }
     {
-        let shape = shape_of(alloc, layout, schema)?;
+        let placement = placement_of(alloc, layout, schema)?;
         let mut bytes = Vec::new(alloc);
-        push_header(&mut bytes, layout, &shape.schema)?;
-        let kept = no_rows(alloc, shape.schema.columns.len())?;
+        push_header(&mut bytes, layout, &placement.schema)?;
+        let kept = no_rows(alloc, placement.schema.columns.len())?;
         Ok(Encoder {
             alloc,
             layout,
-            shape,
+            placement,
             bytes,
             kept,
             filled: 0,
@@ -103,7 +103,7 @@ impl Encoder {
         ensures same { (encoder_layout self.new ≡ encoder_layout self.old)
             × (encoder_schema self.new ≡ encoder_schema self.old) }
     {
-        keep_row(&mut self.kept, &self.shape.schema, self.filled, row);
+        keep_row(&mut self.kept, &self.placement.schema, self.filled, row);
         self.filled += 1;
         self.rows += 1;
     }
@@ -111,8 +111,8 @@ impl Encoder {
     /// Puts the rows that aren't in the text yet there. Where memory is refused it is as it was.
     fn flush(&mut self) -> Result<(), Fault>
         requires { 0 < self.old.filled }
-        ensures text { OnOk result ((rows : List (List Value)) → Holds self.old rows
-            → IsTextOf (encoder_layout self.old) (encoder_schema self.old)
+        ensures bytes { OnOk result ((rows : List (List Value)) → Holds self.old rows
+            → IsBytesOf (encoder_layout self.old) (encoder_schema self.old)
             self.new.bytes.items rows) }
         ensures holds { OnOk result ((rows : List (List Value)) → Holds self.old rows
             → self.old.filled ≡ 512 → Holds self.new rows) }
@@ -127,7 +127,7 @@ impl Encoder {
             self.alloc,
             self.layout,
             &mut self.bytes,
-            &self.shape,
+            &self.placement,
             &self.kept,
         )?;
         clear_rows(&mut self.kept);
@@ -138,9 +138,9 @@ impl Encoder {
     /// The table file of the rows that were added: its text, of version 1 where that has room for
     /// every column.
     pub fn finish(mut self) -> Result<Vec<u8>, Fault>
-        ensures text { IfOk result
+        ensures bytes { IfOk result
             (λ bytes. (rows : List (List Value)) → Holds self rows
-            → bytes.items ≡ file_text (encoder_layout self) (encoder_schema self) rows) }
+            → bytes.items ≡ file_bytes (encoder_layout self) (encoder_schema self) rows) }
         ensures only_memory { IsOkUnless result no_memory }
     {
         if self.filled > 0 {
@@ -178,7 +178,7 @@ fn set_row_count(bytes: &mut Vec<u8>, rows: u32)
 /// Adds the header of a table of no rows.
 fn push_header(bytes: &mut Vec<u8>, layout: Layout, schema: &Schema) -> Result<(), Fault>
     ensures header { OnOk result (bytes.new.items ≡ bytes.old.items
-        ++ header_text (version_for schema.now.columns.items) layout
+        ++ header_bytes (version_for schema.now.columns.items) layout
         schema.now.name schema.now.columns.items 0) }
     ensures only_memory { IsOkUnless result no_memory }
 {
@@ -209,10 +209,10 @@ fn are_narrow(columns: &[Column]) -> bool
 }
 
 /// Adds the first sixteen bytes of a table of no rows.
-#[tactic(auto, unfolding(crate::specs::FileText::front_text, crate::specs::FileText::magic))]
+#[tactic(auto, unfolding(crate::specs::FileBytes::front_bytes, crate::specs::FileBytes::magic))]
 fn push_front(bytes: &mut Vec<u8>, version: u8, layout: Layout, columns: u16) -> Result<(), Fault>
     ensures front { OnOk result (bytes.new.items ≡ bytes.old.items
-        ++ front_text version layout columns 0) }
+        ++ front_bytes version layout columns 0) }
     ensures only_memory { IsOkUnless result no_memory }
 {
     bytes.extend_from_slice(MAGIC)?;
@@ -238,7 +238,7 @@ fn byte_of(layout: Layout) -> u8
 /// Adds a name, after a byte for its length.
 #[tactic(auto, using(crate::proofs::EncoderLemmas::short_name))]
 fn push_name(bytes: &mut Vec<u8>, name: &Name) -> Result<(), Fault>
-    ensures name { OnOk result (bytes.new.items ≡ bytes.old.items ++ name_text name.now) }
+    ensures name { OnOk result (bytes.new.items ≡ bytes.old.items ++ name_bytes name.now) }
     ensures only_memory { IsOkUnless result no_memory }
 {
     let text = name.as_bytes();
@@ -250,7 +250,7 @@ fn push_name(bytes: &mut Vec<u8>, name: &Name) -> Result<(), Fault>
 /// Adds the columns.
 fn push_columns(bytes: &mut Vec<u8>, columns: &[Column]) -> Result<(), Fault>
     ensures columns { OnOk result (bytes.new.items ≡ bytes.old.items
-        ++ flat_map (λ column. column_text column.name column.lo column.hi column.nullable)
+        ++ flat_map (λ column. column_bytes column.name column.lo column.hi column.nullable)
         columns.now) }
     ensures only_memory { IsOkUnless result no_memory }
 {
@@ -261,10 +261,10 @@ fn push_columns(bytes: &mut Vec<u8>, columns: &[Column]) -> Result<(), Fault>
 }
 
 /// Adds a column.
-#[tactic(auto, unfolding(crate::specs::FileText::column_text))]
+#[tactic(auto, unfolding(crate::specs::FileBytes::column_bytes))]
 fn push_column(bytes: &mut Vec<u8>, column: &Column) -> Result<(), Fault>
     ensures column { OnOk result (bytes.new.items ≡ bytes.old.items
-        ++ column_text column.now.name column.now.lo column.now.hi column.now.nullable) }
+        ++ column_bytes column.now.name column.now.lo column.now.hi column.now.nullable) }
     ensures only_memory { IsOkUnless result no_memory }
 {
     push_name(bytes, &column.name)?;
@@ -283,7 +283,7 @@ fn flag_of(nullable: bool) -> u8
 
 /// Adds a bound, as two's complement.
 fn push_bound(bytes: &mut Vec<u8>, bound: i64) -> Result<(), Fault>
-    ensures bound { OnOk result (bytes.new.items ≡ bytes.old.items ++ bound_text bound) }
+    ensures bound { OnOk result (bytes.new.items ≡ bytes.old.items ++ bound_bytes bound) }
     ensures only_memory { IsOkUnless result no_memory }
 {
     let mut number = [0; 8];

@@ -1,7 +1,7 @@
 //! The fields of a table file's header: what their bytes say, and their faults.
 ghost use Rattle.std.specs.Prelude.{◌≡◌, ◌≤◌, ◌^◌, ◌≤ℤ◌, ◌<ℤ◌, ◌-ℤ◌, pos, length, IfOk, IsTrue};
 ghost use Rattle.bw_model.specs.Limits.{most_rows};
-ghost use Rattle.bw_file.specs.FileText.{are_bounds};
+ghost use Rattle.bw_file.specs.FileBytes.{are_bounds};
 ghost use Rattle.bw_file.specs.Reading.{placed};
 ghost use Rattle.bw_file.specs.TableReading.{bound_in, magic_says, version_says, layout_says, count_says, rows_say, bounds_say, nullable_says, name_says};
 
@@ -22,7 +22,7 @@ pub(crate) fn placed<T>(at: u64, said: Result<T, u16>) -> Result<T, Fault>
 }
 
 /// The magic: another is 301.
-#[tactic(auto, unfolding(crate::specs::TableReading::magic_says, crate::specs::FileText::magic))]
+#[tactic(auto, unfolding(crate::specs::TableReading::magic_says, crate::specs::FileBytes::magic))]
 pub(crate) fn magic_says(bytes: &[u8; 8]) -> Result<(), u16>
     ensures { result ≡ magic_says bytes.now }
 {
@@ -120,7 +120,7 @@ fn bound_in(bytes: &[u8]) -> i64
 }
 
 /// Whether bounds are in order, and less than 2^32 apart in version 1, less than 2^63 in another.
-#[tactic(auto, unfolding(crate::specs::FileText::are_bounds))]
+#[tactic(auto, unfolding(crate::specs::FileBytes::are_bounds))]
 pub(crate) fn are_bounds(version: u8, lo: i64, hi: i64) -> bool
     ensures test { result ≡ are_bounds version lo hi }
     ensures ordered { IsTrue result → lo ≤ℤ hi }

@@ -4,23 +4,23 @@ ghost use Rattle.bw_model.specs.declared.fault.Fault.{Fault};
 ghost use Rattle.bw_model.specs.Row.{Value};
 ghost use Rattle.bw_file.specs.declared.layout.Layout.{Layout};
 ghost use Rattle.bw_model.specs.SchemaText.{column_shape, schema_shape};
-ghost use Rattle.bw_file.specs.FileText.{IsColumn, IsSchema, IsFileText};
+ghost use Rattle.bw_file.specs.FileBytes.{IsColumn, IsSchema, IsFileBytes};
 ghost use Rattle.bw_file.specs.TableReading.{Found, found_as, IsReadAs};
 
 use bw_model::{Column, Schema};
 
 /// A law: bytes that are read as a table are that table's text, of either version.
-pub fn what_is_read_is_a_file_text()
+pub fn what_is_read_is_a_file()
     ensures { (bytes : List ℕ) (found : Found) → ((i : ℕ) → slice_index bytes i < 256)
         → IsReadAs bytes (Ok found)
         → (schema : Schema) × (schema_shape schema ≡ found.schema)
-        × IsFileText bytes found.layout schema found.rows }
+        × IsFileBytes bytes found.layout schema found.rows }
 {}
 
 /// A law: bytes that are a table's text, of either version, are read as that table.
 pub fn what_is_spelled_is_read()
     ensures { (bytes : List ℕ) (layout : Layout) (schema : Schema) (rows : List (List Value))
-        → IsFileText bytes layout schema rows
+        → IsFileBytes bytes layout schema rows
         → IsReadAs bytes (Ok (found_as layout (schema_shape schema) rows)) }
 {}
 
@@ -32,11 +32,11 @@ pub fn bytes_are_read_in_one_way()
 
 /// A law: bytes are the text of at most one table, by its layout, its schema's name and columns,
 /// and its rows.
-pub fn a_file_text_is_of_one_table()
+pub fn a_file_is_of_one_table()
     ensures { (bytes : List ℕ) (layout other_layout : Layout) (schema other_schema : Schema)
         (rows other_rows : List (List Value))
-        → IsFileText bytes layout schema rows
-        → IsFileText bytes other_layout other_schema other_rows
+        → IsFileBytes bytes layout schema rows
+        → IsFileBytes bytes other_layout other_schema other_rows
         → found_as layout (schema_shape schema) rows
         ≡ found_as other_layout (schema_shape other_schema) other_rows }
 {}

@@ -5,7 +5,7 @@
 //! field by field and block by block. The laws say that what is read is spelled so and what is
 //! spelled is read so, and that a text is of one table.
 //!
-//! Read `specs/FileText.antt` for what is written, `specs/TableReading.antt` for how bytes are
+//! Read `specs/FileBytes.antt` for what is written, `specs/TableReading.antt` for how bytes are
 //! read, and `table_reader.rt` with `specs/TableReader.antt` for reading a file one segment at a
 //! time.
 //!
@@ -35,11 +35,11 @@ mod take;
 
 pub use encoder::Encoder;
 pub use laws::{
-    a_file_text_is_of_one_table, a_schema_has_names_and_bounds, bytes_are_read_in_one_way,
-    what_is_read_is_a_file_text, what_is_spelled_is_read,
+    a_file_is_of_one_table, a_schema_has_names_and_bounds, bytes_are_read_in_one_way,
+    what_is_read_is_a_file, what_is_spelled_is_read,
 };
 pub use layout::Layout;
-pub use reader_laws::{a_file_text_is_read_whole, bytes_were_taken};
+pub use reader_laws::{a_file_is_read_whole, bytes_were_taken};
 pub use segments::AnySegment;
 pub use table::{Table, decode, encode};
 pub use table_reader::TableReader;

@@ -4,7 +4,7 @@ ghost use Rattle.bw_model.specs.declared.fault.Fault.{Fault};
 ghost use Rattle.bw_model.specs.declared.schema.Schema.{Schema};
 ghost use Rattle.bw_model.specs.Row.{Value};
 ghost use Rattle.bw_model.specs.SchemaText.{schema_shape};
-ghost use Rattle.bw_file.specs.FileText.{IsFileText};
+ghost use Rattle.bw_file.specs.FileBytes.{IsFileBytes};
 ghost use Rattle.bw_file.specs.Reading.{State, Took};
 ghost use Rattle.bw_device.specs.Source.{is_input_fault};
 ghost use Rattle.bw_file.specs.TableReader.{SoFar, ReadWhole, NoneToSpare, AnswersFault, GaveFirst};
@@ -23,18 +23,18 @@ pub fn bytes_were_taken()
 /// A law: where the bytes to come are a table's text, a reader tells of that table and gives its
 /// groups, one after the other; what was read whole is the table; and no fault is answered but a
 /// failed read and out of memory.
-pub fn a_file_text_is_read_whole()
+pub fn a_file_is_read_whole()
     ensures groups { (bytes : List ℕ) (layout : Layout) (schema : Schema) (rows : List (List Value))
-        → IsFileText bytes layout schema rows
+        → IsFileBytes bytes layout schema rows
         → (start now : State) (reader : TableReader) (groups : List (List (List Value)))
         → start.known ≡ Some bytes → SoFar start now reader groups
         → GaveFirst reader groups layout schema rows }
     ensures table { (bytes : List ℕ) (layout : Layout) (schema : Schema) (rows : List (List Value))
-        → IsFileText bytes layout schema rows
+        → IsFileBytes bytes layout schema rows
         → (start now : State) (found : Found) → start.known ≡ Some bytes → ReadWhole start now found
         → found ≡ found_as layout (schema_shape schema) rows }
     ensures faults { (bytes : List ℕ) (layout : Layout) (schema : Schema) (rows : List (List Value))
-        → IsFileText bytes layout schema rows
+        → IsFileBytes bytes layout schema rows
         → (start old now : State) (fault : Fault) → start.known ≡ Some bytes
         → AnswersFault start old now fault
         → IsTrue (is_input_fault fault) }

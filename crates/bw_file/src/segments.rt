@@ -5,14 +5,14 @@ ghost use Rattle.bw_model.specs.Fault.{no_memory};
 ghost use Rattle.bw_model.specs.Groups.{group_size};
 ghost use Rattle.bw_model.specs.Row.{Value};
 ghost use Rattle.bw_segment.specs.Columns.{KeepRows};
-ghost use Rattle.bw_file.specs.Blocks.{form_of, block_size, block_fault, segment_size, segment_text, IsPlaced, IsSound, rows_spelled};
+ghost use Rattle.bw_file.specs.Blocks.{form_of, block_size, block_fault, segment_size, segment_bytes, IsPlaced, IsSound, rows_spelled};
 
 use crate::layout::Layout;
 use bw_device::SharedBytes;
 use bw_lanes::{LANES, Plane};
 use bw_model::{Fault, Schema, Value};
 use bw_planes::{PlaneSegment, Planes};
-use bw_segment::{ColumnCodes, Segment, Shape};
+use bw_segment::{ColumnCodes, Placement, Segment};
 use bw_slices::{SliceSegment, Slices};
 use std::alloc::Global;
 use std::rc::Rc;
@@ -127,36 +127,45 @@ impl AnySegment {
 
     /// The segment of bytes that have no fault, in a layout.
     #[tactic(auto, unfolding(crate::specs::AnySegment::any_meaning, crate::specs::Blocks::form_of))]
-    pub(crate) fn of_blocks(layout: Layout, shape: Rc<Shape>, rows: u32, bytes: SharedBytes) -> Self
-        requires placed { IsPlaced layout shape.value }
+    pub(crate) fn of_blocks(
+        layout: Layout,
+        placement: Rc<Placement>,
+        rows: u32,
+        bytes: SharedBytes,
+    ) -> Self
+        requires placed { IsPlaced layout placement.value }
         requires some { 1 ≤ rows }
         requires few { rows ≤ group_size }
-        requires sound { IsSound layout shape.value.schema.columns.items rows (bytes_in bytes) }
+        requires sound { IsSound layout placement.value.schema.columns.items rows (bytes_in bytes) }
         ensures layout { any_layout result ≡ layout }
-        ensures name { (any_meaning result).name ≡ shape.value.schema.name }
-        ensures columns { (any_meaning result).columns ≡ shape.value.schema.columns.items }
+        ensures name { (any_meaning result).name ≡ placement.value.schema.name }
+        ensures columns { (any_meaning result).columns ≡ placement.value.schema.columns.items }
         ensures rows { (any_meaning result).rows
-            ≡ rows_spelled layout shape.value.schema.columns.items rows (bytes_in bytes) }
+            ≡ rows_spelled layout placement.value.schema.columns.items rows (bytes_in bytes) }
     {
         match layout {
-            Layout::Planes => AnySegment::Planes(PlaneSegment::of_blocks(shape, rows, bytes)),
-            Layout::Slices => AnySegment::Slices(SliceSegment::of_blocks(shape, rows, bytes)),
+            Layout::Planes => AnySegment::Planes(PlaneSegment::of_blocks(placement, rows, bytes)),
+            Layout::Slices => AnySegment::Slices(SliceSegment::of_blocks(placement, rows, bytes)),
         }
     }
 }
 
-/// The shape of a table whose schema is an equal one, in a layout.
+/// The placement of a table whose schema is an equal one, in a layout.
 #[tactic(auto, unfolding(crate::specs::Blocks::form_of))]
-pub(crate) fn shape_of(alloc: Global, layout: Layout, schema: &Schema) -> Result<Shape, Fault>
-    ensures name { IfOk result (λ shape. shape.schema.name ≡ schema.now.name) }
-    ensures columns { IfOk result (λ shape.
-        shape.schema.columns.items ≡ schema.now.columns.items) }
+pub(crate) fn placement_of(
+    alloc: Global,
+    layout: Layout,
+    schema: &Schema,
+) -> Result<Placement, Fault>
+    ensures name { IfOk result (λ placement. placement.schema.name ≡ schema.now.name) }
+    ensures columns { IfOk result (λ placement.
+        placement.schema.columns.items ≡ schema.now.columns.items) }
     ensures placed { IfOk result (IsPlaced layout) }
     ensures only_memory { IsOkUnless result no_memory }
 {
     match layout {
-        Layout::Planes => Shape::of::<Planes>(alloc, schema),
-        Layout::Slices => Shape::of::<Slices>(alloc, schema),
+        Layout::Planes => Placement::of::<Planes>(alloc, schema),
+        Layout::Slices => Placement::of::<Slices>(alloc, schema),
     }
 }
 
@@ -166,48 +175,48 @@ pub(crate) fn append(
     alloc: Global,
     layout: Layout,
     bytes: &mut Vec<u8>,
-    shape: &Shape,
+    placement: &Placement,
     kept: &[ColumnCodes],
 ) -> Result<(), Fault>
-    requires placed { IsPlaced layout shape.now }
-    requires kept { length kept.now ≡ length shape.now.schema.columns.items }
+    requires placed { IsPlaced layout placement.now }
+    requires kept { length kept.now ≡ length placement.now.schema.columns.items }
     ensures added { OnOk result ((rows : List (List Value))
-        → KeepRows shape.now.schema.columns.items rows kept.now
+        → KeepRows placement.now.schema.columns.items rows kept.now
         → bytes.new.items ≡ bytes.old.items
-        ++ segment_text layout shape.now.schema.columns.items rows) }
+        ++ segment_bytes layout placement.now.schema.columns.items rows) }
     ensures front { OnOk result (take (length bytes.old.items) bytes.new.items ≡ bytes.old.items) }
     ensures refused { OnErr result (bytes.new.items ≡ bytes.old.items) }
     ensures only_memory { IsOkUnless result no_memory }
 {
     match layout {
-        Layout::Planes => PlaneSegment::append(alloc, bytes, shape, kept),
-        Layout::Slices => SliceSegment::append(alloc, bytes, shape, kept),
+        Layout::Planes => PlaneSegment::append(alloc, bytes, placement, kept),
+        Layout::Slices => SliceSegment::append(alloc, bytes, placement, kept),
     }
 }
 
 /// How many bytes a column's block takes.
 #[tactic(auto, unfolding(crate::specs::Blocks::form_of))]
-pub(crate) fn block_size(layout: Layout, shape: &Shape, col: usize) -> usize
-    requires { col < length shape.now.schema.columns.items }
-    ensures size { result ≡ block_size layout shape.now.schema.columns.items col }
+pub(crate) fn block_size(layout: Layout, placement: &Placement, col: usize) -> usize
+    requires { col < length placement.now.schema.columns.items }
+    ensures size { result ≡ block_size layout placement.now.schema.columns.items col }
     ensures bound { result ≤ 4160 }
 {
     match layout {
-        Layout::Planes => PlaneSegment::block_size(shape, col),
-        Layout::Slices => SliceSegment::block_size(shape, col),
+        Layout::Planes => PlaneSegment::block_size(placement, col),
+        Layout::Slices => SliceSegment::block_size(placement, col),
     }
 }
 
 /// How many bytes a segment takes.
 #[tactic(auto, unfolding(crate::specs::Blocks::form_of))]
-pub(crate) fn segment_size(layout: Layout, shape: &Shape) -> usize
-    requires { IsPlaced layout shape.now }
-    ensures size { result ≡ segment_size layout shape.now.schema.columns.items }
+pub(crate) fn segment_size(layout: Layout, placement: &Placement) -> usize
+    requires { IsPlaced layout placement.now }
+    ensures size { result ≡ segment_size layout placement.now.schema.columns.items }
     ensures small { result ≤ 266240 }
 {
     match layout {
-        Layout::Planes => PlaneSegment::segment_size(shape),
-        Layout::Slices => SliceSegment::segment_size(shape),
+        Layout::Planes => PlaneSegment::segment_size(placement),
+        Layout::Slices => SliceSegment::segment_size(placement),
     }
 }
 
@@ -215,18 +224,18 @@ pub(crate) fn segment_size(layout: Layout, shape: &Shape) -> usize
 #[tactic(auto, unfolding(crate::specs::Blocks::form_of))]
 pub(crate) fn judge(
     layout: Layout,
-    shape: &Shape,
+    placement: &Placement,
     col: usize,
     rows: u32,
     block: &[u8],
 ) -> Option<u16>
-    requires column { col < length shape.now.schema.columns.items }
+    requires column { col < length placement.now.schema.columns.items }
     requires rows { rows ≤ group_size }
-    requires size { length block.now ≡ block_size layout shape.now.schema.columns.items col }
-    ensures { result ≡ block_fault layout shape.now.schema.columns.items col rows block.now }
+    requires size { length block.now ≡ block_size layout placement.now.schema.columns.items col }
+    ensures { result ≡ block_fault layout placement.now.schema.columns.items col rows block.now }
 {
     match layout {
-        Layout::Planes => PlaneSegment::judge(shape, col, rows, block),
-        Layout::Slices => SliceSegment::judge(shape, col, rows, block),
+        Layout::Planes => PlaneSegment::judge(placement, col, rows, block),
+        Layout::Slices => SliceSegment::judge(placement, col, rows, block),
     }
 }

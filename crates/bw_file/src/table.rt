@@ -4,7 +4,7 @@ ghost use Rattle.bw_model.specs.Fault.{no_memory, is_memory, Gives};
 ghost use Rattle.bw_model.specs.Row.{Value, values_of};
 ghost use Rattle.bw_model.specs.SchemaText.{schema_shape};
 ghost use Rattle.bw_file.specs.AnySegment.{any_meaning};
-ghost use Rattle.bw_file.specs.FileText.{AreRows, IsFileText, file_text};
+ghost use Rattle.bw_file.specs.FileBytes.{AreRows, IsFileBytes, file_bytes};
 ghost use Rattle.bw_file.specs.Table.{found_of};
 ghost use Rattle.bw_file.specs.TableReading.{found_as, IsReadAs, IsTableFault};
 
@@ -35,10 +35,10 @@ pub fn encode(
     rows: &[Row],
 ) -> Result<Vec<u8>, Fault>
     requires { AreRows schema.now.columns.items (map values_of rows.now) }
-    ensures text { IfOk result
-        (λ bytes. bytes.items ≡ file_text layout schema.now (map values_of rows.now)) }
+    ensures bytes { IfOk result
+        (λ bytes. bytes.items ≡ file_bytes layout schema.now (map values_of rows.now)) }
     ensures file { IfOk result
-        (λ bytes. IsFileText bytes.items layout schema.now (map values_of rows.now)) }
+        (λ bytes. IsFileBytes bytes.items layout schema.now (map values_of rows.now)) }
     ensures only_memory { IsOkUnless result no_memory }
 {
     a_schema_has_names_and_bounds(schema);
@@ -53,9 +53,9 @@ pub fn encode(
 /// the first fault in the order of the format: 301 to 304, 310, 305 to 309.
 pub fn decode(alloc: Global, bytes: &[u8]) -> Result<Table, Fault>
     ensures table { IfOk result
-        (λ table. IsFileText bytes.now table.layout table.schema (map values_of table.rows.items)) }
+        (λ table. IsFileBytes bytes.now table.layout table.schema (map values_of table.rows.items)) }
     ensures accepted { (layout : Layout) (schema : Schema) (rows : List (List Value))
-        → IsFileText bytes.now layout schema rows
+        → IsFileBytes bytes.now layout schema rows
         → Gives found_of result (Ok (found_as layout (schema_shape schema) rows)) }
     ensures read { IfOk result (λ table. IsReadAs bytes.now (Ok (found_of table))) }
     ensures fault { IfErr result

@@ -10,11 +10,11 @@ use crate::body::{read_end, read_segment};
 use crate::header::{Header, read_header};
 use crate::layout::Layout;
 use crate::phase::Phase;
-use crate::segments::{AnySegment, segment_size, shape_of};
+use crate::segments::{AnySegment, placement_of, segment_size};
 use bw_device::Source;
 use bw_lanes::LANES;
 use bw_model::{Fault, Schema};
-use bw_segment::{Segment, Shape};
+use bw_segment::{Placement, Segment};
 use std::alloc::Global;
 use std::rc::Rc;
 
@@ -24,14 +24,14 @@ use std::rc::Rc;
 #[derive(Drop)]
 pub struct TableReader {
     alloc: Global,
-    shape: Rc<Shape>,
+    placement: Rc<Placement>,
     version: u8,
     layout: Layout,
     rows: u32,
     given: u32,
     offset: u64,
     phase: Phase,
-    ghost placed: { IsPlaced layout shape.value },
+    ghost placed: { IsPlaced layout placement.value },
     ghost within: { given ≤ rows },
     ghost few: { rows ≤ most_rows },
     ghost own: { (fault : Fault) → phase ≡ Failed fault → IsTableFault fault },
@@ -74,10 +74,10 @@ impl TableReader {
             rows,
             schema,
         } = read_header(alloc, source, &mut offset)?;
-        let shape = Rc::new(alloc, shape_of(alloc, layout, &schema)?)?;
+        let placement = Rc::new(alloc, placement_of(alloc, layout, &schema)?)?;
         Ok(TableReader {
             alloc,
-            shape,
+            placement,
             version,
             layout,
             rows,
@@ -150,7 +150,7 @@ impl TableReader {
             source,
             &mut offset,
             self.layout,
-            &self.shape,
+            &self.placement,
             rows,
         );
         self.offset = offset;
@@ -170,7 +170,7 @@ impl TableReader {
     pub fn schema(&self) -> &Schema
         ensures { result.now ≡ schema_in self.now }
     {
-        &self.shape.schema
+        &self.placement.schema
     }
 
     /// How many rows the header tells of.
@@ -199,7 +199,7 @@ impl TableReader {
         ensures size { result ≡ segment_size (layout_in self.now) (schema_in self.now).columns.items }
         ensures small { result ≤ 266240 }
     {
-        segment_size(self.layout, &self.shape)
+        segment_size(self.layout, &self.placement)
     }
 
     /// How many bytes it took.

@@ -14,7 +14,7 @@ use Rattle.bw_model.specs.SchemaText.{schema_shape}
 use Rattle.bw_answer.specs.Answer.{csv_text, meaning}
 use Rattle.bw_csv.specs.Rows.{rows_of}
 use Rattle.bw_file.specs.declared.layout.Layout.{Layout}
-use Rattle.bw_file.specs.FileText.{IsFileText, IsSchema, file_text}
+use Rattle.bw_file.specs.FileBytes.{IsFileBytes, IsSchema, file_bytes}
 use Rattle.bw_file.specs.TableReading.{Found, found_as}
 use Rattle.bw_laws.specs.Joined.{AnswersCsv}
 use Rattle.bw_shell.specs.Load.{file_of}
@@ -26,11 +26,11 @@ Rows = List (List Value)
 pub record Loaded (layout : Layout) (schema : Schema) (csv bytes : List ℕ) : Type 0 where
   pub rows : Rows
   pub spelled : rows_of schema.columns.items csv ≡ Ok rows
-  pub text : bytes ≡ file_text layout schema rows
+  pub text : bytes ≡ file_bytes layout schema rows
 
 loaded_by : (layout : Layout) (schema : Schema) (csv bytes : List ℕ) (spelled : Result Rows Fault) → rows_of schema.columns.items csv ≡ spelled
-    → (spelled >>= λ rows. Ok (file_text layout schema rows)) ≡ Ok bytes → Loaded layout schema csv bytes
-loaded_by layout schema csv bytes (Ok rows) e made = let same : ◌≡◌ {A = List ℕ} bytes (file_text layout schema rows) = cc in record { rows = rows; spelled = e; text = same }
+    → (spelled >>= λ rows. Ok (file_bytes layout schema rows)) ≡ Ok bytes → Loaded layout schema csv bytes
+loaded_by layout schema csv bytes (Ok rows) e made = let same : ◌≡◌ {A = List ℕ} bytes (file_bytes layout schema rows) = cc in record { rows = rows; spelled = e; text = same }
 loaded_by layout schema csv bytes (Err fault) e made = absurd (cc made)
 
 pub loaded : (layout : Layout) (schema : Schema) (csv bytes : List ℕ) → file_of layout schema csv ≡ Ok bytes → Loaded layout schema csv bytes
@@ -39,7 +39,7 @@ loaded layout schema csv bytes made = loaded_by layout schema csv bytes (rows_of
 -- that file is the text of the table of these rows
 pub loaded_text : (layout : Layout) (schema : Schema) (csv bytes : List ℕ) → IsSchema (schema_shape schema) → (of : Loaded layout schema csv bytes)
     → IfOk (rows_of schema.columns.items csv) (λ rows. IsTrue (list_all (admits_values schema.columns.items) rows))
-    → IfOk (rows_of schema.columns.items csv) (λ rows. length rows ≤ most_rows) → IsFileText bytes layout schema of.rows
+    → IfOk (rows_of schema.columns.items csv) (λ rows. length rows ≤ most_rows) → IsFileBytes bytes layout schema of.rows
 loaded_text layout schema csv bytes under of admitted few =
     rw of.text (record { under = under; admitted = record { few = rw of.spelled at few; admitted = rw of.spelled at admitted }; text = inl refl })
 

@@ -19,8 +19,8 @@ impl TruthNodes {
     /// Those of a step with one truth on every row.
     fn constant(truth: Truth) -> Self {
         TruthNodes {
-            yes: u32::from(truth == Truth::Yes),
-            no: u32::from(truth == Truth::No),
+            yes: u32::from(truth == Truth::True),
+            no: u32::from(truth == Truth::False),
         }
     }
 
@@ -43,7 +43,7 @@ pub(crate) fn steps_of(
     cond: &Cond,
 ) -> Result<TruthNodes, Refusal> {
     match cond {
-        Cond::Always => constant(lines, Truth::Yes),
+        Cond::Always => constant(lines, Truth::True),
         Cond::Cmp(op, x, y) => compared(facts, lines, *op, *x, *y),
         Cond::Between(x, y, z) => {
             let lower = compared(facts, lines, Op::Ge, *x, *y)?;
@@ -153,8 +153,8 @@ fn tested(
     made: TruthNodes,
 ) -> Result<TruthNodes, Refusal> {
     let half = match wanted {
-        Truth::Yes => made.yes,
-        Truth::No => made.no,
+        Truth::True => made.yes,
+        Truth::False => made.no,
         Truth::Unknown => {
             let known = facts.row(VariableOrder::Whole, Logic::Or, made.yes, made.no)?;
             let other = facts.row(VariableOrder::Whole, Logic::Diff, 1, known.node)?;
@@ -182,11 +182,11 @@ fn null_tested(
 ) -> Result<TruthNodes, Refusal> {
     let column = match x {
         Operand::Col(column) => facts.column(column)?,
-        Operand::Lit(_) => return constant(lines, Truth::No),
-        Operand::Null => return constant(lines, Truth::Yes),
+        Operand::Lit(_) => return constant(lines, Truth::False),
+        Operand::Null => return constant(lines, Truth::True),
     };
     let Some(nulls) = facts.nulls(column)? else {
-        return constant(lines, Truth::No);
+        return constant(lines, Truth::False);
     };
     let values = facts.row(VariableOrder::Whole, Logic::Diff, 1, nulls)?;
     put(lines, ConditionEntry::NullTest(u64::from(values.number)))?;

@@ -61,7 +61,7 @@ impl Code<'_> {
     #[cycle(truths)]
     pub(crate) fn truths(&mut self, cond: &Cond, wanted: Wanted) -> Result<Halves, Refusal> {
         match cond {
-            Cond::Always => self.constant(Truth::Yes, wanted),
+            Cond::Always => self.constant(Truth::True, wanted),
             Cond::Cmp(op, x, y) => self.compared(*op, *x, *y, wanted),
             Cond::Between(x, y, z) => self.between(*x, *y, *z, wanted),
             Cond::Among(x, items) => self.among(*x, items, wanted),
@@ -71,8 +71,8 @@ impl Code<'_> {
             Cond::Not(part) => Ok(self.truths(part, wanted.exchanged())?.exchanged()),
             Cond::Test(part, truth) => {
                 let needed = Wanted {
-                    yes: *truth != Truth::No,
-                    no: *truth != Truth::Yes,
+                    yes: *truth != Truth::False,
+                    no: *truth != Truth::True,
                 };
                 let made = self.truths(part, needed)?;
                 self.tested(*truth, made, wanted)
@@ -143,10 +143,10 @@ impl Code<'_> {
             no: None,
         };
         if wanted.yes {
-            made.yes = Some(self.fill(truth == Truth::Yes)?);
+            made.yes = Some(self.fill(truth == Truth::True)?);
         }
         if wanted.no {
-            made.no = Some(self.fill(truth == Truth::No)?);
+            made.no = Some(self.fill(truth == Truth::False)?);
         }
         Ok(made)
     }
@@ -154,7 +154,7 @@ impl Code<'_> {
     /// The registers of `IS TRUE`, `IS FALSE` or `IS UNKNOWN`.
     fn tested(&mut self, truth: Truth, made: Halves, wanted: Wanted) -> Result<Halves, Refusal> {
         let (held, negated) = match (truth, made.yes, made.no) {
-            (Truth::Yes, Some(held), _) | (Truth::No, _, Some(held)) => (held, false),
+            (Truth::True, Some(held), _) | (Truth::False, _, Some(held)) => (held, false),
             (Truth::Unknown, Some(held), Some(other)) => {
                 self.join_into(Logic::Or, held, other)?;
                 (held, true)
@@ -171,8 +171,8 @@ impl Code<'_> {
     fn null_tested(&mut self, x: Operand, wanted: Wanted) -> Result<Halves, Refusal> {
         let column = match x {
             Operand::Col(column) => self.facts.column(column)?,
-            Operand::Lit(_) => return self.constant(Truth::No, wanted),
-            Operand::Null => return self.constant(Truth::Yes, wanted),
+            Operand::Lit(_) => return self.constant(Truth::False, wanted),
+            Operand::Null => return self.constant(Truth::True, wanted),
         };
         if !wanted.yes {
             return match self.values(column)? {
@@ -180,12 +180,12 @@ impl Code<'_> {
                     yes: None,
                     no: Some(values),
                 }),
-                None => self.constant(Truth::No, wanted),
+                None => self.constant(Truth::False, wanted),
             };
         }
         match self.nulls(column)? {
             Some(nulls) => self.sides(nulls, &[], false, wanted),
-            None => self.constant(Truth::No, wanted),
+            None => self.constant(Truth::False, wanted),
         }
     }
 

@@ -20,7 +20,7 @@ use Rattle.bw_model.specs.Variable.{Assignment, spelled}
 use Rattle.bw_model.proofs.BitsLemmas.{bit_worth}
 use Rattle.bw_segment.specs.Packing.{IsPacking}
 use Rattle.bw_segment.proofs.SoundLemmas.{each_below}
-use Rattle.bw_planes.specs.Planes.{plane_lanes, row_bits, planes_text, planes_codes, plane_packing}
+use Rattle.bw_planes.specs.Planes.{plane_lanes, row_bits, planes_bytes, planes_codes, plane_packing}
 
 -- a number's low bits, one more
 pub low_more : (n bit : ℕ) → n % 2 ^ (bit + 1) ≡ cond (has_bit n bit) (2 ^ bit) 0 + n % 2 ^ bit
@@ -88,41 +88,41 @@ spelled_low bits n first (suc count) each =
     ap bits next ∙ each (suc k) (omega arith) ∙ ap (has_bit n) same))
     ∙ sym (low_more n count) ∙ ap (λ k. n % 2 ^ k) (add-one count)
 
-length-planes_text : (width : ℕ) (codes : List ℕ) → length (planes_text width codes) ≡ 64 * width
-length-planes_text zero codes = refl
-length-planes_text (suc bits) codes =
+length-planes_bytes : (width : ℕ) (codes : List ℕ) → length (planes_bytes width codes) ≡ 64 * width
+length-planes_bytes zero codes = refl
+length-planes_bytes (suc bits) codes =
     let plane = bytes_of_lanes (map (λ code. has_bit code bits) codes) in
-    omega (arith, length-append plane (planes_text bits codes), length-bytes_of_lanes (map (λ code. has_bit code bits) codes), length-planes_text bits codes)
+    omega (arith, length-append plane (planes_bytes bits codes), length-bytes_of_lanes (map (λ code. has_bit code bits) codes), length-planes_bytes bits codes)
 
 -- a plane of codes
-plane_of_text : (width k : ℕ) (codes : List ℕ) → length codes ≡ 512 → k < width → plane_lanes (planes_text width codes) k ≡ map (λ code. has_bit code (width - suc k)) codes
-plane_of_text zero k codes long lt = absurd (omega arith)
-plane_of_text (suc bits) zero codes long lt =
+plane_of_bytes : (width k : ℕ) (codes : List ℕ) → length codes ≡ 512 → k < width → plane_lanes (planes_bytes width codes) k ≡ map (λ code. has_bit code (width - suc k)) codes
+plane_of_bytes zero k codes long lt = absurd (omega arith)
+plane_of_bytes (suc bits) zero codes long lt =
     let lanes = map (λ code. has_bit code bits) codes in
     let top : bits ≡ suc bits - 1 = omega arith in
-    ap (λ n. lanes_of_bytes (take n (bytes_of_lanes lanes ++ planes_text bits codes))) (sym (length-bytes_of_lanes lanes))
-    ∙ ap lanes_of_bytes (take-append_seam (bytes_of_lanes lanes) (planes_text bits codes))
+    ap (λ n. lanes_of_bytes (take n (bytes_of_lanes lanes ++ planes_bytes bits codes))) (sym (length-bytes_of_lanes lanes))
+    ∙ ap lanes_of_bytes (take-append_seam (bytes_of_lanes lanes) (planes_bytes bits codes))
     ∙ lanes_of_bytes_of_lanes lanes (length-map codes (λ code. has_bit code bits) ∙ long) ∙ ap (λ b. map (λ code. has_bit code b) codes) top
-plane_of_text (suc bits) (suc k) codes long lt =
+plane_of_bytes (suc bits) (suc k) codes long lt =
     let lanes = map (λ code. has_bit code bits) codes in
     let place : 64 * suc k ≡ length (bytes_of_lanes lanes) + 64 * k = omega (arith, length-bytes_of_lanes lanes) in
     let same : bits - suc k ≡ suc bits - suc (suc k) = omega arith in
-    ap (λ n. lanes_of_bytes (take 64 (drop n (bytes_of_lanes lanes ++ planes_text bits codes)))) place
-    ∙ ap (λ l. lanes_of_bytes (take 64 l)) (drop-append-add (bytes_of_lanes lanes) (planes_text bits codes) (64 * k))
-    ∙ plane_of_text bits k codes long (omega arith) ∙ ap (λ b. map (λ code. has_bit code b) codes) same
+    ap (λ n. lanes_of_bytes (take 64 (drop n (bytes_of_lanes lanes ++ planes_bytes bits codes)))) place
+    ∙ ap (λ l. lanes_of_bytes (take 64 l)) (drop-append-add (bytes_of_lanes lanes) (planes_bytes bits codes) (64 * k))
+    ∙ plane_of_bytes bits k codes long (omega arith) ∙ ap (λ b. map (λ code. has_bit code b) codes) same
 
 -- the numbers that the planes of codes spell
-codes_of_text : (width : ℕ) (codes : List ℕ) → length codes ≡ group_size → All (λ code. code < 2 ^ width) codes → planes_codes width (planes_text width codes) ≡ codes
+codes_of_text : (width : ℕ) (codes : List ℕ) → length codes ≡ group_size → All (λ code. code < 2 ^ width) codes → planes_codes width (planes_bytes width codes) ≡ codes
 unfolding planes_codes group_size
 codes_of_text width codes long small =
-    let text = planes_text width codes in
+    let text = planes_bytes width codes in
     sym (fill_by_all (λ row. spelled (row_bits text row) 0 width) codes 512 0 long
     (λ row lt.
     let there : row < length codes = omega (arith, long) in
     sym (spelled_low (row_bits text row) (get_or codes row 0) 0 width
     (λ k below.
     let here : 0 + k ≡ k = omega arith in
-    ap (row_bits text row) here ∙ ap (λ l. get_or l row false) (plane_of_text width k codes long below) ∙ get_or-map (λ code. has_bit code (width - suc k)) codes row 0 false there)
+    ap (row_bits text row) here ∙ ap (λ l. get_or l row false) (plane_of_bytes width k codes long below) ∙ get_or-map (λ code. has_bit code (width - suc k)) codes row 0 false there)
     ∙ mod-eq_of_lt (small row 0 there))))
 
 length-plane : (bytes : List ℕ) (k : ℕ) → 64 * suc k ≤ length bytes → length (plane_lanes bytes k) ≡ 512
@@ -142,7 +142,7 @@ plane_of_codes width bit bytes long lt =
     ∙ (λ i. map (λ row. (ap (has_bit (spelled (row_bits bytes row) 0 width)) same ∙ bit_of_spelled (row_bits bytes row) 0 width k (omega arith) ∙ ap (row_bits bytes row) here) i) rows))
 
 -- the planes of the numbers that planes spell, of so many low bits
-text_of_codes : (width : ℕ) (bytes : List ℕ) → length bytes ≡ 64 * width → All (λ byte. byte < 2 ^ 8) bytes → (bits : ℕ) → bits ≤ width → planes_text bits (planes_codes width bytes) ≡ drop (64 * (width - bits)) bytes
+text_of_codes : (width : ℕ) (bytes : List ℕ) → length bytes ≡ 64 * width → All (λ byte. byte < 2 ^ 8) bytes → (bits : ℕ) → bits ≤ width → planes_bytes bits (planes_codes width bytes) ≡ drop (64 * (width - bits)) bytes
 text_of_codes width bytes long small zero le = sym (drop_all (64 * (width - 0)) bytes (omega (arith, long)))
 text_of_codes width bytes long small (suc bits) le =
     let k = width - suc bits in
@@ -159,7 +159,7 @@ length-planes_codes width bytes = length-map-range_with_len (λ row. spelled (ro
 
 pub planes_keep_codes : IsPacking plane_packing
 planes_keep_codes = record {
-  text_length = λ width codes long. length-planes_text width codes;
+  bytes_length = λ width codes long. length-planes_bytes width codes;
   codes_length = λ width bytes long. length-planes_codes width bytes;
   text_spells = codes_of_text;
   codes_spelled = λ width bytes long small.

@@ -16,9 +16,9 @@ abbrev pub row_bits : List ℕ → ℕ → Assignment
 row_bits bytes row plane = slice_index_or (plane_lanes bytes plane) row false
 
 -- the planes of so many low bits of codes, from the top one down
-abbrev pub planes_text : ℕ → List ℕ → List ℕ
-planes_text zero codes = []
-planes_text (suc bits) codes = bytes_of_lanes (map (λ code. has_bit code bits) codes) ++ planes_text bits codes
+abbrev pub planes_bytes : ℕ → List ℕ → List ℕ
+planes_bytes zero codes = []
+planes_bytes (suc bits) codes = bytes_of_lanes (map (λ code. has_bit code bits) codes) ++ planes_bytes bits codes
 
 -- the numbers that so many planes spell in the 512 lanes, from the top plane on
 unfoldable pub planes_codes : ℕ → List ℕ → List ℕ
@@ -30,4 +30,4 @@ codes_in_word word codes = take 64 (drop (64 * word) codes)
 
 -- codes that are kept as planes, one a bit
 abbrev pub plane_packing : Packing
-plane_packing = record { size = λ width. 64 * width; text = planes_text; codes = planes_codes }
+plane_packing = record { size = λ width. 64 * width; bytes = planes_bytes; codes = planes_codes }

@@ -11,13 +11,13 @@ use crate::compare::{at_least, eq};
 use crate::sum::sum_in_word;
 use bw_lanes::{LANES, Plane, and, bytes_bit, is_zero, load, not, or, push_bit, to_bytes};
 use bw_model::Fault;
-use bw_segment::{Layout, push_byte, put_byte, slices_of};
+use bw_segment::{CodeLayout, push_byte, put_byte, slices_of};
 
 /// Codes kept as planes, one for each bit, from the top bit down, 64 bytes a plane: bit i mod 8, the least first, of byte
 /// i / 8 is row i's.
 pub struct Planes;
 
-impl Layout for Planes {
+impl CodeLayout for Planes {
     ghost packing = { plane_packing };
 
     fn size(width: u32) -> usize {

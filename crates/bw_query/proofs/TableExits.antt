@@ -16,7 +16,7 @@ use Rattle.bw_model.specs.Row.{Value}
 use Rattle.bw_device.specs.Sink.{GoesOut, Wrote, is_write_fault, none_aside}
 use Rattle.bw_device.proofs.SinkLemmas.{no_write_fault, wrote_nothing, wrote_text}
 use Rattle.bw_device.specs.Source.{is_input_fault, is_read_fault}
-use Rattle.bw_file.specs.FileText.{IsFileText}
+use Rattle.bw_file.specs.FileBytes.{IsFileBytes}
 use Rattle.bw_file.specs.Reading.{State, Fails, GoesOn, failed_reads, give}
 use Rattle.bw_file.specs.TableReading.{IsTableFault, header, is_table_fault}
 use Rattle.bw_file.specs.TableReader.{AnswersFault, schema_in, version_in, header_told}
@@ -94,10 +94,10 @@ text_over asks start now schema query scan text scanned Told told asked over = (
     table = record {
       found = over.found;
       read = over.read;
-      shape = over.shape;
+      shape = over.placement;
       same = over.rows;
-      text = let L : List (List Value) → Type 0 = λ rows. IsFileText over.read.bytes over.found.layout schema rows in
-          subst L over.rows (read_is_spelled_by over.read.bytes over.found schema over.read.took.each (sym over.shape) over.read.read);
+      text = let L : List (List Value) → Type 0 = λ rows. IsFileBytes over.read.bytes over.found.layout schema rows in
+          subst L over.rows (read_is_spelled_by over.read.bytes over.found schema over.read.took.each (sym over.placement) over.read.read);
     };
     asked = asked;
     is = over.is;
@@ -127,7 +127,7 @@ table_answered asks start now text found Told told bytes known old new appends =
         schema = found.schema;
         rows = found.rows;
         query = found.query;
-        file = let F : List ℕ → Type 0 = λ taken. IsFileText taken table.found.layout found.schema found.rows in
+        file = let F : List ℕ → Type 0 = λ taken. IsFileBytes taken table.found.layout found.schema found.rows in
             subst F same table.text;
         asked = found.asked;
         text = subst (λ (those : List ℕ). Appends old new those) found.is appends;

@@ -17,7 +17,7 @@ use Rattle.bw_answer.specs.Answer.{csv_text, meaning}
 use Rattle.bw_device.specs.Sink.{is_write_fault}
 use Rattle.bw_device.specs.Source.{is_read_fault, is_input_fault}
 use Rattle.bw_file.specs.declared.layout.Layout.{Layout}
-use Rattle.bw_file.specs.FileText.{IsFileText}
+use Rattle.bw_file.specs.FileBytes.{IsFileBytes}
 use Rattle.bw_file.specs.Reading.{State, Took, GoesOn, Fails, give}
 use Rattle.bw_file.specs.TableReading.{HeaderShape, Found, header}
 use Rattle.bw_file.specs.TableReader.{AreUnfinished, HasFirstFault, NoneToSpare, ReadWhole, SoFar, failed_by, header_told, version_in}
@@ -41,7 +41,7 @@ pub record WholeTable (start now : State) (schema : Schema) (rows : List (List V
   pub read : ReadWhole start now found
   pub shape : found.schema ≡ schema_shape schema
   pub same : found.rows ≡ rows
-  pub text : IsFileText read.bytes found.layout schema rows
+  pub text : IsFileBytes read.bytes found.layout schema rows
 
 -- the text of the meaning of what is asked, over the rows of the table
 pub record TableText (asks : Schema → Result Query Fault → Type 0) (start now : State) (text : List ℕ) : Type 0 where
@@ -60,7 +60,7 @@ pub record AnswersFile (asks : Schema → Result Query Fault → Type 0) (bytes 
   pub schema : Schema
   pub rows : List (List Value)
   pub query : Query
-  pub file : IsFileText bytes layout schema rows
+  pub file : IsFileBytes bytes layout schema rows
   pub asked : asks schema (Ok query)
   pub text : Appends old new (csv_text (meaning (names_of schema.columns.items) query rows))
 

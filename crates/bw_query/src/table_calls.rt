@@ -14,7 +14,7 @@ ghost use Rattle.bw_model.specs.Fault.{nowhere, no_memory, is_memory};
 ghost use Rattle.bw_model.specs.Row.{Value};
 ghost use Rattle.bw_model.specs.SchemaText.{schema_shape};
 ghost use Rattle.bw_file.specs.declared.layout.Layout.{Layout};
-ghost use Rattle.bw_file.specs.FileText.{IsFileText};
+ghost use Rattle.bw_file.specs.FileBytes.{IsFileBytes};
 ghost use Rattle.bw_file.specs.Reading.{State, state};
 ghost use Rattle.bw_file.specs.TableReader.{bytes_taken, rows_given, settled};
 ghost use Rattle.bw_device.specs.Sink.{LeavesSink, Wrote, is_write_fault, none_aside};
@@ -28,7 +28,7 @@ use crate::scan::{Scan, scan_for};
 use crate::served::served_by;
 use crate::table_text::table_text;
 use bw_device::{Sink, Source, write_whole};
-use bw_file::{TableReader, a_file_text_is_read_whole};
+use bw_file::{TableReader, a_file_is_read_whole};
 use bw_model::{Cond, Fault, Item, Query, Schema};
 use bw_report::Served;
 use bw_sql::{one_query_of_a_text, parse, schemas_of_one_shape};
@@ -75,7 +75,7 @@ pub fn answer<S: Source, K: Sink>(
         (K.taken sink.new))
         × IsServed (given_file program.entry) file.schema file.query file.rows served) }
     ensures accepted { (bytes : List ℕ) (layout : Layout) (schema : Schema) (rows : List (List Value)) (query : Query)
-        → S.to_come table.old ≡ Some bytes → IsFileText bytes layout schema rows
+        → S.to_come table.old ≡ Some bytes → IsFileBytes bytes layout schema rows
         → by_statement (given_file program.entry) sql.now schema (Ok query)
         → IfErr result (λ fault. IsTrue (is_no_verdict fault)) }
     ensures table { EndsWith (nowhere READ_FAILED) (S.failures table.old) (S.failures table.new) result }
@@ -111,13 +111,13 @@ fn answered<S: Source>(
         (state (S.to_come table.new) offset (S.failures table.new)) answered.text.items)
         × IsServed (given_file program.entry) found.schema found.query found.rows answered.served) }
     ensures accepted { (bytes : List ℕ) (layout : Layout) (schema : Schema) (rows : List (List Value)) (query : Query)
-        → S.to_come table.old ≡ Some bytes → IsFileText bytes layout schema rows
+        → S.to_come table.old ≡ Some bytes → IsFileBytes bytes layout schema rows
         → by_statement (given_file program.entry) sql.now schema (Ok query)
         → IfErr result (λ fault. IsTrue (is_no_verdict fault)) }
     ensures fault { IfErr result (λ fault. is_write_fault fault ≡ false) }
     ensures failed { EndsWith (nowhere READ_FAILED) (S.failures table.old) (S.failures table.new) result }
 {
-    a_file_text_is_read_whole();
+    a_file_is_read_whole();
     let mut reader = TableReader::begin(alloc, table)?;
     answered_after_header(alloc, &mut reader, table, sql, program)
 }
@@ -144,7 +144,7 @@ fn answered_after_header<S: Source>(
     ensures accepted { (start : State) (bytes : List ℕ) (layout : Layout) (schema : Schema) (rows : List (List Value))
         (query : Query)
         → Began start (state (S.to_come table.old) (bytes_taken reader.old) (S.failures table.old)) reader.old
-        → start.known ≡ Some bytes → IsFileText bytes layout schema rows
+        → start.known ≡ Some bytes → IsFileBytes bytes layout schema rows
         → by_statement (given_file program.entry) sql.now schema (Ok query)
         → IfErr result (λ fault. IsTrue (is_no_verdict fault)) }
     ensures fault { IfErr result (λ fault. is_write_fault fault ≡ false) }
@@ -152,7 +152,7 @@ fn answered_after_header<S: Source>(
         → Began start (state (S.to_come table.old) (bytes_taken reader.old) (S.failures table.old)) reader.old
         → EndsWith (nowhere READ_FAILED) (S.failures table.old) (S.failures table.new) result }
 {
-    a_file_text_is_read_whole();
+    a_file_is_read_whole();
     let prepared = prepare(alloc, reader.schema(), sql, program)?;
     match table_text(alloc, reader, table, &prepared.query, &prepared.scan) {
         Ok(found) => Ok(AnswerText {
@@ -222,7 +222,7 @@ pub fn dump<S: Source, K: Sink>(alloc: Global, table: &mut S, sink: &mut K) -> R
     ensures file { (bytes : List ℕ) → S.to_come table.old ≡ Some bytes
         → OnOk result (AnswersFile by_dump bytes (K.taken sink.old) (K.taken sink.new)) }
     ensures accepted { (bytes : List ℕ) (layout : Layout) (schema : Schema) (rows : List (List Value))
-        → S.to_come table.old ≡ Some bytes → IsFileText bytes layout schema rows
+        → S.to_come table.old ≡ Some bytes → IsFileBytes bytes layout schema rows
         → IfErr result (λ fault. IsTrue (is_no_verdict fault)) }
     ensures table { EndsWith (nowhere READ_FAILED) (S.failures table.old) (S.failures table.new) result }
     ensures sink { LeavesSink (K.taken sink.old) (K.taken sink.new) (K.failures sink.old) (K.failures sink.new) result }
@@ -241,12 +241,12 @@ fn dumped<S: Source>(alloc: Global, table: &mut S) -> Result<Vec<u8>, Fault>
         (state (S.to_come table.old) 0 (S.failures table.old))
         (state (S.to_come table.new) offset (S.failures table.new)) text.items) }
     ensures accepted { (bytes : List ℕ) (layout : Layout) (schema : Schema) (rows : List (List Value))
-        → S.to_come table.old ≡ Some bytes → IsFileText bytes layout schema rows
+        → S.to_come table.old ≡ Some bytes → IsFileBytes bytes layout schema rows
         → IfErr result (λ fault. IsTrue (is_no_verdict fault)) }
     ensures fault { IfErr result (λ fault. is_write_fault fault ≡ false) }
     ensures failed { EndsWith (nowhere READ_FAILED) (S.failures table.old) (S.failures table.new) result }
 {
-    a_file_text_is_read_whole();
+    a_file_is_read_whole();
     let mut reader = TableReader::begin(alloc, table)?;
     dumped_after_header(alloc, &mut reader, table)
 }
@@ -269,14 +269,14 @@ fn dumped_after_header<S: Source>(
         (state (S.to_come table.new) (bytes_taken reader.new) (S.failures table.new)) text.items) }
     ensures accepted { (start : State) (bytes : List ℕ) (layout : Layout) (schema : Schema) (rows : List (List Value))
         → Began start (state (S.to_come table.old) (bytes_taken reader.old) (S.failures table.old)) reader.old
-        → start.known ≡ Some bytes → IsFileText bytes layout schema rows
+        → start.known ≡ Some bytes → IsFileBytes bytes layout schema rows
         → IfErr result (λ fault. IsTrue (is_no_verdict fault)) }
     ensures fault { IfErr result (λ fault. is_write_fault fault ≡ false) }
     ensures failed { (start : State)
         → Began start (state (S.to_come table.old) (bytes_taken reader.old) (S.failures table.old)) reader.old
         → EndsWith (nowhere READ_FAILED) (S.failures table.old) (S.failures table.new) result }
 {
-    a_file_text_is_read_whole();
+    a_file_is_read_whole();
     let query = every_row(alloc, reader.schema())?;
     match table_text(alloc, reader, table, &query, &Scan::Rows) {
         Ok(found) => Ok(found.text),

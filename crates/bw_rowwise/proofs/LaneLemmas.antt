@@ -9,15 +9,15 @@ use Rattle.bw_model.specs.declared.column.Column.{Column}
 use Rattle.bw_model.specs.Row.{Value, value_in}
 use Rattle.bw_rowwise.specs.Prepared.{row_at}
 use Rattle.bw_model.specs.declared.cond.Truth.{Truth}
-use Rattle.bw_model.specs.declared.cond.Truth.TheVariants.{No}
+use Rattle.bw_model.specs.declared.cond.Truth.TheVariants.{False}
 
 -- the lanes so far are as wanted, and so is one more
-pub lane_more : (f : ℕ → Truth) (truths : List Truth) (i : ℕ) (t : Truth) → i < length truths → ((lane : ℕ) → lane < i → get_or truths lane No ≡ f lane) → t ≡ f i
-    → (lane : ℕ) → lane < i + 1 → get_or (set truths i t) lane No ≡ f lane
+pub lane_more : (f : ℕ → Truth) (truths : List Truth) (i : ℕ) (t : Truth) → i < length truths → ((lane : ℕ) → lane < i → get_or truths lane False ≡ f lane) → t ≡ f i
+    → (lane : ℕ) → lane < i + 1 → get_or (set truths i t) lane False ≡ f lane
 lane_more f truths i t within done is =
-    below_more (λ lane. get_or (set truths i t) lane No ≡ f lane) i
-    (λ lane below. let other : lane ≢ i = omega arith in get_or-set_other truths i lane t No other ∙ done lane below)
-    (get_or-set_same truths i t No within ∙ is)
+    below_more (λ lane. get_or (set truths i t) lane False ≡ f lane) i
+    (λ lane below. let other : lane ≢ i = omega arith in get_or-set_other truths i lane t False other ∙ done lane below)
+    (get_or-set_same truths i t False within ∙ is)
 
 one_or_zero : (t : Bool) → (cond t 1 0 == 1) ≡ t
 one_or_zero true = refl

@@ -16,7 +16,7 @@ use Rattle.bw_model.specs.declared.cond.Operand.{Operand}
 use Rattle.bw_model.specs.declared.cond.Operand.TheVariants.{Lit}
 use Rattle.bw_model.specs.Cond.{operand_value}
 use Rattle.bw_model.specs.declared.cond.Truth.{Truth}
-use Rattle.bw_model.specs.declared.cond.Truth.TheVariants.{No, Unknown}
+use Rattle.bw_model.specs.declared.cond.Truth.TheVariants.{False, Unknown}
 use Rattle.bw_model.specs.Row.{Value}
 use Rattle.bw_model.specs.Truth.{among, compared, greatest, truth_from}
 use Rattle.bw_rowwise.proofs.LogicLemmas.{greatest_assoc, greatest_comm}
@@ -94,7 +94,7 @@ in_any_order (Some n) xs ys moved =
 
 -- one item more
 pub among_more : (x : Value) (items : List Value) (item : Value) → among x (items ++ item ∷ []) ≡ greatest (among x items) (compared Eq x item)
-among_more x [] item = greatest_comm (compared Eq x item) No
+among_more x [] item = greatest_comm (compared Eq x item) False
 among_more x (y ∷ items) item = ap (greatest (compared Eq x y)) (among_more x items item) ∙ sym (greatest_assoc (compared Eq x y) (among x items) (compared Eq x item))
 
 -- what comes last may stand between the numbers and the others

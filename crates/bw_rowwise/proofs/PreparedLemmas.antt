@@ -1,7 +1,7 @@
 -- The truth of each kind of prepared condition.
 use Rattle.std.proofs.Common.{◌≡◌, ◌∙◌, List, map, Vec, Box, Global, sym, ap}
 use Rattle.bw_model.specs.declared.cond.Truth.{Truth}
-use Rattle.bw_model.specs.declared.cond.Truth.TheVariants.{Yes}
+use Rattle.bw_model.specs.declared.cond.Truth.TheVariants.{True}
 use Rattle.bw_model.specs.declared.cond.Op.{Op}
 use Rattle.bw_model.specs.declared.cond.Operand.{Operand}
 use Rattle.bw_model.specs.Cond.{operand_value}
@@ -13,7 +13,7 @@ use Rattle.bw_rowwise.specs.declared.prepared.Prepared.TheVariants.{Always, Cmp,
 use Rattle.bw_rowwise.specs.Numbers.{among_numbers}
 use Rattle.bw_rowwise.specs.Prepared.{prepared_step, prepared_truth}
 
-pub truth-Always : (row : List Value) → prepared_truth row Always ≡ Yes
+pub truth-Always : (row : List Value) → prepared_truth row Always ≡ True
 unfolding prepared_truth
 truth-Always row = ap (prepared_truth row) (sym rolls-Always) ∙ fold-roll-Prepared Truth (prepared_step row) Prepared-F.Always
 

@@ -2,7 +2,7 @@
 use Rattle.std.specs.Prelude.{◌≡◌, ℕ, List, [], map, slice_index_or}
 use Rattle.bw_model.specs.declared.cond.Cond.{Cond}
 use Rattle.bw_model.specs.declared.cond.Truth.{Truth}
-use Rattle.bw_model.specs.declared.cond.Truth.TheVariants.{Yes}
+use Rattle.bw_model.specs.declared.cond.Truth.TheVariants.{True}
 use Rattle.bw_model.specs.Cond.{operand_value, truth_of}
 use Rattle.bw_model.specs.Row.{Value}
 use Rattle.bw_model.specs.Truth.{all_of, among, any_of, between, compared, greatest, is_null, is_truth, negation, truth_from}
@@ -12,7 +12,7 @@ use Rattle.bw_rowwise.specs.declared.prepared.Prepared.TheOpen.{Always, Cmp, Bet
 
 -- the truth of a prepared condition on a row, from that of its parts
 abbrev pub prepared_step : List Value → Prepared-F Truth → Truth
-prepared_step row Always = Yes
+prepared_step row Always = True
 prepared_step row (Cmp op x y) = compared op (operand_value row x) (operand_value row y)
 prepared_step row (Between x y z) = between (operand_value row x) (operand_value row y) (operand_value row z)
 prepared_step row (Among x numbers others) =

@@ -19,7 +19,7 @@ pub fn truth(cond: &Cond, row: &Row) -> Truth
     ensures { result ≡ truth_of row.now.values.items cond.now }
 {
     match cond {
-        Cond::Always => Truth::Yes,
+        Cond::Always => Truth::True,
         Cond::Cmp(op, x, y) => compared(*op, value_of(*x, row), value_of(*y, row)),
         Cond::Between(x, y, z) => {
             between(value_of(*x, row), value_of(*y, row), value_of(*z, row))
@@ -50,7 +50,7 @@ pub fn select(alloc: Global, cond: &Cond, rows: &[Row]) -> Result<Vec<Row>, Faul
 {
     let mut kept = Vec::new(alloc);
     for row in rows {
-        if truth(cond, row) == Truth::Yes {
+        if truth(cond, row) == Truth::True {
             kept.push(row.copy(alloc)?)?;
         }
     }
@@ -64,10 +64,10 @@ fn all_of(parts: &[Cond], row: &Row) -> Truth
     requires { IsTrue (list_all (names_within (length row.now.values.items)) parts.now) }
     ensures { result ≡ all_of (map (truth_of row.now.values.items) parts.now) }
 {
-    let mut least = Truth::Yes;
+    let mut least = Truth::True;
     for part in parts {
         least = both(least, truth(part, row));
-        if least == Truth::No {
+        if least == Truth::False {
             break;
         }
     }
@@ -81,10 +81,10 @@ fn any_of(parts: &[Cond], row: &Row) -> Truth
     requires { IsTrue (list_all (names_within (length row.now.values.items)) parts.now) }
     ensures { result ≡ any_of (map (truth_of row.now.values.items) parts.now) }
 {
-    let mut greatest = Truth::No;
+    let mut greatest = Truth::False;
     for part in parts {
         greatest = either(greatest, truth(part, row));
-        if greatest == Truth::Yes {
+        if greatest == Truth::True {
             break;
         }
     }
@@ -109,10 +109,10 @@ fn among(x: Value, items: &[Operand], row: &Row) -> Truth
     requires { IsTrue (list_all (is_within (length row.now.values.items)) items.now) }
     ensures { result ≡ among x (map (operand_value row.now.values.items) items.now) }
 {
-    let mut greatest = Truth::No;
+    let mut greatest = Truth::False;
     for item in items {
         greatest = either(greatest, compared(Op::Eq, x, value_of(*item, row)));
-        if greatest == Truth::Yes {
+        if greatest == Truth::True {
             break;
         }
     }

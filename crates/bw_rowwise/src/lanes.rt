@@ -5,7 +5,7 @@ ghost use Rattle.bw_model.specs.Cond.{operand_value};
 ghost use Rattle.bw_model.specs.Groups.{group_size};
 ghost use Rattle.bw_model.specs.Row.{value_in};
 ghost use Rattle.bw_model.specs.Truth.{all_of, among, any_of, between, compared, is_truth, truth_from, is_null};
-ghost use Rattle.bw_model.specs.declared.cond.Truth.TheVariants.{No, Yes};
+ghost use Rattle.bw_model.specs.declared.cond.Truth.TheVariants.{False, True};
 ghost use Rattle.bw_rowwise.specs.Prepared.{prepared_truth, row_at};
 
 use crate::kernels::{
@@ -22,7 +22,7 @@ impl Prepared {
     /// the last row.
     pub fn rows_kept<S: Segment>(&self, segment: &S) -> Plane
         ensures { lanes_of_words result
-            ≡ map (λ row. is_truth (prepared_truth row self.now) Yes) (S.meaning segment.now).rows
+            ≡ map (λ row. is_truth (prepared_truth row self.now) True) (S.meaning segment.now).rows
             ++ replicate (group_size - length (S.meaning segment.now).rows) false }
     {
         true_in_lanes(&truths(self, segment), segment.rows_in())
@@ -33,11 +33,11 @@ impl Prepared {
 #[tactic(auto, using(crate::proofs::PreparedLemmas::truths))]
 #[cycle(truths)]
 fn truths<S: Segment>(cond: &Prepared, segment: &S) -> Truths
-    ensures { (lane : ℕ) → lane < 512 → slice_index_or result lane No
+    ensures { (lane : ℕ) → lane < 512 → slice_index_or result lane False
         ≡ prepared_truth (row_at (S.meaning segment.now).rows lane) cond.now }
 {
     match cond {
-        Prepared::Always => [Truth::Yes; LANES],
+        Prepared::Always => [Truth::True; LANES],
         Prepared::Cmp(op, x, y) => compared_rows(*op, *x, *y, segment),
         Prepared::Between(x, y, z) => both_in_lanes(
             &compared_rows(Op::Ge, *x, *y, segment),
@@ -59,10 +59,10 @@ fn truths<S: Segment>(cond: &Prepared, segment: &S) -> Truths
 #[tactic(auto, using(crate::proofs::LogicLemmas::least_assoc))]
 #[cycle(truths)]
 fn all_of<S: Segment>(parts: &[Prepared], segment: &S) -> Truths
-    ensures { (lane : ℕ) → lane < 512 → slice_index_or result lane No
+    ensures { (lane : ℕ) → lane < 512 → slice_index_or result lane False
         ≡ all_of (map (prepared_truth (row_at (S.meaning segment.now).rows lane)) parts.now) }
 {
-    let mut least = [Truth::Yes; LANES];
+    let mut least = [Truth::True; LANES];
     for part in parts {
         least = both_in_lanes(&least, &truths(part, segment));
     }
@@ -73,10 +73,10 @@ fn all_of<S: Segment>(parts: &[Prepared], segment: &S) -> Truths
 #[tactic(auto, using(crate::proofs::LogicLemmas::greatest_assoc))]
 #[cycle(truths)]
 fn any_of<S: Segment>(parts: &[Prepared], segment: &S) -> Truths
-    ensures { (lane : ℕ) → lane < 512 → slice_index_or result lane No
+    ensures { (lane : ℕ) → lane < 512 → slice_index_or result lane False
         ≡ any_of (map (prepared_truth (row_at (S.meaning segment.now).rows lane)) parts.now) }
 {
-    let mut greatest = [Truth::No; LANES];
+    let mut greatest = [Truth::False; LANES];
     for part in parts {
         greatest = either_in_lanes(&greatest, &truths(part, segment));
     }
@@ -85,7 +85,7 @@ fn any_of<S: Segment>(parts: &[Prepared], segment: &S) -> Truths
 
 /// The truth of a comparison in each lane.
 fn compared_rows<S: Segment>(op: Op, x: Operand, y: Operand, segment: &S) -> Truths
-    ensures { (lane : ℕ) → lane < 512 → slice_index_or result lane No
+    ensures { (lane : ℕ) → lane < 512 → slice_index_or result lane False
         ≡ compared op (operand_value (row_at (S.meaning segment.now).rows lane) x)
         (operand_value (row_at (S.meaning segment.now).rows lane) y) }
 {
@@ -95,11 +95,11 @@ fn compared_rows<S: Segment>(op: Op, x: Operand, y: Operand, segment: &S) -> Tru
 /// Whether an operand is one of others, as `IN` says, in each lane.
 #[tactic(auto, using(crate::proofs::LogicLemmas::greatest_assoc))]
 fn among_others<S: Segment>(x: Operand, others: &[Operand], segment: &S) -> Truths
-    ensures { (lane : ℕ) → lane < 512 → slice_index_or result lane No
+    ensures { (lane : ℕ) → lane < 512 → slice_index_or result lane False
         ≡ among (operand_value (row_at (S.meaning segment.now).rows lane) x)
         (map (operand_value (row_at (S.meaning segment.now).rows lane)) others.now) }
 {
-    let mut greatest = [Truth::No; LANES];
+    let mut greatest = [Truth::False; LANES];
     for other in others {
         greatest = either_in_lanes(&greatest, &compared_rows(Op::Eq, x, *other, segment));
     }

@@ -9,8 +9,8 @@ pub fn both(a: Truth, b: Truth) -> Truth
     ensures { result ≡ least a b }
 {
     match (a, b) {
-        (Truth::No, _) | (_, Truth::No) => Truth::No,
-        (Truth::Yes, Truth::Yes) => Truth::Yes,
+        (Truth::False, _) | (_, Truth::False) => Truth::False,
+        (Truth::True, Truth::True) => Truth::True,
         _ => Truth::Unknown,
     }
 }
@@ -20,8 +20,8 @@ pub fn either(a: Truth, b: Truth) -> Truth
     ensures { result ≡ greatest a b }
 {
     match (a, b) {
-        (Truth::Yes, _) | (_, Truth::Yes) => Truth::Yes,
-        (Truth::No, Truth::No) => Truth::No,
+        (Truth::True, _) | (_, Truth::True) => Truth::True,
+        (Truth::False, Truth::False) => Truth::False,
         _ => Truth::Unknown,
     }
 }
@@ -31,9 +31,9 @@ pub fn opposite(a: Truth) -> Truth
     ensures { result ≡ negation a }
 {
     match a {
-        Truth::No => Truth::Yes,
+        Truth::False => Truth::True,
         Truth::Unknown => Truth::Unknown,
-        Truth::Yes => Truth::No,
+        Truth::True => Truth::False,
     }
 }
 

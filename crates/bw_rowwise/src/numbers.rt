@@ -32,7 +32,7 @@ impl Numbers {
     {
         match x {
             Some(n) => Truth::of(self.have(n)),
-            None if self.sorted.is_empty() => Truth::No,
+            None if self.sorted.is_empty() => Truth::False,
             None => Truth::Unknown,
         }
     }

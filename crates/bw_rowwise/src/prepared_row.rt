@@ -17,7 +17,7 @@ impl Prepared {
         ensures { result ≡ prepared_truth (values_of row.now) self.now }
     {
         match self {
-            Prepared::Always => Truth::Yes,
+            Prepared::Always => Truth::True,
             Prepared::Cmp(op, x, y) => compared(*op, value_of(*x, row), value_of(*y, row)),
             Prepared::Between(x, y, z) => {
                 between(value_of(*x, row), value_of(*y, row), value_of(*z, row))
@@ -41,10 +41,10 @@ impl Prepared {
 fn all_of(parts: &[Prepared], row: &Row) -> Truth
     ensures { result ≡ all_of (map (prepared_truth (values_of row.now)) parts.now) }
 {
-    let mut least = Truth::Yes;
+    let mut least = Truth::True;
     for part in parts {
         least = both(least, part.truth(row));
-        if least == Truth::No {
+        if least == Truth::False {
             break;
         }
     }
@@ -57,10 +57,10 @@ fn all_of(parts: &[Prepared], row: &Row) -> Truth
 fn any_of(parts: &[Prepared], row: &Row) -> Truth
     ensures { result ≡ any_of (map (prepared_truth (values_of row.now)) parts.now) }
 {
-    let mut greatest = Truth::No;
+    let mut greatest = Truth::False;
     for part in parts {
         greatest = either(greatest, part.truth(row));
-        if greatest == Truth::Yes {
+        if greatest == Truth::True {
             break;
         }
     }
@@ -83,10 +83,10 @@ fn value_of(operand: Operand, row: &Row) -> Value
 fn among(x: Value, items: &[Operand], row: &Row) -> Truth
     ensures { result ≡ among x (map (operand_value (values_of row.now)) items.now) }
 {
-    let mut greatest = Truth::No;
+    let mut greatest = Truth::False;
     for item in items {
         greatest = either(greatest, compared(Op::Eq, x, value_of(*item, row)));
-        if greatest == Truth::Yes {
+        if greatest == Truth::True {
             break;
         }
     }

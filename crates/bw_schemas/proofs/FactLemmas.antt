@@ -10,7 +10,7 @@ use Rattle.bw_model.specs.SchemaText.{IsSchemaText, schema_shape}
 use Rattle.bw_file.specs.declared.layout.Layout.{Layout}
 use Rattle.bw_file.specs.declared.layout.Layout.TheVariants.{Planes, Slices}
 use Rattle.bw_file.specs.Blocks.{segment_size}
-use Rattle.bw_file.specs.FileText.{header_text}
+use Rattle.bw_file.specs.FileBytes.{header_bytes}
 use Rattle.bw_schemas.specs.Printed.{AreComments, schema_text}
 use Rattle.bw_schemas.proofs.PrintedBounds.{natural_plain, natural_short}
 use Rattle.bw_model.proofs.SpacedWords.{is_plain_word}
@@ -85,7 +85,7 @@ told_by version layout schema rows s w one two three four five r g v z p q t u x
     (codes "# version " ++ (decimal v ++ 10 ∷ [])) (codes "# bytes " ++ (decimal z ++ 10 ∷ [])) one two three four five p q t u x ∙ rw (is, word, a, b, c, d) refl)
 
 -- the size of a file, by that of its header and of a segment
-pub size_by : (version : ℕ) (layout : Layout) (schema : Schema) (rows head count size : ℕ) → head ≡ length (header_text version layout schema.name schema.columns.items rows) → count ≡ rows
+pub size_by : (version : ℕ) (layout : Layout) (schema : Schema) (rows head count size : ℕ) → head ≡ length (header_bytes version layout schema.name schema.columns.items rows) → count ≡ rows
     → size ≡ segment_size layout schema.columns.items → head + (count + 511) / 512 * size ≡ file_size version layout schema rows
 size_by version layout schema rows head count size p q r = rw (p, q, r) refl
 

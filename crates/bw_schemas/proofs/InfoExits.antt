@@ -12,7 +12,7 @@ use Rattle.bw_device.proofs.SinkLemmas.{no_write_fault, wrote_nothing}
 use Rattle.bw_device.specs.Source.{is_input_fault, is_read_fault}
 use Rattle.bw_file.specs.declared.layout.Layout.{Layout}
 use Rattle.bw_file.specs.declared.table_reader.TableReader.{TableReader}
-use Rattle.bw_file.specs.FileText.{IsFileText}
+use Rattle.bw_file.specs.FileBytes.{IsFileBytes}
 use Rattle.bw_file.specs.Reading.{State, Fails, GoesOn, failed_reads, give}
 use Rattle.bw_file.specs.TableReader.{GaveFirst, header_told, layout_in, rows_told, schema_in, version_in}
 use Rattle.bw_file.specs.TableReading.{IsTableFault, header, is_table_fault}
@@ -83,7 +83,7 @@ text_same version l m s t n o p q r =
     rw (p, r, columns, name) refl
 
 -- a table file's header was reported
-pub told_file : (reader : TableReader) (bytes : List ℕ) (layout : Layout) (schema : Schema) (rows : List (List Value)) (text : List ℕ) → IsFileText bytes layout schema rows
+pub told_file : (reader : TableReader) (bytes : List ℕ) (layout : Layout) (schema : Schema) (rows : List (List Value)) (text : List ℕ) → IsFileBytes bytes layout schema rows
     → GaveFirst reader [] layout schema rows → text ≡ info_text (version_in reader) (layout_in reader) (schema_in reader) (rows_told reader)
     → (old new : Option (List ℕ)) (before after : ℕ) (result : Result (Unit {0}) Fault) → GoesOut old new before after text result → OnOk result (TellsFile bytes layout schema rows old new)
 told_file reader bytes layout schema rows text file gave is old new before after (Ok x) goes =

@@ -15,28 +15,28 @@ use Rattle.bw_segment.specs.Meaning.{IsGroup, Meaning}
 use Rattle.bw_segment.proofs.TextLemmas.{length-text}
 use Rattle.bw_file.specs.declared.layout.Layout.{Layout}
 use Rattle.bw_file.specs.declared.table_reader.TableReader.{TableReader}
-use Rattle.bw_file.specs.Blocks.{form_of, segment_size, segment_text}
-use Rattle.bw_file.specs.FileText.{AreRows, IsFileText, front_text, header_text, segments_text, text_of_version, version_for}
+use Rattle.bw_file.specs.Blocks.{form_of, segment_size, segment_bytes}
+use Rattle.bw_file.specs.FileBytes.{AreRows, IsFileBytes, front_bytes, header_bytes, segments_bytes, bytes_of_version, version_for}
 use Rattle.bw_file.specs.Reading.{State, GoesOn, give, tail}
 use Rattle.bw_file.specs.TableReader.{header_told, layout_in, rows_told, schema_in, version_in}
 use Rattle.bw_file.specs.TableReading.{header}
 use Rattle.bw_file.proofs.FileSpelling.{head_is}
 use Rattle.bw_file.proofs.ReaderLemmas.{head_at}
 use Rattle.bw_file.proofs.SegmentLemmas.{is_packing}
-use Rattle.bw_file.proofs.SpellingLemmas.{IsBytes, head_text, header_takes}
+use Rattle.bw_file.proofs.SpellingLemmas.{IsBytes, head_bytes, header_takes}
 use Rattle.bw_schemas.specs.Info.{file_size, segment_count}
 
 -- a reader took the bytes of its header
 pub header_taken : (start now : State) (reader : TableReader) → start.offset ≡ 0 → GoesOn header start (give (header_told (version_in reader) reader)) now
-    → now.offset ≡ length (header_text (version_in reader) (layout_in reader) (schema_in reader).name (schema_in reader).columns.items (rows_told reader))
+    → now.offset ≡ length (header_bytes (version_in reader) (layout_in reader) (schema_in reader).name (schema_in reader).columns.items (rows_told reader))
 header_taken start now reader first read =
     let h = header_told (version_in reader) reader in
     let bytes = read.bytes in
     let e = head_at start now h [] first read in
     let fits : IsBytes (bytes ++ []) = subst IsBytes (sym (append-nil bytes)) read.took.each in
     let takes = header_takes (tail 0 (bytes ++ [])) (h, tail now.offset []) fits e in
-    let same : bytes ≡ head_text h = sym (append-nil bytes) ∙ takes.0.parts ∙ append-nil (head_text h) in
-    let size : length bytes ≡ length (head_text h) = ap length same in
+    let same : bytes ≡ head_bytes h = sym (append-nil bytes) ∙ takes.0.parts ∙ append-nil (head_bytes h) in
+    let size : length bytes ≡ length (head_bytes h) = ap length same in
     let shaped = ap length (head_is (version_in reader) (rows_told reader) (layout_in reader) (schema_in reader)) in
     omega (arith, read.took.counted, size, shaped, first)
 
@@ -58,31 +58,31 @@ each_admitted columns (group ∷ groups) all =
 
 -- each group has a segment's bytes
 groups_sized : (layout : Layout) (columns : List Column) (groups : List (List (List Value))) → All HasSize groups → All (Admits columns) groups
-    → length (flat_map (segment_text layout columns) groups) ≡ length groups * segment_size layout columns
+    → length (flat_map (segment_bytes layout columns) groups) ≡ length groups * segment_size layout columns
 groups_sized layout columns [] sized admitted = omega arith
 groups_sized layout columns (group ∷ groups) sized admitted =
     let size = All-head HasSize group groups sized in
     let is : IsGroup (group_under columns group) = record { some = size.0; few = size.1; admitted = All-head (Admits columns) group groups admitted } in
-    let first : length (segment_text layout columns group) ≡ segment_size layout columns = length-text (form_of layout) (is_packing layout) (group_under columns group) is in
+    let first : length (segment_bytes layout columns group) ≡ segment_size layout columns = length-text (form_of layout) (is_packing layout) (group_under columns group) is in
     let rest = groups_sized layout columns groups (All-tail HasSize group groups sized) (All-tail (Admits columns) group groups admitted) in
-    omega (arith, length-append (segment_text layout columns group) (flat_map (segment_text layout columns) groups), first, rest)
+    omega (arith, length-append (segment_bytes layout columns group) (flat_map (segment_bytes layout columns) groups), first, rest)
 
 pub table_sized : (version : ℕ) (layout : Layout) (schema : Schema) (rows : List (List Value)) → AreRows schema.columns.items rows
-    → length (text_of_version version layout schema.name schema.columns.items rows) ≡ file_size version layout schema (length rows)
-unfolding text_of_version segments_text
+    → length (bytes_of_version version layout schema.name schema.columns.items rows) ≡ file_size version layout schema (length rows)
+unfolding bytes_of_version segments_bytes
 table_sized version layout schema rows are =
     let columns = schema.columns.items in
-    let head = header_text version layout schema.name columns (length rows) in
+    let head = header_bytes version layout schema.name columns (length rows) in
     let each = each_admitted columns (groups_of rows) (ap (list_all (admits_values columns)) (groups_of-table rows) ∙ are.admitted) in
     let sized = groups_sized layout columns (groups_of rows) (groups_of-sizes rows) each in
-    length-append head (flat_map (segment_text layout columns) (groups_of rows)) ∙ ap (λ (n : ℕ). length head + n) (sized ∙ ap (λ (n : ℕ). n * segment_size layout columns) (groups_of-count rows))
+    length-append head (flat_map (segment_bytes layout columns) (groups_of rows)) ∙ ap (λ (n : ℕ). length head + n) (sized ∙ ap (λ (n : ℕ). n * segment_size layout columns) (groups_of-count rows))
 
 -- a header is as long in either version
 header_sized : (v w : ℕ) (layout : Layout) (schema : Schema) (rows : ℕ) → file_size v layout schema rows ≡ file_size w layout schema rows
-unfolding header_text front_text
+unfolding header_bytes front_bytes
 header_sized v w layout schema rows = ap (λ (n : ℕ). n + segment_count rows * segment_size layout schema.columns.items) (simp length-append)
 
-pub file_sized : (bytes : List ℕ) (layout : Layout) (schema : Schema) (rows : List (List Value)) (version : ℕ) → IsFileText bytes layout schema rows
+pub file_sized : (bytes : List ℕ) (layout : Layout) (schema : Schema) (rows : List (List Value)) (version : ℕ) → IsFileBytes bytes layout schema rows
     → length bytes ≡ file_size version layout schema (length rows)
 file_sized bytes layout schema rows version file =
     elim file.text [

@@ -11,7 +11,7 @@ use Rattle.bw_device.specs.Source.{is_input_fault}
 use Rattle.bw_file.specs.declared.layout.Layout.{Layout}
 use Rattle.bw_file.specs.declared.layout.Layout.TheVariants.{Planes, Slices}
 use Rattle.bw_file.specs.Blocks.{segment_size}
-use Rattle.bw_file.specs.FileText.{header_text}
+use Rattle.bw_file.specs.FileBytes.{header_bytes}
 use Rattle.bw_file.specs.Reading.{State, GoesOn, Fails, give}
 use Rattle.bw_file.specs.TableReader.{failed_by}
 use Rattle.bw_file.specs.TableReading.{HeaderShape, header}
@@ -24,7 +24,7 @@ segment_count rows = (rows + 511) / 512
 -- how many bytes the file of a table of so many rows has: those of its header, and those of each segment
 abbrev pub file_size : ℕ → Layout → Schema → ℕ → ℕ
 file_size version layout schema rows =
-    length (header_text version layout schema.name schema.columns.items rows)
+    length (header_bytes version layout schema.name schema.columns.items rows)
     + segment_count rows * segment_size layout schema.columns.items
 
 abbrev pub layout_word : Layout → List ℕ

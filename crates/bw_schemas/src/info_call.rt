@@ -9,13 +9,13 @@ ghost use Rattle.bw_model.specs.Row.{Value};
 ghost use Rattle.bw_device.specs.Sink.{LeavesSink, Wrote, none_aside};
 ghost use Rattle.bw_device.specs.Source.{EndsWith};
 ghost use Rattle.bw_file.specs.declared.layout.Layout.{Layout};
-ghost use Rattle.bw_file.specs.FileText.{AreRows, IsFileText, text_of_version};
+ghost use Rattle.bw_file.specs.FileBytes.{AreRows, IsFileBytes, bytes_of_version};
 ghost use Rattle.bw_file.specs.Reading.{state};
 ghost use Rattle.bw_schemas.specs.Info.{InfoGave, TellsFile, file_size, is_no_verdict, segment_count};
 
 use crate::text::info_text;
 use bw_device::{Sink, Source, write_whole};
-use bw_file::{TableReader, a_file_text_is_read_whole};
+use bw_file::{TableReader, a_file_is_read_whole};
 use bw_model::Fault;
 use std::alloc::Global;
 
@@ -38,15 +38,15 @@ pub fn info<S: Source, K: Sink>(alloc: Global, table: &mut S, sink: &mut K) -> R
     // Where the bytes to come are a table file's: its schema, its rows and its length are reported, and it's only a device or
     // memory that can fail.
     ensures file { (bytes : List ℕ) (layout : Layout) (schema : Schema) (rows : List (List Value))
-        → S.to_come table.old ≡ Some bytes → IsFileText bytes layout schema rows
+        → S.to_come table.old ≡ Some bytes → IsFileBytes bytes layout schema rows
         → OnOk result (TellsFile bytes layout schema rows (K.taken sink.old) (K.taken sink.new)) }
     ensures accepted { (bytes : List ℕ) (layout : Layout) (schema : Schema) (rows : List (List Value))
-        → S.to_come table.old ≡ Some bytes → IsFileText bytes layout schema rows
+        → S.to_come table.old ≡ Some bytes → IsFileBytes bytes layout schema rows
         → IfErr result (λ fault. IsTrue (is_no_verdict fault)) }
     ensures table { EndsWith (nowhere READ_FAILED) (S.failures table.old) (S.failures table.new) result }
     ensures sink { LeavesSink (K.taken sink.old) (K.taken sink.new) (K.failures sink.old) (K.failures sink.new) result }
 {
-    a_file_text_is_read_whole();
+    a_file_is_read_whole();
     let reader = TableReader::begin(alloc, table)?;
     let text = info_text(alloc, &reader)?;
     write_whole(sink, &text)
@@ -56,7 +56,7 @@ pub fn info<S: Source, K: Sink>(alloc: Global, table: &mut S, sink: &mut K) -> R
 pub fn tables_have_their_size()
     ensures size { (version : ℕ) (layout : Layout) (schema : Schema) (rows : List (List Value))
         → AreRows schema.columns.items rows
-        → length (text_of_version version layout schema.name schema.columns.items rows)
+        → length (bytes_of_version version layout schema.name schema.columns.items rows)
         ≡ file_size version layout schema (length rows) }
     ensures segments { (rows : List (List Value)) → length (groups_of rows) ≡ segment_count (length rows) }
 {}

@@ -10,8 +10,8 @@ pub mod LowLemmas
 pub mod PackedLemmas
 pub mod PickedCodes
 pub mod PickedLemmas
-pub mod ShapeLemmas
+pub mod PlacementLemmas
 pub mod SoundLemmas
 pub mod SpanLemmas
-pub mod TextLemmas
+pub mod BytesLemmas
 pub mod ValueLemmas

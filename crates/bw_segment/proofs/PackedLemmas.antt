@@ -8,23 +8,23 @@ use Rattle.bw_model.specs.Code.{width_at, slices_at, span_at, has_bit}
 use Rattle.bw_model.specs.Groups.{group_size}
 use Rattle.bw_model.specs.Row.{Value, value_in, values_of}
 use Rattle.bw_model.specs.Stored.{byte_of}
-use Rattle.bw_segment.specs.declared.shape.Shape.{Shape}
+use Rattle.bw_segment.specs.declared.placement.Placement.{Placement}
 use Rattle.bw_segment.specs.BlockFault.{IsSound}
 use Rattle.bw_segment.specs.Meaning.{Meaning, IsGroup, byte_lanes, code_lanes, null_lanes, meaning_of}
 use Rattle.bw_segment.specs.Packed.{IsPacked}
-use Rattle.bw_segment.specs.Packing.{Packing, IsPacking, bytes_before, block_at, block_codes, block_nulls, block_size, meaning_spelled, null_size, rows_spelled, segment_text, value_held}
+use Rattle.bw_segment.specs.Packing.{Packing, IsPacking, bytes_before, block_at, block_codes, block_nulls, block_size, meaning_spelled, null_size, rows_spelled, segment_bytes, value_held}
 use Rattle.bw_segment.proofs.LaneLemmas.{bits_of_nulls, bytes_in_lanes}
 use Rattle.bw_segment.proofs.LayoutLemmas.{before_in_order, piece_within}
 use Rattle.bw_segment.proofs.SoundLemmas.{length-rows_spelled, length-cut, nulls_again, codes_again}
-use Rattle.bw_segment.proofs.TextLemmas.{small_codes, null_of_row, code_of_row, row_admitted, text_is_sound, rows_of_text}
+use Rattle.bw_segment.proofs.BytesLemmas.{small_codes, null_of_row, code_of_row, row_admitted, text_is_sound, rows_of_bytes}
 use Rattle.bw_segment.proofs.ValueLemmas.{held_admitted, stored_within}
 
-module _ {packing : Packing} {shape : Shape} {count : ℕ} {bytes : List ℕ} (packed : IsPacked packing shape count bytes) where
+module _ {packing : Packing} {placement : Placement} {count : ℕ} {bytes : List ℕ} (packed : IsPacked packing placement count bytes) where
   abbrev columns : List Column
-  columns = shape.schema.columns.items
+  columns = placement.schema.columns.items
 
   abbrev meaning : Meaning
-  meaning = meaning_spelled packing shape.schema count bytes
+  meaning = meaning_spelled packing placement.schema count bytes
 
   abbrev block : ℕ → List ℕ
   block col = block_at packing columns col bytes
@@ -98,17 +98,17 @@ module _ {packing : Packing} {shape : Shape} {count : ℕ} {bytes : List ℕ} (p
         ∙ held_admitted columns (get_or meaning.rows row []) col (row_admitted packing packed.law meaning packed.group row lt) there
 
 -- what is built of rows
-module _ (packing : Packing) (law : IsPacking packing) (given kept : Shape) (rows : List Row) (bytes : List ℕ) (group : IsGroup (meaning_of given.schema rows)) (is_kept : kept ≡ given)
-    (text : bytes ≡ segment_text packing given.schema.columns.items (map values_of rows)) where
+module _ (packing : Packing) (law : IsPacking packing) (given kept : Placement) (rows : List Row) (bytes : List ℕ) (group : IsGroup (meaning_of given.schema rows)) (is_kept : kept ≡ given)
+    (text : bytes ≡ segment_bytes packing given.schema.columns.items (map values_of rows)) where
   pub built_sound : IsSound packing kept.schema.columns.items (length rows) bytes
   built_sound =
       let these = text_is_sound packing law (meaning_of given.schema rows) group in
-      subst (λ (shape : Shape). IsSound packing shape.schema.columns.items (length rows) bytes) (sym is_kept)
+      subst (λ (placement : Placement). IsSound packing placement.schema.columns.items (length rows) bytes) (sym is_kept)
       (subst (λ n. IsSound packing given.schema.columns.items n bytes) (length-map rows values_of) (subst (λ (l : List ℕ). IsSound packing given.schema.columns.items (length (map values_of rows)) l) (sym text) these))
 
   pub built_means : meaning_spelled packing kept.schema (length rows) bytes ≡ meaning_of given.schema rows
   built_means =
       let spelled : rows_spelled packing given.schema.columns.items (length rows) bytes ≡ map values_of rows =
-      ap₂ (rows_spelled packing given.schema.columns.items) (sym (length-map rows values_of)) text ∙ rows_of_text packing law (meaning_of given.schema rows) group in
-      ap (λ (shape : Shape). meaning_spelled packing shape.schema (length rows) bytes) is_kept
+      ap₂ (rows_spelled packing given.schema.columns.items) (sym (length-map rows values_of)) text ∙ rows_of_bytes packing law (meaning_of given.schema rows) group in
+      ap (λ (placement : Placement). meaning_spelled packing placement.schema (length rows) bytes) is_kept
       ∙ ap (λ (found : List (List Value)). (let m : Meaning = record { name = given.schema.name; columns = given.schema.columns.items; rows = found } in m)) spelled

@@ -16,13 +16,13 @@ use Rattle.bw_model.specs.Groups.{group_size}
 use Rattle.bw_model.specs.Stored.{stored_at}
 use Rattle.bw_model.specs.Truth.{is_null}
 use Rattle.bw_model.specs.Variable.{is_nullable}
-use Rattle.bw_segment.specs.Packing.{Packing, IsPacking, null_bits, null_size, block_size, bytes_before, block_text, segment_text, block_at, block_nulls, block_codes, value_held, value_in_block, rows_spelled}
+use Rattle.bw_segment.specs.Packing.{Packing, IsPacking, null_bits, null_size, block_size, bytes_before, block_bytes, segment_bytes, block_at, block_nulls, block_codes, value_held, value_in_block, rows_spelled}
 use Rattle.bw_segment.specs.BlockFault.{padding_fault, block_fault, IsSound}
 use Rattle.bw_segment.specs.Meaning.{IsGroup, stored_codes}
 use Rattle.bw_segment.proofs.FaultLemmas.{padding_none, row_none, lanes_none_at, of_rows}
 use Rattle.bw_segment.proofs.ValueLemmas.{admits_at, is_null_held, stored_held, held_is_admitted, admitted_by_column}
 use Rattle.bw_segment.proofs.LayoutLemmas.{before_in_order, cuts_are_all}
-use Rattle.bw_segment.proofs.TextLemmas.{get_or-same, padded_is}
+use Rattle.bw_segment.proofs.BytesLemmas.{get_or-same, padded_is}
 
 -- what a test says of each item
 all_in_range : {A : Type 0} (test : A → Bool) (item : ℕ → A) (a k : ℕ) → ((at : ℕ) → a ≤ at → at < a + k → test (item at) ≡ true) → list_all test (map item (range_with_len a k)) ≡ true
@@ -131,10 +131,10 @@ module _ (packing : Packing) (law : IsPacking packing) (columns : List Column) (
       (λ row from to. (padding_none (null col row) (code col row) ((lanes col there).0 row from to)).1)
 
   module _ (small : All (λ byte. byte < 2 ^ 8) bytes) where
-    block_again : (col : ℕ) → col < length columns → block_text packing columns col (rows_spelled packing columns count bytes) ≡ block col
-    unfolding block_text block_nulls block_codes
+    block_again : (col : ℕ) → col < length columns → block_bytes packing columns col (rows_spelled packing columns count bytes) ≡ block col
+    unfolding block_bytes block_nulls block_codes
     block_again col there =
-        ap₂ (λ nulls codes. cond (is_nullable columns col) (bytes_of_lanes nulls) [] ++ packing.text (width_at columns col) codes) (nulls_again col there) (codes_again col there)
+        ap₂ (λ nulls codes. cond (is_nullable columns col) (bytes_of_lanes nulls) [] ++ packing.bytes (width_at columns col) codes) (nulls_again col there) (codes_again col there)
         ∙ ap₂ ◌++◌ front back ∙ take-append-drop (null_size columns col) (block col)
       where
         below : All (λ byte. byte < 2 ^ 8) (block col)
@@ -149,11 +149,11 @@ module _ (packing : Packing) (law : IsPacking packing) (columns : List Column) (
                 bytes_of_lanes_of_bytes (take 64 (block col)) (omega (arith, length-take 64 (block col), length-cut col there, one)) (each_below (take 64 (block col)) (All-take (λ byte. byte < 2 ^ 8) 64 (block col) below))
             go false never = refl
 
-        back : packing.text (width_at columns col) (block_codes packing columns col (block col)) ≡ drop (null_size columns col) (block col)
+        back : packing.bytes (width_at columns col) (block_codes packing columns col (block col)) ≡ drop (null_size columns col) (block col)
         back = law.codes_spelled (width_at columns col) (drop (null_size columns col) (block col)) (length-codes col there) (All-drop (λ byte. byte < 2 ^ 8) (null_size columns col) (block col) below)
 
-    pub text_again : segment_text packing columns (rows_spelled packing columns count bytes) ≡ bytes
-    unfolding segment_text
-    text_again =
-        same_in_range (λ col. block_text packing columns col (rows_spelled packing columns count bytes)) block 0 (length columns) (λ col from to. block_again col (omega (arith, to)))
+    pub bytes_again : segment_bytes packing columns (rows_spelled packing columns count bytes) ≡ bytes
+    unfolding segment_bytes
+    bytes_again =
+        same_in_range (λ col. block_bytes packing columns col (rows_spelled packing columns count bytes)) block 0 (length columns) (λ col from to. block_again col (omega (arith, to)))
         ∙ cuts_are_all packing columns bytes sound.size

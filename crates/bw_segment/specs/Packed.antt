@@ -3,19 +3,19 @@ use Rattle.std.specs.Prelude.{◌≡◌, ℕ, ◌+◌, List, length, map}
 use Rattle.std.specs.List.{range_with_len}
 use Rattle.bw_segment.specs.BlockFault.{IsSound}
 use Rattle.bw_segment.specs.Meaning.{IsGroup}
-use Rattle.bw_segment.specs.Packing.{Packing, IsPacking, bytes_before, meaning_spelled, rows_spelled, segment_text}
-use Rattle.bw_segment.specs.declared.shape.Shape.{Shape}
+use Rattle.bw_segment.specs.Packing.{Packing, IsPacking, bytes_before, meaning_spelled, rows_spelled, segment_bytes}
+use Rattle.bw_segment.specs.declared.placement.Placement.{Placement}
 
 -- Each column's block, and after them the end, stands where the blocks of this packing have it.
-pub record IsPlaced (packing : Packing) (shape : Shape) : Type 0 where
-  pub starts : shape.starts.items ≡ map (bytes_before packing shape.schema.columns.items)
-      (range_with_len 0 (length shape.schema.columns.items + 1))
+pub record IsPlaced (packing : Packing) (placement : Placement) : Type 0 where
+  pub starts : placement.starts.items ≡ map (bytes_before packing placement.schema.columns.items)
+      (range_with_len 0 (length placement.schema.columns.items + 1))
 
--- The bytes keep so many rows of a group: their blocks are without fault, and stand where the shape has them.
-pub record IsPacked (packing : Packing) (shape : Shape) (count : ℕ) (bytes : List ℕ) : Type 0 where
+-- The bytes keep so many rows of a group: their blocks are without fault, and stand where the placement has them.
+pub record IsPacked (packing : Packing) (placement : Placement) (count : ℕ) (bytes : List ℕ) : Type 0 where
   pub law : IsPacking packing
-  pub placed : IsPlaced packing shape
-  pub sound : IsSound packing shape.schema.columns.items count bytes
-  pub group : IsGroup (meaning_spelled packing shape.schema count bytes)
-  pub text : bytes ≡ segment_text packing shape.schema.columns.items
-      (rows_spelled packing shape.schema.columns.items count bytes)
+  pub placed : IsPlaced packing placement
+  pub sound : IsSound packing placement.schema.columns.items count bytes
+  pub group : IsGroup (meaning_spelled packing placement.schema count bytes)
+  pub text : bytes ≡ segment_bytes packing placement.schema.columns.items
+      (rows_spelled packing placement.schema.columns.items count bytes)

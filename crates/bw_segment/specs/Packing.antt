@@ -16,19 +16,19 @@ use Rattle.bw_segment.specs.Meaning.{Meaning, stored_codes}
 -- codes, and the codes that such bytes spell.
 pub record Packing : Type 0 where
   pub size : ℕ → ℕ
-  pub text : ℕ → List ℕ → List ℕ
+  pub bytes : ℕ → List ℕ → List ℕ
   pub codes : ℕ → List ℕ → List ℕ
 
 -- The bytes of codes spell these, and codes that are spelled have these bytes.
 pub record IsPacking (packing : Packing) : Type 0 where
-  pub text_length : (width : ℕ) (codes : List ℕ) → length codes ≡ group_size → length (packing.text width codes)
+  pub bytes_length : (width : ℕ) (codes : List ℕ) → length codes ≡ group_size → length (packing.bytes width codes)
       ≡ packing.size width
   pub codes_length : (width : ℕ) (bytes : List ℕ) → length bytes ≡ packing.size width → length (packing.codes width bytes)
       ≡ group_size
   pub text_spells : (width : ℕ) (codes : List ℕ) → length codes ≡ group_size → All (λ code. code < 2 ^ width) codes
-      → packing.codes width (packing.text width codes) ≡ codes
+      → packing.codes width (packing.bytes width codes) ≡ codes
   pub codes_spelled : (width : ℕ) (bytes : List ℕ) → length bytes ≡ packing.size width → All (λ byte. byte < 2 ^ 8) bytes
-      → packing.text width (packing.codes width bytes) ≡ bytes
+      → packing.bytes width (packing.codes width bytes) ≡ bytes
 
 -- in each of the 512 lanes whether the row there is null in a column; past the last row none is
 unfoldable pub null_bits : List (List Value) → ℕ → List Bool
@@ -51,14 +51,14 @@ abbrev pub segment_size : Packing → List Column → ℕ
 segment_size packing columns = bytes_before packing columns (length columns)
 
 -- the block of a column of some rows, at most 512
-unfoldable pub block_text : Packing → List Column → ℕ → List (List Value) → List ℕ
-block_text packing columns column rows =
+unfoldable pub block_bytes : Packing → List Column → ℕ → List (List Value) → List ℕ
+block_bytes packing columns column rows =
     (if is_nullable columns column then bytes_of_lanes (null_bits rows column) else [])
-    ++ packing.text (width_at columns column) (stored_codes columns rows column)
+    ++ packing.bytes (width_at columns column) (stored_codes columns rows column)
 
 -- the bytes of some rows, at most 512: the blocks of the columns, in order
-unfoldable pub segment_text : Packing → List Column → List (List Value) → List ℕ
-segment_text packing columns rows = flat_map (λ column. block_text packing columns column rows)
+unfoldable pub segment_bytes : Packing → List Column → List (List Value) → List ℕ
+segment_bytes packing columns rows = flat_map (λ column. block_bytes packing columns column rows)
     (range_with_len 0 (length columns))
 
 -- the block of a column among the bytes of a segment

@@ -6,11 +6,11 @@ ghost use Rattle.bw_model.specs.Groups.{group_size};
 ghost use Rattle.bw_segment.specs.BlockFault.{lanes_fault, TellsCodes};
 ghost use Rattle.bw_segment.specs.Packing.{null_size, block_nulls};
 
-use crate::shape::Shape;
+use crate::placement::Placement;
 use bw_lanes::{LANES, Plane, and, bytes_bit, is_zero, lane, load, mask, not, or, to_bytes};
 use bw_model::{Fault, code};
 
-impl Shape {
+impl Placement {
     ghost use Rattle.std.specs.Prelude.{◌++◌, if◌then◌else◌, [], OnOk, OnErr, IsOkUnless};
     ghost use Rattle.bw_lanes.specs.Lanes.{bytes_of_lanes};
     ghost use Rattle.bw_model.specs.Fault.{no_memory};

@@ -6,27 +6,27 @@ ghost use Rattle.bw_segment.specs.BlockFault.{block_fault, lanes_fault, TellsCod
 ghost use Rattle.bw_segment.specs.Packing.{block_size};
 
 use crate::block::fault_of_lanes;
-use crate::layout::Layout;
+use crate::layout::CodeLayout;
 use crate::packed::PackedSegment;
-use crate::shape::Shape;
+use crate::placement::Placement;
 use bw_lanes::{LANES, Plane, is_zero};
 
-impl<L: Layout> PackedSegment<L> {
+impl<L: CodeLayout> PackedSegment<L> {
     /// The first fault of a column's block of a segment of so many rows, by its number: 308 where a bit of a
     /// padding row is 1, else that of the first row which is null with a code that isn't 0 (307) or has a code
     /// above the column's greatest (306). A code is what the layout reads of all bits of the bytes that keep it.
-    pub fn judge(shape: &Shape, col: usize, rows: u32, block: &[u8]) -> Option<u16>
-        requires column { col < length shape.now.schema.columns.items }
+    pub fn judge(placement: &Placement, col: usize, rows: u32, block: &[u8]) -> Option<u16>
+        requires column { col < length placement.now.schema.columns.items }
         requires rows { rows ≤ group_size }
         requires size { length block.now
-            ≡ block_size L.packing shape.now.schema.columns.items col }
+            ≡ block_size L.packing placement.now.schema.columns.items col }
         ensures { result
-            ≡ block_fault L.packing shape.now.schema.columns.items col rows block.now }
+            ≡ block_fault L.packing placement.now.schema.columns.items col rows block.now }
     {
-        let nulls = shape.nulls_in(col, block);
-        let codes = shape.codes_in(col, block);
-        let width = shape.width(col);
-        let span = shape.span(col);
+        let nulls = placement.nulls_in(col, block);
+        let codes = placement.codes_in(col, block);
+        let width = placement.width(col);
+        let span = placement.span(col);
         if rows as usize == LANES && are_good::<L>(&nulls, width, codes, span) {
             return None;
         }
@@ -38,7 +38,7 @@ impl<L: Layout> PackedSegment<L> {
 
 /// Whether each of 512 rows is without fault: no code is above the greatest, and none of a null row isn't 0.
 #[inline(always)]
-fn are_good<L: Layout>(nulls: &Plane, width: u32, codes: &[u8], span: u64) -> bool
+fn are_good<L: CodeLayout>(nulls: &Plane, width: u32, codes: &[u8], span: u64) -> bool
     requires width { (1 ≤ width) × (width ≤ 63) }
     requires size { length codes.now ≡ L.packing.size width }
     requires span { span < 2 ^ width }
@@ -49,7 +49,7 @@ fn are_good<L: Layout>(nulls: &Plane, width: u32, codes: &[u8], span: u64) -> bo
 }
 
 /// The lanes whose code isn't 0, where there are padding or null ones in which that is asked.
-fn used<L: Layout>(rows: u32, nulls: &Plane, width: u32, codes: &[u8]) -> Plane
+fn used<L: CodeLayout>(rows: u32, nulls: &Plane, width: u32, codes: &[u8]) -> Plane
     requires width { (1 ≤ width) × (width ≤ 63) }
     requires size { length codes.now ≡ L.packing.size width }
     ensures { TellsCodes rows (lanes_of_words nulls.now) (L.packing.codes width codes.now)

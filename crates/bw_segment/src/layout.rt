@@ -13,7 +13,7 @@ use bw_model::Fault;
 
 /// How the codes of 512 lanes are kept as bytes. Each method but `size` and `push_codes` is given the bytes of such codes, of
 /// so many binary digits each, 1 to 63, and answers from the codes that these spell alone. Lane i is row i's.
-pub trait Layout {
+pub trait CodeLayout {
     ghost packing: { Packing };
 
     /// How many bytes the codes take.
@@ -26,7 +26,7 @@ pub trait Layout {
     fn push_codes(bytes: &mut Vec<u8>, width: u32, codes: &[u64; LANES]) -> Result<(), Fault>
         requires { (1 ≤ width) × (width ≤ 63) }
         ensures added { OnOk result (bytes.new.items
-            ≡ bytes.old.items ++ packing.text width codes.now) }
+            ≡ bytes.old.items ++ packing.bytes width codes.now) }
         ensures only_memory { IsOkUnless result no_memory };
 
     /// The lanes whose code isn't 0.

@@ -5,7 +5,7 @@
 //! `plane(v)` is row i's bit of the variable v, and 0 past the last row. `codes` and [`values_in_lanes`] give a column in all
 //! 512 lanes at once.
 //!
-//! A [`PackedSegment`] is kept as the bytes of its blocks, in a [`Layout`], which says how the codes of one column are kept:
+//! A [`PackedSegment`] is kept as the bytes of its blocks, in a [`CodeLayout`], which says how the codes of one column are kept:
 //! bit planes, after BitWeaving's vertical layout (Li and Patel), in `bw_planes`, and byte slices, after ByteSlice (Feng, Lo,
 //! Kao and Xu), in `bw_slices`. Segments as bytes, and the first fault of such bytes, are said once for any layout in
 //! `specs/Packing.antt` and `specs/BlockFault.antt`. What variables, codes and lanes are stands in the `specs/` of `bw_model`.
@@ -32,8 +32,8 @@ mod layout;
 mod packed;
 mod packing;
 mod place;
+mod placement;
 mod segment;
-mod shape;
 mod values;
 
 pub use block::fault_of_lanes;
@@ -41,9 +41,9 @@ pub use codes::{bytes_of, push_byte, put_byte, slices_of};
 pub use columns::{ColumnCodes, clear_rows, columns_of, keep_row, no_rows};
 pub use group::is_group;
 pub use lanes::lanes_hold_codes;
-pub use layout::Layout;
+pub use layout::CodeLayout;
 pub use packed::PackedSegment;
-pub use packing::{blocks_are_added, sound_bytes_spell_a_group, text_of_a_group_is_sound};
+pub use packing::{blocks_are_added, bytes_of_a_group_are_sound, sound_bytes_spell_a_group};
+pub use placement::Placement;
 pub use segment::Segment;
-pub use shape::Shape;
 pub use values::values_in_lanes;

@@ -3,12 +3,12 @@ ghost use Rattle.std.specs.Prelude.{◌≡◌, ◌≤◌, length};
 ghost use Rattle.bw_device.specs.Shared.{bytes_in};
 ghost use Rattle.bw_model.specs.Groups.{group_size};
 ghost use Rattle.bw_segment.specs.BlockFault.{IsSound};
-ghost use Rattle.bw_segment.specs.Packing.{block_size, meaning_spelled, segment_size, segment_text};
+ghost use Rattle.bw_segment.specs.Packing.{block_size, meaning_spelled, segment_size, segment_bytes};
 ghost use Rattle.bw_segment.specs.Packed.{IsPacked, IsPlaced};
 
-use crate::layout::Layout;
+use crate::layout::CodeLayout;
+use crate::placement::Placement;
 use crate::segment::Segment;
-use crate::shape::Shape;
 use bw_device::SharedBytes;
 use bw_lanes::{LANES, Plane, lane};
 use bw_model::{Schema, Value};
@@ -18,20 +18,20 @@ use std::rc::Rc;
 /// A segment kept as bytes: for each column one block, of its null plane, if it is nullable, in 64 bytes, of which bit
 /// i mod 8, the least first, of byte i / 8 is row i's, and then its codes in a layout. Past the last row there are zeros.
 #[derive(Drop)]
-pub struct PackedSegment<L: Layout> {
-    pub shape: Rc<Shape>,
+pub struct PackedSegment<L: CodeLayout> {
+    pub placement: Rc<Placement>,
     pub rows: u32,
     pub bytes: SharedBytes,
     layout: PhantomData<L>,
-    pub ghost packed: { IsPacked L.packing shape.value rows (bytes_in bytes) },
+    pub ghost packed: { IsPacked L.packing placement.value rows (bytes_in bytes) },
 }
 
-impl<L: Layout> Segment for PackedSegment<L> {
+impl<L: CodeLayout> Segment for PackedSegment<L> {
     ghost meaning = { λ segment.
-        meaning_spelled L.packing segment.shape.value.schema segment.rows (bytes_in segment.bytes) };
+        meaning_spelled L.packing segment.placement.value.schema segment.rows (bytes_in segment.bytes) };
 
     fn schema(&self) -> &Schema {
-        &self.shape.schema
+        &self.placement.schema
     }
 
     fn rows_in(&self) -> u32 {
@@ -46,7 +46,7 @@ impl<L: Layout> Segment for PackedSegment<L> {
 
     #[inline(always)]
     fn nulls(&self, col: usize) -> Plane {
-        self.shape.nulls_in(col, self.block(col))
+        self.placement.nulls_in(col, self.block(col))
     }
 
     #[inline(always)]
@@ -86,30 +86,30 @@ impl<L: Layout> Segment for PackedSegment<L> {
             return None;
         }
         let (width, codes) = self.kept(col);
-        Some(self.shape.schema.value(col, L::code(width, codes, row)))
+        Some(self.placement.schema.value(col, L::code(width, codes, row)))
     }
 
     ghost is_group = { λ segment. segment.packed.group };
 }
 
-impl<L: Layout> PackedSegment<L> {
+impl<L: CodeLayout> PackedSegment<L> {
     ghost use Rattle.std.specs.Prelude.{All, ◌<◌, ◌^◌};
     ghost use Rattle.bw_model.specs.Code.{width_at};
     ghost use Rattle.bw_segment.specs.Meaning.{code_lanes};
     ghost use Rattle.bw_segment.specs.Packing.{block_at};
 
     /// The segment of so many rows whose blocks are these bytes, each without fault.
-    pub fn of_blocks(shape: Rc<Shape>, rows: u32, bytes: SharedBytes) -> Self
-        requires placed { IsPlaced L.packing shape.value }
+    pub fn of_blocks(placement: Rc<Placement>, rows: u32, bytes: SharedBytes) -> Self
+        requires placed { IsPlaced L.packing placement.value }
         requires some { 1 ≤ rows }
         requires few { rows ≤ group_size }
-        requires sound { IsSound L.packing shape.value.schema.columns.items rows (bytes_in bytes) }
+        requires sound { IsSound L.packing placement.value.schema.columns.items rows (bytes_in bytes) }
         ensures means { ⟦<PackedSegment<L> as Segment>⟧.meaning result
-            ≡ meaning_spelled L.packing shape.value.schema rows (bytes_in bytes) }
+            ≡ meaning_spelled L.packing placement.value.schema rows (bytes_in bytes) }
     {
         bytes.are_bytes();
         PackedSegment {
-            shape,
+            placement,
             rows,
             bytes,
             layout: PhantomData,
@@ -117,25 +117,25 @@ impl<L: Layout> PackedSegment<L> {
     }
 
     /// How many bytes a column's block takes.
-    pub fn block_size(shape: &Shape, col: usize) -> usize
-        requires { col < length shape.now.schema.columns.items }
-        ensures size { result ≡ block_size L.packing shape.now.schema.columns.items col }
+    pub fn block_size(placement: &Placement, col: usize) -> usize
+        requires { col < length placement.now.schema.columns.items }
+        ensures size { result ≡ block_size L.packing placement.now.schema.columns.items col }
         ensures bound { result ≤ 4160 }
     {
-        shape.null_size(col) + L::size(shape.width(col))
+        placement.null_size(col) + L::size(placement.width(col))
     }
 
     /// How many bytes a segment takes.
-    pub fn segment_size(shape: &Shape) -> usize
-        requires { IsPlaced L.packing shape.now }
-        ensures { result ≡ segment_size L.packing shape.now.schema.columns.items }
+    pub fn segment_size(placement: &Placement) -> usize
+        requires { IsPlaced L.packing placement.now }
+        ensures { result ≡ segment_size L.packing placement.now.schema.columns.items }
     {
-        shape.start::<L>(shape.schema.columns.len())
+        placement.start::<L>(placement.schema.columns.len())
     }
 
     /// The bytes of the segment: the blocks of its columns, in order.
     pub fn bytes(&self) -> &[u8]
-        ensures { result.now ≡ segment_text L.packing
+        ensures { result.now ≡ segment_bytes L.packing
             (⟦<PackedSegment<L> as Segment>⟧.meaning self.now).columns
             (⟦<PackedSegment<L> as Segment>⟧.meaning self.now).rows }
     {
@@ -145,30 +145,30 @@ impl<L: Layout> PackedSegment<L> {
     /// A column's block.
     #[inline(always)]
     fn block(&self, col: usize) -> &[u8]
-        requires { col < length self.now.shape.value.schema.columns.items }
+        requires { col < length self.now.placement.value.schema.columns.items }
         ensures block { result.now
-            ≡ block_at L.packing self.now.shape.value.schema.columns.items col (bytes_in self.now.bytes) }
+            ≡ block_at L.packing self.now.placement.value.schema.columns.items col (bytes_in self.now.bytes) }
         ensures size { length result.now
-            ≡ block_size L.packing self.now.shape.value.schema.columns.items col }
+            ≡ block_size L.packing self.now.placement.value.schema.columns.items col }
     {
-        let shape: &Shape = &self.shape;
-        &self.bytes.as_slice()[shape.start::<L>(col)..shape.start::<L>(col + 1)]
+        let placement: &Placement = &self.placement;
+        &self.bytes.as_slice()[placement.start::<L>(col)..placement.start::<L>(col + 1)]
     }
 
     /// How many digits a column's codes have, and the bytes that keep them, which end its block.
     #[inline(always)]
     fn kept(&self, col: usize) -> (u32, &[u8])
-        requires { col < length self.now.shape.value.schema.columns.items }
-        ensures width { result.0 ≡ width_at self.now.shape.value.schema.columns.items col }
+        requires { col < length self.now.placement.value.schema.columns.items }
+        ensures width { result.0 ≡ width_at self.now.placement.value.schema.columns.items col }
         ensures bounds { (1 ≤ result.0) × (result.0 ≤ 63) }
         ensures size { length result.1.now ≡ L.packing.size result.0 }
         ensures lanes { L.packing.codes result.0 result.1.now
             ≡ code_lanes (⟦<PackedSegment<L> as Segment>⟧.meaning self.now) col }
         ensures small { All (λ code. code < 2 ^ result.0) (L.packing.codes result.0 result.1.now) }
     {
-        let shape: &Shape = &self.shape;
-        let width = shape.width(col);
-        let end = shape.start::<L>(col + 1);
+        let placement: &Placement = &self.placement;
+        let width = placement.width(col);
+        let end = placement.start::<L>(col + 1);
         (width, &self.bytes.as_slice()[end - L::size(width)..end])
     }
 }

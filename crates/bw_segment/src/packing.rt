@@ -3,7 +3,7 @@ ghost use Rattle.std.specs.Prelude.{◌≡◌, ◌<◌, ◌≤◌, ◌^◌, ◌+
 ghost use Rattle.bw_model.specs.declared.column.Column.{Column};
 ghost use Rattle.bw_model.specs.Groups.{group_size};
 ghost use Rattle.bw_segment.specs.BlockFault.{block_fault, AreSound, IsSound};
-ghost use Rattle.bw_segment.specs.Packing.{Packing, IsPacking, block_size, bytes_before, segment_size, block_at, block_text, segment_text, rows_spelled};
+ghost use Rattle.bw_segment.specs.Packing.{Packing, IsPacking, block_size, bytes_before, segment_size, block_at, block_bytes, segment_bytes, rows_spelled};
 ghost use Rattle.bw_segment.specs.Meaning.{Meaning, IsGroup};
 
 /// A law: bytes whose blocks are without fault are the text of the rows that they spell, which are a group.
@@ -18,27 +18,27 @@ pub fn sound_bytes_spell_a_group()
           columns = columns;
           rows = rows_spelled packing columns count bytes;
         }) }
-    ensures text { (packing : Packing) (columns : List Column) (count : ℕ) (bytes : List ℕ)
+    ensures bytes { (packing : Packing) (columns : List Column) (count : ℕ) (bytes : List ℕ)
         → IsPacking packing → 1 ≤ count → count ≤ group_size
         → IsSound packing columns count bytes → All (λ byte. byte < 2 ^ 8) bytes
-        → segment_text packing columns (rows_spelled packing columns count bytes) ≡ bytes }
+        → segment_bytes packing columns (rows_spelled packing columns count bytes) ≡ bytes }
 {}
 
 /// A law: the text of a group is without fault, consists of the blocks of its columns, and spells its rows.
-pub fn text_of_a_group_is_sound()
+pub fn bytes_of_a_group_are_sound()
     ensures sound { (packing : Packing) (meaning : Meaning) → IsPacking packing → IsGroup meaning
         → IsSound packing meaning.columns (length meaning.rows)
-        (segment_text packing meaning.columns meaning.rows) }
+        (segment_bytes packing meaning.columns meaning.rows) }
     ensures size { (packing : Packing) (meaning : Meaning) → IsPacking packing → IsGroup meaning
-        → length (segment_text packing meaning.columns meaning.rows)
+        → length (segment_bytes packing meaning.columns meaning.rows)
         ≡ segment_size packing meaning.columns }
     ensures block { (packing : Packing) (meaning : Meaning) (col : ℕ) → IsPacking packing
         → IsGroup meaning → col < length meaning.columns
-        → block_at packing meaning.columns col (segment_text packing meaning.columns meaning.rows)
-        ≡ block_text packing meaning.columns col meaning.rows }
+        → block_at packing meaning.columns col (segment_bytes packing meaning.columns meaning.rows)
+        ≡ block_bytes packing meaning.columns col meaning.rows }
     ensures rows { (packing : Packing) (meaning : Meaning) → IsPacking packing → IsGroup meaning
         → rows_spelled packing meaning.columns (length meaning.rows)
-        (segment_text packing meaning.columns meaning.rows) ≡ meaning.rows }
+        (segment_bytes packing meaning.columns meaning.rows) ≡ meaning.rows }
 {}
 
 /// A law: a block without fault after blocks without fault.

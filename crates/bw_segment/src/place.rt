@@ -3,20 +3,20 @@ ghost use Rattle.std.specs.Prelude.{◌≤◌, length};
 ghost use Rattle.bw_segment.specs.Packing.{bytes_before};
 ghost use Rattle.bw_segment.specs.Packed.{IsPlaced};
 
-use crate::layout::Layout;
-use crate::shape::Shape;
+use crate::layout::CodeLayout;
+use crate::placement::Placement;
 use bw_model::{Fault, Schema};
 use std::alloc::Global;
 
-impl Shape {
+impl Placement {
     ghost use Rattle.std.specs.Prelude.{◌≡◌, IfOk, IsOkUnless};
     ghost use Rattle.bw_model.specs.Fault.{no_memory};
 
-    /// The shape of a table whose schema is an equal one, in a layout.
-    pub fn of<L: Layout>(alloc: Global, schema: &Schema) -> Result<Self, Fault>
-        ensures name { IfOk result (λ shape. shape.schema.name ≡ schema.now.name) }
-        ensures columns { IfOk result (λ shape.
-            shape.schema.columns.items ≡ schema.now.columns.items) }
+    /// The placement of a table whose schema is an equal one, in a layout.
+    pub fn of<L: CodeLayout>(alloc: Global, schema: &Schema) -> Result<Self, Fault>
+        ensures name { IfOk result (λ placement. placement.schema.name ≡ schema.now.name) }
+        ensures columns { IfOk result (λ placement.
+            placement.schema.columns.items ≡ schema.now.columns.items) }
         ensures placed { IfOk result (IsPlaced L.packing) }
         ensures only_memory { IsOkUnless result no_memory }
     {
@@ -31,7 +31,7 @@ impl Shape {
             end += 64 * u32::from(copied.columns[col].nullable) + L::size(width) as u32;
         }
         starts.push(end)?;
-        Ok(Shape {
+        Ok(Placement {
             schema: copied,
             starts,
             widths,
@@ -40,7 +40,7 @@ impl Shape {
 
     /// The first byte of a column's block in a segment of a layout. For the number of columns, it is the number of bytes.
     #[inline(always)]
-    pub(crate) fn start<L: Layout>(&self, col: usize) -> usize
+    pub(crate) fn start<L: CodeLayout>(&self, col: usize) -> usize
         requires placed { IsPlaced L.packing self.now }
         requires column { col ≤ length self.now.schema.columns.items }
         ensures { result ≡ bytes_before L.packing self.now.schema.columns.items col }

@@ -5,13 +5,13 @@ use Rattle.bw_model.specs.declared.schema.Schema.{Schema}
 use Rattle.bw_model.specs.Fault.{◌>>=◌}
 use Rattle.bw_csv.specs.Rows.{rows_of}
 use Rattle.bw_file.specs.declared.layout.Layout.{Layout}
-use Rattle.bw_file.specs.FileText.{file_text}
+use Rattle.bw_file.specs.FileBytes.{file_bytes}
 use Rattle.bw_csv.specs.Input.{csv_from}
 use Rattle.bw_shell.specs.Arrived.{IsSchemaFrom}
 
 -- the text of the table file of the rows that a CSV text spells, or the first fault in that text
 abbrev pub file_of : Layout → Schema → List ℕ → Result (List ℕ) Fault
-file_of layout schema csv = rows_of schema.columns.items csv >>= λ rows. Ok (file_text layout schema rows)
+file_of layout schema csv = rows_of schema.columns.items csv >>= λ rows. Ok (file_bytes layout schema rows)
 
 -- the text of the table file, or the first fault in the order of the schema and the CSV
 abbrev pub IsFile : Layout → Result (Option (List ℕ)) Fault → Result (Option (List ℕ)) Fault → Result (List ℕ) Fault

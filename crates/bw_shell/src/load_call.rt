@@ -100,12 +100,12 @@ fn loaded<S: Source, C: Source>(
 {
     let schema = read_schema(alloc, schema_source)?;
     let csv = read_csv(alloc, csv_source)?;
-    file_text(alloc, layout, &schema, &csv)
+    file_bytes(alloc, layout, &schema, &csv)
 }
 
 /// The table file of the rows of a CSV text. Refuses as [`read_rows`] does.
-fn file_text(alloc: Global, layout: Layout, schema: &Schema, csv: &[u8]) -> Result<Vec<u8>, Fault>
-    ensures text { GivesButAside (λ file. file.items) result (file_of layout schema.now csv.now) }
+fn file_bytes(alloc: Global, layout: Layout, schema: &Schema, csv: &[u8]) -> Result<Vec<u8>, Fault>
+    ensures bytes { GivesButAside (λ file. file.items) result (file_of layout schema.now csv.now) }
     ensures fault { IfErr result IsRowsFault }
     ensures reader { IfErr result (λ fault. is_reader_fault fault ≡ true
         → StopsUnder schema.now.columns.items (records_of csv.now) fault) }

@@ -11,7 +11,7 @@ use Rattle.std.proofs.lemmas.Simd.{map-map}
 use Rattle.bw_model.specs.Groups.{group_size}
 use Rattle.bw_model.specs.Stored.{byte_of}
 use Rattle.bw_segment.specs.Packing.{IsPacking}
-use Rattle.bw_slices.specs.Slices.{number_from, slices_text, slices_codes, slice_packing}
+use Rattle.bw_slices.specs.Slices.{number_from, slices_bytes, slices_codes, slice_packing}
 
 -- a number down to a byte, by the bytes before it
 pub next_byte : (n bit : ℕ) → n / 2 ^ bit ≡ 256 * (n / 2 ^ (bit + 8)) + n / 2 ^ bit % 256
@@ -54,31 +54,31 @@ slice_is bytes place le =
     fill_by_all (λ row. bytes_in bytes row place) (take 512 (drop (512 * place) bytes)) 512 0 (omega (arith, length-take 512 (drop (512 * place) bytes), length-drop (512 * place) bytes))
     (λ row lt. get_or-take 512 (drop (512 * place) bytes) row 0 lt ∙ get_or-drop (512 * place) bytes row 0)
 
-length-slices_text : (slices : ℕ) (codes : List ℕ) → length codes ≡ 512 → length (slices_text slices codes) ≡ 512 * slices
-length-slices_text zero codes long = refl
-length-slices_text (suc slices) codes long =
-    omega (arith, length-append (map (byte_of slices) codes) (slices_text slices codes), length-map codes (byte_of slices), length-slices_text slices codes long, long)
+length-slices_bytes : (slices : ℕ) (codes : List ℕ) → length codes ≡ 512 → length (slices_bytes slices codes) ≡ 512 * slices
+length-slices_bytes zero codes long = refl
+length-slices_bytes (suc slices) codes long =
+    omega (arith, length-append (map (byte_of slices) codes) (slices_bytes slices codes), length-map codes (byte_of slices), length-slices_bytes slices codes long, long)
 
 -- a slice of codes
-slice_of_text : (slices k : ℕ) (codes : List ℕ) → length codes ≡ 512 → k < slices → take 512 (drop (512 * k) (slices_text slices codes)) ≡ map (byte_of (slices - suc k)) codes
+slice_of_text : (slices k : ℕ) (codes : List ℕ) → length codes ≡ 512 → k < slices → take 512 (drop (512 * k) (slices_bytes slices codes)) ≡ map (byte_of (slices - suc k)) codes
 slice_of_text zero k codes long lt = absurd (omega arith)
 slice_of_text (suc slices) zero codes long lt =
     let top = map (byte_of slices) codes in
     let size : length top ≡ 512 = length-map codes (byte_of slices) ∙ long in
     let here : slices ≡ suc slices - 1 = omega arith in
-    ap (λ n. take n (top ++ slices_text slices codes)) (sym size) ∙ take-append_seam top (slices_text slices codes) ∙ ap (λ s. map (byte_of s) codes) here
+    ap (λ n. take n (top ++ slices_bytes slices codes)) (sym size) ∙ take-append_seam top (slices_bytes slices codes) ∙ ap (λ s. map (byte_of s) codes) here
 slice_of_text (suc slices) (suc k) codes long lt =
     let top = map (byte_of slices) codes in
     let place : 512 * suc k ≡ length top + 512 * k = omega (arith, length-map codes (byte_of slices), long) in
     let same : slices - suc k ≡ suc slices - suc (suc k) = omega arith in
-    ap (λ n. take 512 (drop n (top ++ slices_text slices codes))) place ∙ ap (take 512) (drop-append-add top (slices_text slices codes) (512 * k))
+    ap (λ n. take 512 (drop n (top ++ slices_bytes slices codes))) place ∙ ap (take 512) (drop-append-add top (slices_bytes slices codes) (512 * k))
     ∙ slice_of_text slices k codes long (omega arith) ∙ ap (λ s. map (byte_of s) codes) same
 
 -- the numbers that the slices of codes spell
-codes_of_text : (slices : ℕ) (codes : List ℕ) → length codes ≡ group_size → ((row : ℕ) → row < 512 → get_or codes row 0 < 2 ^ (8 * slices)) → slices_codes slices (slices_text slices codes) ≡ codes
+codes_of_text : (slices : ℕ) (codes : List ℕ) → length codes ≡ group_size → ((row : ℕ) → row < 512 → get_or codes row 0 < 2 ^ (8 * slices)) → slices_codes slices (slices_bytes slices codes) ≡ codes
 unfolding slices_codes group_size
 codes_of_text slices codes long small =
-    let text = slices_text slices codes in
+    let text = slices_bytes slices codes in
     sym (fill_by_all (λ row. number_from (bytes_in text row) slices) codes 512 0 long
     (λ row lt.
     let code = get_or codes row 0 in
@@ -97,7 +97,7 @@ slice_of_codes slices k bytes long small lt =
     map-map (byte_of (slices - suc k)) (λ row. number_from (bytes_in bytes row) slices) (range_with_len 0 512)
     ∙ (λ i. map (λ row. byte_of_number (bytes_in bytes row) slices k (λ place. small (512 * place + row)) lt i) (range_with_len 0 512)) ∙ sym (slice_is bytes k (omega (arith, long)))
 
-text_of_codes : (slices : ℕ) (bytes : List ℕ) → length bytes ≡ 512 * slices → ((at : ℕ) → get_or bytes at 0 < 256) → (count : ℕ) → count ≤ slices → slices_text count (slices_codes slices bytes) ≡ drop (512 * (slices - count)) bytes
+text_of_codes : (slices : ℕ) (bytes : List ℕ) → length bytes ≡ 512 * slices → ((at : ℕ) → get_or bytes at 0 < 256) → (count : ℕ) → count ≤ slices → slices_bytes count (slices_codes slices bytes) ≡ drop (512 * (slices - count)) bytes
 text_of_codes slices bytes long small zero le = sym (drop_all (512 * (slices - 0)) bytes (omega (arith, long)))
 text_of_codes slices bytes long small (suc count) le =
     let k = slices - suc count in
@@ -119,7 +119,7 @@ length-slices_codes slices bytes = length-map-range_with_len (λ row. number_fro
 pub slices_keep_codes : IsPacking slice_packing
 unfolding group_size
 slices_keep_codes = record {
-  text_length = λ width codes long. length-slices_text ((width + 7) / 8) codes long;
+  bytes_length = λ width codes long. length-slices_bytes ((width + 7) / 8) codes long;
   codes_length = λ width bytes long. length-slices_codes ((width + 7) / 8) bytes;
   text_spells = λ width codes long small.
       codes_of_text ((width + 7) / 8) codes long

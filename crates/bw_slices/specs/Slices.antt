@@ -11,9 +11,9 @@ number_from byte zero = 0
 number_from byte (suc count) = 256 * number_from byte count + byte count
 
 -- so many low slices of codes, from the most significant down
-abbrev pub slices_text : ℕ → List ℕ → List ℕ
-slices_text zero codes = []
-slices_text (suc slices) codes = map (byte_of slices) codes ++ slices_text slices codes
+abbrev pub slices_bytes : ℕ → List ℕ → List ℕ
+slices_bytes zero codes = []
+slices_bytes (suc slices) codes = map (byte_of slices) codes ++ slices_bytes slices codes
 
 -- the numbers that so many slices spell in the 512 lanes, the most significant first
 unfoldable pub slices_codes : ℕ → List ℕ → List ℕ
@@ -24,6 +24,6 @@ slices_codes count bytes = map (λ row. number_from (λ place. slice_index bytes
 abbrev pub slice_packing : Packing
 slice_packing = record {
   size = λ width. 512 * ((width + 7) / 8);
-  text = λ width codes. slices_text ((width + 7) / 8) codes;
+  bytes = λ width codes. slices_bytes ((width + 7) / 8) codes;
   codes = λ width bytes. slices_codes ((width + 7) / 8) bytes;
 }

@@ -6,7 +6,7 @@ ghost use Rattle.bw_slices.specs.Slices.{slices_codes};
 
 use crate::layout::Slices;
 use bw_lanes::Plane;
-use bw_segment::Layout;
+use bw_segment::CodeLayout;
 
 /// The sum of the codes in some lanes.
 #[tactic(auto, using(crate::proofs::CodeLemmas::few_sums))]

@@ -11,7 +11,7 @@ use bw_lanes::{
     LANES, Plane, bytes_bit, bytes_eq, bytes_lt, bytes_none, bytes_of_plane, count, not, sum_in,
 };
 use bw_model::Fault;
-use bw_segment::{Layout, bytes_of, push_byte, put_byte};
+use bw_segment::{CodeLayout, bytes_of, push_byte, put_byte};
 
 /// The most lanes whose codes are added one by one, which takes less time than to add the bytes of all lanes.
 const FEW: u32 = 24;
@@ -20,7 +20,7 @@ const FEW: u32 = 24;
 /// lane i's.
 pub struct Slices;
 
-impl Layout for Slices {
+impl CodeLayout for Slices {
     ghost packing = { slice_packing };
 
     fn size(width: u32) -> usize {

@@ -1,7 +1,7 @@
 //! Segments kept as byte slices, after ByteSlice (Feng, Lo, Kao and Xu): for each column its null plane, if it is
 //! nullable, and then the bytes of its codes by significance, from the most significant down, one a row.
 //!
-//! The contract that the crates above use: [`Slices`] is a [`bw_segment::Layout`], whose bytes spell the codes that
+//! The contract that the crates above use: [`Slices`] is a [`bw_segment::CodeLayout`], whose bytes spell the codes that
 //! `slices_codes` says, and each of its kernels answers from these alone. [`SliceSegment::build`] gives a segment that means the
 //! rows given, and [`SliceSegment::of_blocks`] one of bytes whose blocks [`SliceSegment::judge`] finds without fault; either
 //! answers as [`bw_segment::Segment`] says.

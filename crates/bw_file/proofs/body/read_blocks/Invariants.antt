@@ -8,14 +8,14 @@ use Rattle.bw_file.proofs.body.read_blocks.Given as goal
 -- the blocks so far are in the front of the bytes, without fault, and reading goes on with the others
 abbrev pub invariant-loop-col : goal.invariant-loop-col
 invariant-loop-col g l = record {
-  on : GoesOn (blocks l.layout l.shape.schema.columns.items l.rows 0 (length l.shape.schema.columns.items) [])
+  on : GoesOn (blocks l.layout l.placement.schema.columns.items l.rows 0 (length l.placement.schema.columns.items) [])
       (state (g.S.Source.to_come l.initial.source) l.initial.offset (g.S.Source.failures l.initial.source))
-      (blocks l.layout l.shape.schema.columns.items l.rows l.col (length l.shape.schema.columns.items - l.col) (take l.start (bytes_held l.bytes)))
+      (blocks l.layout l.placement.schema.columns.items l.rows l.col (length l.placement.schema.columns.items - l.col) (take l.start (bytes_held l.bytes)))
       (state (g.S.Source.to_come l.source) l.offset (g.S.Source.failures l.source));
   failures : g.S.Source.failures l.source ≡ g.S.Source.failures l.initial.source;
   room : l.offset ≤ l.initial.offset + 4160 * l.col;
-  start : l.start ≡ bytes_before l.layout l.shape.schema.columns.items l.col;
-  sound : AreSound l.layout l.shape.schema.columns.items l.rows l.col (take l.start (bytes_held l.bytes));
+  start : l.start ≡ bytes_before l.layout l.placement.schema.columns.items l.col;
+  sound : AreSound l.layout l.placement.schema.columns.items l.rows l.col (take l.start (bytes_held l.bytes));
   next : AreNext l.bytes l.start (g.S.Source.kept l.source);
   long : length (bytes_held l.bytes) ≡ length (bytes_held l.initial.bytes);
 }

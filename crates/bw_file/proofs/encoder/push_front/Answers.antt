@@ -1,11 +1,11 @@
 use Rattle.std.proofs.Common.{◌≡◌, ◌++◌, ◌∷◌, []}
 use Rattle.std.specs.Int.{w16, w32, to_le_bytes}
-use Rattle.bw_file.specs.FileText.{front_text, magic, layout_byte}
+use Rattle.bw_file.specs.FileBytes.{front_bytes, magic, layout_byte}
 use Rattle.bw_file.proofs.EncoderLemmas.{front_added}
 use Rattle.bw_file.proofs.encoder.push_front.Goals as goal
 
 pub returns-clause-front : goal.returns-clause-front
-unfolding front_text magic
+unfolding front_bytes magic
 returns-clause-front c =
     let e1 : c.extend_from_slice.new.self.items ≡ c.args.bytes.now.items ++ magic = c.in_ok-extend_from_slice.ensures.items in
     let e2 : c.push.new.self.items ≡ c.extend_from_slice.new.self.items ++ c.args.version ∷ [] = c.in_ok-push.ensures.items in

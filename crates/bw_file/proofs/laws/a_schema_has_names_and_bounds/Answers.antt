@@ -3,7 +3,7 @@ use Rattle.std.proofs.lemmas.List.{take_all}
 use Rattle.std.proofs.lemmas.List.Elements.{All-more, All-map}
 use Rattle.bw_model.specs.declared.column.Column.{Column}
 use Rattle.bw_model.specs.SchemaText.{column_shape}
-use Rattle.bw_file.specs.FileText.{IsColumn}
+use Rattle.bw_file.specs.FileBytes.{IsColumn}
 use Rattle.bw_file.proofs.laws.a_schema_has_names_and_bounds.Goals as goal
 
 abbrev IsOne : Column → Type 0

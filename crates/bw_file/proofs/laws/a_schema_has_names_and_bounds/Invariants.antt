@@ -1,7 +1,7 @@
 use Rattle.std.proofs.Common.{All, take}
 use Rattle.bw_model.specs.declared.column.Column.{Column}
 use Rattle.bw_model.specs.SchemaText.{column_shape}
-use Rattle.bw_file.specs.FileText.{IsColumn}
+use Rattle.bw_file.specs.FileBytes.{IsColumn}
 use Rattle.bw_file.proofs.laws.a_schema_has_names_and_bounds.Given as goal
 
 -- the columns so far are such columns

@@ -4,7 +4,7 @@ use Rattle.bw_model.specs.declared.schema.Schema.{Schema}
 use Rattle.bw_model.specs.Row.{Value, values_of}
 use Rattle.bw_file.specs.AnySegment.{any_meaning, any_is_group}
 use Rattle.bw_file.proofs.FileSpelling.{read_is_spelled_by}
-use Rattle.bw_file.proofs.SpelledFile.{text_read}
+use Rattle.bw_file.proofs.SpelledFile.{bytes_read}
 use Rattle.bw_file.proofs.TableLemmas.{fault_seen, whole_seen, found_same, together-push}
 use Rattle.bw_file.proofs.table.decode.Goals as goal
 
@@ -70,18 +70,18 @@ returns-clause-table c =
     read_is_spelled_by c.args.bytes.now _ c.in_ok-copy.field-0 (λ i. omega (arith, c.type_inv.bytes i)) refl (returns-clause-read c)
 
 pub returns-clause-accepted : goal.returns-clause-accepted
-returns-clause-accepted c = λ layout schema rows file. text_read c.args.bytes.now layout schema rows _ file (returns-clause-read c)
+returns-clause-accepted c = λ layout schema rows file. bytes_read c.args.bytes.now layout schema rows _ file (returns-clause-read c)
 
 pub returns-in_err-segment-clause-accepted : goal.returns-in_err-segment-clause-accepted
 returns-in_err-segment-clause-accepted c =
     let p = err_from_is_err_and c.from_residual-in_err-segment.result c.from_residual-in_err-segment.ensures.1 in
     let came = c.loop-rows.invariant.came in
     rw (p.1, p.2) (λ layout schema rows file kept.
-    text_read c.args.bytes.now layout schema rows _ file (fault_seen c.args.bytes.now _ _ _ _ refl (c.in_err-segment.ensures.refused c.loop-rows.invariant.goes_on _ came.0 came.1) kept))
+    bytes_read c.args.bytes.now layout schema rows _ file (fault_seen c.args.bytes.now _ _ _ _ refl (c.in_err-segment.ensures.refused c.loop-rows.invariant.goes_on _ came.0 came.1) kept))
 
 pub returns-in_err-reader-clause-accepted : goal.returns-in_err-reader-clause-accepted
 returns-in_err-reader-clause-accepted c =
     let p = err_from_is_err_and c.from_residual.result c.from_residual.ensures.1 in
     let refused = c.in_err-reader.ensures.refused in
     rw (p.1, p.2) (λ layout schema rows file kept.
-    text_read c.args.bytes.now layout schema rows _ file (fault_seen c.args.bytes.now _ _ refused.0 _ refl refused.1 kept))
+    bytes_read c.args.bytes.now layout schema rows _ file (fault_seen c.args.bytes.now _ _ refused.0 _ refl refused.1 kept))

@@ -4,7 +4,7 @@ use Rattle.std.proofs.lemmas.Result.{IfOk-weaker}
 use Rattle.bw_model.specs.declared.row.Row.{Row}
 use Rattle.bw_model.specs.declared.schema.Schema.{Schema}
 use Rattle.bw_model.specs.Row.{values_of}
-use Rattle.bw_file.proofs.TableLemmas.{row_admitted, text_of_all}
+use Rattle.bw_file.proofs.TableLemmas.{row_admitted, bytes_of_all}
 use Rattle.bw_file.proofs.table.encode.Goals as goal
 
 pub add-requires-clause-admitted : goal.add-requires-clause-admitted
@@ -24,10 +24,10 @@ loop-row-preserved c =
       columns = ap (λ (schema : Schema). schema.columns.items) c.in_ok-add.ensures.same.1 ∙ c.loop-row.invariant.columns;
     }
 
-pub returns-clause-text : goal.returns-clause-text
-returns-clause-text c =
-    IfOk-weaker c.finish.result _ _ (λ bytes text. text_of_all c.loop-row.encoder c.args.layout c.args.schema.now c.args.rows.now c.loop-row.row-index bytes.items c.loop-row-test.false
-    c.loop-row.invariant.layout c.loop-row.invariant.name c.loop-row.invariant.columns text c.loop-row.invariant.holds) c.finish.ensures.text
+pub returns-clause-bytes : goal.returns-clause-bytes
+returns-clause-bytes c =
+    IfOk-weaker c.finish.result _ _ (λ bytes text. bytes_of_all c.loop-row.encoder c.args.layout c.args.schema.now c.args.rows.now c.loop-row.row-index bytes.items c.loop-row-test.false
+    c.loop-row.invariant.layout c.loop-row.invariant.name c.loop-row.invariant.columns text c.loop-row.invariant.holds) c.finish.ensures.bytes
 
 pub returns-clause-file : goal.returns-clause-file
 returns-clause-file c =
@@ -35,4 +35,4 @@ returns-clause-file c =
       under = c.a_schema_has_names_and_bounds.ensures;
       admitted = c.requires;
       text = inl text;
-    }) (returns-clause-text c)
+    }) (returns-clause-bytes c)

@@ -11,7 +11,7 @@ returns-clause-answered c = λ layout csv bytes sql program old new made file.
     let schema = c.args.schema.now in
     let of = loaded layout schema csv bytes made in
     let text = loaded_text layout schema csv bytes c.a_schema_has_names_and_bounds.ensures of (c.rows_are_admitted.ensures.admitted schema.columns.items csv) (c.rows_are_admitted.ensures.few schema.columns.items csv) in
-    let same = c.a_file_text_is_of_one_table.ensures bytes layout file.layout schema file.schema of.rows file.rows text file.file in
+    let same = c.a_file_is_of_one_table.ensures bytes layout file.layout schema file.schema of.rows file.rows text file.file in
     let shape = sym (ap (λ (found : Found). found.schema) same) in
     let spelled = c.schemas_of_one_shape.ensures.spelled file.schema schema sql (asked file.query) shape file.asked.0 in
     answers _ layout file.layout schema file.schema csv bytes old new file.query of file.rows same (c.schemas_of_one_shape.ensures.columns file.schema schema shape) spelled file.text
@@ -21,7 +21,7 @@ returns-clause-dumped c = λ layout csv bytes old new made file.
     let schema = c.args.schema.now in
     let of = loaded layout schema csv bytes made in
     let text = loaded_text layout schema csv bytes c.a_schema_has_names_and_bounds.ensures of (c.rows_are_admitted.ensures.admitted schema.columns.items csv) (c.rows_are_admitted.ensures.few schema.columns.items csv) in
-    let same = c.a_file_text_is_of_one_table.ensures bytes layout file.layout schema file.schema of.rows file.rows text file.file in
+    let same = c.a_file_is_of_one_table.ensures bytes layout file.layout schema file.schema of.rows file.rows text file.file in
     let shape = sym (ap (λ (found : Found). found.schema) same) in
     let columns = c.schemas_of_one_shape.ensures.columns file.schema schema shape in
     let every : IsEveryRow schema file.query = record { columns = rw columns at file.asked.columns; rows = file.asked.rows } in

@@ -21,7 +21,7 @@ returns-in_err-prepared-clause-accepted g c =
     let p = err_from_is_err_and c.from_residual.result c.from_residual.ensures.1 in
     let accepted = rw c.schema.ensures at c.in_err-prepared.ensures.accepted in
     rw (p.1, p.2) (λ start bytes layout schema rows query began known file asks.
-    let gave = c.a_file_text_is_read_whole.ensures.groups bytes layout schema rows file _ _ c.args.reader.now [] known began.so_far in
+    let gave = c.a_file_is_read_whole.ensures.groups bytes layout schema rows file _ _ c.args.reader.now [] known began.so_far in
     memory_verdict c.in_err-prepared.field-0.0 (accepted schema query gave.schema asks))
 
 pub returns-clause-answer : goal.returns-clause-answer
@@ -32,7 +32,7 @@ returns-clause-answer g c = λ start began.
 
 pub returns-clause-accepted : goal.returns-clause-accepted
 returns-clause-accepted g c = λ start bytes layout schema rows query began known file asks.
-    input_verdict c.in-Err.fault (c.a_file_text_is_read_whole.ensures.faults bytes layout schema rows file _ _ _ _ known (c.in-Err.ensures.refused start began.so_far))
+    input_verdict c.in-Err.fault (c.a_file_is_read_whole.ensures.faults bytes layout schema rows file _ _ _ _ known (c.in-Err.ensures.refused start began.so_far))
 
 pub returns-clause-failed : goal.returns-clause-failed
 returns-clause-failed g c = λ start began. let answers = (c.in-Err.ensures.refused start began.so_far).failures in search rules

@@ -15,7 +15,7 @@ returns-in_err-reader-clause-accepted g c =
     let p = err_from_is_err_and c.from_residual.result c.from_residual.ensures.1 in
     let refused = c.in_err-reader.ensures.refused in
     rw (p.1, p.2) (λ bytes layout schema rows known file.
-    input_verdict c.in_err-reader.field-0.0 (c.a_file_text_is_read_whole.ensures.faults bytes layout schema rows file _ _ _ _ known refused.1))
+    input_verdict c.in_err-reader.field-0.0 (c.a_file_is_read_whole.ensures.faults bytes layout schema rows file _ _ _ _ known refused.1))
 
 pub returns-in_err-reader-clause-fault : goal.returns-in_err-reader-clause-fault
 returns-in_err-reader-clause-fault g c =

@@ -33,7 +33,7 @@ returns-clause-answer g c = λ start began.
 
 pub returns-clause-accepted : goal.returns-clause-accepted
 returns-clause-accepted g c = λ start bytes layout schema rows began known file.
-    input_verdict c.in-Err.fault (c.a_file_text_is_read_whole.ensures.faults bytes layout schema rows file _ _ _ _ known (c.in-Err.ensures.refused start began.so_far))
+    input_verdict c.in-Err.fault (c.a_file_is_read_whole.ensures.faults bytes layout schema rows file _ _ _ _ known (c.in-Err.ensures.refused start began.so_far))
 
 pub returns-clause-failed : goal.returns-clause-failed
 returns-clause-failed g c = λ start began. let answers = (c.in-Err.ensures.refused start began.so_far).failures in search rules

@@ -22,7 +22,7 @@ returns-in_err-reader-clause-accepted g c =
     let p = err_from_is_err_and c.from_residual.result c.from_residual.ensures.1 in
     let refused = c.in_err-reader.ensures.refused in
     rw (p.1, p.2) (λ bytes layout schema rows known file.
-    input_verdict c.in_err-reader.field-0.0 (c.a_file_text_is_read_whole.ensures.faults bytes layout schema rows file _ _ _ _ known refused.1))
+    input_verdict c.in_err-reader.field-0.0 (c.a_file_is_read_whole.ensures.faults bytes layout schema rows file _ _ _ _ known refused.1))
 
 pub returns-in_err-text-clause-info : goal.returns-in_err-text-clause-info
 returns-in_err-text-clause-info g c =
@@ -41,6 +41,6 @@ returns-clause-info g c =
 pub returns-clause-file : goal.returns-clause-file
 returns-clause-file g c = λ bytes layout schema rows known file.
     let reader = c.in_ok-reader.reader in
-    let gave = c.a_file_text_is_read_whole.ensures.groups bytes layout schema rows file _ _ reader [] known c.in_ok-reader.ensures.began in
+    let gave = c.a_file_is_read_whole.ensures.groups bytes layout schema rows file _ _ reader [] known c.in_ok-reader.ensures.began in
     let goes = rw c.deref.ensures.value at c.write_whole.ensures in
     told_file reader bytes layout schema rows c.in_ok-text.text.items file gave c.in_ok-text.ensures.text _ _ _ _ c.write_whole.result goes

@@ -13,10 +13,10 @@ untrue false is = cc
 pub returns-then-not-any_used : goal.returns-then-not-any_used
 returns-then-not-any_used g c = λ good.
     let nulls = lanes_of_words c.args.nulls.now in
-    let codes = g.L.Layout.packing.codes c.args.width c.args.codes.now in
+    let codes = g.L.CodeLayout.packing.codes c.args.width c.args.codes.now in
     let test = λ (code : ℕ). not (code == 0) in
     let unused : list_any test (picked nulls codes) ≡ false = elim c.if-is_zero.branch [
       | then-is_zero w ↦ none_used test nulls codes (sym c.is_zero.ensures ∙ w.if-is_zero.true)
       | else-is_zero w ↦ sym w.any_used.ensures ∙ untrue w.any_used.result (sym w.value-is ∙ c.if-not-any_used.true)
     ] in
-    all_good c.args.span nulls codes (g.met.L.Layout.keeps.codes_length c.args.width c.args.codes.now c.requires.size) unused (sym c.any_above.ensures ∙ untrue c.any_above.result good)
+    all_good c.args.span nulls codes (g.met.L.CodeLayout.keeps.codes_length c.args.width c.args.codes.now c.requires.size) unused (sym c.any_above.ensures ∙ untrue c.any_above.result good)

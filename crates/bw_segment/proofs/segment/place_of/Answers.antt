@@ -3,7 +3,7 @@ use Rattle.bw_model.specs.declared.column.Column.{Column}
 use Rattle.bw_model.specs.Code.{width_at}
 use mir.Val.{bool_byte}
 use Rattle.bw_model.specs.Variable.{first_variable, null_variable, is_nullable}
-use Rattle.bw_segment.proofs.ShapeLemmas.{nullable_read, variable_next}
+use Rattle.bw_segment.proofs.PlacementLemmas.{nullable_read, variable_next}
 use Rattle.bw_segment.proofs.segment.place_of.Goals as goal
 
 one_null : (b : Bool) → ◌≡◌ {A = ℕ} (cond b 1 0) (bool_byte b)

@@ -56,13 +56,13 @@ returns-clause-file g c =
     let bytes = c.deref.result.now in
     text_exit _ _ (IsFile layout) _ told.0 csv.0 (file_of layout schema) bytes
     (read_schema layout told.0 (Ok (Some bytes)) schema told.2) told.1 csv.1 (rw c.deref.ensures.value csv.2)
-    c.file_text.ensures.text
+    c.file_bytes.ensures.bytes
 
 pub returns-clause-reader : goal.returns-clause-reader
 returns-clause-reader g c =
     let schema = c.in_ok-schema.schema in
-    IfErr-weaker c.file_text.result _ _ (λ fault stops own. (
+    IfErr-weaker c.file_bytes.result _ _ (λ fault stops own. (
       schema,
       came_of _ schema c.in_ok-schema.ensures.told,
       stopped_of _ schema c.in_ok-csv.csv.items _ _ c.in_ok-csv.ensures.told c.deref.ensures.value (stops own),
-    )) c.file_text.ensures.reader
+    )) c.file_bytes.ensures.reader

@@ -1,12 +1,12 @@
 use Rattle.std.proofs.Common.{sym, ◌∙◌, arith}
-use Rattle.bw_file.proofs.EncoderLemmas.{text_finished, text_held}
+use Rattle.bw_file.proofs.EncoderLemmas.{bytes_finished, bytes_held_by}
 use Rattle.bw_file.proofs.encoder.Encoder.finish.Goals as goal
 use Rattle.bw_file.proofs.encoder.Encoder.finish.Goals.{then-self-gt0+in_ok-flush, else-self-gt0}
 
-pub returns-clause-text : goal.returns-clause-text
-returns-clause-text c = λ rows holds. elim c.if-self-gt0.branch [
+pub returns-clause-bytes : goal.returns-clause-bytes
+returns-clause-bytes c = λ rows holds. elim c.if-self-gt0.branch [
   | then-self-gt0+in_ok-flush w ↦
-      text_finished c.args.self rows _ _ _ (rw w.self-is (w.in_ok-flush.ensures.text rows holds)) (rw w.self-is (w.in_ok-flush.ensures.rows ∙ sym holds.count)) c.set_row_count.ensures
+      bytes_finished c.args.self rows _ _ _ (rw w.self-is (w.in_ok-flush.ensures.bytes rows holds)) (rw w.self-is (w.in_ok-flush.ensures.rows ∙ sym holds.count)) c.set_row_count.ensures
   | else-self-gt0 w ↦
-      text_finished c.args.self rows _ _ _ (rw w.self-is (text_held c.args.self rows (omega (arith, w.if-self-gt0.false)) holds)) (rw w.self-is (sym holds.count)) c.set_row_count.ensures
+      bytes_finished c.args.self rows _ _ _ (rw w.self-is (bytes_held_by c.args.self rows (omega (arith, w.if-self-gt0.false)) holds)) (rw w.self-is (sym holds.count)) c.set_row_count.ensures
 ]

@@ -7,7 +7,7 @@ use Rattle.bw_file.proofs.encoder.Encoder.keep.Goals as goal
 
 pub returns-clause-holds : goal.returns-clause-holds
 returns-clause-holds c = λ rows holds.
-    let columns = c.args.self.now.shape.schema.columns.items in
+    let columns = c.args.self.now.placement.schema.columns.items in
     let row = values_of c.args.row.now in
     let size : length c.keep_row.new.kept ≡ c.args.self.now.kept.len = omega (arith, c.keep_row.auto.kept, c.deref_mut.ensures.len) in
     let given = subst (KeepRows columns holds.group) (sym c.deref_mut.ensures.value) holds.kept in

@@ -25,6 +25,6 @@ returns-in-Err g c =
 pub invariant_of-self-in-Err-clause-own : goal.invariant_of-self-in-Err-clause-own
 invariant_of-self-in-Err-clause-own g c =
     let layout = c.args.self.now.layout in
-    let columns = c.args.self.now.shape.value.schema.columns.items in
+    let columns = c.args.self.now.placement.value.schema.columns.items in
     let own = refused_by (segment layout columns c.min-rows.result) _ _ c.in-Err.fault (segment_own layout columns c.min-rows.result) c.in-Err.ensures.reads in
     λ fault same. let e : c.in-Err.fault ≡ fault = cc same in subst IsTableFault e own

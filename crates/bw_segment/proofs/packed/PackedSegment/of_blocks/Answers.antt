@@ -1,20 +1,20 @@
 use Rattle.std.proofs.Common.{sym}
 use Rattle.bw_device.specs.Shared.{bytes_in}
-use Rattle.bw_segment.proofs.SoundLemmas.{spelled_group, text_again}
+use Rattle.bw_segment.proofs.SoundLemmas.{spelled_group, bytes_again}
 use Rattle.bw_segment.proofs.packed.PackedSegment.of_blocks.Goals as goal
 
 pub invariant_of-result : goal.invariant_of-result
 invariant_of-result g c =
-    let schema = c.args.shape.value.schema in
+    let schema = c.args.placement.value.schema in
     let bytes = bytes_in c.args.bytes in
-    let packing = g.L.Layout.packing in
-    let law = g.met.L.Layout.keeps in
+    let packing = g.L.CodeLayout.packing in
+    let law = g.met.L.CodeLayout.keeps in
     record {
       packed = record {
         law = law;
         placed = c.requires.placed;
         sound = c.requires.sound;
         group = spelled_group packing law schema.columns.items c.args.rows bytes c.requires.few c.requires.sound schema.name c.requires.some;
-        text = sym (text_again packing law schema.columns.items c.args.rows bytes c.requires.few c.requires.sound c.are_bytes.ensures);
+        text = sym (bytes_again packing law schema.columns.items c.args.rows bytes c.requires.few c.requires.sound c.are_bytes.ensures);
       };
     }

@@ -1,5 +1,0 @@
-use Rattle.bw_file.proofs.FileSpelling.{read_is_spelled}
-use Rattle.bw_file.proofs.laws.what_is_read_is_a_file_text.Goals as goal
-
-pub returns : goal.returns
-returns c = read_is_spelled

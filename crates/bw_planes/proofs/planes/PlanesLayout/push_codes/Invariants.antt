@@ -1,7 +1,0 @@
-use Rattle.std.proofs.Common.{◌≡◌, ◌++◌, ◌-◌}
-use Rattle.bw_planes.specs.Planes.{planes_text}
-use Rattle.bw_planes.proofs.planes.PlanesLayout.push_codes.Given as goal
-
--- what is there and what is to come
-abbrev pub invariant-loop-place : goal.invariant-loop-place
-invariant-loop-place l = l.bytes.items ++ planes_text (l.width - l.place) l.codes ≡ l.initial.bytes.items ++ planes_text l.width l.codes

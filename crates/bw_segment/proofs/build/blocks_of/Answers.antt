@@ -1,0 +1,34 @@
+use Rattle.std.proofs.Common.{◌≡◌, ◌∙◌, ap, ap₂, ◌+◌, ◌-◌, ◌<◌, ◌++◌, cond, ℕ, [], flat_map, length, append_assoc, rules, arith}
+use Rattle.std.specs.List.{range_with_len}
+use Rattle.bw_lanes.specs.Lanes.{bytes_of_lanes}
+use Rattle.bw_model.specs.Code.{width_at}
+use Rattle.bw_model.specs.Variable.{is_nullable}
+use Rattle.bw_segment.specs.Packing.{null_bits, block_bytes, segment_bytes}
+use Rattle.bw_segment.specs.Meaning.{stored_codes}
+use Rattle.bw_segment.proofs.LayoutLemmas.{block_more}
+use Rattle.bw_segment.proofs.build.blocks_of.Goals as goal
+
+pub loop-col-init : goal.loop-col-init
+unfolding segment_bytes
+loop-col-init g c = λ rows keep.
+    let columns = c.args.placement.now.schema.columns.items in
+    let blocks = λ (column : ℕ). block_bytes g.L.CodeLayout.packing columns column rows in
+    let all : length columns - 0 ≡ length columns = omega arith in
+    ap₂ (λ l n. l ++ flat_map blocks (range_with_len 0 n)) c.in_ok-bytes.ensures.items all
+
+pub loop-col-preserved : goal.loop-col-preserved
+unfolding block_bytes
+loop-col-preserved g c = λ rows keep.
+    let text = g.L.CodeLayout.packing.bytes in
+    let columns = c.args.placement.now.schema.columns.items in
+    let col = c.loop-col.col in
+    let count : c.len-count.result ≡ length columns = search rules in
+    let there : col < length columns = omega (arith, count) in
+    let blocks = λ (column : ℕ). block_bytes g.L.CodeLayout.packing columns column rows in
+    let nulls = cond (is_nullable columns col) (bytes_of_lanes (null_bits rows col)) [] in
+    let codes = text (width_at columns col) (stored_codes columns rows col) in
+    let first = c.in_ok-push_nulls.ensures.added rows (keep.nulls col there) in
+    let added : c.push_codes.new.bytes.items ≡ c.loop-col.bytes.items ++ blocks col =
+    c.in_ok-push_codes.ensures.added ∙ ap₂ ◌++◌ first (ap₂ text c.width.ensures.width (keep.codes col there)) ∙ append_assoc c.loop-col.bytes.items nulls codes in
+    ap (λ l. l ++ flat_map blocks (range_with_len (col + 1) (length columns - (col + 1)))) added
+    ∙ block_more blocks c.loop-col.bytes.items (length columns) col there ∙ c.loop-col.invariant rows keep

@@ -1,7 +1,0 @@
-use Rattle.std.proofs.Common.{◌≡◌, ◌++◌, ◌-◌}
-use Rattle.bw_slices.specs.Slices.{slices_text}
-use Rattle.bw_slices.proofs.layout.SlicesLayout.push_codes.Given as goal
-
--- what is there and what is to come
-abbrev pub invariant-loop-place : goal.invariant-loop-place
-invariant-loop-place l = l.bytes.items ++ slices_text (l.slices - l.place) l.codes ≡ l.initial.bytes.items ++ slices_text l.slices l.codes
