@@ -3,6 +3,7 @@ pub mod CodeLemmas
 pub mod ColumnLemmas
 pub mod DescentLemmas
 pub mod FaultLemmas
+pub mod FewLemmas
 pub mod LaneLemmas
 pub mod LaneValues
 pub mod LayoutLemmas

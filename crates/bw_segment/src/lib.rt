@@ -25,6 +25,7 @@ mod block;
 mod build;
 mod codes;
 mod columns;
+mod few;
 mod group;
 mod judge;
 mod lanes;

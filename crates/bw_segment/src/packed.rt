@@ -6,6 +6,7 @@ ghost use Rattle.bw_segment.specs.BlockFault.{IsSound};
 ghost use Rattle.bw_segment.specs.Packing.{block_size, meaning_spelled, segment_size, segment_bytes};
 ghost use Rattle.bw_segment.specs.Packed.{IsPacked, IsPlaced};
 
+use crate::few::{greatest_in, least_in};
 use crate::layout::CodeLayout;
 use crate::placement::Placement;
 use crate::segment::Segment;
@@ -68,12 +69,12 @@ impl<L: CodeLayout> Segment for PackedSegment<L> {
 
     fn least_code(&self, col: usize, rows: &Plane) -> Option<u64> {
         let (width, codes) = self.kept(col);
-        L::least(width, codes, rows)
+        least_in::<L>(width, codes, rows)
     }
 
     fn greatest_code(&self, col: usize, rows: &Plane) -> Option<u64> {
         let (width, codes) = self.kept(col);
-        L::greatest(width, codes, rows)
+        greatest_in::<L>(width, codes, rows)
     }
 
     fn codes(&self, col: usize, codes: &mut [u64; LANES]) {

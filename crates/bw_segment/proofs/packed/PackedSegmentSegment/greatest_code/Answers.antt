@@ -7,4 +7,4 @@ use Rattle.bw_segment.proofs.packed.PackedSegmentSegment.greatest_code.Goals as 
 
 pub returns-clause-greatest : goal.returns-clause-greatest
 unfolding codes_in
-returns-clause-greatest g c = c.greatest.ensures.greatest ∙ ap (λ codes. reduce max (picked (lanes_of_words c.args.rows.now) codes)) c.kept-width.ensures.lanes
+returns-clause-greatest g c = c.greatest_in.ensures.greatest ∙ ap (λ codes. reduce max (picked (lanes_of_words c.args.rows.now) codes)) c.kept-width.ensures.lanes

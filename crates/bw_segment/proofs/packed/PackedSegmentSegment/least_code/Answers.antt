@@ -7,4 +7,4 @@ use Rattle.bw_segment.proofs.packed.PackedSegmentSegment.least_code.Goals as goa
 
 pub returns-clause-least : goal.returns-clause-least
 unfolding codes_in
-returns-clause-least g c = c.least.ensures.least ∙ ap (λ codes. reduce min (picked (lanes_of_words c.args.rows.now) codes)) c.kept-width.ensures.lanes
+returns-clause-least g c = c.least_in.ensures.least ∙ ap (λ codes. reduce min (picked (lanes_of_words c.args.rows.now) codes)) c.kept-width.ensures.lanes
