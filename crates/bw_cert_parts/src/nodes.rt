@@ -58,7 +58,7 @@ impl Pair {
 pub(crate) fn null_cited(diagram: &Diagram<'_>, variable: u32, number: u64) -> Option<Pair>
     ensures { result ≡ null_cited diagram.now variable number }
 {
-    let null = u64::from(diagram.row(number)?.b);
+    let null = u64::from(diagram.product(number)?.b);
     Pair::of_both(
         diagram.variable_cited(variable, null),
         diagram.cited(Connective::Diff, 1, null, number),

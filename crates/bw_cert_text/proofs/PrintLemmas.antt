@@ -3,7 +3,7 @@ use Rattle.std.proofs.Common.{◌≡◌, ◌∙◌, refl, sym, ap, ℕ, suc, ◌
 use Rattle.std.proofs.lemmas.List.{append-nil, drop_all}
 use Rattle.std.proofs.Math.Seq.{drop-cons}
 use Rattle.bw_model.specs.declared.column.Column.{Column}
-use Rattle.bw_cert_lines.specs.declared.lines.EdgeRows.{EdgeRows}
+use Rattle.bw_cert_lines.specs.declared.lines.EdgeProducts.{EdgeProducts}
 use Rattle.bw_cert_lines.specs.CertificateFields.{chain_fields, body_fields, certificate_fields, ChainFields}
 use Rattle.bw_cert_lines.specs.CertificateShape.{CertificateShape}
 use Rattle.bw_cert_text.specs.declared.print.Token as declared
@@ -33,7 +33,7 @@ pub behind-end : (xs : List declared.Token) (i : ℕ) → length xs ≤ i → be
 unfolding behind_text
 behind-end xs i le = rw (drop_all i xs le) refl
 
-pub edges-next : (xs : List EdgeRows) (i : ℕ) (d : EdgeRows) → i < length xs →
+pub edges-next : (xs : List EdgeProducts) (i : ℕ) (d : EdgeProducts) → i < length xs →
     behind_text (edge_tokens (drop i xs))
     ≡ behind_text (Number (get_or xs i d).differs ∷ Number (get_or xs i d).within ∷ []) ++ behind_text (edge_tokens (drop (i + 1) xs))
 unfolding behind_text edge_tokens
@@ -43,7 +43,7 @@ edges-next xs i d lt = rw (add-one, drop-cons xs i d lt) (go (token_text (Number
     go a b rest =
         rw (append-nil b) (ap (λ (t : List ℕ). 32 ∷ t) (sym (append_assoc a (32 ∷ b) rest)))
 
-pub edges-end : (xs : List EdgeRows) (i : ℕ) → length xs ≤ i → behind_text (edge_tokens (drop i xs)) ≡ []
+pub edges-end : (xs : List EdgeProducts) (i : ℕ) → length xs ≤ i → behind_text (edge_tokens (drop i xs)) ≡ []
 unfolding behind_text edge_tokens
 edges-end xs i le = rw (drop_all i xs le) refl
 
@@ -84,7 +84,7 @@ text_written t0 t1 t2 t3 t4 t5 a b c d e p0 p1 p2 p3 p4 p5 =
 -- the canonical text, by the lines as a program holds them
 pub shape_text : (columns : List Column) (shape : CertificateShape) → print_text columns (certificate_fields shape)
     ≡ lines_text node_tokens shape.nodes ++ (lines_text (λ chain. chain_tokens (respelled_chain columns (chain_fields chain))) shape.chains
-    ++ (lines_text row_tokens shape.rows ++ (lines_text (λ line. body_tokens (body_fields line)) shape.body ++ line_text (end_tokens shape.end))))
+    ++ (lines_text row_tokens shape.products ++ (lines_text (λ line. body_tokens (body_fields line)) shape.body ++ line_text (end_tokens shape.end))))
 shape_text columns shape =
     rw (
       lines-map chain_tokens (respelled_chain columns) (map chain_fields shape.chains),

@@ -17,9 +17,9 @@ use Rattle.bw_model.specs.Lines.{NumberedWords, begins_comment, cut_lines, numbe
 use Rattle.bw_model.specs.Name.{is_name}
 use Rattle.bw_model.specs.Text.{same_text}
 use Rattle.bw_cert_lines.specs.declared.lines.NodeLine.{NodeLine}
-use Rattle.bw_cert_lines.specs.declared.lines.RowLine.{RowLine}
+use Rattle.bw_cert_lines.specs.declared.lines.ProductLine.{ProductLine}
 use Rattle.bw_cert_lines.specs.declared.lines.EndLine.{EndLine}
-use Rattle.bw_cert_lines.specs.declared.lines.EdgeRows.{EdgeRows}
+use Rattle.bw_cert_lines.specs.declared.lines.EdgeProducts.{EdgeProducts}
 use Rattle.bw_cert_lines.specs.declared.lines.ConditionEntry.{ConditionEntry}
 use Rattle.bw_cert_lines.specs.declared.lines.ConditionEntry.TheVariants.{Compare, CompareColumns, Fixed, NullTest, And, Or, Not, Is, IsUnknown}
 use Rattle.bw_cert_lines.specs.declared.lines.InstructionEntry.{InstructionEntry}
@@ -140,7 +140,7 @@ row_clear a b c op.Xor (Cofactors v i j) h = h
 row_clear a b c op.Diff Shortcut h = h
 row_clear a b c op.Diff (Cofactors v i j) h = h
 
-edges_clear : (edges : List EdgeRows) → list_all is_small (edge_tokens edges) ≡ true → list_all is_clear (edge_tokens edges) ≡ true
+edges_clear : (edges : List EdgeProducts) → list_all is_small (edge_tokens edges) ≡ true → list_all is_clear (edge_tokens edges) ≡ true
 unfolding edge_tokens
 edges_clear [] h = refl
 edges_clear (edge ∷ edges) h =
@@ -289,77 +289,77 @@ end_spelled n end h =
     ap (λ (t : List ℕ). numbered_from n (cut_lines t)) (sym (append-nil (line_text (end_tokens end)))) ∙ said in
     rw whole (at_end (record { line = n; row = end.row }) (refl, tokens_spelled (end_tokens end) h))
 
-row_all : (x : RowLine) → list_all is_small (row_tokens x) ≡ true → list_all is_clear (row_tokens x) ≡ true
+row_all : (x : ProductLine) → list_all is_small (row_tokens x) ≡ true → list_all is_clear (row_tokens x) ≡ true
 row_all x h =
     let first = both (nat_lt x.n (2 ^ 64)) (list_all is_small (Key (connective_spelling x.op) ∷ Number x.a ∷ Number x.b ∷ Number x.c ∷ reason_tokens x.reason)) h in
     rw first.0 (row_clear x.a x.b x.c x.op x.reason first.1)
 
 nodes_behind : (first : ℕ) (xs : List NodeLine) (c : CertificateFields) →
-    behind_section Node node_at first xs c ≡ record { nodes = numbered_on node_at first xs ++ c.nodes; chains = c.chains; rows = c.rows; body = c.body; end = c.end }
+    behind_section Node node_at first xs c ≡ record { nodes = numbered_on node_at first xs ++ c.nodes; chains = c.chains; products = c.products; body = c.body; end = c.end }
 unfolding numbered_on behind_section
 nodes_behind first [] c = refl
 nodes_behind first (x ∷ xs) c = ap (with_part (Node (node_at first x))) (nodes_behind (first + 1) xs c)
 
 chains_behind : (first : ℕ) (xs : List ChainFields) (c : CertificateFields) →
-    behind_section Chain chain_at first xs c ≡ record { nodes = c.nodes; chains = numbered_on chain_at first xs ++ c.chains; rows = c.rows; body = c.body; end = c.end }
+    behind_section Chain chain_at first xs c ≡ record { nodes = c.nodes; chains = numbered_on chain_at first xs ++ c.chains; products = c.products; body = c.body; end = c.end }
 unfolding numbered_on behind_section
 chains_behind first [] c = refl
 chains_behind first (x ∷ xs) c = ap (with_part (Chain (chain_at first x))) (chains_behind (first + 1) xs c)
 
-rows_behind : (first : ℕ) (xs : List RowLine) (c : CertificateFields) →
-    behind_section Row row_at first xs c ≡ record { nodes = c.nodes; chains = c.chains; rows = numbered_on row_at first xs ++ c.rows; body = c.body; end = c.end }
+rows_behind : (first : ℕ) (xs : List ProductLine) (c : CertificateFields) →
+    behind_section Row row_at first xs c ≡ record { nodes = c.nodes; chains = c.chains; products = numbered_on row_at first xs ++ c.products; body = c.body; end = c.end }
 unfolding numbered_on behind_section
 rows_behind first [] c = refl
 rows_behind first (x ∷ xs) c = ap (with_part (Row (row_at first x))) (rows_behind (first + 1) xs c)
 
 body_behind : (first : ℕ) (xs : List BodyFields) (c : CertificateFields) →
-    behind_section Body body_at first xs c ≡ record { nodes = c.nodes; chains = c.chains; rows = c.rows; body = numbered_on body_at first xs ++ c.body; end = c.end }
+    behind_section Body body_at first xs c ≡ record { nodes = c.nodes; chains = c.chains; products = c.products; body = numbered_on body_at first xs ++ c.body; end = c.end }
 unfolding numbered_on behind_section
 body_behind first [] c = refl
 body_behind first (x ∷ xs) c = ap (with_part (Body (body_at first x))) (body_behind (first + 1) xs c)
 
 -- a certificate without its end, put in front of that of which this is the end
-put_together : (nodes : List NodeLine) (chains : List ChainFields) (rows : List RowLine) (body : List BodyFields) (a b r y : ℕ) (end : EndLine) →
+put_together : (nodes : List NodeLine) (chains : List ChainFields) (rows : List ProductLine) (body : List BodyFields) (a b r y : ℕ) (end : EndLine) →
     behind_section Node node_at a nodes (behind_section Chain chain_at b chains (behind_section Row row_at r rows (behind_section Body body_at y body (end_alone end))))
-    ≡ record { nodes = numbered_on node_at a nodes; chains = numbered_on chain_at b chains; rows = numbered_on row_at r rows; body = numbered_on body_at y body; end = end }
+    ≡ record { nodes = numbered_on node_at a nodes; chains = numbered_on chain_at b chains; products = numbered_on row_at r rows; body = numbered_on body_at y body; end = end }
 put_together nodes chains rows body a b r y end =
     rw (
       body_behind y body (end_alone end),
       append-nil (numbered_on body_at y body),
-      rows_behind r rows (record { nodes = []; chains = []; rows = []; body = numbered_on body_at y body; end = end }),
+      rows_behind r rows (record { nodes = []; chains = []; products = []; body = numbered_on body_at y body; end = end }),
       append-nil (numbered_on row_at r rows),
-      chains_behind b chains (record { nodes = []; chains = []; rows = numbered_on row_at r rows; body = numbered_on body_at y body; end = end }),
+      chains_behind b chains (record { nodes = []; chains = []; products = numbered_on row_at r rows; body = numbered_on body_at y body; end = end }),
       append-nil (numbered_on chain_at b chains),
-      nodes_behind a nodes (record { nodes = []; chains = numbered_on chain_at b chains; rows = numbered_on row_at r rows; body = numbered_on body_at y body; end = end }),
+      nodes_behind a nodes (record { nodes = []; chains = numbered_on chain_at b chains; products = numbered_on row_at r rows; body = numbered_on body_at y body; end = end }),
       append-nil (numbered_on node_at a nodes),
     ) refl
 
 certificate_spelled : (first : ℕ) (c : CertificateFields) →
     list_all (λ x. list_all is_clear (node_tokens x)) c.nodes ≡ true → list_all (λ x. list_all is_clear (chain_tokens x)) c.chains ≡ true →
-    list_all (λ x. list_all is_clear (row_tokens x)) c.rows ≡ true → list_all (λ x. list_all is_clear (body_tokens x)) c.body ≡ true → list_all is_small (end_tokens c.end) ≡ true →
+    list_all (λ x. list_all is_clear (row_tokens x)) c.products ≡ true → list_all (λ x. list_all is_clear (body_tokens x)) c.body ≡ true → list_all is_small (end_tokens c.end) ≡ true →
     IsCertificateText first (certificate_text c) (renumbered first c)
 certificate_spelled first c nodes chains rows body end =
     let b : ℕ = first + length c.nodes in
     let r : ℕ = b + length c.chains in
-    let y : ℕ = r + length c.rows in
+    let y : ℕ = r + length c.products in
     let e : ℕ = y + length c.body in
     let t4 : List ℕ = line_text (end_tokens c.end) in
     let t3 : List ℕ = lines_text body_tokens c.body ++ t4 in
-    let t2 : List ℕ = lines_text row_tokens c.rows ++ t3 in
+    let t2 : List ℕ = lines_text row_tokens c.products ++ t3 in
     let t1 : List ℕ = lines_text chain_tokens c.chains ++ t2 in
     let last = end_spelled e c.end end in
     let fourth = section_spelled Body body_tokens body_at 3 (λ x. refl) (λ n x. refl) (λ n x. refl) (λ x. entry_begins x.entry) y c.body t4 _ body last in
-    let third = section_spelled Row row_tokens row_at 2 (λ x. refl) (λ n x. refl) (λ n x. refl) (λ x. refl) r c.rows t3 _ rows (from_lower 3 2 _ _ (omega arith) fourth) in
+    let third = section_spelled Row row_tokens row_at 2 (λ x. refl) (λ n x. refl) (λ n x. refl) (λ x. refl) r c.products t3 _ rows (from_lower 3 2 _ _ (omega arith) fourth) in
     let second = section_spelled Chain chain_tokens chain_at 1 (λ x. refl) (λ n x. refl) (λ n x. refl) (λ x. refl) b c.chains t2 _ chains (from_lower 2 1 _ _ (omega arith) third) in
     let all = section_spelled Node node_tokens node_at 0 (λ x. refl) (λ n x. refl) (λ n x. refl) (λ x. refl) first c.nodes t1 _ nodes (from_lower 1 0 _ _ (omega arith) second) in
-    subst (λ (x : CertificateFields). SpellsFrom 0 (numbered_from first (cut_lines (certificate_text c))) x) (put_together c.nodes c.chains c.rows c.body first b r y (record { line = e; row = c.end.row })) all
+    subst (λ (x : CertificateFields). SpellsFrom 0 (numbered_from first (cut_lines (certificate_text c))) x) (put_together c.nodes c.chains c.products c.body first b r y (record { line = e; row = c.end.row })) all
 
 pub text_spells : (columns : List stored.Column) (first : ℕ) (c : CertificateFields) → list_all is_name (names_of columns) ≡ true → numbers_fit c ≡ true → has_columns columns c ≡ true →
     IsCertificateText first (print_text columns c) (renumbered first (respelled columns c))
 text_spells columns first c names small there =
     let n = both (list_all (λ x. list_all is_small (node_tokens x)) c.nodes) _ small in
     let k = both (list_all (λ x. list_all is_small (chain_tokens x)) c.chains) _ n.1 in
-    let r = both (list_all (λ x. list_all is_small (row_tokens x)) c.rows) _ k.1 in
+    let r = both (list_all (λ x. list_all is_small (row_tokens x)) c.products) _ k.1 in
     let b = both (list_all (λ x. list_all is_small (body_tokens x)) c.body) (list_all is_small (end_tokens c.end)) r.1 in
-    certificate_spelled first (respelled columns c) (all_clear node_tokens (λ x h. h) c.nodes n.0) (chains_clear columns names c.chains k.0 there) (all_clear row_tokens row_all c.rows r.0)
+    certificate_spelled first (respelled columns c) (all_clear node_tokens (λ x h. h) c.nodes n.0) (chains_clear columns names c.chains k.0 there) (all_clear row_tokens row_all c.products r.0)
     (all_clear body_tokens (λ x h. entry_clear x.entry h) c.body b.0) b.1

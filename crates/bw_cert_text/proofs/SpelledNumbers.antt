@@ -69,9 +69,9 @@ lines_small s _ _ (before_end {line = line} (Chain x) {lines = lines} {rest = c}
     (tokens_small (chain_tokens x) line.words says.1) (lines_small 1 lines c rest)
 lines_small s _ _ (before_end {line = line} (Row x) {lines = lines} {rest = c} le says rest) =
     third_front (list_all (λ x. list_all is_small (node_tokens x)) c.nodes) (list_all (λ x. list_all is_small (chain_tokens x)) c.chains) (list_all is_small (row_tokens x))
-    (list_all (λ x. list_all is_small (row_tokens x)) c.rows) _ (tokens_small (row_tokens x) line.words says.1) (lines_small 2 lines c rest)
+    (list_all (λ x. list_all is_small (row_tokens x)) c.products) _ (tokens_small (row_tokens x) line.words says.1) (lines_small 2 lines c rest)
 lines_small s _ _ (before_end {line = line} (Body x) {lines = lines} {rest = c} le says rest) =
-    fourth_front (list_all (λ x. list_all is_small (node_tokens x)) c.nodes) (list_all (λ x. list_all is_small (chain_tokens x)) c.chains) (list_all (λ x. list_all is_small (row_tokens x)) c.rows)
+    fourth_front (list_all (λ x. list_all is_small (node_tokens x)) c.nodes) (list_all (λ x. list_all is_small (chain_tokens x)) c.chains) (list_all (λ x. list_all is_small (row_tokens x)) c.products)
     (list_all is_small (body_tokens x)) (list_all (λ x. list_all is_small (body_tokens x)) c.body) _ (tokens_small (body_tokens x) line.words says.1) (lines_small 3 lines c rest)
 lines_small s _ _ (at_end {line = line} end says) = tokens_small (end_tokens end) line.words says.1
 

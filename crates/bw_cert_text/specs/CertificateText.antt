@@ -21,28 +21,28 @@ abbrev pub with_part : Part → CertificateFields → CertificateFields
 with_part (Node node) c = record {
   nodes = node ∷ c.nodes;
   chains = c.chains;
-  rows = c.rows;
+  products = c.products;
   body = c.body;
   end = c.end;
 }
 with_part (Chain chain) c = record {
   nodes = c.nodes;
   chains = chain ∷ c.chains;
-  rows = c.rows;
+  products = c.products;
   body = c.body;
   end = c.end;
 }
-with_part (Row row) c = record { nodes = c.nodes; chains = c.chains; rows = row ∷ c.rows; body = c.body; end = c.end }
+with_part (Row row) c = record { nodes = c.nodes; chains = c.chains; products = row ∷ c.products; body = c.body; end = c.end }
 with_part (Body body) c = record {
   nodes = c.nodes;
   chains = c.chains;
-  rows = c.rows;
+  products = c.products;
   body = body ∷ c.body;
   end = c.end;
 }
 
 abbrev pub end_alone : EndLine → CertificateFields
-end_alone end = record { nodes = []; chains = []; rows = []; body = []; end = end }
+end_alone end = record { nodes = []; chains = []; products = []; body = []; end = end }
 
 -- Lines spell a certificate, none of them being of a section before this one: END is the last line, and each line before
 -- it is of this section or a later one, as the lines after it are of that section or a later one.

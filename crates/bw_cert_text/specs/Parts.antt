@@ -8,7 +8,7 @@ abbrev pub joined : Parts → CertificateFields → CertificateFields
 joined parts rest = record {
   nodes = parts.nodes.items ++ rest.nodes;
   chains = map chain_fields parts.chains.items ++ rest.chains;
-  rows = parts.rows.items ++ rest.rows;
+  products = parts.products.items ++ rest.products;
   body = map body_fields parts.body.items ++ rest.body;
   end = rest.end;
 }

@@ -37,7 +37,7 @@ body_tokens body = entry_tokens body.entry
 
 abbrev pub certificate_text : CertificateFields → List ℕ
 certificate_text c =
-    lines_text node_tokens c.nodes ++ (lines_text chain_tokens c.chains ++ (lines_text row_tokens c.rows
+    lines_text node_tokens c.nodes ++ (lines_text chain_tokens c.chains ++ (lines_text row_tokens c.products
     ++ (lines_text body_tokens c.body ++ line_text (end_tokens c.end))))
 
 -- a word in the spelling of the column that it names; a word that names none stands as it is
@@ -67,7 +67,7 @@ respelled columns c =
     record {
       nodes = c.nodes;
       chains = map (respelled_chain columns) c.chains;
-      rows = c.rows;
+      products = c.products;
       body = c.body;
       end = c.end;
     }

@@ -2,7 +2,7 @@
 use Rattle.std.specs.Prelude.{ℕ, ◌+◌, ◌^◌, Bool, true, ◌&&◌, List, [], ◌∷◌, length, Some, None, nat_lt}
 use Rattle.std.specs.List.{list_all}
 use Rattle.bw_cert_lines.specs.declared.lines.NodeLine.{NodeLine}
-use Rattle.bw_cert_lines.specs.declared.lines.RowLine.{RowLine}
+use Rattle.bw_cert_lines.specs.declared.lines.ProductLine.{ProductLine}
 use Rattle.bw_cert_lines.specs.CertificateFields.{ChainFields, BodyFields, CertificateFields}
 use Rattle.bw_cert_text.specs.PrintText.{body_tokens}
 use Rattle.bw_cert_text.specs.Token.{Token, Key, Number, Perhaps, Column, Register, node_tokens, chain_tokens, row_tokens, end_tokens}
@@ -14,7 +14,7 @@ node_at line node = record { line = line; n = node.n; v = node.v; low = node.low
 abbrev pub chain_at : ℕ → ChainFields → ChainFields
 chain_at line chain = record { line = line; n = chain.n; columns = chain.columns }
 
-abbrev pub row_at : ℕ → RowLine → RowLine
+abbrev pub row_at : ℕ → ProductLine → ProductLine
 row_at line row = record { line = line; n = row.n; op = row.op; a = row.a; b = row.b; c = row.c; reason = row.reason }
 
 abbrev pub body_at : ℕ → BodyFields → BodyFields
@@ -30,11 +30,11 @@ abbrev pub renumbered : ℕ → CertificateFields → CertificateFields
 renumbered first c =
     let chains : ℕ = first + length c.nodes in
     let rows : ℕ = chains + length c.chains in
-    let body : ℕ = rows + length c.rows in
+    let body : ℕ = rows + length c.products in
     record {
       nodes = numbered_on node_at first c.nodes;
       chains = numbered_on chain_at chains c.chains;
-      rows = numbered_on row_at rows c.rows;
+      products = numbered_on row_at rows c.products;
       body = numbered_on body_at body c.body;
       end = record { line = body + length c.body; row = c.end.row };
     }
@@ -44,7 +44,7 @@ abbrev pub all_tokens : (Token → Bool) → CertificateFields → Bool
 all_tokens test c =
     list_all (λ node. list_all test (node_tokens node)) c.nodes
     && (list_all (λ chain. list_all test (chain_tokens chain)) c.chains
-    && (list_all (λ row. list_all test (row_tokens row)) c.rows
+    && (list_all (λ row. list_all test (row_tokens row)) c.products
     && (list_all (λ body. list_all test (body_tokens body)) c.body
     && list_all test (end_tokens c.end))))
 

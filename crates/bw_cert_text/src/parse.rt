@@ -9,7 +9,7 @@ ghost use Rattle.bw_cert_text.specs.Reprint.{numbers_fit};
 ghost use Rattle.bw_cert_text.specs.SaidFields.{part_fields, said_fields};
 
 use crate::line::{Part, Said, said_in};
-use bw_cert_lines::{BodyLine, Certificate, ChainLine, EndLine, NodeLine, RowLine};
+use bw_cert_lines::{BodyLine, Certificate, ChainLine, EndLine, NodeLine, ProductLine};
 use bw_model::{Fault, Line, Lines, code};
 use std::alloc::{AllocError, Global};
 
@@ -51,7 +51,7 @@ pub fn certificates_are_read_as_spelled()
 pub(crate) struct Parts {
     nodes: Vec<NodeLine>,
     chains: Vec<ChainLine>,
-    rows: Vec<RowLine>,
+    products: Vec<ProductLine>,
     body: Vec<BodyLine>,
 }
 
@@ -64,7 +64,7 @@ impl Parts {
         match part {
             Part::Node(node) => self.nodes.push(node)?,
             Part::Chain(chain) => self.chains.push(chain)?,
-            Part::Row(row) => self.rows.push(row)?,
+            Part::Row(row) => self.products.push(row)?,
             Part::Body(body) => self.body.push(body)?,
         }
         Ok(())
@@ -93,7 +93,7 @@ fn read_certificate(alloc: Global, first_line: u64, text: &[u8]) -> Result<Certi
     let mut parts = Parts {
         nodes: Vec::new(alloc),
         chains: Vec::new(alloc),
-        rows: Vec::new(alloc),
+        products: Vec::new(alloc),
         body: Vec::new(alloc),
     };
     let end = read_parts(alloc, &mut lines, &mut parts)?;
@@ -101,10 +101,10 @@ fn read_certificate(alloc: Global, first_line: u64, text: &[u8]) -> Result<Certi
     let Parts {
         nodes,
         chains,
-        rows,
+        products,
         body,
     } = parts;
-    Ok(Certificate::new(nodes, chains, rows, body, end))
+    Ok(Certificate::new(nodes, chains, products, body, end))
 }
 
 /// Reads the lines up to `END`, and gives that.

@@ -2,7 +2,7 @@
 //! known.
 use bw_device::ToWrite;
 use bw_model::{Fault, Place};
-use bw_report::{Accepted, By, Served, accepted_line, report, stats_line};
+use bw_report::{Accepted, By, Scanned, Served, accepted_line, report, stats_line};
 use std::test::Fail;
 
 #[test]
@@ -27,9 +27,11 @@ fn faults_are_reported(rt: HostRuntime) -> Result<(), Fail> {
 fn served_queries_are_told(rt: HostRuntime) -> Result<(), Fail> {
     let served = Served {
         by: By::Program,
-        segments: u32::MAX,
-        loads: u64::MAX,
-        skips: u64::MAX,
+        scanned: Scanned {
+            segments: u32::MAX,
+            loads: u64::MAX,
+            skips: u64::MAX,
+        },
     };
     let line =
         "served program segments 4294967295 loads 18446744073709551615 skips 18446744073709551615\n";

@@ -10,7 +10,7 @@ use bw_device::{FromRead, Input, ToWrite, read_limited};
 use bw_file::Layout;
 use bw_model::{Fault, MAX_CSV_LEN, code};
 use bw_query::{answer, dump};
-use bw_report::{Accepted, By, Served, accepted_line, report, stats_line};
+use bw_report::{Accepted, By, Scanned, Served, accepted_line, report, stats_line};
 use bw_schemas::infer;
 use bw_shell::{direct, load};
 use std::process::Abort;
@@ -281,9 +281,11 @@ impl Line {
     {
         let served = Served {
             by: By::Program,
-            segments: 2,
-            loads: 3,
-            skips: 1,
+            scanned: Scanned {
+                segments: 2,
+                loads: 3,
+                skips: 1,
+            },
         };
         let accepted = Accepted {
             instructions: 4,

@@ -5,7 +5,7 @@ use crate::facts::Facts;
 use crate::order::VariableOrder;
 use crate::products::Logic;
 use crate::refusal::Refusal;
-use bw_cert_lines::{EdgeRows, Entry, InstructionEntry, Keep};
+use bw_cert_lines::{EdgeProducts, Entry, InstructionEntry, Keep};
 use bw_program::Instr;
 use std::alloc::Global;
 
@@ -469,7 +469,12 @@ impl<'a> Code<'a> {
     }
 
     /// The rows of a register that is to hold a node, for one skip, if they show so.
-    fn edge(&mut self, register: u8, node: u32, at: usize) -> Result<Option<EdgeRows>, Refusal> {
+    fn edge(
+        &mut self,
+        register: u8,
+        node: u32,
+        at: usize,
+    ) -> Result<Option<EdgeProducts>, Refusal> {
         let Some((tested, held)) = self.at_skip(register, at) else {
             return Ok(None);
         };
@@ -480,7 +485,7 @@ impl<'a> Code<'a> {
         if within.node != 0 {
             return Ok(None);
         }
-        Ok(Some(EdgeRows {
+        Ok(Some(EdgeProducts {
             differs: u64::from(differs.number),
             within: u64::from(within.number),
         }))

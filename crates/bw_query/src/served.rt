@@ -3,8 +3,7 @@ ghost use Rattle.std.specs.Prelude.{◌≡◌};
 ghost use Rattle.bw_query.specs.Served.{told_by};
 
 use crate::scan::Scan;
-use crate::table_text::Scanned;
-use bw_report::{By, Served};
+use bw_report::{By, Scanned, Served};
 
 /// What is reported of a scan.
 pub(crate) fn served_by(scan: &Scan, scanned: Scanned) -> Served
@@ -15,8 +14,6 @@ pub(crate) fn served_by(scan: &Scan, scanned: Scanned) -> Served
             Scan::Program(_) => By::Program,
             Scan::Rows => By::Rows,
         },
-        segments: scanned.segments,
-        loads: scanned.loads,
-        skips: scanned.skips,
+        scanned,
     }
 }

@@ -22,17 +22,10 @@ use bw_answer::Answer;
 use bw_device::Source;
 use bw_file::{AnySegment, TableReader, bytes_were_taken};
 use bw_model::{Fault, Query};
+use bw_report::Scanned;
 use bw_run::Counts;
 use bw_segment::Segment;
 use std::alloc::Global;
-
-/// How many segments were scanned, with how many loads of planes or bytes and how many skips that were taken.
-#[derive(Clone, Copy)]
-pub(crate) struct Scanned {
-    pub(crate) segments: u32,
-    pub(crate) loads: u64,
-    pub(crate) skips: u64,
-}
 
 /// The text of an answer, and what was scanned for it.
 #[derive(Drop)]

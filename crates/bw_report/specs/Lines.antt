@@ -40,9 +40,9 @@ with_count words count = words ++ decimal count
 abbrev pub stats_line : Served → List ℕ
 stats_line served =
     ((((codes "served " ++ by_text served.by)
-    ++ with_count (codes " segments ") served.segments)
-    ++ with_count (codes " loads ") served.loads)
-    ++ with_count (codes " skips ") served.skips)
+    ++ with_count (codes " segments ") served.scanned.segments)
+    ++ with_count (codes " loads ") served.scanned.loads)
+    ++ with_count (codes " skips ") served.scanned.skips)
     ++ codes "\n"
 
 -- The line that tells of an accepted program file, as `accepted: 4 instructions, 1 skips, 6 nodes, 9 chains, 17 rows`, with

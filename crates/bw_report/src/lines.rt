@@ -94,9 +94,9 @@ fn line_of_served(served: &Served) -> InlineText<LINE>
 {
     let line = and_words(InlineText::new(), "served ");
     let line = and_words(line, by_text(served.by));
-    let line = and_count(line, " segments ", u64::from(served.segments));
-    let line = and_count(line, " loads ", served.loads);
-    let line = and_count(line, " skips ", served.skips);
+    let line = and_count(line, " segments ", u64::from(served.scanned.segments));
+    let line = and_count(line, " loads ", served.scanned.loads);
+    let line = and_count(line, " skips ", served.scanned.skips);
     and_words(line, "\n")
 }
 

@@ -9,12 +9,17 @@ pub enum By {
     Rows,
 }
 
-/// How a query over a table file was served: over how many segments, with how many loads of planes or bytes and how
-/// many skips that were taken.
+/// How many segments were scanned, with how many loads of planes or bytes and how many skips that were taken.
 #[derive(Clone, Copy, Debug, PartialEq, Eq)]
-pub struct Served {
-    pub by: By,
+pub struct Scanned {
     pub segments: u32,
     pub loads: u64,
     pub skips: u64,
+}
+
+/// How a query over a table file was served.
+#[derive(Clone, Copy, Debug, PartialEq, Eq)]
+pub struct Served {
+    pub by: By,
+    pub scanned: Scanned,
 }
