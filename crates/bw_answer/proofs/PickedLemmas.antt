@@ -9,12 +9,12 @@ use Rattle.bw_model.specs.Cond.{is_kept}
 use Rattle.bw_model.specs.Row.{Value}
 use Rattle.bw_model.specs.Selection.{kept, picked, selection}
 use Rattle.bw_model.specs.Total.{item_within, joined, total}
-use Rattle.bw_rowwise.specs.Accumulator.{Tally, tally_of}
-use Rattle.bw_rowwise.specs.Prepared.{IsPreparedFrom, prepared_truth}
-use Rattle.bw_rowwise.specs.declared.prepared.Prepared.{Prepared}
+use Rattle.bw_rows.specs.Accumulator.{Tally, tally_of}
+use Rattle.bw_rows.specs.Prepared.{IsPreparedFrom, prepared_truth}
+use Rattle.bw_rows.specs.declared.prepared.Prepared.{Prepared}
 use Rattle.bw_model.specs.Truth.{is_truth}
 use Rattle.bw_model.specs.declared.cond.Truth.TheVariants.{True}
-use Rattle.bw_aggregate.specs.Picked.{with_picked}
+use Rattle.bw_rows.specs.Picked.{with_picked}
 use Rattle.bw_answer.specs.Totals.{is_of}
 use Rattle.bw_answer.proofs.TotalsLemmas.{and_true, both}
 

@@ -6,7 +6,7 @@ ghost use Rattle.bw_model.specs.Row.{values_of};
 ghost use Rattle.bw_model.specs.Total.{item_within};
 
 use bw_model::{Item, Query, Row, Schema, Truth, Value};
-use bw_rowwise::{aggregate, select, truth};
+use bw_rows::{aggregate, select, truth};
 use bw_sql::parse;
 use std::alloc::Global;
 use std::process::Abort;

@@ -7,7 +7,7 @@ use bw_cert_file::certify;
 use bw_lanes::Plane;
 use bw_model::{Cond, Row, Schema, Truth, admitted_rows_have_each_value};
 use bw_planes::PlaneSegment;
-use bw_rowwise::truth;
+use bw_rows::truth;
 use bw_run::Counts;
 use bw_segment::is_group;
 use bw_slices::SliceSegment;

@@ -8,7 +8,7 @@ use bw_lanes::lane;
 use bw_model::{Column, Cond, Fault, Row, Schema, Truth, Value};
 use bw_plan::propose;
 use bw_planes::PlaneSegment;
-use bw_rowwise::truth;
+use bw_rows::truth;
 use bw_slices::SliceSegment;
 use bw_sql::parse;
 use std::alloc::Global;

@@ -1,27 +1,17 @@
--- One more row, if it is picked.
-use Rattle.std.proofs.Common.{◌≡◌, ◌≢◌, ◌∙◌, ℕ, true, false, true≢false, [], get_or, arith, sym, below_more}
+-- The last row that is picked of those that are left.
+use Rattle.std.proofs.Common.{◌≡◌, ◌≢◌, ◌∙◌, ◌<◌, ◌≤◌, ℕ, suc, refl, sym, subst, true, false, true≢false, [], get_or, length, arith, Decidable, inl, inr}
+use Rattle.std.proofs.lemmas.Bool.{cases_lt}
 use Rattle.bw_lanes.specs.Lanes.{lanes_of_words}
 use Rattle.bw_model.specs.Groups.{group_size}
 use Rattle.bw_answer.specs.Fetched.{HasRow}
 use Rattle.bw_answer.proofs.lanes.fetch_rows.Goals as goal
-use Rattle.bw_answer.proofs.lanes.fetch_rows.Goals.{then-lane, else-lane}
 
-pub lane-requires : goal.lane-requires
+pub last_between-requires : goal.last_between-requires
 unfolding group_size
-lane-requires g c = omega (arith, c.rows_in-rows.ensures.bounds.1, c.loop-number-test.true)
+last_between-requires g c = (omega arith, omega (arith, c.loop-last.invariant.within, ?))
 
-pub loop-number-preserved : goal.loop-number-preserved
-loop-number-preserved g c =
-    let rows = (g.S.Segment.meaning c.args.segment.now).rows in
-    let bits = lanes_of_words c.args.plane.now in
-    let columns = c.args.columns.now in
-    let here = c.loop-number.number in
-    elim c.if-lane.branch [
-      | then-lane w ↦ rw w.lanes-is (below_more (λ (k : ℕ). get_or bits k false ≡ true → HasRow (get_or rows k []) columns k w.fetch_row.new.lanes) here
-          (λ k below one i within.
-          let other : k ≢ here = omega arith in
-          w.fetch_row.ensures.others k (get_or columns i 0) other ∙ c.loop-number.invariant k below one i within)
-          (λ _. w.fetch_row.ensures.row))
-      | else-lane w ↦ rw w.lanes-is (below_more (λ (k : ℕ). get_or bits k false ≡ true → HasRow (get_or rows k []) columns k c.loop-number.lanes) here
-          c.loop-number.invariant (λ one. absurd (true≢false (sym one ∙ (sym c.lane.ensures ∙ w.if-lane.false)))))
-    ]
+pub loop-last-preserved : goal.loop-last-preserved
+loop-last-preserved g c = ?
+
+pub returns : goal.returns
+returns g c = ?

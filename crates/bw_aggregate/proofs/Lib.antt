@@ -1,3 +1,0 @@
-pub mod PickedLemmas
-pub mod ColumnLemmas
-pub mod TotalLemmas

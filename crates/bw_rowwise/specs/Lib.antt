@@ -1,3 +1,0 @@
-pub mod Accumulator
-pub mod Numbers
-pub mod Prepared
