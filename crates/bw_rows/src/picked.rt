@@ -7,10 +7,10 @@ ghost use Rattle.bw_model.specs.Total.{total, item_within};
 ghost use Rattle.bw_rows.specs.Accumulator.{tally_of, IsTotalOfRows};
 ghost use Rattle.bw_rows.specs.Picked.{IsWithin, picked_rows, with_picked};
 
+use crate::accumulator::Accumulator;
 use crate::column::{greatest, least, present, sum};
 use bw_lanes::{Plane, count};
 use bw_model::Item;
-use crate::accumulator::Accumulator;
 use bw_segment::Segment;
 
 /// Adds the rows of a segment that a plane picks to a total: row i is picked where lane i is 1. The plane has no bit

@@ -7,10 +7,10 @@ ghost use Rattle.bw_model.specs.Total.{is_aggregate, item_within};
 ghost use Rattle.bw_rows.specs.Accumulator.{tally_of};
 ghost use Rattle.bw_rows.specs.Picked.{IsWithin, picked_rows};
 
+use crate::accumulator::Accumulator;
 use crate::picked::add_picked;
 use bw_lanes::Plane;
 use bw_model::Item;
-use crate::accumulator::Accumulator;
 use bw_segment::Segment;
 use std::marker::Model;
 
