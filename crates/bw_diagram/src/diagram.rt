@@ -60,7 +60,7 @@ impl<'a> Diagram<'a> {
             variables: schema.var_count(),
             nodes: Vec::new(alloc),
             chains: Vec::new(alloc),
-            rows: Vec::new(alloc),
+            products: Vec::new(alloc),
         }
     }
 
