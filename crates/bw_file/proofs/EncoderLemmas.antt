@@ -1,4 +1,4 @@
--- The text of a table, row by row.
+-- The bytes of a table, row by row.
 use Rattle.std.proofs.Common.{◌≡◌, ℕ, zero, suc, ◌+◌, ◌*◌, ◌<◌, ◌≤◌, ◌&&◌, true, not, List, [], ◌∷◌, ◌++◌, length, take, drop, nat_le, append_assoc, length-append, length-drop, refl, sym, ap, ap₂, ◌∙◌, arith}
 use Rattle.std.proofs.lemmas.Bool.{leb-true}
 use Rattle.std.proofs.lemmas.List.{append-nil, nil_from_length, take_all, drop_all, take-append-le, drop-append-le, flat_map_more}
@@ -117,7 +117,7 @@ pub segments_none : (layout : Layout) (columns : List Column) (head : List ℕ) 
 unfolding segments_bytes
 segments_none layout columns head = rw (groups_of-nothing {A = List Value}) (sym (append-nil head))
 
--- the text of a table whose rows are all in it, once their number is
+-- the bytes of a table whose rows are all in them, once their number is
 pub bytes_finished : (encoder : Encoder) (rows : List (List Value)) (bytes text : List ℕ) (count : ℕ)
     → bytes ≡ header_bytes (version_for encoder.placement.schema.columns.items) encoder.layout encoder.placement.schema.name encoder.placement.schema.columns.items 0
     ++ segments_bytes encoder.layout encoder.placement.schema.columns.items rows

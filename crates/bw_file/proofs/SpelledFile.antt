@@ -1,4 +1,4 @@
--- What is spelled is read: a table's text is read as that table, and so it is of one table.
+-- What is spelled is read: a table's bytes are read as that table, and so they are of one table.
 use Rattle.std.proofs.Common.{◌≡◌, ◌≤ℤ◌, ◌<ℤ◌, ◌-ℤ◌, ℕ, ℤ, pos, ◌+◌, ◌^◌, Bool, true, false, cond, int_le, int_lt, List, [], ◌∷◌, ◌++◌, length, map, Result, Ok, Err, refl, sym, ap, ◌∙◌, arith, rules, inl, inr, ◌⊎◌}
 use Rattle.std.specs.List.{list_all}
 use Rattle.std.proofs.lemmas.List.{length-map}
@@ -99,7 +99,7 @@ pub of_one_table : (bytes : List ℕ) (layout other_layout : Layout) (schema oth
 of_one_table bytes layout other_layout schema other_schema rows other_rows one other =
     done_is _ _ (read_one_way bytes _ _ (spelled_is_read bytes layout schema rows one) (spelled_is_read bytes other_layout other_schema other_rows other))
 
--- so what is read of a table's text is the table
+-- so what is read of a table's bytes is the table
 pub bytes_read : (bytes : List ℕ) (layout : Layout) (schema : Schema) (rows : List (List Value)) (read : Result Found Fault) → IsFileBytes bytes layout schema rows → IsReadAs bytes read
     → Ok (found_as layout (schema_shape schema) rows) ≡ read
 bytes_read bytes layout schema rows read file is = read_one_way bytes (Ok (found_as layout (schema_shape schema) rows)) read (spelled_is_read bytes layout schema rows file) is

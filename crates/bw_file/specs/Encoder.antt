@@ -18,14 +18,14 @@ encoder_layout encoder = encoder.layout
 abbrev pub rows_in : Encoder → ℕ
 rows_in encoder = encoder.rows
 
--- bytes are the text of these rows, but that the header tells of no rows yet
+-- these are the bytes of these rows, but that the header tells of no rows yet
 abbrev pub IsBytesOf : Layout → Schema → List ℕ → List (List Value) → Type 0
 IsBytesOf layout schema bytes rows =
     bytes ≡ header_bytes (version_for schema.columns.items) layout schema.name schema.columns.items 0
     ++ segments_bytes layout schema.columns.items rows
 
--- The encoder was given these rows, which the columns admit: the text of the groups that are whole,
--- after a header that tells of no rows yet, and less than a group that isn't yet in the text, or one
+-- The encoder was given these rows, which the columns admit: the bytes of the groups that are whole,
+-- after a header that tells of no rows yet, and less than a group that isn't yet in the bytes, or one
 -- that is just whole, which it keeps by columns.
 pub record Holds (encoder : Encoder) (rows : List (List Value)) : Type 0 where
   pub before : List (List Value)
@@ -46,7 +46,7 @@ pub record TookRows (start : Encoder) (rows : List (List Value)) (now : Encoder)
   pub holds : (before : List (List Value)) → Holds start before → Holds now (before ++ rows)
 
 -- An encoder is as it was before a call, but for room in its memory: it writes the same table in the
--- same layout, with the same text and the same rows after it.
+-- same layout, with the same bytes and the same rows after it.
 pub record IsAsBefore (old new : Encoder) : Type 0 where
   pub layout : new.layout ≡ old.layout
   pub schema : new.placement.schema ≡ old.placement.schema

@@ -72,7 +72,7 @@ are_bounds version lo hi = int_le lo hi && int_lt (hi -ℤ lo) (pos (2 ^ bits_of
 abbrev pub version_for : List Column → ℕ
 version_for columns = if list_all (λ column. are_bounds 1 column.lo column.hi) columns then 1 else 2
 
--- the text of a table, and the same table's text of version 2
+-- the bytes of a table, and the same table's bytes in version 2
 abbrev pub file_bytes : Layout → Schema → List (List Value) → List ℕ
 file_bytes layout schema rows =
     bytes_of_version (version_for schema.columns.items) layout schema.name schema.columns.items rows
@@ -96,7 +96,7 @@ pub record AreRows (columns : List Column) (rows : List (List Value)) : Type 0 w
   pub few : length rows ≤ most_rows
   pub admitted : list_all (admits_values columns) rows ≡ true
 
--- the bytes are the text, of either version, of the table of these rows under this schema
+-- the bytes are those, of either version, of the table of these rows under this schema
 pub record IsFileBytes (bytes : List ℕ) (layout : Layout) (schema : Schema)
     (rows : List (List Value)) : Type 0 where
   pub under : IsSchema (schema_shape schema)

@@ -22,14 +22,14 @@ use std::alloc::Global;
 const ROW_COUNT_AT: usize = 12;
 
 /// A table file that is written row by row. Of the rows it keeps no more than one segment, by
-/// columns, and after it the text of the segments before.
+/// columns, and after it the bytes of the segments before.
 #[derive(Drop)]
 pub struct Encoder {
     alloc: Global,
     layout: Layout,
     placement: Placement,
     bytes: Vec<u8>,
-    /// The rows that aren't in the text yet, `filled` many.
+    /// The rows that aren't in the bytes yet, `filled` many.
     kept: Vec<ColumnCodes>,
     filled: usize,
     rows: u32,
@@ -91,7 +91,7 @@ impl Encoder {
         Ok(())
     }
 
-    /// Keeps a row after those that aren't in the text yet.
+    /// Keeps a row after those that aren't in the bytes yet.
     fn keep(&mut self, row: &Row)
         requires admitted { admits_values (encoder_schema self.old).columns.items
             (values_of row.now) ≡ true }
@@ -108,7 +108,7 @@ impl Encoder {
         self.rows += 1;
     }
 
-    /// Puts the rows that aren't in the text yet there. Where memory is refused it is as it was.
+    /// Puts the rows that aren't in the bytes yet there. Where memory is refused it is as it was.
     fn flush(&mut self) -> Result<(), Fault>
         requires { 0 < self.old.filled }
         ensures bytes { OnOk result ((rows : List (List Value)) → Holds self.old rows
@@ -135,7 +135,7 @@ impl Encoder {
         Ok(())
     }
 
-    /// The table file of the rows that were added: its text, of version 1 where that has room for
+    /// The table file of the rows that were added: its bytes, of version 1 where that has room for
     /// every column.
     pub fn finish(mut self) -> Result<Vec<u8>, Fault>
         ensures bytes { IfOk result

@@ -9,7 +9,7 @@ ghost use Rattle.bw_file.specs.TableReading.{Found, found_as, IsReadAs};
 
 use bw_model::{Column, Schema};
 
-/// A law: bytes that are read as a table are that table's text, of either version.
+/// A law: bytes that are read as a table are that table's, of either version.
 pub fn what_is_read_is_a_file()
     ensures { (bytes : List ℕ) (found : Found) → ((i : ℕ) → slice_index bytes i < 256)
         → IsReadAs bytes (Ok found)
@@ -17,7 +17,7 @@ pub fn what_is_read_is_a_file()
         × IsFileBytes bytes found.layout schema found.rows }
 {}
 
-/// A law: bytes that are a table's text, of either version, are read as that table.
+/// A law: bytes that are a table's, of either version, are read as that table.
 pub fn what_is_spelled_is_read()
     ensures { (bytes : List ℕ) (layout : Layout) (schema : Schema) (rows : List (List Value))
         → IsFileBytes bytes layout schema rows
@@ -30,7 +30,7 @@ pub fn bytes_are_read_in_one_way()
         → IsReadAs bytes other → one ≡ other }
 {}
 
-/// A law: bytes are the text of at most one table, by its layout, its schema's name and columns,
+/// A law: bytes are those of at most one table, by its layout, its schema's name and columns,
 /// and its rows.
 pub fn a_file_is_of_one_table()
     ensures { (bytes : List ℕ) (layout other_layout : Layout) (schema other_schema : Schema)
@@ -42,7 +42,7 @@ pub fn a_file_is_of_one_table()
 {}
 
 /// A law: every schema has names that are names, and bounds that 64 bits hold, so that its tables
-/// have a text. It looks at each column.
+/// have a file. It looks at each column.
 pub fn a_schema_has_names_and_bounds(schema: &Schema)
     ensures { IsSchema (schema_shape schema.now) }
 {

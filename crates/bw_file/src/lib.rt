@@ -1,9 +1,9 @@
 //! Table files: tables as bytes, and bytes as tables.
 //!
-//! The contracts that the crates above use: [`Encoder`] and [`encode`] give the text of a table;
+//! The contracts that the crates above use: [`Encoder`] and [`encode`] give the bytes of a table;
 //! [`TableReader`] and [`decode`] read bytes to the table that they spell or to their first fault,
 //! field by field and block by block. The laws say that what is read is spelled so and what is
-//! spelled is read so, and that a text is of one table.
+//! spelled is read so, and that bytes are of one table.
 //!
 //! Read `specs/FileBytes.antt` for what is written, `specs/TableReading.antt` for how bytes are
 //! read, and `table_reader.rt` with `specs/TableReader.antt` for reading a file one segment at a

@@ -20,7 +20,7 @@ pub fn bytes_were_taken()
         → ((bytes : List ℕ) × Took start now bytes × NoneToSpare bytes) × (now.failures ≡ start.failures) }
 {}
 
-/// A law: where the bytes to come are a table's text, a reader tells of that table and gives its
+/// A law: where the bytes to come are a table's, a reader tells of that table and gives its
 /// groups, one after the other; what was read whole is the table; and no fault is answered but a
 /// failed read and out of memory.
 pub fn a_file_is_read_whole()

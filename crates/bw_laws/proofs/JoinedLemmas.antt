@@ -36,7 +36,7 @@ loaded_by layout schema csv bytes (Err fault) e made = absurd (cc made)
 pub loaded : (layout : Layout) (schema : Schema) (csv bytes : List ℕ) → file_of layout schema csv ≡ Ok bytes → Loaded layout schema csv bytes
 loaded layout schema csv bytes made = loaded_by layout schema csv bytes (rows_of schema.columns.items csv) refl made
 
--- that file is the text of the table of these rows
+-- that file has the bytes of the table of these rows
 pub loaded_text : (layout : Layout) (schema : Schema) (csv bytes : List ℕ) → IsSchema (schema_shape schema) → (of : Loaded layout schema csv bytes)
     → IfOk (rows_of schema.columns.items csv) (λ rows. IsTrue (list_all (admits_values schema.columns.items) rows))
     → IfOk (rows_of schema.columns.items csv) (λ rows. length rows ≤ most_rows) → IsFileBytes bytes layout schema of.rows

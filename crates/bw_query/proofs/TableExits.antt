@@ -114,7 +114,7 @@ all_came bytes taken (Some xs) (Some ys) e consumes ends =
     let same : xs ≡ bytes = cc e in
     sym (append-nil taken) ∙ ap (λ (l : List ℕ). taken ++ l) (sym ends) ∙ sym consumes ∙ same
 
--- so the text went out for known bytes, which are a table file's text
+-- so the text went out for known bytes, which are a table file's
 pub table_answered : (asks : Schema → Result Query Fault → Type 0) (start now : State) (text : List ℕ) (found : TableText asks start now text)
     (Told : Schema → Query → List (List Value) → Type 0) → Told found.schema found.query found.rows → (bytes : List ℕ) → start.known ≡ Some bytes
     → (old new : Option (List ℕ)) → Appends old new text

@@ -35,7 +35,7 @@ pub record Began (start now : State) (reader : TableReader) : Type 0 where
   pub so_far : SoFar start now reader []
   pub told : GoesOn header start (give (header_told (version_in reader) reader)) now
 
--- all bytes of the file were taken, and they are the text of the table file of these rows under this schema
+-- all bytes of the file were taken, and they are the table file of these rows under this schema
 pub record WholeTable (start now : State) (schema : Schema) (rows : List (List Value)) : Type 0 where
   pub found : Found
   pub read : ReadWhole start now found
@@ -52,7 +52,7 @@ pub record TableText (asks : Schema → Result Query Fault → Type 0) (start no
   pub asked : asks schema (Ok query)
   pub is : text ≡ csv_text (meaning (names_of schema.columns.items) query rows)
 
--- the bytes are the text of the table file of these rows, and a sink took the text of the meaning of what is asked, over
+-- the bytes are the table file of these rows, and a sink took the text of the meaning of what is asked, over
 -- the rows
 pub record AnswersFile (asks : Schema → Result Query Fault → Type 0) (bytes : List ℕ)
     (old new : Option (List ℕ)) : Type 0 where

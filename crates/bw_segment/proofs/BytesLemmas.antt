@@ -1,4 +1,4 @@
--- The text of a group: its blocks, which are without fault, and the rows that it spells.
+-- The bytes of a group: its blocks, which are without fault, and the rows that they spell.
 use Rattle.std.proofs.Common.{◌≡◌, ◌∙◌, refl, sym, ap, ap₂, ℕ, zero, suc, ◌+◌, ◌-◌, ◌<◌, ◌≤◌, ◌^◌, Bool, true, false, cond, List, [], ◌∷◌, ◌++◌, map, length, take, drop, get_or, replicate, length-append, None, inl, inr, arith}
 use Rattle.std.specs.List.{range_with_len, list_all, All}
 use Rattle.std.proofs.Math.Seq.{drop-append_seam, take-append_seam}
@@ -76,7 +76,7 @@ get_or-default [] at d e lt = absurd (omega arith)
 get_or-default (x ∷ xs) zero d e lt = refl
 get_or-default (x ∷ xs) (suc at) d e lt = get_or-default xs at d e (omega arith)
 
--- the text of a group
+-- the bytes of a group
 module _ (packing : Packing) (law : IsPacking packing) (meaning : Meaning) (group : IsGroup meaning) where
   abbrev pub columns : List Column
   columns = meaning.columns

@@ -6,7 +6,7 @@ ghost use Rattle.bw_segment.specs.BlockFault.{block_fault, AreSound, IsSound};
 ghost use Rattle.bw_segment.specs.Packing.{Packing, IsPacking, block_size, bytes_before, segment_size, block_at, block_bytes, segment_bytes, rows_spelled};
 ghost use Rattle.bw_segment.specs.Meaning.{Meaning, IsGroup};
 
-/// A law: bytes whose blocks are without fault are the text of the rows that they spell, which are a group.
+/// A law: bytes whose blocks are without fault are the bytes of the rows that they spell, which are a group.
 pub fn sound_bytes_spell_a_group()
     ensures count { (packing : Packing) (columns : List Column) (count : ℕ) (bytes : List ℕ)
         → length (rows_spelled packing columns count bytes) ≡ count }
@@ -24,7 +24,7 @@ pub fn sound_bytes_spell_a_group()
         → segment_bytes packing columns (rows_spelled packing columns count bytes) ≡ bytes }
 {}
 
-/// A law: the text of a group is without fault, consists of the blocks of its columns, and spells its rows.
+/// A law: the bytes of a group are without fault, consist of the blocks of its columns, and spell its rows.
 pub fn bytes_of_a_group_are_sound()
     ensures sound { (packing : Packing) (meaning : Meaning) → IsPacking packing → IsGroup meaning
         → IsSound packing meaning.columns (length meaning.rows)

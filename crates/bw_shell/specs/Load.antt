@@ -9,11 +9,11 @@ use Rattle.bw_file.specs.FileBytes.{file_bytes}
 use Rattle.bw_csv.specs.Input.{csv_from}
 use Rattle.bw_shell.specs.Arrived.{IsSchemaFrom}
 
--- the text of the table file of the rows that a CSV text spells, or the first fault in that text
+-- the table file of the rows that a CSV text spells, or the first fault in that text
 abbrev pub file_of : Layout → Schema → List ℕ → Result (List ℕ) Fault
 file_of layout schema csv = rows_of schema.columns.items csv >>= λ rows. Ok (file_bytes layout schema rows)
 
--- the text of the table file, or the first fault in the order of the schema and the CSV
+-- the table file, or the first fault in the order of the schema and the CSV
 abbrev pub IsFile : Layout → Result (Option (List ℕ)) Fault → Result (Option (List ℕ)) Fault → Result (List ℕ) Fault
     → Type 0
 IsFile layout came csv given =

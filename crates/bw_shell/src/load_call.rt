@@ -35,7 +35,7 @@ pub fn load<S: Source, C: Source, K: Sink>(
     requires csv { C.failures csv_source.old < 2 ^ 64 - 1 }
     requires sink { K.failures sink.old < 2 ^ 64 - 1 }
 
-    // What went out is the text of the table file by what came of the sources, or nothing, where that is a fault. A
+    // What went out is the table file by what came of the sources, or nothing, where that is a fault. A
     // source that wasn't reached, or whose text found no memory, stands as one that found no memory.
     ensures file { (schema csv : Result (Option (List ℕ)) Fault) × (given : Result (List ℕ) Fault)
         × Came longest_schema (S.to_come schema_source.old) (S.to_come schema_source.new)
