@@ -1,4 +1,4 @@
-// Answers one of the six questions of bench/compare over a table file, in either layout: the rival that `bw query` is measured
+// Answers one of the eight questions that bench/compare asks of it over a table file, in either layout: the rival that `bw query` is measured
 // against. It is tuned by hand, with the 128-bit operations of SSE2, and does the work that a reader of table files has to do: it
 // reads the file once, by pieces into one buffer, judges the header and every block, and stops at the first fault with its number
 // and its byte and status 1. The answer is written once the whole file was found good.
@@ -437,17 +437,120 @@ static void count_b_in_or_d_null(void) {
     count += size_of(either(both(present(B), listed), nulls(D)));
 }
 
+// hands each row of a set on, in their order: for sets of few rows
+INLINED void each(rows_t rows, void (*take)(uint32_t)) {
+    uint64_t word[WORDS];
+    memcpy(word, &rows, PLANE);
+    for (uint32_t i = 0; i < WORDS; i++)
+        for (uint64_t left = word[i]; left; left &= left - 1) take(64 * i + (uint32_t)__builtin_ctzll(left));
+}
+
+static inline int has_number(int which, uint32_t row) {
+    return !asked[which]->nulls || !(segment[place[which] + row / 8] >> row % 8 & 1);
+}
+
+static inline int64_t number_in(int which, uint32_t row) {
+    return asked[which]->lo + (int64_t)code_of(asked[which], codes(which), row);
+}
+
+// the least c and the greatest d so far, where there is one
+static int64_t least, greatest;
+static int any_least, any_greatest;
+
+INLINED void take_ends(uint32_t row) {
+    if (has_number(C, row)) {
+        int64_t value = number_in(C, row);
+        if (!any_least || value < least) least = value;
+        any_least = 1;
+    }
+    if (has_number(D, row)) {
+        int64_t value = number_in(D, row);
+        if (!any_greatest || value > greatest) greatest = value;
+        any_greatest = 1;
+    }
+}
+
+static void min_c_max_d_a_is_7(void) {
+    each(both(present(A), equal(A, 7)), take_ends);
+}
+
+// the records so far
+static char *text;
+static size_t filled_to, room;
+
+static void put_number(int64_t value) {
+    char digit[20];
+    uint64_t left = value < 0 ? 0 - (uint64_t)value : (uint64_t)value;
+    int first = 20;
+    do digit[--first] = (char)('0' + left % 10);
+    while (left /= 10);
+    if (value < 0) text[filled_to++] = '-';
+    memcpy(text + filled_to, digit + first, (size_t)(20 - first));
+    filled_to += (size_t)(20 - first);
+}
+
+static void put_field(int which, uint32_t row, char behind) {
+    if (has_number(which, row)) {
+        put_number(number_in(which, row));
+    } else {
+        memcpy(text + filled_to, "NULL", 4);
+        filled_to += 4;
+    }
+    text[filled_to++] = behind;
+}
+
+INLINED void take_record(uint32_t row) {
+    if (room - filled_to < 64) {
+        room = 2 * room + 4096;
+        text = realloc(text, room);
+        if (!text) give_up("out of memory");
+    }
+    put_field(C, row, ',');
+    put_field(D, row, '\n');
+}
+
+static void rows_c_below_1000(void) {
+    each(without(present(C), at_least(C, 1000)), take_record);
+}
+
+// What is written once the whole file was found good.
+
+static void write_count(void) {
+    printf("COUNT(*)\n%llu\n", (unsigned long long)count);
+}
+
+static void write_sum(void) {
+    printf("SUM(%s)\n", asked[D]->name);
+    if (count) printf("%lld\n", (long long)total);
+    else puts("NULL");
+}
+
+static void write_ends(void) {
+    printf("MIN(%s),MAX(%s)\n", asked[C]->name, asked[D]->name);
+    if (any_least) printf("%lld,", (long long)least);
+    else printf("NULL,");
+    if (any_greatest) printf("%lld\n", (long long)greatest);
+    else puts("NULL");
+}
+
+static void write_records(void) {
+    printf("%s,%s\n", asked[C]->name, asked[D]->name);
+    fwrite(text, 1, filled_to, stdout);
+}
+
 static const struct question {
     const char *name;
     void (*ask)(void);
-    int sums;
+    void (*write)(void);
 } QUESTION[] = {
-    {"count_a_below_8", count_a_below_8, 0},
-    {"sum_d_a_below_8", sum_d_a_below_8, 1},
-    {"count_a_from_250", count_a_from_250, 0},
-    {"count_c_between", count_c_between, 0},
-    {"sum_d_c_below_5000", sum_d_c_below_5000, 1},
-    {"count_b_in_or_d_null", count_b_in_or_d_null, 0},
+    {"count_a_below_8", count_a_below_8, write_count},
+    {"sum_d_a_below_8", sum_d_a_below_8, write_sum},
+    {"count_a_from_250", count_a_from_250, write_count},
+    {"count_c_between", count_c_between, write_count},
+    {"sum_d_c_below_5000", sum_d_c_below_5000, write_sum},
+    {"count_b_in_or_d_null", count_b_in_or_d_null, write_count},
+    {"min_c_max_d_a_is_7", min_c_max_d_a_is_7, write_ends},
+    {"rows_c_below_1000", rows_c_below_1000, write_records},
 };
 
 static void find_columns(const char *table) {
@@ -496,8 +599,6 @@ int main(int words, char **word) {
     find_columns(table);
     settle();
     scan(question);
-    if (!question->sums) printf("COUNT(*)\n%llu\n", (unsigned long long)count);
-    else if (count) printf("SUM(%s)\n%lld\n", asked[D]->name, (long long)total);
-    else printf("SUM(%s)\nNULL\n", asked[D]->name);
+    question->write();
     return fflush(stdout) == 0 ? 0 : 2;
 }
