@@ -98,7 +98,7 @@ read_behind bytes (Err fault) found fits e read = absurd (cc read)
 pub read_is_spelled : (bytes : List ℕ) (found : Found) → IsBytes bytes → IsReadAs bytes (Ok found)
     → (schema : Schema) × (schema_shape schema ≡ found.schema) × IsFileBytes bytes found.layout schema found.rows
 read_is_spelled bytes found fits read =
-    let s = read_behind bytes (header (tail 0 bytes)) found fits refl read in (s.schema, s.placement, s.text)
+    let s = read_behind bytes (header (tail 0 bytes)) found fits refl read in (s.schema, s.shape, s.text)
 
 -- and by any schema of that shape
 pub read_is_spelled_by : (bytes : List ℕ) (found : Found) (schema : Schema) → IsBytes bytes → schema_shape schema ≡ found.schema → IsReadAs bytes (Ok found)

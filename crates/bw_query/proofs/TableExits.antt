@@ -94,10 +94,10 @@ text_over asks start now schema query scan text scanned Told told asked over = (
     table = record {
       found = over.found;
       read = over.read;
-      shape = over.placement;
+      shape = over.shape;
       same = over.rows;
       text = let L : List (List Value) → Type 0 = λ rows. IsFileBytes over.read.bytes over.found.layout schema rows in
-          subst L over.rows (read_is_spelled_by over.read.bytes over.found schema over.read.took.each (sym over.placement) over.read.read);
+          subst L over.rows (read_is_spelled_by over.read.bytes over.found schema over.read.took.each (sym over.shape) over.read.read);
     };
     asked = asked;
     is = over.is;

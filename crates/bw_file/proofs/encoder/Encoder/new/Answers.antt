@@ -5,15 +5,15 @@ use Rattle.bw_file.proofs.encoder.Encoder.new.Goals as goal
 
 pub invariant_of-result-clause-headed : goal.invariant_of-result-clause-headed
 invariant_of-result-clause-headed c =
-    let columns = c.in_ok-shape.placement.schema.columns.items in
-    let head = header_bytes (version_for columns) c.args.layout c.in_ok-shape.placement.schema.name columns 0 in
+    let columns = c.in_ok-placement.placement.schema.columns.items in
+    let head = header_bytes (version_for columns) c.args.layout c.in_ok-placement.placement.schema.name columns 0 in
     let text : c.push_header.new.bytes.items ≡ head = rw c.new-bytes.ensures.items at c.in_ok-push_header.ensures.header in
-    rw text (header_long (version_for columns) c.args.layout c.in_ok-shape.placement.schema.name columns 0)
+    rw text (header_long (version_for columns) c.args.layout c.in_ok-placement.placement.schema.name columns 0)
 
 pub returns-clause-holds : goal.returns-clause-holds
 returns-clause-holds c =
-    let columns = c.in_ok-shape.placement.schema.columns.items in
-    let head = header_bytes (version_for columns) c.args.layout c.in_ok-shape.placement.schema.name columns 0 in
+    let columns = c.in_ok-placement.placement.schema.columns.items in
+    let head = header_bytes (version_for columns) c.args.layout c.in_ok-placement.placement.schema.name columns 0 in
     let text : c.push_header.new.bytes.items ≡ head = rw c.new-bytes.ensures.items at c.in_ok-push_header.ensures.header in
     record {
       before = [];
