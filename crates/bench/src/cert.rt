@@ -48,7 +48,7 @@ fn measure_check(
     let checked = start.elapsed(rt)?.as_micros();
     eprintln!(rt; "parse {parsed}\ncheck {checked}")?;
     match fault {
-        None => println!(rt; "accepted: {} rows", certificate.rows())?,
+        None => println!(rt; "accepted: {} rows", certificate.products())?,
         Some(fault) => println!(rt; "{fault}")?,
     }
     Ok(())

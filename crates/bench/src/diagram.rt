@@ -43,7 +43,7 @@ fn fill_in_turn(
     add_cited_rows(diagram)?;
     let cited = start.elapsed(rt)?.as_micros();
     let start = Instant::now(rt)?;
-    add_rows(diagram)?;
+    add_products(diagram)?;
     let rows = start.elapsed(rt)?.as_micros();
     eprintln!(rt; "nodes {nodes}\nchains {chains}\nshortcuts {cited}\nrows {rows}")?;
     println!(rt; "{} nodes, {CHAINS} chains, {ROWS} rows", NODES - 2)?;
@@ -80,13 +80,13 @@ fn add_chains(alloc: Global, diagram: &mut Diagram<'_>) -> Result<(), Fault> {
 fn add_cited_rows(diagram: &mut Diagram<'_>) -> Result<(), Fault> {
     for n in 0..CITED_ROWS {
         let x = n % 2;
-        diagram.add_row(n, Connective::And, x, x, x, Reason::Shortcut)?;
+        diagram.add_product(n, Connective::And, x, x, x, Reason::Shortcut)?;
     }
     Ok(())
 }
 
 /// `x AND x` for nodes and cited rows here and there.
-fn add_rows(diagram: &mut Diagram<'_>) -> Result<(), Fault> {
+fn add_products(diagram: &mut Diagram<'_>) -> Result<(), Fault> {
     for n in CITED_ROWS..ROWS {
         let x = 3 + n * 40_503 % (NODES - 3);
         let cited = n * 7_919 % (CITED_ROWS / 2) * 2;
@@ -95,7 +95,7 @@ fn add_rows(diagram: &mut Diagram<'_>) -> Result<(), Fault> {
             i: cited,
             j: cited + 1,
         };
-        diagram.add_row(n, Connective::And, x, x, x, reason)?;
+        diagram.add_product(n, Connective::And, x, x, x, reason)?;
     }
     Ok(())
 }

@@ -9,14 +9,14 @@ use Rattle.bw_program.specs.Program.{ProgramShape}
 use Rattle.bw_cert_lines.specs.declared.lines.BodyLine.{BodyLine}
 use Rattle.bw_cert_lines.specs.declared.lines.NodeLine.{NodeLine}
 use Rattle.bw_cert_lines.specs.declared.lines.ChainLine.{ChainLine}
-use Rattle.bw_cert_lines.specs.declared.lines.RowLine.{RowLine}
+use Rattle.bw_cert_lines.specs.declared.lines.ProductLine.{ProductLine}
 use Rattle.bw_cert_lines.specs.CertificateShape.{CertificateShape}
 use Rattle.bw_cert_parts.specs.declared.nodes.Pair.{Pair}
 use Rattle.bw_cert_parts.specs.Pair.{pair_of}
 use Rattle.bw_cert_parts.specs.Walk.{Taken, judged}
 use Rattle.bw_cert_parts.proofs.AcceptLemmas.{judged_accepts}
 use Rattle.bw_cert.specs.FirstWrong.{WrongStated, WrongFact, WrongProgram, WrongBody, FirstWrong}
-use Rattle.bw_cert.specs.Stated.{facts_stated, with_lines, with_node_line, with_chain_line, with_row_line}
+use Rattle.bw_cert.specs.Stated.{facts_stated, with_lines, with_node_line, with_chain_line, with_product_line}
 use Rattle.bw_cert.specs.Valid.{checked, end_on}
 use Rattle.bw_cert.proofs.FaultLemmas.{bind_err}
 use Rattle.bw_cert.proofs.FirstFaultLemmas.{first_fault_stands}
@@ -45,18 +45,18 @@ fact_wrong : (columns : List Column) (certificate : CertificateShape) (fault : F
 fact_wrong columns certificate fault is = nodes (bind_err (with_lines with_node_line (no_facts columns) certificate.nodes) _ fault is)
   where
     chains : (held : Facts) → (with_lines with_chain_line held certificate.chains ≡ Err fault)
-        ⊎ ((more : Facts) × (with_lines with_chain_line held certificate.chains ≡ Ok more) × (with_lines with_row_line more certificate.rows ≡ Err fault)) →
+        ⊎ ((more : Facts) × (with_lines with_chain_line held certificate.chains ≡ Ok more) × (with_lines with_product_line more certificate.products ≡ Err fault)) →
         WrongStated ChainLine with_chain_line held certificate.chains fault
-        ⊎ ((chains : Facts) × (with_lines with_chain_line held certificate.chains ≡ Ok chains) × WrongStated RowLine with_row_line chains certificate.rows fault)
+        ⊎ ((chains : Facts) × (with_lines with_chain_line held certificate.chains ≡ Ok chains) × WrongStated ProductLine with_product_line chains certificate.products fault)
     chains held (inl refused) = inl (lines_wrong ChainLine with_chain_line certificate.chains held fault refused)
-    chains held (inr (more, there, refused)) = inr (more, there, lines_wrong RowLine with_row_line certificate.rows more fault refused)
+    chains held (inr (more, there, refused)) = inr (more, there, lines_wrong ProductLine with_product_line certificate.products more fault refused)
 
     nodes : (with_lines with_node_line (no_facts columns) certificate.nodes ≡ Err fault)
         ⊎ ((held : Facts) × (with_lines with_node_line (no_facts columns) certificate.nodes ≡ Ok held)
-        × ((with_lines with_chain_line held certificate.chains >>= λ more. with_lines with_row_line more certificate.rows) ≡ Err fault)) → WrongFact columns certificate fault
+        × ((with_lines with_chain_line held certificate.chains >>= λ more. with_lines with_product_line more certificate.products) ≡ Err fault)) → WrongFact columns certificate fault
     nodes (inl refused) = inl (lines_wrong NodeLine with_node_line certificate.nodes (no_facts columns) fault refused)
     nodes (inr (held, there, refused)) =
-        inr (held, there, chains held (bind_err (with_lines with_chain_line held certificate.chains) (λ more. with_lines with_row_line more certificate.rows) fault refused))
+        inr (held, there, chains held (bind_err (with_lines with_chain_line held certificate.chains) (λ more. with_lines with_product_line more certificate.products) fault refused))
 
 module _ (columns : List Column) (cond : Cond) (program : ProgramShape) (certificate : CertificateShape) (fault : Fault) where
   abbrev at_end : Facts → Pair → Taken → Result Facts Fault

@@ -17,7 +17,7 @@ use Rattle.bw_cert_parts.specs.Pair as pairs
 use Rattle.bw_cert_parts.specs.Known.{Known}
 use Rattle.bw_cert_parts.specs.Walk.{Taken}
 use Rattle.bw_cert_parts.specs.Walk as walk
-use Rattle.bw_cert.specs.Stated.{on_line, with_lines, with_node_line, with_chain_line, with_row_line, facts_stated}
+use Rattle.bw_cert.specs.Stated.{on_line, with_lines, with_node_line, with_chain_line, with_product_line, facts_stated}
 use Rattle.bw_cert.specs.Valid.{last_on}
 
 abbrev pub SayTheSame : List BodyLine → List BodyLine → Type 0
@@ -50,12 +50,12 @@ abbrev stated_said : List Column → CertificateFields → Result Facts Fault
 stated_said columns said =
     with_lines with_node_line (no_facts columns) said.nodes >>= λ facts.
     with_lines with_chain_said facts said.chains >>= λ facts.
-    with_lines with_row_line facts said.rows
+    with_lines with_product_line facts said.products
 
 stated-said : (columns : List Column) (certificate : CertificateShape) → facts_stated columns certificate ≡ stated_said columns (certificate_fields certificate)
 stated-said columns certificate =
     then-same (with_lines with_node_line (no_facts columns) certificate.nodes) _ _
-    (λ facts. ap (λ r. r >>= λ facts. with_lines with_row_line facts certificate.rows) (chains-said facts certificate.chains))
+    (λ facts. ap (λ r. r >>= λ facts. with_lines with_product_line facts certificate.products) (chains-said facts certificate.chains))
 
 pub stated-same : (columns : List Column) (certificate other : CertificateShape) → certificate_fields certificate ≡ certificate_fields other → facts_stated columns certificate ≡ facts_stated columns other
 stated-same columns certificate other same = stated-said columns certificate ∙ ap (stated_said columns) same ∙ sym (stated-said columns other)

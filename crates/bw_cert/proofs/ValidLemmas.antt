@@ -12,7 +12,7 @@ use Rattle.bw_model.specs.Variable.{Assignment}
 use Rattle.bw_diagram.specs.Node.{node_value}
 use Rattle.bw_diagram.specs.Product.{joined}
 use Rattle.bw_diagram.specs.Cited.{AreWorth, cited}
-use Rattle.bw_diagram.specs.Facts.{Facts, AreTrue, no_facts, with_node, with_chain, with_row}
+use Rattle.bw_diagram.specs.Facts.{Facts, AreTrue, no_facts, with_node, with_chain, with_product}
 use Rattle.bw_program.specs.declared.instr.Instr.{Instr}
 use Rattle.bw_program.specs.declared.instr.Instr.TheVariants as instr
 use Rattle.bw_diagram.specs.declared.node.Node.{Node}
@@ -28,7 +28,7 @@ use Rattle.bw_cert_parts.specs.Instruction.{behind, loaded_node, byte_chain, pla
 use Rattle.bw_cert_parts.specs.Join.{is_zero}
 use Rattle.bw_cert_parts.specs.Known.{Known, node_of}
 use Rattle.bw_cert_parts.specs.Walk.{Taken}
-use Rattle.bw_cert.specs.Stated.{on_line, with_lines, with_node_line, with_chain_line, with_row_line, facts_stated}
+use Rattle.bw_cert.specs.Stated.{on_line, with_lines, with_node_line, with_chain_line, with_product_line, facts_stated}
 use Rattle.bw_cert.specs.Valid.{last_on, end_on}
 
 pub bind_ok : {A B : Type 0} (r : Result A Fault) (f : A → Result B Fault) (y : B) → (r >>= f) ≡ Ok y → (x : A) × (r ≡ Ok x) × (f x ≡ Ok y)
@@ -101,7 +101,7 @@ stated_columns columns certificate facts is =
     let nodes = bind_ok (with_lines with_node_line (no_facts columns) certificate.nodes) _ facts is in
     let chains = bind_ok (with_lines with_chain_line nodes.0 certificate.chains) _ facts nodes.2 in
     let P : Facts → Type 0 = λ facts. facts.columns ≡ columns in
-    all_hold P with_row_line chains.0 facts certificate.rows (λ before more line right is. columns_kept before more _ _ (on_line_ok line.line _ more is) (λ x. refl) ∙ right)
+    all_hold P with_product_line chains.0 facts certificate.products (λ before more line right is. columns_kept before more _ _ (on_line_ok line.line _ more is) (λ x. refl) ∙ right)
     (all_hold P with_chain_line nodes.0 chains.0 certificate.chains (λ before more line right is. columns_kept before more _ _ (on_line_ok line.line _ more is) (λ x. refl) ∙ right)
     (all_hold P with_node_line (no_facts columns) nodes.0 certificate.nodes (λ before more line right is. columns_kept before more _ _ (on_line_ok line.line _ more is) (λ x. refl) ∙ right)
     refl nodes.1) chains.1) chains.2
@@ -110,12 +110,12 @@ stated_columns columns certificate facts is =
 pub stated_true : (columns : List Column) (certificate : CertificateShape) (facts : Facts) → AreTrue (no_facts columns) →
     ((facts more : Facts) (n : ℕ) (node : Node) → AreTrue facts → with_node facts n node ≡ Ok more → AreTrue more) →
     ((facts more : Facts) (n : ℕ) (named : Option Chain) → AreTrue facts → with_chain facts n named ≡ Ok more → AreTrue more) →
-    ((facts more : Facts) (n : ℕ) (row : Product) (reason : Reason) → AreTrue facts → with_row facts n row reason ≡ Ok more → AreTrue more) →
+    ((facts more : Facts) (n : ℕ) (row : Product) (reason : Reason) → AreTrue facts → with_product facts n row reason ≡ Ok more → AreTrue more) →
     facts_stated columns certificate ≡ Ok facts → AreTrue facts
 stated_true columns certificate facts start node chain row is =
     let nodes = bind_ok (with_lines with_node_line (no_facts columns) certificate.nodes) _ facts is in
     let chains = bind_ok (with_lines with_chain_line nodes.0 certificate.chains) _ facts nodes.2 in
-    all_hold AreTrue with_row_line chains.0 facts certificate.rows (λ before more line right is. row before more line.n _ line.reason right (on_line_ok line.line _ more is))
+    all_hold AreTrue with_product_line chains.0 facts certificate.products (λ before more line right is. row before more line.n _ line.reason right (on_line_ok line.line _ more is))
     (all_hold AreTrue with_chain_line nodes.0 chains.0 certificate.chains (λ before more line right is. chain before more line.n _ right (on_line_ok line.line _ more is))
     (all_hold AreTrue with_node_line (no_facts columns) nodes.0 certificate.nodes (λ before more line right is. node before more line.n _ right (on_line_ok line.line _ more is))
     start nodes.1) chains.1) chains.2

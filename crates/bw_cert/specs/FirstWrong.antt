@@ -8,14 +8,14 @@ use Rattle.bw_program.specs.Program.{ProgramShape}
 use Rattle.bw_cert_lines.specs.declared.lines.BodyLine.{BodyLine}
 use Rattle.bw_cert_lines.specs.declared.lines.NodeLine.{NodeLine}
 use Rattle.bw_cert_lines.specs.declared.lines.ChainLine.{ChainLine}
-use Rattle.bw_cert_lines.specs.declared.lines.RowLine.{RowLine}
+use Rattle.bw_cert_lines.specs.declared.lines.ProductLine.{ProductLine}
 use Rattle.bw_cert_lines.specs.CertificateShape.{CertificateShape}
 use Rattle.bw_cert_parts.specs.declared.nodes.Pair.{Pair}
 use Rattle.bw_cert_parts.specs.Pair.{pair_of}
 use Rattle.bw_cert_parts.specs.Accepted.{Accepts}
 use Rattle.bw_cert_parts.specs.Walk.{Taken}
 use Rattle.bw_cert.specs.FirstFault.{FirstFault}
-use Rattle.bw_cert.specs.Stated.{facts_stated, with_lines, with_node_line, with_chain_line, with_row_line}
+use Rattle.bw_cert.specs.Stated.{facts_stated, with_lines, with_node_line, with_chain_line, with_product_line}
 use Rattle.bw_cert.specs.Valid.{end_on}
 
 -- Of lines that state something, one after the other, this is the first that breaks its rule: those before it obey theirs.
@@ -36,7 +36,7 @@ WrongFact columns certificate fault =
     ⊎ ((nodes : Facts) × (with_lines with_node_line (no_facts columns) certificate.nodes ≡ Ok nodes)
     × (WrongStated ChainLine with_chain_line nodes certificate.chains fault
     ⊎ ((chains : Facts) × (with_lines with_chain_line nodes certificate.chains ≡ Ok chains)
-    × WrongStated RowLine with_row_line chains certificate.rows fault)))
+    × WrongStated ProductLine with_product_line chains certificate.products fault)))
 
 -- after a condition's lines, the first fault in those of the program's instructions and joins; and after these, END
 abbrev pub WrongProgram : Facts → ProgramShape → CertificateShape → Pair → List BodyLine → Fault → Type 0

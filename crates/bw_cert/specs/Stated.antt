@@ -4,10 +4,10 @@ use Rattle.bw_model.specs.declared.column.Column.{Column}
 use Rattle.bw_model.specs.declared.fault.Fault.{Fault}
 use Rattle.bw_model.specs.Fault.{at_line, ◌>>=◌}
 use Rattle.bw_diagram.specs.Chain.{chain_named}
-use Rattle.bw_diagram.specs.Facts.{Facts, no_facts, with_node, with_chain, with_row}
+use Rattle.bw_diagram.specs.Facts.{Facts, no_facts, with_node, with_chain, with_product}
 use Rattle.bw_cert_lines.specs.declared.lines.NodeLine.{NodeLine}
 use Rattle.bw_cert_lines.specs.declared.lines.ChainLine.{ChainLine}
-use Rattle.bw_cert_lines.specs.declared.lines.RowLine.{RowLine}
+use Rattle.bw_cert_lines.specs.declared.lines.ProductLine.{ProductLine}
 use Rattle.bw_cert_lines.specs.CertificateShape.{CertificateShape}
 
 -- a fault is one of the line of this number
@@ -22,8 +22,8 @@ with_node_line facts line = on_line line.line (with_node facts line.n
 abbrev pub with_chain_line : Facts → ChainLine → Result Facts Fault
 with_chain_line facts line = on_line line.line (with_chain facts line.n (chain_named facts.columns line.columns))
 
-abbrev pub with_row_line : Facts → RowLine → Result Facts Fault
-with_row_line facts line = on_line line.line (with_row facts line.n
+abbrev pub with_product_line : Facts → ProductLine → Result Facts Fault
+with_product_line facts line = on_line line.line (with_product facts line.n
     (record { op = line.op; a = line.a; b = line.b; c = line.c }) line.reason)
 
 -- what is held after lines, each of which obeys its rule after those before it
@@ -37,4 +37,4 @@ abbrev pub facts_stated : List Column → CertificateShape → Result Facts Faul
 facts_stated columns certificate =
     with_lines with_node_line (no_facts columns) certificate.nodes >>= λ facts.
     with_lines with_chain_line facts certificate.chains >>= λ facts.
-    with_lines with_row_line facts certificate.rows
+    with_lines with_product_line facts certificate.products

@@ -3,9 +3,9 @@ ghost use Rattle.std.specs.Prelude.{◌≡◌, List, true, false, IfErr, IsTrue}
 ghost use Rattle.bw_model.specs.declared.column.Column.{Column};
 ghost use Rattle.bw_model.specs.Fault.{Gives, is_memory, at_line, no_memory};
 ghost use Rattle.bw_diagram.specs.Facts.{is_diagram_fault};
-ghost use Rattle.bw_cert.specs.Stated.{facts_stated, with_lines, with_node_line, with_chain_line, with_row_line};
+ghost use Rattle.bw_cert.specs.Stated.{facts_stated, with_lines, with_node_line, with_chain_line, with_product_line};
 
-use bw_cert_lines::{Certificate, ChainLine, NodeLine, RowLine};
+use bw_cert_lines::{Certificate, ChainLine, NodeLine, ProductLine};
 use bw_diagram::Diagram;
 use bw_model::{Fault, Place, Schema, code};
 use std::alloc::Global;
@@ -24,7 +24,7 @@ pub(crate) fn diagram_of<'a>(
     let mut diagram = Diagram::new(alloc, schema);
     add_nodes(&mut diagram, certificate.node_lines())?;
     add_chains(&mut diagram, certificate.chain_lines())?;
-    add_rows(&mut diagram, certificate.row_lines())?;
+    add_products(&mut diagram, certificate.product_lines())?;
     Ok(diagram)
 }
 
@@ -65,12 +65,12 @@ fn add_chain(diagram: &mut Diagram<'_>, line: &ChainLine) -> Result<(), Fault>
 }
 
 /// Adds the product rows of some lines.
-fn add_rows(diagram: &mut Diagram<'_>, lines: &[RowLine]) -> Result<(), Fault>
-    ensures stated { Gives (λ _. diagram.new) result (with_lines with_row_line diagram.old lines.now) }
+fn add_products(diagram: &mut Diagram<'_>, lines: &[ProductLine]) -> Result<(), Fault>
+    ensures stated { Gives (λ _. diagram.new) result (with_lines with_product_line diagram.old lines.now) }
     ensures code { IfErr result (λ fault. IsTrue (is_diagram_fault fault)) }
 {
     for line in lines {
-        match diagram.add_row(line.n, line.op, line.a, line.b, line.c, line.reason) {
+        match diagram.add_product(line.n, line.op, line.a, line.b, line.c, line.reason) {
             Ok(()) => {}
             Err(fault) => return Err(placed(fault, line.line)),
         }

@@ -129,7 +129,7 @@ counted_said program said = record {
   skips = count_by is_skip program.instrs;
   nodes = length said.nodes;
   chains = length said.chains;
-  rows = length said.rows;
+  rows = length said.products;
 }
 
 counted-said : (program : ProgramShape) (certificate : CertificateShape) → counted program certificate ≡ counted_said program (certificate_fields certificate)
@@ -139,7 +139,7 @@ counted-said program certificate =
       skips = count_by is_skip program.instrs;
       nodes = length certificate.nodes;
       chains = chains;
-      rows = length certificate.rows;
+      rows = length certificate.products;
     }) (sym (length-map certificate.chains chain_fields))
 
 -- so a call that says why it refuses, and what it accepts, is exact

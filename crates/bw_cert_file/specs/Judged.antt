@@ -34,7 +34,7 @@ counted program certificate = record {
   skips = count_by is_skip program.instrs;
   nodes = length certificate.nodes;
   chains = length certificate.chains;
-  rows = length certificate.rows;
+  rows = length certificate.products;
 }
 
 -- what a certified file is reported as: its program, and these numbers

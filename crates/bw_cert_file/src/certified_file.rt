@@ -92,7 +92,7 @@ fn judge_file(
                 skips: certified.program().skips(),
                 nodes: certificate.nodes(),
                 chains: certificate.chains(),
-                rows: certificate.rows(),
+                rows: certificate.products(),
             };
             Ok(CertifiedFile {
                 certified,

@@ -5,14 +5,14 @@ use Rattle.bw_diagram.specs.declared.chain.ChainColumns.{ChainColumns}
 use Rattle.bw_diagram.specs.declared.chain.ChainColumns.TheVariants as columns
 use Rattle.bw_cert_lines.specs.declared.lines.NodeLine.{NodeLine}
 use Rattle.bw_cert_lines.specs.declared.lines.ChainLine.{ChainLine}
-use Rattle.bw_cert_lines.specs.declared.lines.RowLine.{RowLine}
+use Rattle.bw_cert_lines.specs.declared.lines.ProductLine.{ProductLine}
 use Rattle.bw_cert_lines.specs.declared.lines.BodyLine.{BodyLine}
 use Rattle.bw_cert_lines.specs.declared.lines.Entry.{Entry}
 use Rattle.bw_cert_lines.specs.declared.lines.Entry.TheVariants as entry
 use Rattle.bw_cert_lines.specs.declared.lines.ConditionEntry.{ConditionEntry}
 use Rattle.bw_cert_lines.specs.declared.lines.InstructionEntry.{InstructionEntry}
 use Rattle.bw_cert_lines.specs.declared.lines.Keep.{Keep}
-use Rattle.bw_cert_lines.specs.declared.lines.EdgeRows.{EdgeRows}
+use Rattle.bw_cert_lines.specs.declared.lines.EdgeProducts.{EdgeProducts}
 use Rattle.bw_cert_lines.specs.declared.lines.EndLine.{EndLine}
 use Rattle.bw_cert_lines.specs.CertificateShape.{CertificateShape}
 
@@ -31,7 +31,7 @@ pub record KeepFields : Type 0 where
   pub register : ℕ
   pub node : ℕ
   pub through : ℕ
-  pub edges : List EdgeRows
+  pub edges : List EdgeProducts
 
 pub data EntryFields : Type 0 where
   Condition : ConditionEntry → EntryFields
@@ -47,7 +47,7 @@ pub record BodyFields : Type 0 where
 pub record CertificateFields : Type 0 where
   pub nodes : List NodeLine
   pub chains : List ChainFields
-  pub rows : List RowLine
+  pub products : List ProductLine
   pub body : List BodyFields
   pub end : EndLine
 
@@ -80,7 +80,7 @@ abbrev pub certificate_fields : CertificateShape → CertificateFields
 certificate_fields certificate = record {
   nodes = certificate.nodes;
   chains = map chain_fields certificate.chains;
-  rows = certificate.rows;
+  products = certificate.products;
   body = map body_fields certificate.body;
   end = certificate.end;
 }

@@ -2,7 +2,7 @@
 use Rattle.std.specs.Prelude.{List}
 use Rattle.bw_cert_lines.specs.declared.lines.NodeLine.{NodeLine}
 use Rattle.bw_cert_lines.specs.declared.lines.ChainLine.{ChainLine}
-use Rattle.bw_cert_lines.specs.declared.lines.RowLine.{RowLine}
+use Rattle.bw_cert_lines.specs.declared.lines.ProductLine.{ProductLine}
 use Rattle.bw_cert_lines.specs.declared.lines.BodyLine.{BodyLine}
 use Rattle.bw_cert_lines.specs.declared.lines.EndLine.{EndLine}
 
@@ -10,6 +10,6 @@ use Rattle.bw_cert_lines.specs.declared.lines.EndLine.{EndLine}
 pub record CertificateShape : Type 0 where
   pub nodes : List NodeLine
   pub chains : List ChainLine
-  pub rows : List RowLine
+  pub products : List ProductLine
   pub body : List BodyLine
   pub end : EndLine

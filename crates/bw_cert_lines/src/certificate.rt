@@ -1,7 +1,7 @@
 //! Certificates.
 ghost use Rattle.std.specs.Prelude.{◌≡◌, length};
 
-use crate::lines::{BodyLine, ChainLine, EndLine, NodeLine, RowLine};
+use crate::lines::{BodyLine, ChainLine, EndLine, NodeLine, ProductLine};
 use std::marker::Model;
 
 /// A certificate as its lines.
@@ -9,7 +9,7 @@ use std::marker::Model;
 pub struct Certificate {
     pub(crate) nodes: Vec<NodeLine>,
     pub(crate) chains: Vec<ChainLine>,
-    pub(crate) rows: Vec<RowLine>,
+    pub(crate) products: Vec<ProductLine>,
     pub(crate) body: Vec<BodyLine>,
     pub(crate) end: EndLine,
 }
@@ -22,7 +22,7 @@ impl Model for Certificate {
     ghost view = { λ certificate. record {
       nodes = certificate.nodes.items;
       chains = certificate.chains.items;
-      rows = certificate.rows.items;
+      products = certificate.products.items;
       body = certificate.body.items;
       end = certificate.end;
     } };
@@ -33,14 +33,14 @@ impl Certificate {
     pub fn new(
         nodes: Vec<NodeLine>,
         chains: Vec<ChainLine>,
-        rows: Vec<RowLine>,
+        products: Vec<ProductLine>,
         body: Vec<BodyLine>,
         end: EndLine,
     ) -> Self
         ensures { result ≡ record {
           nodes = nodes.items;
           chains = chains.items;
-          rows = rows.items;
+          products = rows.items;
           body = body.items;
           end = end;
         } }
@@ -70,9 +70,9 @@ impl Certificate {
 
     /// How many product rows it states.
     pub fn rows(&self) -> usize
-        ensures { result ≡ length self.now.rows }
+        ensures { result ≡ length self.now.products }
     {
-        self.rows.len()
+        self.products.len()
     }
 
     /// The lines of its nodes, in order.
@@ -90,10 +90,10 @@ impl Certificate {
     }
 
     /// The lines of its product rows, in order.
-    pub fn row_lines(&self) -> &[RowLine]
-        ensures { result.now ≡ self.now.rows }
+    pub fn product_lines(&self) -> &[ProductLine]
+        ensures { result.now ≡ self.now.products }
     {
-        &self.rows
+        &self.products
     }
 
     /// The lines of conditions, instructions and joins, in order.

@@ -12,6 +12,6 @@ mod lines;
 
 pub use certificate::Certificate;
 pub use lines::{
-    BodyLine, ChainLine, ConditionEntry, EdgeRows, EndLine, Entry, InstructionEntry, Keep,
-    NodeLine, RowLine,
+    BodyLine, ChainLine, ConditionEntry, EdgeProducts, EndLine, Entry, InstructionEntry, Keep,
+    NodeLine, ProductLine,
 };

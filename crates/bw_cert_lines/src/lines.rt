@@ -22,7 +22,7 @@ pub struct ChainLine {
 
 /// `ROW n AND|OR|XOR|DIFF a b c S`, or `.. V v i j` in place of `S`: product row `n`.
 #[derive(Clone, Copy)]
-pub struct RowLine {
+pub struct ProductLine {
     pub line: u64,
     pub n: u64,
     pub op: Connective,
@@ -106,13 +106,13 @@ pub struct Keep {
     pub register: u8,
     pub node: u64,
     pub through: u64,
-    pub edges: Vec<EdgeRows>,
+    pub edges: Vec<EdgeProducts>,
 }
 
 /// The rows of one skip to a join: where the register's node there differs from the kept one, and that it does so
 /// nowhere but where the skip's register is 1.
 #[derive(Clone, Copy)]
-pub struct EdgeRows {
+pub struct EdgeProducts {
     pub differs: u64,
     pub within: u64,
 }

@@ -7,7 +7,7 @@ use Rattle.bw_diagram.specs.Facts.{Facts}
 use Rattle.bw_cert_lines.specs.declared.lines.BodyLine.{BodyLine}
 use Rattle.bw_cert_lines.specs.declared.lines.Entry.{Entry}
 use Rattle.bw_cert_lines.specs.declared.lines.Entry.TheVariants as line_of
-use Rattle.bw_cert_lines.specs.declared.lines.EdgeRows.{EdgeRows}
+use Rattle.bw_cert_lines.specs.declared.lines.EdgeProducts.{EdgeProducts}
 use Rattle.bw_cert_lines.specs.declared.lines.Keep.{Keep}
 use Rattle.bw_cert_parts.specs.declared.edge.Edge.{Edge}
 use Rattle.bw_cert_parts.specs.Join.{keeps_by_skip, keeps_by_skips, is_kept}
@@ -19,20 +19,20 @@ pub empty_is : {A : Type 0} (xs : List A) → length xs ≡ 0 → xs ≡ []
 empty_is [] is = refl
 empty_is (x ∷ xs) is = cc
 
-pub skips_without_pair : (facts : Facts) (keep : Keep) (skips edges : List Edge) (edge : Edge) (pairs : List EdgeRows) → skips ≡ edge ∷ edges → pairs ≡ [] → keeps_by_skips facts keep skips pairs ≡ false
+pub skips_without_pair : (facts : Facts) (keep : Keep) (skips edges : List Edge) (edge : Edge) (pairs : List EdgeProducts) → skips ≡ edge ∷ edges → pairs ≡ [] → keeps_by_skips facts keep skips pairs ≡ false
 unfolding keeps_by_skips
 skips_without_pair facts keep skips edges edge pairs some none = ap₂ (keeps_by_skips facts keep) some none
 
-pub skip_and_more : (facts : Facts) (keep : Keep) (skips edges : List Edge) (edge : Edge) (pairs more : List EdgeRows) (rows : EdgeRows) → skips ≡ edge ∷ edges → pairs ≡ rows ∷ more →
+pub skip_and_more : (facts : Facts) (keep : Keep) (skips edges : List Edge) (edge : Edge) (pairs more : List EdgeProducts) (rows : EdgeProducts) → skips ≡ edge ∷ edges → pairs ≡ rows ∷ more →
     keeps_by_skips facts keep skips pairs ≡ (keeps_by_skip facts keep edge rows && keeps_by_skips facts keep edges more)
 unfolding keeps_by_skips
 skip_and_more facts keep skips edges edge pairs more rows some pair = ap₂ (keeps_by_skips facts keep) some pair
 
-pub no_skips : (facts : Facts) (keep : Keep) (skips : List Edge) (pairs : List EdgeRows) → skips ≡ [] → keeps_by_skips facts keep skips pairs ≡ eqb (length pairs) 0
+pub no_skips : (facts : Facts) (keep : Keep) (skips : List Edge) (pairs : List EdgeProducts) → skips ≡ [] → keeps_by_skips facts keep skips pairs ≡ eqb (length pairs) 0
 unfolding keeps_by_skips
 no_skips facts keep skips pairs none = ap (λ es. keeps_by_skips facts keep es pairs) none ∙ at pairs
   where
-    at : (pairs : List EdgeRows) → keeps_by_skips facts keep [] pairs ≡ eqb (length pairs) 0
+    at : (pairs : List EdgeProducts) → keeps_by_skips facts keep [] pairs ≡ eqb (length pairs) 0
     at [] = refl
     at (rows ∷ more) = sym (eqb-suc-zero (length more))
 

@@ -51,7 +51,7 @@ module _ (facts : Facts) (are_worth : AreWorth facts) where
   pub null_cited-worth : (variable number : ℕ) (pair : Pair) → null_cited facts variable number ≡ Some pair →
       Worth facts.nodes (λ assignment. assignment variable) pair.yes × Worth facts.nodes (λ assignment. not (assignment variable)) pair.no
   null_cited-worth variable number pair is =
-      option_and_then_some (λ (row : Product). if_both (variable_cited facts variable row.b) (cited facts Diff 1 row.b number)) (slice_get facts.rows number) pair is (λ row there found. by_node row.b found)
+      option_and_then_some (λ (row : Product). if_both (variable_cited facts variable row.b) (cited facts Diff 1 row.b number)) (slice_get facts.products number) pair is (λ row there found. by_node row.b found)
     where
       by_node : (z : ℕ) → if_both (variable_cited facts variable z) (cited facts Diff 1 z number) ≡ Some pair →
           Worth facts.nodes (λ assignment. assignment variable) pair.yes × Worth facts.nodes (λ assignment. not (assignment variable)) pair.no

@@ -9,7 +9,7 @@ use Rattle.bw_diagram.specs.Cited.{cited}
 use Rattle.bw_program.specs.declared.instr.Instr.{Instr}
 use Rattle.bw_program.specs.Program.{is_register}
 use Rattle.bw_cert_lines.specs.declared.lines.BodyLine.{BodyLine}
-use Rattle.bw_cert_lines.specs.declared.lines.EdgeRows.{EdgeRows}
+use Rattle.bw_cert_lines.specs.declared.lines.EdgeProducts.{EdgeProducts}
 use Rattle.bw_cert_lines.specs.declared.lines.Entry.{Entry}
 use Rattle.bw_cert_lines.specs.declared.lines.Entry.TheVariants as entry
 use Rattle.bw_cert_lines.specs.declared.lines.Keep.{Keep}
@@ -68,18 +68,18 @@ keep-said (entry.Join place) = refl
 keep-said (entry.Keep keep) = refl
 
 -- a line KEEP is judged by its fields
-skip_said : Facts → ℕ → ℕ → Edge → EdgeRows → Bool
+skip_said : Facts → ℕ → ℕ → Edge → EdgeProducts → Bool
 skip_said facts node register edge rows =
     is_zero (option_and_then (λ differs. option_and_then (λ skipped. cited facts connective.Diff differs skipped rows.within) (node_of edge.known edge.register))
     (option_and_then (λ g. cited facts connective.Xor g node rows.differs) (node_of edge.known register)))
 
-skips_said : Facts → ℕ → ℕ → List Edge → List EdgeRows → Bool
+skips_said : Facts → ℕ → ℕ → List Edge → List EdgeProducts → Bool
 skips_said facts node register [] [] = true
 skips_said facts node register [] (rows ∷ others) = false
 skips_said facts node register (edge ∷ edges) [] = false
 skips_said facts node register (edge ∷ edges) (rows ∷ others) = skip_said facts node register edge rows && skips_said facts node register edges others
 
-skips-said : (facts : Facts) (keep : Keep) (edges : List Edge) (rows : List EdgeRows) → keeps_by_skips facts keep edges rows ≡ skips_said facts keep.node keep.register edges rows
+skips-said : (facts : Facts) (keep : Keep) (edges : List Edge) (rows : List EdgeProducts) → keeps_by_skips facts keep edges rows ≡ skips_said facts keep.node keep.register edges rows
 unfolding keeps_by_skips skips_said skip_said
 skips-said facts keep [] [] = refl
 skips-said facts keep [] (rows ∷ others) = refl

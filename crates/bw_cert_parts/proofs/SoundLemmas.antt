@@ -16,7 +16,7 @@ use Rattle.bw_program.specs.declared.instr.Instr.{Instr}
 use Rattle.bw_program.specs.declared.instr.Instr.TheVariants.{Load, Nulls, Fill, And, Or, Xor, Not, ByteLt, ByteEq, Skip}
 use Rattle.bw_program.specs.Machine.{State, step, step_of, state_after, steps_from, after_skip, is_zero_in_all, end_state}
 use Rattle.bw_program.specs.Program.{ProgramShape, is_sound, are_sound, is_program}
-use Rattle.bw_cert_lines.specs.declared.lines.EdgeRows.{EdgeRows}
+use Rattle.bw_cert_lines.specs.declared.lines.EdgeProducts.{EdgeProducts}
 use Rattle.bw_cert_lines.specs.declared.lines.Keep.{Keep}
 use Rattle.bw_cert_parts.specs.declared.edge.Edge.{Edge}
 use Rattle.bw_cert_parts.specs.Accepted.{KeepLine, JoinLines, Part, before, edges_before, edge_at, fallen, past, known_past, kept_by, are_kept, obeys_join, Obeys}
@@ -70,7 +70,7 @@ same_where_zero facts (lane ∷ lanes) g h z q differs within worth xor diff zer
     at true false zv_is none q_is = cc
 
 -- by a skip that is taken, a kept register holds the values of its node
-kept_by_skip : (facts : Facts) (lanes : List Assignment) (registers : ℕ → List Bool) (keep : Keep) (edge : Edge) (rows : EdgeRows) → AreWorth facts → Hold facts lanes edge.known registers →
+kept_by_skip : (facts : Facts) (lanes : List Assignment) (registers : ℕ → List Bool) (keep : Keep) (edge : Edge) (rows : EdgeProducts) → AreWorth facts → Hold facts lanes edge.known registers →
     is_zero_in_all (registers edge.register) ≡ true → keeps_by_skip facts keep edge rows ≡ true → registers keep.register ≡ values facts lanes keep.node
 kept_by_skip facts lanes registers keep edge rows worth holds zeros is =
     let z = chained (option_and_then (λ g. cited facts connective.Xor g keep.node rows.differs) (node_of edge.known keep.register)) _ 0 (zero_is _ is) in
@@ -84,7 +84,7 @@ In : Edge → List Edge → Type 0
 In edge [] = ⊥
 In edge (e ∷ edges) = (edge ≡ e) ⊎ In edge edges
 
-pair_there : (facts : Facts) (keep : Keep) (edge : Edge) (edges : List Edge) (rows : List EdgeRows) → In edge edges → keeps_by_skips facts keep edges rows ≡ true → (pair : EdgeRows) × (keeps_by_skip facts keep edge pair ≡ true)
+pair_there : (facts : Facts) (keep : Keep) (edge : Edge) (edges : List Edge) (rows : List EdgeProducts) → In edge edges → keeps_by_skips facts keep edges rows ≡ true → (pair : EdgeProducts) × (keeps_by_skip facts keep edge pair ≡ true)
 unfolding keeps_by_skips In
 pair_there facts keep edge [] rows there is = absurd there
 pair_there facts keep edge (e ∷ edges) [] there is = cc

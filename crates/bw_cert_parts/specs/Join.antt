@@ -4,7 +4,7 @@ use Rattle.std.specs.Option.{option_and_then}
 use Rattle.bw_diagram.specs.declared.product.Connective.TheVariants as connective
 use Rattle.bw_diagram.specs.Facts.{Facts}
 use Rattle.bw_diagram.specs.Cited.{cited}
-use Rattle.bw_cert_lines.specs.declared.lines.EdgeRows.{EdgeRows}
+use Rattle.bw_cert_lines.specs.declared.lines.EdgeProducts.{EdgeProducts}
 use Rattle.bw_cert_lines.specs.declared.lines.Keep.{Keep}
 use Rattle.bw_program.specs.declared.instr.Instr.{Instr}
 use Rattle.bw_program.specs.declared.instr.Instr.TheVariants.{Load, Nulls, Fill, And, Or, Xor, Not, ByteLt, ByteEq, Skip}
@@ -46,14 +46,14 @@ keeps_through facts through keep = is_zero (option_and_then (λ f. cited facts c
 
 -- By a skip, its node there differs from the kept one nowhere but where the skip's register is 1: one row says where they
 -- differ, and the other that this "and not" the skip's register is 0.
-abbrev pub keeps_by_skip : Facts → Keep → Edge → EdgeRows → Bool
+abbrev pub keeps_by_skip : Facts → Keep → Edge → EdgeProducts → Bool
 keeps_by_skip facts keep edge rows =
     is_zero (option_and_then (λ differs. option_and_then (λ skipped.
     cited facts connective.Diff differs skipped rows.within) (node_of edge.known edge.register))
     (option_and_then (λ g. cited facts connective.Xor g keep.node rows.differs) (node_of edge.known keep.register)))
 
 -- so by each skip, one pair of rows each
-unfoldable pub keeps_by_skips : Facts → Keep → List Edge → List EdgeRows → Bool
+unfoldable pub keeps_by_skips : Facts → Keep → List Edge → List EdgeProducts → Bool
 keeps_by_skips facts keep [] [] = true
 keeps_by_skips facts keep [] (rows ∷ more) = false
 keeps_by_skips facts keep (edge ∷ edges) [] = false

@@ -24,7 +24,7 @@ exchanged pair = pair_of_nodes pair.no pair.yes
 abbrev pub null_cited : Facts → ℕ → ℕ → Option Pair
 null_cited facts variable number = option_and_then
     (λ row. if_both (variable_cited facts variable row.b) (cited facts Diff 1 row.b number))
-    (slice_get facts.rows number)
+    (slice_get facts.products number)
 
 -- The node that is 1 where a column has a value: 1 where it has no null variable, and a line has `-`; else that of the
 -- null test that the line cites.

@@ -7,7 +7,7 @@ ghost use Rattle.bw_cert_parts.specs.Walk.{is_join, joined, keeps_taken};
 use crate::edge::Edge;
 use crate::judge::Judge;
 use crate::known::Known;
-use bw_cert_lines::{BodyLine, EdgeRows, Entry, Keep};
+use bw_cert_lines::{BodyLine, EdgeProducts, Entry, Keep};
 use bw_diagram::Connective;
 use bw_model::{Fault, code};
 
@@ -123,7 +123,7 @@ impl Judge<'_> {
     }
 
     /// Whether its node at a skip differs from that one nowhere but where the skip's register is 1.
-    fn keeps_by_skip(self, keep: &Keep, edge: &Edge, rows: EdgeRows) -> bool
+    fn keeps_by_skip(self, keep: &Keep, edge: &Edge, rows: EdgeProducts) -> bool
         requires { keep.now.register < 64 }
         ensures { result ≡ keeps_by_skip self.entry.diagram.now keep.now edge.now rows }
     {

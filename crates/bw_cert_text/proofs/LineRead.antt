@@ -15,12 +15,12 @@ use Rattle.bw_cert_text.specs.declared.kind.InstructionKind.TheVariants as instr
 use Rattle.bw_cert_text.specs.declared.kind.Form.{Form}
 use Rattle.bw_cert_text.specs.declared.kind.Form.TheVariants as form
 use Rattle.bw_cert_lines.specs.declared.lines.NodeLine.{NodeLine}
-use Rattle.bw_cert_lines.specs.declared.lines.RowLine.{RowLine}
+use Rattle.bw_cert_lines.specs.declared.lines.ProductLine.{ProductLine}
 use Rattle.bw_cert_lines.specs.declared.lines.ConditionEntry.{ConditionEntry}
 use Rattle.bw_cert_lines.specs.declared.lines.ConditionEntry.TheVariants.{Compare, CompareColumns, Fixed, NullTest, And, Or, Not, Is, IsUnknown}
 use Rattle.bw_cert_lines.specs.declared.lines.InstructionEntry.{InstructionEntry}
 use Rattle.bw_cert_lines.specs.declared.lines.InstructionEntry.TheVariants.{Load, Fill, Op, Byte, Skip}
-use Rattle.bw_cert_lines.specs.declared.lines.EdgeRows.{EdgeRows}
+use Rattle.bw_cert_lines.specs.declared.lines.EdgeProducts.{EdgeProducts}
 use Rattle.bw_cert_lines.specs.CertificateFields.{ColumnFields, One, Two, ChainFields, KeepFields, Condition, Instruction, Join, Kept}
 use Rattle.bw_cert_text.specs.LineText.{Node, Chain, Row, Body, Said, Before, End, node_in, one_column_in, two_columns_in, columns_behind, chain_in, reason_in, row_in, compare_in, compare_columns_in, is_in, condition_in, instruction_in, edges_in, keep_in, said_behind, said_by}
 use Rattle.bw_cert_text.specs.Operand.{◌>?◌, optional_of, register_of, nothing_in, number_in, two_in}
@@ -119,7 +119,7 @@ reason_read (w0 ∷ w1 ∷ w2 ∷ w3 ∷ []) x e =
     let same : Cofactors n1 n2 n3 ≡ x = cc e in rw (← same) (next t.0 (next p1 (next p2 (next p3 none))))
 reason_read (w0 ∷ w1 ∷ w2 ∷ w3 ∷ w4 ∷ words) x e = absurd (cc e)
 
-row_read : (line : ℕ) (word : List ℕ) (words : List (List ℕ)) (x : RowLine) → Begins kind.Row word → row_in line words ≡ Some x → IsSaid (Before (Row x)) line (word ∷ words)
+row_read : (line : ℕ) (word : List ℕ) (words : List (List ℕ)) (x : ProductLine) → Begins kind.Row word → row_in line words ≡ Some x → IsSaid (Before (Row x)) line (word ∷ words)
 row_read line word (w0 ∷ w1 ∷ w2 ∷ w3 ∷ w4 ∷ words) x key e =
     opened (natural_of w0) _ x e λ n0 p0 e.
     opened (connective_of w1) _ x e λ o q e.
@@ -223,7 +223,7 @@ instruction_read instruction.Byte word (w0 ∷ w1 ∷ words) x key e = absurd (c
 instruction_read instruction.Skip word words x key e =
     opened (nothing_in words) _ x e λ u there e. let same : Skip ≡ x = cc e in rw (← same) (next key (nothing_read words u there))
 
-edges_read : (words : List (List ℕ)) (x : List EdgeRows) → edges_in words ≡ Some x → AreSpelled (edge_tokens x) words
+edges_read : (words : List (List ℕ)) (x : List EdgeProducts) → edges_in words ≡ Some x → AreSpelled (edge_tokens x) words
 unfolding edges_in edge_tokens
 edges_read [] x e = let same : [] ≡ x = cc e in rw (← same) none
 edges_read (w0 ∷ []) x e = absurd (cc e)

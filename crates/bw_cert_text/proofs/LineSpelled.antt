@@ -10,12 +10,12 @@ use Rattle.bw_cert_text.specs.declared.kind.InstructionKind.TheVariants as instr
 use Rattle.bw_cert_text.specs.declared.kind.Form.{Form}
 use Rattle.bw_cert_text.specs.declared.kind.Form.TheVariants as form
 use Rattle.bw_cert_lines.specs.declared.lines.NodeLine.{NodeLine}
-use Rattle.bw_cert_lines.specs.declared.lines.RowLine.{RowLine}
+use Rattle.bw_cert_lines.specs.declared.lines.ProductLine.{ProductLine}
 use Rattle.bw_cert_lines.specs.declared.lines.ConditionEntry.{ConditionEntry}
 use Rattle.bw_cert_lines.specs.declared.lines.ConditionEntry.TheVariants.{Compare, CompareColumns, Fixed, NullTest, And, Or, Not, Is, IsUnknown}
 use Rattle.bw_cert_lines.specs.declared.lines.InstructionEntry.{InstructionEntry}
 use Rattle.bw_cert_lines.specs.declared.lines.InstructionEntry.TheVariants.{Load, Fill, Op, Byte, Skip}
-use Rattle.bw_cert_lines.specs.declared.lines.EdgeRows.{EdgeRows}
+use Rattle.bw_cert_lines.specs.declared.lines.EdgeProducts.{EdgeProducts}
 use Rattle.bw_cert_lines.specs.CertificateFields.{ColumnFields, One, Two, ChainFields, EntryFields, Condition, Instruction, Join, Kept}
 use Rattle.bw_cert_text.specs.LineText.{Node, Chain, Row, Body, Said, Before, End, columns_behind, reason_in, edges_in, said_by}
 use Rattle.bw_cert_text.specs.Token.{AreSpelled, none, next, node_tokens, column_tokens, chain_tokens, reason_tokens, row_tokens, condition_tokens, instruction_tokens, edge_tokens, end_tokens, entry_tokens}
@@ -66,7 +66,7 @@ spelled_reason : (r : Reason) (words : List (List ℕ)) → AreSpelled (reason_t
 spelled_reason Shortcut _ (next key none) = rw key refl
 spelled_reason (Cofactors v i j) _ (next key (next p1 (next p2 (next p3 none)))) = rw (key, p1, p2, p3) refl
 
-spelled_row : (line : ℕ) (row : RowLine) (words : List (List ℕ)) → line ≡ row.line → AreSpelled (row_tokens row) words → said_by line words ≡ Some (Before (Row row))
+spelled_row : (line : ℕ) (row : ProductLine) (words : List (List ℕ)) → line ≡ row.line → AreSpelled (row_tokens row) words → said_by line words ≡ Some (Before (Row row))
 spelled_row line row _ same (next {word = word} key (next p0 (next {word = op} q (next p2 (next p3 (next {words = words} p4 rest)))))) =
     rw (same, is_kind kind.Row word key, p0, is_connective row.op op q, p2, p3, p4, spelled_reason row.reason words rest) refl
 
@@ -91,7 +91,7 @@ spelled_instruction line (Byte a) _ (next {word = word} key (next {word = w0} p0
     rw (is_kind (kind.Instruction instruction.Byte) word key, read_optional w0 a p0) refl
 spelled_instruction line Skip _ (next {word = word} key none) = rw (is_kind (kind.Instruction instruction.Skip) word key) refl
 
-spelled_edges : (edges : List EdgeRows) (words : List (List ℕ)) → AreSpelled (edge_tokens edges) words → edges_in words ≡ Some edges
+spelled_edges : (edges : List EdgeProducts) (words : List (List ℕ)) → AreSpelled (edge_tokens edges) words → edges_in words ≡ Some edges
 unfolding edge_tokens edges_in
 spelled_edges [] _ none = refl
 spelled_edges (edge ∷ edges) _ (next p0 (next {words = words} p1 rest)) = rw (p0, p1, spelled_edges edges words rest) refl

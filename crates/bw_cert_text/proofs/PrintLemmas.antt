@@ -3,7 +3,7 @@ use Rattle.std.proofs.Common.{◌≡◌, ◌∙◌, refl, sym, ap, ℕ, suc, ◌
 use Rattle.std.proofs.lemmas.List.{append-nil, drop_all}
 use Rattle.std.proofs.Math.Seq.{drop-cons}
 use Rattle.bw_model.specs.declared.column.Column.{Column}
-use Rattle.bw_cert_lines.specs.declared.lines.EdgeRows.{EdgeRows}
+use Rattle.bw_cert_lines.specs.declared.lines.EdgeProducts.{EdgeProducts}
 use Rattle.bw_cert_lines.specs.CertificateFields.{chain_fields, body_fields, certificate_fields, ChainFields}
 use Rattle.bw_cert_lines.specs.CertificateShape.{CertificateShape}
 use Rattle.bw_cert_text.specs.declared.print.Token as declared
@@ -33,7 +33,7 @@ pub behind-end : (xs : List declared.Token) (i : ℕ) → length xs ≤ i → be
 unfolding behind_text
 behind-end xs i le = rw (drop_all i xs le) refl
 
-pub edges-next : (xs : List EdgeRows) (i : ℕ) (d : EdgeRows) → i < length xs →
+pub edges-next : (xs : List EdgeProducts) (i : ℕ) (d : EdgeProducts) → i < length xs →
     behind_text (edge_tokens (drop i xs))
     ≡ behind_text (Number (get_or xs i d).differs ∷ Number (get_or xs i d).within ∷ []) ++ behind_text (edge_tokens (drop (i + 1) xs))
 unfolding behind_text edge_tokens
@@ -43,7 +43,7 @@ edges-next xs i d lt = rw (add-one, drop-cons xs i d lt) (go (token_text (Number
     go a b rest =
         rw (append-nil b) (ap (λ (t : List ℕ). 32 ∷ t) (sym (append_assoc a (32 ∷ b) rest)))
 
-pub edges-end : (xs : List EdgeRows) (i : ℕ) → length xs ≤ i → behind_text (edge_tokens (drop i xs)) ≡ []
+pub edges-end : (xs : List EdgeProducts) (i : ℕ) → length xs ≤ i → behind_text (edge_tokens (drop i xs)) ≡ []
 unfolding behind_text edge_tokens
 edges-end xs i le = rw (drop_all i xs le) refl
 

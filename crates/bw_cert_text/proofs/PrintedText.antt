@@ -17,9 +17,9 @@ use Rattle.bw_model.specs.Lines.{NumberedWords, begins_comment, cut_lines, numbe
 use Rattle.bw_model.specs.Name.{is_name}
 use Rattle.bw_model.specs.Text.{same_text}
 use Rattle.bw_cert_lines.specs.declared.lines.NodeLine.{NodeLine}
-use Rattle.bw_cert_lines.specs.declared.lines.RowLine.{RowLine}
+use Rattle.bw_cert_lines.specs.declared.lines.ProductLine.{ProductLine}
 use Rattle.bw_cert_lines.specs.declared.lines.EndLine.{EndLine}
-use Rattle.bw_cert_lines.specs.declared.lines.EdgeRows.{EdgeRows}
+use Rattle.bw_cert_lines.specs.declared.lines.EdgeProducts.{EdgeProducts}
 use Rattle.bw_cert_lines.specs.declared.lines.ConditionEntry.{ConditionEntry}
 use Rattle.bw_cert_lines.specs.declared.lines.ConditionEntry.TheVariants.{Compare, CompareColumns, Fixed, NullTest, And, Or, Not, Is, IsUnknown}
 use Rattle.bw_cert_lines.specs.declared.lines.InstructionEntry.{InstructionEntry}
@@ -140,7 +140,7 @@ row_clear a b c op.Xor (Cofactors v i j) h = h
 row_clear a b c op.Diff Shortcut h = h
 row_clear a b c op.Diff (Cofactors v i j) h = h
 
-edges_clear : (edges : List EdgeRows) → list_all is_small (edge_tokens edges) ≡ true → list_all is_clear (edge_tokens edges) ≡ true
+edges_clear : (edges : List EdgeProducts) → list_all is_small (edge_tokens edges) ≡ true → list_all is_clear (edge_tokens edges) ≡ true
 unfolding edge_tokens
 edges_clear [] h = refl
 edges_clear (edge ∷ edges) h =
@@ -289,7 +289,7 @@ end_spelled n end h =
     ap (λ (t : List ℕ). numbered_from n (cut_lines t)) (sym (append-nil (line_text (end_tokens end)))) ∙ said in
     rw whole (at_end (record { line = n; row = end.row }) (refl, tokens_spelled (end_tokens end) h))
 
-row_all : (x : RowLine) → list_all is_small (row_tokens x) ≡ true → list_all is_clear (row_tokens x) ≡ true
+row_all : (x : ProductLine) → list_all is_small (row_tokens x) ≡ true → list_all is_clear (row_tokens x) ≡ true
 row_all x h =
     let first = both (nat_lt x.n (2 ^ 64)) (list_all is_small (Key (connective_spelling x.op) ∷ Number x.a ∷ Number x.b ∷ Number x.c ∷ reason_tokens x.reason)) h in
     rw first.0 (row_clear x.a x.b x.c x.op x.reason first.1)
@@ -306,7 +306,7 @@ unfolding numbered_on behind_section
 chains_behind first [] c = refl
 chains_behind first (x ∷ xs) c = ap (with_part (Chain (chain_at first x))) (chains_behind (first + 1) xs c)
 
-rows_behind : (first : ℕ) (xs : List RowLine) (c : CertificateFields) →
+rows_behind : (first : ℕ) (xs : List ProductLine) (c : CertificateFields) →
     behind_section Row row_at first xs c ≡ record { nodes = c.nodes; chains = c.chains; rows = numbered_on row_at first xs ++ c.rows; body = c.body; end = c.end }
 unfolding numbered_on behind_section
 rows_behind first [] c = refl
@@ -319,7 +319,7 @@ body_behind first [] c = refl
 body_behind first (x ∷ xs) c = ap (with_part (Body (body_at first x))) (body_behind (first + 1) xs c)
 
 -- a certificate without its end, put in front of that of which this is the end
-put_together : (nodes : List NodeLine) (chains : List ChainFields) (rows : List RowLine) (body : List BodyFields) (a b r y : ℕ) (end : EndLine) →
+put_together : (nodes : List NodeLine) (chains : List ChainFields) (rows : List ProductLine) (body : List BodyFields) (a b r y : ℕ) (end : EndLine) →
     behind_section Node node_at a nodes (behind_section Chain chain_at b chains (behind_section Row row_at r rows (behind_section Body body_at y body (end_alone end))))
     ≡ record { nodes = numbered_on node_at a nodes; chains = numbered_on chain_at b chains; rows = numbered_on row_at r rows; body = numbered_on body_at y body; end = end }
 put_together nodes chains rows body a b r y end =

@@ -16,12 +16,12 @@ use Rattle.bw_cert_text.specs.declared.kind.InstructionKind.TheVariants as instr
 use Rattle.bw_cert_text.specs.declared.kind.Form.{Form}
 use Rattle.bw_cert_text.specs.declared.kind.Form.TheVariants as form
 use Rattle.bw_cert_lines.specs.declared.lines.NodeLine.{NodeLine}
-use Rattle.bw_cert_lines.specs.declared.lines.RowLine.{RowLine}
+use Rattle.bw_cert_lines.specs.declared.lines.ProductLine.{ProductLine}
 use Rattle.bw_cert_lines.specs.declared.lines.ConditionEntry.{ConditionEntry}
 use Rattle.bw_cert_lines.specs.declared.lines.ConditionEntry.TheVariants.{Compare, CompareColumns, Fixed, NullTest, And, Or, Not, Is, IsUnknown}
 use Rattle.bw_cert_lines.specs.declared.lines.InstructionEntry.{InstructionEntry}
 use Rattle.bw_cert_lines.specs.declared.lines.InstructionEntry.TheVariants.{Load, Fill, Op, Byte, Skip}
-use Rattle.bw_cert_lines.specs.declared.lines.EdgeRows.{EdgeRows}
+use Rattle.bw_cert_lines.specs.declared.lines.EdgeProducts.{EdgeProducts}
 use Rattle.bw_cert_lines.specs.declared.lines.EndLine.{EndLine}
 use Rattle.bw_cert_lines.specs.CertificateFields.{ColumnFields, One, Two, ChainFields, KeepFields, EntryFields, Condition, Instruction, Join, Kept, BodyFields}
 use Rattle.bw_cert_text.specs.Operand.{◌>?◌, optional_of, register_of, nothing_in, number_in, two_in}
@@ -31,7 +31,7 @@ use Rattle.bw_cert_text.specs.Word.{kind_of, connective_of, form_of}
 pub data Part : Type 0 where
   Node : NodeLine → Part
   Chain : ChainFields → Part
-  Row : RowLine → Part
+  Row : ProductLine → Part
   Body : BodyFields → Part
 
 pub data Said : Type 0 where
@@ -81,7 +81,7 @@ reason_in (word ∷ v ∷ i ∷ j ∷ []) =
 reason_in words = None
 
 -- n, a connective, a b c, and the reason
-abbrev pub row_in : ℕ → List (List ℕ) → Option RowLine
+abbrev pub row_in : ℕ → List (List ℕ) → Option ProductLine
 row_in line (n ∷ word ∷ a ∷ b ∷ c ∷ words) =
     natural_of n >? λ n. connective_of word >? λ op. natural_of a >? λ a. natural_of b >? λ b. natural_of c >? λ c.
     reason_in words >? λ reason. Some (record { line = line; n = n; op = op; a = a; b = b; c = c; reason = reason })
@@ -130,7 +130,7 @@ instruction_in instruction.Byte words = byte_in words
 instruction_in instruction.Skip words = nothing_in words >? λ none. Some Skip
 
 -- whole pairs of numbers
-unfoldable pub edges_in : List (List ℕ) → Option (List EdgeRows)
+unfoldable pub edges_in : List (List ℕ) → Option (List EdgeProducts)
 edges_in [] = Some []
 edges_in (i ∷ []) = None
 edges_in (i ∷ j ∷ words) =

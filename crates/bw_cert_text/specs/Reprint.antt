@@ -2,7 +2,7 @@
 use Rattle.std.specs.Prelude.{ℕ, ◌+◌, ◌^◌, Bool, true, ◌&&◌, List, [], ◌∷◌, length, Some, None, nat_lt}
 use Rattle.std.specs.List.{list_all}
 use Rattle.bw_cert_lines.specs.declared.lines.NodeLine.{NodeLine}
-use Rattle.bw_cert_lines.specs.declared.lines.RowLine.{RowLine}
+use Rattle.bw_cert_lines.specs.declared.lines.ProductLine.{ProductLine}
 use Rattle.bw_cert_lines.specs.CertificateFields.{ChainFields, BodyFields, CertificateFields}
 use Rattle.bw_cert_text.specs.PrintText.{body_tokens}
 use Rattle.bw_cert_text.specs.Token.{Token, Key, Number, Perhaps, Column, Register, node_tokens, chain_tokens, row_tokens, end_tokens}
@@ -14,7 +14,7 @@ node_at line node = record { line = line; n = node.n; v = node.v; low = node.low
 abbrev pub chain_at : ℕ → ChainFields → ChainFields
 chain_at line chain = record { line = line; n = chain.n; columns = chain.columns }
 
-abbrev pub row_at : ℕ → RowLine → RowLine
+abbrev pub row_at : ℕ → ProductLine → ProductLine
 row_at line row = record { line = line; n = row.n; op = row.op; a = row.a; b = row.b; c = row.c; reason = row.reason }
 
 abbrev pub body_at : ℕ → BodyFields → BodyFields

@@ -8,12 +8,12 @@ use Rattle.bw_model.specs.Lines.{NumberedWords}
 use Rattle.bw_model.specs.Number.{natural_of}
 use Rattle.bw_model.specs.Text.{same_text}
 use Rattle.bw_cert_lines.specs.declared.lines.NodeLine.{NodeLine}
-use Rattle.bw_cert_lines.specs.declared.lines.RowLine.{RowLine}
+use Rattle.bw_cert_lines.specs.declared.lines.ProductLine.{ProductLine}
 use Rattle.bw_cert_lines.specs.declared.lines.ConditionEntry.{ConditionEntry}
 use Rattle.bw_cert_lines.specs.declared.lines.ConditionEntry.TheVariants.{Compare, CompareColumns, Fixed, NullTest, And, Or, Not, Is, IsUnknown}
 use Rattle.bw_cert_lines.specs.declared.lines.InstructionEntry.{InstructionEntry}
 use Rattle.bw_cert_lines.specs.declared.lines.InstructionEntry.TheVariants.{Load, Fill, Op, Byte, Skip}
-use Rattle.bw_cert_lines.specs.declared.lines.EdgeRows.{EdgeRows}
+use Rattle.bw_cert_lines.specs.declared.lines.EdgeProducts.{EdgeProducts}
 use Rattle.bw_cert_lines.specs.declared.lines.EndLine.{EndLine}
 use Rattle.bw_cert_lines.specs.CertificateFields.{ColumnFields, One, Two, ChainFields, KeepFields, EntryFields, Condition, Instruction, Join, Kept}
 use Rattle.bw_cert_text.specs.LineText.{Part, Node, Chain, Row, Body}
@@ -75,7 +75,7 @@ abbrev pub reason_tokens : Reason → List Token
 reason_tokens Shortcut = Key (codes "S") ∷ []
 reason_tokens (Cofactors v i j) = Key (codes "V") ∷ Number v ∷ Number i ∷ Number j ∷ []
 
-abbrev pub row_tokens : RowLine → List Token
+abbrev pub row_tokens : ProductLine → List Token
 row_tokens row =
     Key (codes "ROW") ∷ Number row.n ∷ Key (connective_spelling row.op) ∷ Number row.a ∷ Number row.b ∷ Number row.c
     ∷ reason_tokens row.reason
@@ -103,7 +103,7 @@ instruction_tokens (Byte chain) = Key (codes "BYTE") ∷ Perhaps chain ∷ []
 instruction_tokens Skip = Key (codes "SKIP") ∷ []
 
 -- KEEP r h x, and a pair of rows for each skip
-unfoldable pub edge_tokens : List EdgeRows → List Token
+unfoldable pub edge_tokens : List EdgeProducts → List Token
 edge_tokens [] = []
 edge_tokens (edge ∷ edges) = Number edge.differs ∷ Number edge.within ∷ edge_tokens edges
 

@@ -9,8 +9,8 @@ ghost use Rattle.bw_cert_text.specs.SaidFields.{part_fields, said_fields};
 use crate::kind::{ConditionKind, Form, InstructionKind, LineKind, connective_of};
 use crate::operand::{nothing_in, number_in, optional_of, register_of, two_in};
 use bw_cert_lines::{
-    BodyLine, ChainLine, ConditionEntry, EdgeRows, EndLine, Entry, InstructionEntry, Keep,
-    NodeLine, RowLine,
+    BodyLine, ChainLine, ConditionEntry, EdgeProducts, EndLine, Entry, InstructionEntry, Keep,
+    NodeLine, ProductLine,
 };
 use bw_diagram::{ChainColumns, ChainKind, Reason};
 use bw_model::{Line, is_same_text, natural_number};
@@ -21,7 +21,7 @@ use std::alloc::{AllocError, Global};
 pub(crate) enum Part {
     Node(NodeLine),
     Chain(ChainLine),
-    Row(RowLine),
+    Row(ProductLine),
     Body(BodyLine),
 }
 
@@ -178,7 +178,7 @@ fn reason_in(words: &[&[u8]]) -> Option<Reason>
 }
 
 /// A product row's number, its connective, `a b c` and the reason.
-fn row_in(line: u64, words: &[&[u8]]) -> Option<RowLine>
+fn row_in(line: u64, words: &[&[u8]]) -> Option<ProductLine>
     ensures { result ≡ row_in line (map (λ word. word.now) words.now) }
 {
     let [n, word, a, b, c, rest @ ..] = words else {
@@ -190,7 +190,7 @@ fn row_in(line: u64, words: &[&[u8]]) -> Option<RowLine>
     let b = natural_number(b)?;
     let c = natural_number(c)?;
     let reason = reason_in(rest)?;
-    Some(RowLine {
+    Some(ProductLine {
         line,
         n,
         op,
@@ -323,7 +323,7 @@ fn instruction_in(kind: InstructionKind, words: &[&[u8]]) -> Option<InstructionE
 }
 
 /// Whole pairs of numbers.
-fn edges_in(alloc: Global, words: &[&[u8]]) -> Result<Option<Vec<EdgeRows>>, AllocError>
+fn edges_in(alloc: Global, words: &[&[u8]]) -> Result<Option<Vec<EdgeProducts>>, AllocError>
     ensures { IfOk result
         (λ edges. option_map (λ edges. edges.items) edges ≡ edges_in (map (λ word. word.now) words.now)) }
 {
@@ -336,7 +336,7 @@ fn edges_in(alloc: Global, words: &[&[u8]]) -> Result<Option<Vec<EdgeRows>>, All
         let Some(within) = natural_number(j) else {
             return Ok(None);
         };
-        edges.push(EdgeRows { differs, within })?;
+        edges.push(EdgeProducts { differs, within })?;
         rest = more;
     }
     if rest.is_empty() {

@@ -9,7 +9,7 @@ ghost use Rattle.bw_cert_text.specs.Reprint.{numbers_fit};
 ghost use Rattle.bw_cert_text.specs.SaidFields.{part_fields, said_fields};
 
 use crate::line::{Part, Said, said_in};
-use bw_cert_lines::{BodyLine, Certificate, ChainLine, EndLine, NodeLine, RowLine};
+use bw_cert_lines::{BodyLine, Certificate, ChainLine, EndLine, NodeLine, ProductLine};
 use bw_model::{Fault, Line, Lines, code};
 use std::alloc::{AllocError, Global};
 
@@ -51,7 +51,7 @@ pub fn certificates_are_read_as_spelled()
 pub(crate) struct Parts {
     nodes: Vec<NodeLine>,
     chains: Vec<ChainLine>,
-    rows: Vec<RowLine>,
+    rows: Vec<ProductLine>,
     body: Vec<BodyLine>,
 }
 

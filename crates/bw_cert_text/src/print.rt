@@ -17,8 +17,8 @@ ghost use Rattle.bw_cert_text.specs.Token.{Key, one_key, two_key, node_tokens, c
 
 use crate::kind::connective_spelling;
 use bw_cert_lines::{
-    BodyLine, Certificate, ChainLine, ConditionEntry, EdgeRows, Entry, InstructionEntry, Keep,
-    NodeLine, RowLine,
+    BodyLine, Certificate, ChainLine, ConditionEntry, EdgeProducts, Entry, InstructionEntry, Keep,
+    NodeLine, ProductLine,
 };
 use bw_diagram::{ChainColumns, ChainKind, Reason};
 use bw_model::{Fault, Schema};
@@ -46,7 +46,7 @@ pub fn print_certificate(
     let mut text = Vec::new(alloc);
     put_nodes(alloc, certificate.node_lines(), &mut text)?;
     put_chains(alloc, schema, certificate.chain_lines(), &mut text)?;
-    put_rows(alloc, certificate.row_lines(), &mut text)?;
+    put_rows(alloc, certificate.product_lines(), &mut text)?;
     put_body(alloc, certificate.body(), &mut text)?;
     let end = [Token::Number(certificate.end().row)];
     put_line(alloc, b"END", &end, &mut text)?;
@@ -199,7 +199,7 @@ fn name_of<'a>(schema: &'a Schema, word: &'a [u8]) -> &'a [u8]
 }
 
 /// Appends the lines of product rows.
-fn put_rows(alloc: Global, rows: &[RowLine], text: &mut Vec<u8>) -> Result<(), AllocError>
+fn put_rows(alloc: Global, rows: &[ProductLine], text: &mut Vec<u8>) -> Result<(), AllocError>
     ensures { OnOk result (text.new.items ≡ text.old.items ++ lines_text row_tokens rows.now) }
 {
     for row in rows {
@@ -209,7 +209,7 @@ fn put_rows(alloc: Global, rows: &[RowLine], text: &mut Vec<u8>) -> Result<(), A
 }
 
 /// Appends the line of a product row.
-fn put_row(alloc: Global, row: &RowLine, text: &mut Vec<u8>) -> Result<(), AllocError>
+fn put_row(alloc: Global, row: &ProductLine, text: &mut Vec<u8>) -> Result<(), AllocError>
     ensures { OnOk result (text.new.items ≡ text.old.items ++ line_text (row_tokens row.now)) }
 {
     let op = connective_spelling(row.op);
@@ -344,7 +344,7 @@ fn put_keep(alloc: Global, keep: &Keep, text: &mut Vec<u8>) -> Result<(), AllocE
 }
 
 /// Appends pairs of numbers, each number after a blank.
-fn put_edges(alloc: Global, edges: &[EdgeRows], text: &mut Vec<u8>) -> Result<(), AllocError>
+fn put_edges(alloc: Global, edges: &[EdgeProducts], text: &mut Vec<u8>) -> Result<(), AllocError>
     ensures { OnOk result (text.new.items ≡ text.old.items ++ behind_text (edge_tokens edges.now)) }
 {
     for edge in edges {

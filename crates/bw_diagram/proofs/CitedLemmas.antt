@@ -61,9 +61,9 @@ variable_worth facts v n true_facts is = at (node_at facts.nodes n) refl is
 row_worth : (facts : Facts) (op : Connective) (a b number c : ℕ) → AreTrue facts → cited facts op a b number ≡ Some c →
     Worth facts (λ assignment. joined op (node_value facts.nodes assignment a) (node_value facts.nodes assignment b)) c
 unfolding cited
-row_worth facts op a b number c true_facts is = at (slice_get facts.rows number) refl is
+row_worth facts op a b number c true_facts is = at (slice_get facts.products number) refl is
   where
-    at : (found : Option Product) → slice_get facts.rows number ≡ found → option_and_then (third_node op a b) found ≡ Some c →
+    at : (found : Option Product) → slice_get facts.products number ≡ found → option_and_then (third_node op a b) found ≡ Some c →
         Worth facts (λ assignment. joined op (node_value facts.nodes assignment a) (node_value facts.nodes assignment b)) c
     at None there is = cc
     at (Some row) there is =

@@ -13,10 +13,10 @@ use Rattle.bw_diagram.specs.Node.{child, obeys_node}
 use Rattle.bw_diagram.specs.declared.chain.Chain.{Chain}
 use Rattle.bw_diagram.specs.Chain.{IsChain, obeys_chain}
 use Rattle.bw_diagram.specs.Product.{joined, IsProduct}
-use Rattle.bw_diagram.specs.Facts.{Facts, AreTrue, with_node, with_chain, with_row, judged_node, judged_chain, judged_if_named, judged_row, most_nodes, most_chains}
+use Rattle.bw_diagram.specs.Facts.{Facts, AreTrue, with_node, with_chain, with_product, judged_node, judged_chain, judged_if_named, judged_product, most_nodes, most_chains}
 use Rattle.bw_diagram.proofs.NodeLemmas.{node_value-append}
 use Rattle.bw_diagram.proofs.ChainLemmas.{IsChain-append, obeys_chain-chain}
-use Rattle.bw_diagram.proofs.ProductLemmas.{obeys_row-product}
+use Rattle.bw_diagram.proofs.ProductLemmas.{obeys_product-product}
 
 -- an item of a list with one more is an item of the list, or the one more
 pub slice_get-append_one : {A : Type 0} (xs : List A) (y : A) (k : ℕ) (x : A) → slice_get (xs ++ y ∷ []) k ≡ Some x → (slice_get xs k ≡ Some x) ⊎ ((k ≡ length xs) × (y ≡ x))
@@ -108,16 +108,16 @@ judged_node-true facts number node accepted is true_before =
             let P : Node → Type 0 = λ n. child bit n < 2 + k in subst P same here
 
 -- a product row that is accepted leaves all true
-pub judged_row-true : (facts : Facts) (number : ℕ) (row accepted : Product) (reason : Reason) → judged_row facts number row reason ≡ Ok accepted → AreTrue facts → AreTrue (record facts { rows = facts.rows ++ accepted ∷ [] })
-unfolding judged_row
-judged_row-true facts number row accepted reason is true_before =
+pub judged_product-true : (facts : Facts) (number : ℕ) (row accepted : Product) (reason : Reason) → judged_product facts number row reason ≡ Ok accepted → AreTrue facts → AreTrue (record facts { products = facts.products ++ accepted ∷ [] })
+unfolding judged_product
+judged_product-true facts number row accepted reason is true_before =
     let judged = judged-ok _ _ _ _ _ accepted is in
-    let product = obeys_row-product (variables_of facts.columns) facts.nodes facts.rows number row reason true_before.ordered true_before.products (not-false _ judged.1) in
-    let P : Product → Type 0 = λ r. AreTrue (record facts { rows = facts.rows ++ r ∷ [] }) in
+    let product = obeys_product-product (variables_of facts.columns) facts.nodes facts.products number row reason true_before.ordered true_before.products (not-false _ judged.1) in
+    let P : Product → Type 0 = λ r. AreTrue (record facts { products = facts.products ++ r ∷ [] }) in
     subst P judged.2 (record {
       ordered = true_before.ordered;
       chains = true_before.chains;
-      products = λ k other is. ⊎_elim (λ there. true_before.products k other there) (λ last. subst (IsProduct facts.nodes) last.1 product) (slice_get-append_one facts.rows row k other is);
+      products = λ k other is. ⊎_elim (λ there. true_before.products k other there) (λ last. subst (IsProduct facts.nodes) last.1 product) (slice_get-append_one facts.products row k other is);
     })
 
 -- a chain that is accepted leaves all true
@@ -154,7 +154,7 @@ with_chain-true facts after n named true_before is =
     let found = bind-ok (judged_chain facts n named) (λ chain. record facts { chains = facts.chains ++ chain ∷ [] }) after is in
     subst AreTrue found.2 (judged_chain-true facts n named found.0 found.1 true_before)
 
-pub with_row-true : (facts after : Facts) (n : ℕ) (row : Product) (reason : Reason) → AreTrue facts → with_row facts n row reason ≡ Ok after → AreTrue after
-with_row-true facts after n row reason true_before is =
-    let found = bind-ok (judged_row facts n row reason) (λ row. record facts { rows = facts.rows ++ row ∷ [] }) after is in
-    subst AreTrue found.2 (judged_row-true facts n row found.0 reason found.1 true_before)
+pub with_product-true : (facts after : Facts) (n : ℕ) (row : Product) (reason : Reason) → AreTrue facts → with_product facts n row reason ≡ Ok after → AreTrue after
+with_product-true facts after n row reason true_before is =
+    let found = bind-ok (judged_product facts n row reason) (λ row. record facts { products = facts.products ++ row ∷ [] }) after is in
+    subst AreTrue found.2 (judged_product-true facts n row found.0 reason found.1 true_before)

@@ -11,7 +11,7 @@ use Rattle.bw_diagram.specs.declared.product.Reason.TheVariants.{Shortcut, Cofac
 use Rattle.bw_diagram.specs.declared.node.Node.{Node}
 use Rattle.bw_model.specs.Variable.{Assignment}
 use Rattle.bw_diagram.specs.Node.{AreOrdered, node_value}
-use Rattle.bw_diagram.specs.Product.{joined, is_shortcut, same_connective, same_product, is_row, cofactor_row, follows, obeys_row, IsProduct}
+use Rattle.bw_diagram.specs.Product.{joined, is_shortcut, same_connective, same_product, is_product, cofactor_product, follows, obeys_product, IsProduct}
 use Rattle.bw_diagram.proofs.NodeLemmas.{node_value-zero, node_value-one, node_value-cofactor}
 
 -- what follows from each of two tests follows from either
@@ -123,16 +123,16 @@ same_product-true row other is =
     ∙ ap (λ n. with other.op other.a n row.c) (eqb-true row.b other.b b.1)
     ∙ ap (λ n. with other.op other.a other.b n) (eqb-true row.c other.c c.1)
 
-is_row-some : (row : Product) (found : Option Product) → is_row row found ≡ true → found ≡ Some row
-is_row-some row None is = cc
-is_row-some row (Some other) is = ap Some (same_product-true other row is)
+is_product-some : (row : Product) (found : Option Product) → is_product row found ≡ true → found ≡ Some row
+is_product-some row None is = cc
+is_product-some row (Some other) is = ap Some (same_product-true other row is)
 
 -- the claims of the rows of its cofactors give the claim of a row
-cofactors_join : (nodes : List Node) (v : ℕ) (row : Product) → AreOrdered nodes → IsProduct nodes (cofactor_row nodes v false row) → IsProduct nodes (cofactor_row nodes v true row) → (assignment : Assignment) →
+cofactors_join : (nodes : List Node) (v : ℕ) (row : Product) → AreOrdered nodes → IsProduct nodes (cofactor_product nodes v false row) → IsProduct nodes (cofactor_product nodes v true row) → (assignment : Assignment) →
     node_value nodes assignment row.c ≡ joined row.op (node_value nodes assignment row.a) (node_value nodes assignment row.b)
 cofactors_join nodes v row ordered low high assignment = by_side (assignment v) refl
   where
-    from : (bit : Bool) → assignment v ≡ bit → IsProduct nodes (cofactor_row nodes v bit row) → node_value nodes assignment row.c ≡ joined row.op (node_value nodes assignment row.a) (node_value nodes assignment row.b)
+    from : (bit : Bool) → assignment v ≡ bit → IsProduct nodes (cofactor_product nodes v bit row) → node_value nodes assignment row.c ≡ joined row.op (node_value nodes assignment row.a) (node_value nodes assignment row.b)
     from bit side product =
         sym (node_value-cofactor nodes assignment v bit row.c ordered side)
         ∙ product.joins assignment
@@ -143,10 +143,10 @@ cofactors_join nodes v row ordered low high assignment = by_side (assignment v) 
     by_side false side = from false side low
 
 -- a row that obeys its rule is true, where the rows before it are
-pub obeys_row-product : (variables : ℕ) (nodes : List Node) (rows : List Product) (number : ℕ) (row : Product) (reason : Reason) → AreOrdered nodes →
-    ((k : ℕ) (row : Product) → slice_get rows k ≡ Some row → IsProduct nodes row) → obeys_row variables nodes rows number row reason ≡ true → IsProduct nodes row
-unfolding obeys_row
-obeys_row-product variables nodes rows number row reason ordered before is =
+pub obeys_product-product : (variables : ℕ) (nodes : List Node) (rows : List Product) (number : ℕ) (row : Product) (reason : Reason) → AreOrdered nodes →
+    ((k : ℕ) (row : Product) → slice_get rows k ≡ Some row → IsProduct nodes row) → obeys_product variables nodes rows number row reason ≡ true → IsProduct nodes row
+unfolding obeys_product
+obeys_product-product variables nodes rows number row reason ordered before is =
     let reasoned = both _ _ is in
     let c = both _ _ reasoned.0 in
     let b = both _ _ c.0 in
@@ -166,5 +166,5 @@ obeys_row-product variables nodes rows number row reason ordered before is =
         let high = both _ _ is in
         let low = both _ _ high.0 in
         cofactors_join nodes v row ordered
-        (before i (cofactor_row nodes v false row) (is_row-some _ _ low.1))
-        (before j (cofactor_row nodes v true row) (is_row-some _ _ high.1)) assignment
+        (before i (cofactor_product nodes v false row) (is_product-some _ _ low.1))
+        (before j (cofactor_product nodes v true row) (is_product-some _ _ high.1)) assignment

@@ -17,7 +17,7 @@ third_node op a b row = if same_connective row.op op && row.a == a && row.b == b
 
 -- the node that the product row of this number says to be the connective of two nodes
 unfoldable pub cited : Facts → Connective → ℕ → ℕ → ℕ → Option ℕ
-cited facts op a b number = option_and_then (third_node op a b) (slice_get facts.rows number)
+cited facts op a b number = option_and_then (third_node op a b) (slice_get facts.products number)
 
 -- the node that the chain of this number compares so many bits of a column by, from the bit `start` upwards, with a number
 unfoldable pub chain_cited : Facts → ChainKind → ℕ → ℕ → ℕ → ℕ → ℕ → Option ℕ

@@ -9,7 +9,7 @@ held diagram = record {
   columns = diagram.schema.now.columns.items;
   nodes = diagram.nodes.items;
   chains = diagram.chains.items;
-  rows = diagram.rows.items;
+  products = diagram.products.items;
 }
 
 -- the number of variables is the schema's, the limits are kept, and the facts are true

@@ -11,14 +11,14 @@ use Rattle.bw_diagram.specs.declared.product.Product.{Product}
 use Rattle.bw_diagram.specs.declared.product.Reason.{Reason}
 use Rattle.bw_diagram.specs.Node.{AreOrdered, obeys_node}
 use Rattle.bw_diagram.specs.Chain.{IsChain, obeys_chain}
-use Rattle.bw_diagram.specs.Product.{IsProduct, obeys_row}
+use Rattle.bw_diagram.specs.Product.{IsProduct, obeys_product}
 
 -- the columns that it is about, and its nodes, chains and product rows, each in the order of their numbers
 pub record Facts : Type 0 where
   pub columns : List Column
   pub nodes : List Node
   pub chains : List Chain
-  pub rows : List Product
+  pub products : List Product
 
 -- at most so many of each
 abbrev pub most_nodes : ℕ
@@ -34,11 +34,11 @@ most_products = 1048576
 pub record AreTrue (facts : Facts) : Type 0 where
   pub ordered : AreOrdered facts.nodes
   pub chains : (k : ℕ) (chain : Chain) → slice_get facts.chains k ≡ Some chain → IsChain facts.columns facts.nodes chain
-  pub products : (k : ℕ) (row : Product) → slice_get facts.rows k ≡ Some row → IsProduct facts.nodes row
+  pub products : (k : ℕ) (row : Product) → slice_get facts.products k ≡ Some row → IsProduct facts.nodes row
 
 -- what is held before any line
 abbrev pub no_facts : List Column → Facts
-no_facts columns = record { columns = columns; nodes = []; chains = []; rows = [] }
+no_facts columns = record { columns = columns; nodes = []; chains = []; products = [] }
 
 -- A node that may come next under a number: 604 where there is no room, and then 601 where it breaks its rule.
 unfoldable pub judged_node : Facts → ℕ → Node → Result Node Fault
@@ -68,16 +68,16 @@ with_chain facts number named =
     judged_chain facts number named >>= λ chain. Ok (record facts { chains = facts.chains ++ chain ∷ [] })
 
 -- A product row that may come next under a number: 604 where there is no room, and then 602 where it breaks its rule.
-unfoldable pub judged_row : Facts → ℕ → Product → Reason → Result Product Fault
-judged_row facts number row reason =
-    refused_if (nat_le most_products (length facts.rows)) (nowhere LIMIT)
-    (refused_if (not (obeys_row (variables_of facts.columns) facts.nodes facts.rows number row reason)) (nowhere PRODUCT_ROW)
+unfoldable pub judged_product : Facts → ℕ → Product → Reason → Result Product Fault
+judged_product facts number row reason =
+    refused_if (nat_le most_products (length facts.products)) (nowhere LIMIT)
+    (refused_if (not (obeys_product (variables_of facts.columns) facts.nodes facts.products number row reason)) (nowhere PRODUCT_ROW)
     (Ok row))
 
 -- what is held after its line
-abbrev pub with_row : Facts → ℕ → Product → Reason → Result Facts Fault
-with_row facts number row reason =
-    judged_row facts number row reason >>= λ row. Ok (record facts { rows = facts.rows ++ row ∷ [] })
+abbrev pub with_product : Facts → ℕ → Product → Reason → Result Facts Fault
+with_product facts number row reason =
+    judged_product facts number row reason >>= λ row. Ok (record facts { products = facts.products ++ row ∷ [] })
 
 -- one of 601 to 604, or out of memory
 abbrev pub is_diagram_fault : Fault → Bool

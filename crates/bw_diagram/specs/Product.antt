@@ -57,13 +57,13 @@ abbrev pub same_product : Product → Product → Bool
 same_product row other = same_connective row.op other.op && row.a == other.a && row.b == other.b && row.c == other.c
 
 -- there is a row, and it is this one
-abbrev pub is_row : Product → Option Product → Bool
-is_row row None = false
-is_row row (Some other) = same_product other row
+abbrev pub is_product : Product → Option Product → Bool
+is_product row None = false
+is_product row (Some other) = same_product other row
 
 -- a row of the cofactors of a row's nodes
-abbrev pub cofactor_row : List Node → ℕ → Bool → Product → Product
-cofactor_row nodes v bit row = record {
+abbrev pub cofactor_product : List Node → ℕ → Bool → Product → Product
+cofactor_product nodes v bit row = record {
   op = row.op;
   a = cofactor nodes v bit row.a;
   b = cofactor nodes v bit row.b;
@@ -74,11 +74,11 @@ cofactor_row nodes v bit row = record {
 abbrev pub follows : ℕ → List Node → List Product → Product → Reason → Bool
 follows variables nodes rows row Shortcut = is_shortcut row.op row.a row.b row.c
 follows variables nodes rows row (Cofactors v i j) =
-    nat_lt v variables && is_row (cofactor_row nodes v false row) (slice_get rows i)
-    && is_row (cofactor_row nodes v true row) (slice_get rows j)
+    nat_lt v variables && is_product (cofactor_product nodes v false row) (slice_get rows i)
+    && is_product (cofactor_product nodes v true row) (slice_get rows j)
 
 -- A row of this number may come next.
-unfoldable pub obeys_row : ℕ → List Node → List Product → ℕ → Product → Reason → Bool
-obeys_row variables nodes rows number row reason =
+unfoldable pub obeys_product : ℕ → List Node → List Product → ℕ → Product → Reason → Bool
+obeys_product variables nodes rows number row reason =
     (number == length rows) && is_node nodes row.a && is_node nodes row.b && is_node nodes row.c
     && follows variables nodes rows row reason

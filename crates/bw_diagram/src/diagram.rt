@@ -5,7 +5,7 @@ ghost use Rattle.bw_model.specs.Variable.{Assignment};
 ghost use Rattle.bw_diagram.specs.Node.{node_at, node_value};
 ghost use Rattle.bw_diagram.specs.Chain.{IsChain, chain_named};
 ghost use Rattle.bw_diagram.specs.Product.{IsProduct};
-ghost use Rattle.bw_diagram.specs.Facts.{is_diagram_fault, no_facts, judged_node, judged_chain, judged_row, with_node, with_chain, with_row};
+ghost use Rattle.bw_diagram.specs.Facts.{is_diagram_fault, no_facts, judged_node, judged_chain, judged_product, with_node, with_chain, with_product};
 
 mod laws;
 mod steps;
@@ -35,7 +35,7 @@ pub struct Diagram<'a> {
     variables: u32,
     nodes: Vec<Node>,
     chains: Vec<Chain>,
-    rows: Vec<Product>,
+    products: Vec<Product>,
 }
 
 impl<'a> Model for Diagram<'a> {
@@ -93,7 +93,7 @@ impl<'a> Diagram<'a> {
 
     /// Adds product row `n`: 604 where there is no room, 602 where `n` isn't the next number, `a`, `b` or `c`
     /// no node, or the reason none.
-    pub fn add_row(
+    pub fn add_product(
         &mut self,
         n: u64,
         op: Connective,
@@ -103,12 +103,12 @@ impl<'a> Diagram<'a> {
         reason: Reason,
     ) -> Result<(), Fault>
         ensures exact { Gives (λ _. self.new) result
-            (with_row self.old n (record { op = op; a = a; b = b; c = c }) reason) }
+            (with_product self.old n (record { op = op; a = a; b = b; c = c }) reason) }
         ensures refused { OnErr result (self.new ≡ self.old) }
         ensures code { IfErr result (λ fault. IsTrue (is_diagram_fault fault)) }
     {
-        let row = self.accepted_row(n, op, a, b, c, reason)?;
-        self.rows.push(row)?;
+        let row = self.accepted_product(n, op, a, b, c, reason)?;
+        self.products.push(row)?;
         Ok(())
     }
 
@@ -151,8 +151,8 @@ impl<'a> Diagram<'a> {
     }
 
     /// The product row of these fields, if it may come next.
-    #[tactic(auto, unfolding(crate::specs::Facts::judged_row, crate::specs::Product::obeys_row))]
-    fn accepted_row(
+    #[tactic(auto, unfolding(crate::specs::Facts::judged_product, crate::specs::Product::obeys_product))]
+    fn accepted_product(
         &self,
         n: u64,
         op: Connective,
@@ -161,14 +161,14 @@ impl<'a> Diagram<'a> {
         c: u64,
         reason: Reason,
     ) -> Result<Product, Fault>
-        ensures judged { result ≡ judged_row self.now n (record { op = op; a = a; b = b; c = c }) reason }
+        ensures judged { result ≡ judged_product self.now n (record { op = op; a = a; b = b; c = c }) reason }
         ensures code { IfErr result (λ fault. IsTrue (is_diagram_fault fault)) }
     {
-        if self.rows.len() >= MAX_PRODUCTS {
+        if self.products.len() >= MAX_PRODUCTS {
             return Err(Fault::new(code::LIMIT));
         }
         let next = 2 + self.nodes.len() as u64;
-        if n != self.rows.len() as u64 || a >= next || b >= next || c >= next {
+        if n != self.products.len() as u64 || a >= next || b >= next || c >= next {
             return Err(Fault::new(code::PRODUCT_ROW));
         }
         let row = Product {
@@ -177,7 +177,7 @@ impl<'a> Diagram<'a> {
             b: b as u32,
             c: c as u32,
         };
-        if !row.follows(self.variables, &self.nodes, &self.rows, reason) {
+        if !row.follows(self.variables, &self.nodes, &self.products, reason) {
             return Err(Fault::new(code::PRODUCT_ROW));
         }
         Ok(row)
@@ -199,8 +199,8 @@ impl<'a> Diagram<'a> {
 
     /// The product row of a number.
     pub fn row(&self, n: u64) -> Option<Product>
-        ensures { result ≡ slice_get self.now.rows n }
+        ensures { result ≡ slice_get self.now.products n }
     {
-        self.rows.get(n as usize).copied()
+        self.products.get(n as usize).copied()
     }
 }

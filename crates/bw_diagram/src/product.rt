@@ -1,6 +1,6 @@
 //! Product rows: that a node is a connective of two others, and why.
 ghost use Rattle.std.specs.Prelude.{◌≡◌, slice_get};
-ghost use Rattle.bw_diagram.specs.Product.{is_shortcut, is_row, same_product, cofactor_row, follows};
+ghost use Rattle.bw_diagram.specs.Product.{is_shortcut, is_product, same_product, cofactor_product, follows};
 
 use crate::node::{Node, cofactor};
 
@@ -62,7 +62,7 @@ impl Product {
 
     /// The row of the cofactors of its nodes.
     fn cofactor(self, nodes: &[Node], v: u64, bit: bool) -> Self
-        ensures { result ≡ cofactor_row nodes.now v bit self }
+        ensures { result ≡ cofactor_product nodes.now v bit self }
     {
         Product {
             op: self.op,
@@ -74,7 +74,7 @@ impl Product {
 
     /// Whether this is the row of a number.
     fn is_at(self, rows: &[Product], number: u64) -> bool
-        ensures { result ≡ is_row self (slice_get rows.now number) }
+        ensures { result ≡ is_product self (slice_get rows.now number) }
     {
         match rows.get(number as usize) {
             Some(row) => *row == self,

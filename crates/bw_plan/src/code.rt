@@ -5,7 +5,7 @@ use crate::facts::Facts;
 use crate::order::VariableOrder;
 use crate::products::Logic;
 use crate::refusal::Refusal;
-use bw_cert_lines::{EdgeRows, Entry, InstructionEntry, Keep};
+use bw_cert_lines::{EdgeProducts, Entry, InstructionEntry, Keep};
 use bw_program::{ColumnIndex, Instr, Register, SliceIndex};
 use std::alloc::Global;
 
@@ -517,7 +517,7 @@ impl<'a> Code<'a> {
         register: Register,
         node: u32,
         at: usize,
-    ) -> Result<Option<EdgeRows>, Refusal> {
+    ) -> Result<Option<EdgeProducts>, Refusal> {
         let Some((tested, held)) = self.at_skip(register, at) else {
             return Ok(None);
         };
@@ -528,7 +528,7 @@ impl<'a> Code<'a> {
         if within.node != 0 {
             return Ok(None);
         }
-        Ok(Some(EdgeRows {
+        Ok(Some(EdgeProducts {
             differs: u64::from(differs.number),
             within: u64::from(within.number),
         }))

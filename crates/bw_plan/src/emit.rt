@@ -10,7 +10,7 @@ use crate::facts::Facts;
 use crate::nodes::Branch;
 use crate::products::{Outcome, Question};
 use crate::refusal::Refusal;
-use bw_cert_lines::{BodyLine, Certificate, ChainLine, EndLine, Entry, NodeLine, RowLine};
+use bw_cert_lines::{BodyLine, Certificate, ChainLine, EndLine, Entry, NodeLine, ProductLine};
 use bw_diagram::{ChainColumns, Reason};
 use bw_model::{Schema, code};
 use bw_program::{ColumnIndex, Instr, Program, Register, SliceIndex};
@@ -185,7 +185,7 @@ pub(crate) fn certificate(
     let line = line.saturating_add(nodes.len() as u64);
     let chains = chain_lines(alloc, schema, facts.chains(), line)?;
     let line = line.saturating_add(chains.len() as u64);
-    let rows = row_lines(alloc, facts.rows(), line)?;
+    let rows = product_lines(alloc, facts.products(), line)?;
     let line = line.saturating_add(rows.len() as u64);
     let body = body_lines(alloc, entries, line)?;
     let end = EndLine {
@@ -224,11 +224,11 @@ fn chain_lines(
 }
 
 /// The lines of product rows.
-fn row_lines(
+fn product_lines(
     alloc: Global,
     rows: &IndexMap<Question, Outcome>,
     first: u64,
-) -> Result<Vec<RowLine>, Refusal> {
+) -> Result<Vec<ProductLine>, Refusal> {
     let mut lines = Vec::new(alloc);
     for (question, answer) in rows {
         let number = lines.len() as u64;
@@ -259,7 +259,7 @@ fn node_line(line: u64, number: u64, node: Branch) -> NodeLine {
 }
 
 /// The line of a product row.
-fn row_line(line: u64, number: u64, question: Question, answer: Outcome) -> RowLine {
+fn row_line(line: u64, number: u64, question: Question, answer: Outcome) -> ProductLine {
     let reason = match answer.reason {
         None => Reason::Shortcut,
         Some(cofactors) => Reason::Cofactors {
@@ -268,7 +268,7 @@ fn row_line(line: u64, number: u64, question: Question, answer: Outcome) -> RowL
             j: u64::from(cofactors.high),
         },
     };
-    RowLine {
+    ProductLine {
         line,
         n: number,
         op: question.op.connective(),

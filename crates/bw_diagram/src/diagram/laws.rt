@@ -11,7 +11,7 @@ ghost use Rattle.bw_diagram.specs.declared.product.Reason.{Reason};
 ghost use Rattle.bw_diagram.specs.Node.{IsNode, node_at, node_value, child};
 ghost use Rattle.bw_diagram.specs.Chain.{IsChain, padded_number};
 ghost use Rattle.bw_diagram.specs.Product.{IsProduct};
-ghost use Rattle.bw_diagram.specs.Facts.{Facts, AreTrue, no_facts, with_node, with_chain, with_row};
+ghost use Rattle.bw_diagram.specs.Facts.{Facts, AreTrue, no_facts, with_node, with_chain, with_product};
 
 use super::Diagram;
 
@@ -44,11 +44,11 @@ impl Diagram<'_> {
     }
 
     /// A law: each product row is true of every assignment.
-    pub fn rows_are_true(&self)
-        ensures { (n : ℕ) (row : Product) → slice_get self.now.rows n ≡ Some row
+    pub fn products_are_true(&self)
+        ensures { (n : ℕ) (row : Product) → slice_get self.now.products n ≡ Some row
             → IsProduct self.now.nodes row }
     {
-        let _ = &self.rows;
+        let _ = &self.products;
     }
 }
 
@@ -78,5 +78,5 @@ pub fn accepted_lines_are_true()
     ensures chain { (facts after : Facts) (n : ℕ) (named : Option Chain) → AreTrue facts
         → with_chain facts n named ≡ Ok after → AreTrue after }
     ensures row { (facts after : Facts) (n : ℕ) (row : Product) (reason : Reason) → AreTrue facts
-        → with_row facts n row reason ≡ Ok after → AreTrue after }
+        → with_product facts n row reason ≡ Ok after → AreTrue after }
 {}

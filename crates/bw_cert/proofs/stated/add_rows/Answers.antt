@@ -2,7 +2,7 @@
 use Rattle.std.proofs.Common.{◌∙◌, ap}
 use Rattle.bw_cert.specs.Stated.{on_line}
 use Rattle.bw_cert.proofs.StatedLemmas.{with_next, with_refused, with_all, fault_placed}
-use Rattle.bw_cert.proofs.stated.add_rows.Goals as goal
+use Rattle.bw_cert.proofs.stated.add_products.Goals as goal
 
 pub returns-in-Err-clause-stated : goal.returns-in-Err-clause-stated
 returns-in-Err-clause-stated c = λ aside.

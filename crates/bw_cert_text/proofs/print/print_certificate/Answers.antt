@@ -15,7 +15,7 @@ returns-clause-text c =
     let shape : CertificateShape = c.args.certificate.now in
     let nodes = rw c.node_lines.ensures at c.in_ok-put_nodes.ensures in
     let chains = rw c.chain_lines.ensures at c.in_ok-put_chains.ensures in
-    let rows = rw c.row_lines.ensures at c.in_ok-put_rows.ensures in
+    let rows = rw c.product_lines.ensures at c.in_ok-put_rows.ensures in
     let body = rw c.body.ensures at c.in_ok-put_body.ensures in
     let last = rw c.end.ensures at c.in_ok-put_line.ensures in
     text_written _ _ _ _ _ c.put_line.new.text.items _ _ _ _ _ c.new-text.ensures.items nodes chains rows body last
