@@ -4,7 +4,7 @@ ghost use Rattle.bw_program.specs.ProgramText.{goes_past};
 ghost use Rattle.bw_cert_parts.specs.Join.{edge_of, edges_into, with_edge};
 
 use crate::known::Known;
-use bw_program::Instr;
+use bw_program::{Instr, Register};
 use std::alloc::{AllocError, Global};
 use std::marker::Model;
 
@@ -12,7 +12,7 @@ use std::marker::Model;
 #[derive(Clone, Copy)]
 pub struct Edge {
     pub target: usize,
-    pub register: u8,
+    pub register: Register,
     /// What is known of the registers at the skip.
     pub known: Known,
 }
@@ -68,9 +68,9 @@ impl Edges {
         ensures room { length self.new ≡ length self.old }
     {
         match instr {
-            Instr::Skip(register, target) => self.push(Edge {
+            Instr::Skip { if_zero, target } => self.push(Edge {
                 target,
-                register,
+                register: if_zero,
                 known: *known,
             }),
             _ => Ok(()),

@@ -12,7 +12,7 @@ use crate::known::Known;
 use bw_cert_lines::InstructionEntry;
 use bw_diagram::{ChainKind, Connective, Diagram};
 use bw_model::{Fault, Schema, code};
-use bw_program::Instr;
+use bw_program::{BitIndex, ColumnIndex, Instr, Register, SliceIndex};
 
 /// What lines are judged by: a schema, and the nodes, chains and product rows that a certificate
 /// states under it.
@@ -30,7 +30,7 @@ const fn unfit(line: u64) -> Fault
 }
 
 /// A register gets a node, where there is one.
-fn put(known: &mut Known, register: u8, node: Result<u64, Fault>) -> Result<(), Fault>
+fn put(known: &mut Known, register: Register, node: Result<u64, Fault>) -> Result<(), Fault>
     requires register { register < 64 }
     requires code { IfErr node (λ fault. IsTrue (is_known_fault fault)) }
     ensures known { IfOk result (λ _. put known.old register node ≡ Ok known.new) }
@@ -45,7 +45,7 @@ fn put(known: &mut Known, register: u8, node: Result<u64, Fault>) -> Result<(), 
 fn fill(
     known: &mut Known,
     line: u64,
-    register: u8,
+    register: Register,
     bit: bool,
     given: InstructionEntry,
 ) -> Result<(), Fault>
@@ -62,7 +62,7 @@ fn fill(
 }
 
 /// A register that a skip looks at has to have a node; nothing new is known after it.
-fn look(known: &Known, line: u64, register: u8, given: InstructionEntry) -> Result<(), Fault>
+fn look(known: &Known, line: u64, register: Register, given: InstructionEntry) -> Result<(), Fault>
     requires register { register < 64 }
     ensures known { IfOk result (λ _. look known.now line register given ≡ Ok known.now) }
     ensures fault { IfErr result (λ fault. look known.now line register given ≡ Err fault) }
@@ -95,39 +95,57 @@ impl Judge<'_> {
         ensures code { IfErr result (λ fault. IsTrue (is_known_fault fault)) }
     {
         match instr {
-            Instr::Load(r, col, bit) => put(known, r, self.plane(line, col, bit, given)),
-            Instr::Nulls(r, col) => put(known, r, self.nulls(line, col, given)),
-            Instr::Fill(r, bit) => fill(known, line, r, bit, given),
-            Instr::And(r, x, y) => {
-                let node = self.joined(known, line, Connective::And, x, y, given);
-                put(known, r, node)
+            Instr::Load { to, column, bit } => {
+                put(known, to, self.plane(line, column, bit, given))
             }
-            Instr::Or(r, x, y) => {
-                let node = self.joined(known, line, Connective::Or, x, y, given);
-                put(known, r, node)
+            Instr::Nulls { to, column } => put(known, to, self.nulls(line, column, given)),
+            Instr::Fill { to, bit } => fill(known, line, to, bit, given),
+            Instr::And { to, left, right } => {
+                let node = self.joined(known, line, Connective::And, left, right, given);
+                put(known, to, node)
             }
-            Instr::Xor(r, x, y) => {
-                let node = self.joined(known, line, Connective::Xor, x, y, given);
-                put(known, r, node)
+            Instr::Or { to, left, right } => {
+                let node = self.joined(known, line, Connective::Or, left, right, given);
+                put(known, to, node)
             }
-            Instr::Not(r, x) => {
-                let node = self.opposite(known, line, x, given);
-                put(known, r, node)
+            Instr::Xor { to, left, right } => {
+                let node = self.joined(known, line, Connective::Xor, left, right, given);
+                put(known, to, node)
             }
-            Instr::ByteLt(r, col, slice, k) => {
-                let node = self.byte(line, ChainKind::Less, col, slice, k, given);
-                put(known, r, node)
+            Instr::Not { to, from } => {
+                let node = self.opposite(known, line, from, given);
+                put(known, to, node)
             }
-            Instr::ByteEq(r, col, slice, k) => {
-                let node = self.byte(line, ChainKind::Equal, col, slice, k, given);
-                put(known, r, node)
+            Instr::ByteLt {
+                to,
+                column,
+                slice,
+                below,
+            } => {
+                let node = self.byte(line, ChainKind::Less, column, slice, below, given);
+                put(known, to, node)
             }
-            Instr::Skip(x, _) => look(known, line, x, given),
+            Instr::ByteEq {
+                to,
+                column,
+                slice,
+                byte,
+            } => {
+                let node = self.byte(line, ChainKind::Equal, column, slice, byte, given);
+                put(known, to, node)
+            }
+            Instr::Skip { if_zero, .. } => look(known, line, if_zero, given),
         }
     }
 
     /// The node of the plane of a column's bit.
-    fn plane(self, line: u64, col: u8, bit: u8, given: InstructionEntry) -> Result<u64, Fault>
+    fn plane(
+        self,
+        line: u64,
+        col: ColumnIndex,
+        bit: BitIndex,
+        given: InstructionEntry,
+    ) -> Result<u64, Fault>
         requires columns { self.diagram.now.columns ≡ self.schema.now.columns.items }
         ensures node { result ≡ plane_on self.entry.diagram.now line
             (nat_lt col (length self.entry.diagram.now.columns)
@@ -152,7 +170,7 @@ impl Judge<'_> {
     }
 
     /// The node of a column's null plane.
-    fn nulls(self, line: u64, col: u8, given: InstructionEntry) -> Result<u64, Fault>
+    fn nulls(self, line: u64, col: ColumnIndex, given: InstructionEntry) -> Result<u64, Fault>
         requires columns { self.diagram.now.columns ≡ self.schema.now.columns.items }
         ensures node { result ≡ plane_on self.entry.diagram.now line
             (nat_lt col (length self.entry.diagram.now.columns)
@@ -182,8 +200,8 @@ impl Judge<'_> {
         known: &Known,
         line: u64,
         op: Connective,
-        x: u8,
-        y: u8,
+        x: Register,
+        y: Register,
         given: InstructionEntry,
     ) -> Result<u64, Fault>
         requires registers { (x < 64) × (y < 64) }
@@ -203,7 +221,7 @@ impl Judge<'_> {
         self,
         known: &Known,
         line: u64,
-        x: u8,
+        x: Register,
         given: InstructionEntry,
     ) -> Result<u64, Fault>
         requires register { x < 64 }
@@ -233,8 +251,8 @@ impl Judge<'_> {
         self,
         line: u64,
         kind: ChainKind,
-        col: u8,
-        slice: u8,
+        col: ColumnIndex,
+        slice: SliceIndex,
         k: u8,
         given: InstructionEntry,
     ) -> Result<u64, Fault>
@@ -296,7 +314,7 @@ const fn past_node(kind: ChainKind) -> u64
 }
 
 /// The node of a register that is read.
-fn read(known: &Known, line: u64, register: u8) -> Result<u64, Fault>
+fn read(known: &Known, line: u64, register: Register) -> Result<u64, Fault>
     requires { register < 64 }
     ensures node { result ≡ read_on known.now line register }
     ensures code { IfErr result (λ fault. IsTrue (is_known_fault fault)) }

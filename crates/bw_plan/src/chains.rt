@@ -4,6 +4,7 @@ use crate::products::Cited;
 use crate::refusal::Refusal;
 use bw_diagram::ChainKind;
 use bw_model::Schema;
+use bw_program::ColumnIndex;
 use indexmap::IndexMap;
 use std::alloc::Global;
 
@@ -51,15 +52,15 @@ impl Kind {
 pub(crate) enum Compared {
     Bound {
         kind: Kind,
-        column: u8,
+        column: ColumnIndex,
         start: u32,
         len: u32,
         bound: u64,
     },
     Columns {
         kind: Kind,
-        left: u8,
-        right: u8,
+        left: ColumnIndex,
+        right: ColumnIndex,
         len: u32,
     },
 }
@@ -92,7 +93,7 @@ impl Chains {
         schema: &Schema,
         nodes: &mut Nodes,
         kind: Kind,
-        column: u8,
+        column: ColumnIndex,
         start: u32,
         len: u32,
         bound: u64,
@@ -122,8 +123,8 @@ impl Chains {
         schema: &Schema,
         nodes: &mut Nodes,
         kind: Kind,
-        left: u8,
-        right: u8,
+        left: ColumnIndex,
+        right: ColumnIndex,
     ) -> Result<Cited, Refusal> {
         let bits = width(schema, left).max(width(schema, right));
         let mut last = None;
@@ -247,7 +248,7 @@ fn right_node(
 }
 
 /// The variable of a column's bit, if there is that bit.
-pub(crate) fn variable(schema: &Schema, column: u8, bit: u32) -> Option<u32> {
+pub(crate) fn variable(schema: &Schema, column: ColumnIndex, bit: u32) -> Option<u32> {
     let column = column as usize;
     if column >= schema.columns.len() || bit >= schema.width(column) {
         return None;
@@ -256,7 +257,7 @@ pub(crate) fn variable(schema: &Schema, column: u8, bit: u32) -> Option<u32> {
 }
 
 /// The null variable of a column, if it has one.
-pub(crate) fn null_variable(schema: &Schema, column: u8) -> Option<u32> {
+pub(crate) fn null_variable(schema: &Schema, column: ColumnIndex) -> Option<u32> {
     let column = column as usize;
     if column >= schema.columns.len() {
         return None;
@@ -265,7 +266,7 @@ pub(crate) fn null_variable(schema: &Schema, column: u8) -> Option<u32> {
 }
 
 /// How many bits a column's codes have.
-pub(crate) fn width(schema: &Schema, column: u8) -> u32 {
+pub(crate) fn width(schema: &Schema, column: ColumnIndex) -> u32 {
     let column = column as usize;
     if column < schema.columns.len() {
         schema.width(column)

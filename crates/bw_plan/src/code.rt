@@ -6,7 +6,7 @@ use crate::order::VariableOrder;
 use crate::products::Logic;
 use crate::refusal::Refusal;
 use bw_cert_lines::{EdgeProducts, Entry, InstructionEntry, Keep};
-use bw_program::Instr;
+use bw_program::{ColumnIndex, Instr, Register, SliceIndex};
 use std::alloc::Global;
 
 /// A program has at most this many instructions.
@@ -16,10 +16,10 @@ const MAX_INSTRUCTIONS: usize = 4096;
 /// times the square of the number of its bits.
 const MAX_SQUARES: usize = 4000;
 
-/// A register: the node that it is known to hold, whether it's needed, and whether it holds a plane
+/// What is known of a register: the node that it holds, whether it's needed, and whether it holds a plane
 /// as it was loaded, which may be wanted again.
 #[derive(Clone, Copy)]
-pub(crate) struct Register {
+pub(crate) struct RegisterState {
     node: Option<u32>,
     needed: bool,
     is_plane: bool,
@@ -50,7 +50,7 @@ pub(crate) struct Code<'a> {
     pub(crate) top_digit: Option<Digits>,
     /// Whether skips that leave out but a few instructions are left out themselves.
     pub(crate) has_few_skips: bool,
-    registers: [Register; 64],
+    registers: [RegisterState; 64],
     skips: Vec<Skip>,
     /// The skips from this one on meet before the next instruction.
     meeting: usize,
@@ -66,7 +66,7 @@ impl<'a> Code<'a> {
         lines: Vec<Entry>,
         with_skips: bool,
     ) -> Self {
-        let register = Register {
+        let register = RegisterState {
             node: None,
             needed: false,
             is_plane: false,
@@ -98,7 +98,7 @@ impl<'a> Code<'a> {
     }
 
     /// The node of a register.
-    pub(crate) fn node(&self, register: u8) -> Result<u32, Refusal> {
+    pub(crate) fn node(&self, register: Register) -> Result<u32, Refusal> {
         let known = self.registers.get(register as usize).copied();
         known
             .and_then(|register| register.node)
@@ -106,9 +106,9 @@ impl<'a> Code<'a> {
     }
 
     /// Says what a register holds.
-    fn hold(&mut self, register: u8, node: u32, is_plane: bool) {
+    fn hold(&mut self, register: Register, node: u32, is_plane: bool) {
         if let Some(kept) = self.registers.get_mut(register as usize) {
-            *kept = Register {
+            *kept = RegisterState {
                 node: Some(node),
                 needed: true,
                 is_plane,
@@ -117,7 +117,7 @@ impl<'a> Code<'a> {
     }
 
     /// A register that isn't needed, from now on needed: one that holds nothing, if there is one.
-    fn claim(&mut self) -> Result<u8, Refusal> {
+    fn claim(&mut self) -> Result<Register, Refusal> {
         self.meet()?;
         let mut found = None;
         for (number, register) in self.registers.iter().enumerate() {
@@ -147,7 +147,7 @@ impl<'a> Code<'a> {
     }
 
     /// A register that isn't needed and holds a plane of this node, from now on needed.
-    fn held(&mut self, node: u32) -> Result<Option<u8>, Refusal> {
+    fn held(&mut self, node: u32) -> Result<Option<Register>, Refusal> {
         self.meet()?;
         for (number, register) in self.registers.iter_mut().enumerate() {
             if !register.needed && register.is_plane && register.node == Some(node) {
@@ -159,7 +159,7 @@ impl<'a> Code<'a> {
     }
 
     /// Lets a register go. Where it holds a plane, that may be wanted again.
-    pub(crate) fn release(&mut self, register: u8) {
+    pub(crate) fn release(&mut self, register: Register) {
         if let Some(kept) = self.registers.get_mut(register as usize) {
             kept.needed = false;
             if !kept.is_plane {
@@ -169,29 +169,33 @@ impl<'a> Code<'a> {
     }
 
     /// A register that holds one bit in every lane.
-    pub(crate) fn fill(&mut self, bit: bool) -> Result<u8, Refusal> {
+    pub(crate) fn fill(&mut self, bit: bool) -> Result<Register, Refusal> {
         let register = self.claim()?;
-        self.put(Instr::Fill(register, bit), InstructionEntry::Fill)?;
+        self.put(Instr::Fill { to: register, bit }, InstructionEntry::Fill)?;
         self.hold(register, u32::from(bit), false);
         Ok(register)
     }
 
     /// A register that holds the plane of a column's bit.
-    pub(crate) fn bit(&mut self, column: u8, bit: u32) -> Result<u8, Refusal> {
+    pub(crate) fn bit(&mut self, column: ColumnIndex, bit: u32) -> Result<Register, Refusal> {
         let node = self.facts.bit(column, bit)?;
         if let Some(register) = self.held(node)? {
             return Ok(register);
         }
         let place = u8::try_from(bit).map_err(|_| Refusal::NoProgram)?;
         let register = self.claim()?;
-        let entry = InstructionEntry::Load(u64::from(node));
-        self.put(Instr::Load(register, column, place), entry)?;
+        let instr = Instr::Load {
+            to: register,
+            column,
+            bit: place,
+        };
+        self.put(instr, InstructionEntry::Load(u64::from(node)))?;
         self.hold(register, node, true);
         Ok(register)
     }
 
     /// A register that holds a column's null plane, if it has one.
-    pub(crate) fn nulls(&mut self, column: u8) -> Result<Option<u8>, Refusal> {
+    pub(crate) fn nulls(&mut self, column: ColumnIndex) -> Result<Option<Register>, Refusal> {
         let Some(node) = self.facts.nulls(column)? else {
             return Ok(None);
         };
@@ -200,13 +204,19 @@ impl<'a> Code<'a> {
         }
         let register = self.claim()?;
         let entry = InstructionEntry::Load(u64::from(node));
-        self.put(Instr::Nulls(register, column), entry)?;
+        self.put(
+            Instr::Nulls {
+                to: register,
+                column,
+            },
+            entry,
+        )?;
         self.hold(register, node, true);
         Ok(Some(register))
     }
 
     /// A register that is 1 where a column has a value, if it can have none.
-    pub(crate) fn values(&mut self, column: u8) -> Result<Option<u8>, Refusal> {
+    pub(crate) fn values(&mut self, column: ColumnIndex) -> Result<Option<Register>, Refusal> {
         let Some(nulls) = self.facts.nulls(column)? else {
             return Ok(None);
         };
@@ -226,10 +236,10 @@ impl<'a> Code<'a> {
     pub(crate) fn byte(
         &mut self,
         kind: Kind,
-        column: u8,
-        slice: u8,
+        column: ColumnIndex,
+        slice: SliceIndex,
         byte: u8,
-    ) -> Result<u8, Refusal> {
+    ) -> Result<Register, Refusal> {
         let start = u32::from(slice) * 8;
         let len = self.facts.width(column).saturating_sub(start).min(8);
         let cited = self.facts.bound(kind, column, start, len, u64::from(byte))?;
@@ -238,8 +248,18 @@ impl<'a> Code<'a> {
         }
         let register = self.claim()?;
         let instr = match kind {
-            Kind::Less => Instr::ByteLt(register, column, slice, byte),
-            Kind::Equal => Instr::ByteEq(register, column, slice, byte),
+            Kind::Less => Instr::ByteLt {
+                to: register,
+                column,
+                slice,
+                below: byte,
+            },
+            Kind::Equal => Instr::ByteEq {
+                to: register,
+                column,
+                slice,
+                byte,
+            },
         };
         let chain = Some(u64::from(cited.number));
         self.put(instr, InstructionEntry::Byte(chain))?;
@@ -248,14 +268,20 @@ impl<'a> Code<'a> {
     }
 
     /// Makes a register a connective of two.
-    pub(crate) fn join(&mut self, op: Logic, to: u8, x: u8, y: u8) -> Result<(), Refusal> {
+    pub(crate) fn join(
+        &mut self,
+        op: Logic,
+        to: Register,
+        left: Register,
+        right: Register,
+    ) -> Result<(), Refusal> {
         self.meet()?;
-        let (a, b) = (self.node(x)?, self.node(y)?);
+        let (a, b) = (self.node(left)?, self.node(right)?);
         let row = self.facts.row(self.order, op, a, b)?;
         let instr = match op {
-            Logic::And => Instr::And(to, x, y),
-            Logic::Or => Instr::Or(to, x, y),
-            Logic::Xor => Instr::Xor(to, x, y),
+            Logic::And => Instr::And { to, left, right },
+            Logic::Or => Instr::Or { to, left, right },
+            Logic::Xor => Instr::Xor { to, left, right },
             Logic::Diff => return Err(Refusal::NoProgram),
         };
         self.put(instr, InstructionEntry::Op(u64::from(row.number)))?;
@@ -264,34 +290,44 @@ impl<'a> Code<'a> {
     }
 
     /// A new register, which is made a connective of two.
-    pub(crate) fn joined(&mut self, op: Logic, x: u8, y: u8) -> Result<u8, Refusal> {
+    pub(crate) fn joined(
+        &mut self,
+        op: Logic,
+        left: Register,
+        right: Register,
+    ) -> Result<Register, Refusal> {
         let register = self.claim()?;
-        self.join(op, register, x, y)?;
+        self.join(op, register, left, right)?;
         Ok(register)
     }
 
     /// Makes a register a connective of itself and another, which is let go.
-    pub(crate) fn join_into(&mut self, op: Logic, to: u8, y: u8) -> Result<(), Refusal> {
-        self.join(op, to, to, y)?;
-        self.release(y);
+    pub(crate) fn join_into(
+        &mut self,
+        op: Logic,
+        to: Register,
+        right: Register,
+    ) -> Result<(), Refusal> {
+        self.join(op, to, to, right)?;
+        self.release(right);
         Ok(())
     }
 
     /// Makes a register the opposite of one.
-    pub(crate) fn oppose(&mut self, to: u8, x: u8) -> Result<(), Refusal> {
+    pub(crate) fn oppose(&mut self, to: Register, from: Register) -> Result<(), Refusal> {
         self.meet()?;
-        let a = self.node(x)?;
+        let a = self.node(from)?;
         let row = self.facts.row(self.order, Logic::Diff, 1, a)?;
         let entry = InstructionEntry::Op(u64::from(row.number));
-        self.put(Instr::Not(to, x), entry)?;
+        self.put(Instr::Not { to, from }, entry)?;
         self.hold(to, row.node, false);
         Ok(())
     }
 
     /// A new register, which is made the opposite of one.
-    pub(crate) fn opposite(&mut self, x: u8) -> Result<u8, Refusal> {
+    pub(crate) fn opposite(&mut self, from: Register) -> Result<Register, Refusal> {
         let register = self.claim()?;
-        self.oppose(register, x)?;
+        self.oppose(register, from)?;
         Ok(register)
     }
 
@@ -302,14 +338,18 @@ impl<'a> Code<'a> {
     }
 
     /// Goes on where skips meet if a register is zero in every lane.
-    pub(crate) fn skip(&mut self, register: u8) -> Result<(), Refusal> {
+    pub(crate) fn skip(&mut self, register: Register) -> Result<(), Refusal> {
         if !self.with_skips {
             return Ok(());
         }
         self.meet()?;
         let tested = self.node(register)?;
         let (number, line) = (self.instrs.len(), self.lines.len());
-        self.put(Instr::Skip(register, 0), InstructionEntry::Skip)?;
+        let instr = Instr::Skip {
+            if_zero: register,
+            target: 0,
+        };
+        self.put(instr, InstructionEntry::Skip)?;
         let mut nodes = [None; 64];
         for (node, register) in nodes.iter_mut().zip(self.registers.iter()) {
             *node = register.node;
@@ -400,9 +440,12 @@ impl<'a> Code<'a> {
             }
         }
         for instr in self.instrs.iter_mut() {
-            if let Instr::Skip(register, target) = *instr {
+            if let Instr::Skip { if_zero, target } = *instr {
                 if target > number {
-                    *instr = Instr::Skip(register, target - 1);
+                    *instr = Instr::Skip {
+                        if_zero,
+                        target: target - 1,
+                    };
                 }
             }
         }
@@ -421,14 +464,14 @@ impl<'a> Code<'a> {
             return;
         };
         if let Some(instr) = self.instrs.get_mut(skip.number) {
-            if let Instr::Skip(register, _) = *instr {
-                *instr = Instr::Skip(register, target);
+            if let Instr::Skip { if_zero, .. } = *instr {
+                *instr = Instr::Skip { if_zero, target };
             }
         }
     }
 
     /// Keeps a register where skips meet, if it's needed, or holds the same plane by each way.
-    fn keep(&mut self, register: u8, first: usize) -> Result<(), Refusal> {
+    fn keep(&mut self, register: Register, first: usize) -> Result<(), Refusal> {
         let Some(kept) = self.registers.get(register as usize).copied() else {
             return Ok(());
         };
@@ -457,7 +500,7 @@ impl<'a> Code<'a> {
     }
 
     /// Whether a register holds this node by each skip.
-    fn is_everywhere(&self, register: u8, node: u32, first: usize) -> bool {
+    fn is_everywhere(&self, register: Register, node: u32, first: usize) -> bool {
         for at in first..self.skips.len() {
             let known = self.skips.get(at).map(|skip| skip.nodes);
             let held = known.and_then(|nodes| nodes.get(register as usize).copied());
@@ -471,7 +514,7 @@ impl<'a> Code<'a> {
     /// The rows of a register that is to hold a node, for one skip, if they show so.
     fn edge(
         &mut self,
-        register: u8,
+        register: Register,
         node: u32,
         at: usize,
     ) -> Result<Option<EdgeProducts>, Refusal> {
@@ -492,7 +535,7 @@ impl<'a> Code<'a> {
     }
 
     /// The nodes of a skip's own register and of another one there, if that is known.
-    fn at_skip(&self, register: u8, at: usize) -> Option<(u32, u32)> {
+    fn at_skip(&self, register: Register, at: usize) -> Option<(u32, u32)> {
         let skip = self.skips.get(at)?;
         let held = skip.nodes.get(register as usize).copied()?;
         Some((skip.tested, held?))
@@ -502,7 +545,7 @@ impl<'a> Code<'a> {
     pub(crate) fn looks(&self) -> usize {
         self.instrs
             .iter()
-            .filter(|instr| matches!(instr, Instr::ByteLt(..) | Instr::ByteEq(..)))
+            .filter(|instr| matches!(instr, Instr::ByteLt { .. } | Instr::ByteEq { .. }))
             .count()
     }
 
@@ -511,6 +554,6 @@ impl<'a> Code<'a> {
         self.instrs
             .iter()
             .skip(number)
-            .any(|instr| matches!(instr, Instr::Skip(..)))
+            .any(|instr| matches!(instr, Instr::Skip { .. }))
     }
 }

@@ -4,12 +4,13 @@ use crate::facts::Facts;
 use crate::order::VariableOrder;
 use crate::refusal::Refusal;
 use bw_model::{Op, Operand, Truth};
+use bw_program::ColumnIndex;
 
 /// A comparison of a column's code with a number: the code is less than (equal to) `limit`, or,
 /// where it is negated, it isn't.
 #[derive(Clone, Copy)]
 pub(crate) struct LiteralComparison {
-    pub(crate) column: u8,
+    pub(crate) column: ColumnIndex,
     pub(crate) kind: Kind,
     pub(crate) limit: i128,
     pub(crate) negated: bool,
@@ -20,11 +21,11 @@ pub(crate) struct LiteralComparison {
 #[derive(Clone, Copy)]
 pub(crate) struct ColumnComparison {
     pub(crate) kind: Kind,
-    pub(crate) left: u8,
-    pub(crate) right: u8,
+    pub(crate) left: ColumnIndex,
+    pub(crate) right: ColumnIndex,
     pub(crate) negated: bool,
     /// The columns as they stand in the condition.
-    pub(crate) columns: [u8; 2],
+    pub(crate) columns: [ColumnIndex; 2],
 }
 
 impl LiteralComparison {

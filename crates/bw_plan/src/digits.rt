@@ -5,21 +5,22 @@ use crate::code::Code;
 use crate::products::Logic;
 use crate::refusal::Refusal;
 use crate::sets::groups_from;
+use bw_program::{ColumnIndex, Register, SliceIndex};
 
 /// Registers that are 1 where the upper digit of a byte is 0, 1 and so on, and where the lower one is. A byte of four bits or
 /// fewer has no upper digit.
 #[derive(Clone, Copy)]
 pub(crate) struct Digits {
-    slice: u8,
-    upper: Option<[u8; 16]>,
-    lower: [u8; 16],
+    slice: SliceIndex,
+    upper: Option<[Register; 16]>,
+    lower: [Register; 16],
 }
 
 /// A register that is 1 where the upper digit of a byte is this one, and a mask is 1.
 #[derive(Clone, Copy)]
 pub(crate) struct Upper {
     digit: u8,
-    register: u8,
+    register: Register,
 }
 
 /// Two digits take 64 instructions, and pay where a byte is compared with so many numbers: a look at it takes ten times as
@@ -37,7 +38,11 @@ const ROOM_FOR_THREE: usize = 60;
 impl Code<'_> {
     /// Makes the digits of the byte that is compared most often where rows are in no order, if that is often: the lowest one
     /// with at most nine bits above it that aren't the same in all bounds. Those bits may have digits too.
-    pub(crate) fn split_bytes(&mut self, column: u8, bounds: &[u64]) -> Result<(), Refusal> {
+    pub(crate) fn split_bytes(
+        &mut self,
+        column: ColumnIndex,
+        bounds: &[u64],
+    ) -> Result<(), Refusal> {
         let (Some(first), Some(last)) = (bounds.first(), bounds.last()) else {
             return Ok(());
         };
@@ -69,12 +74,12 @@ impl Code<'_> {
     }
 
     /// The byte of which both digits are kept.
-    pub(crate) fn split_slice(&self) -> Option<u8> {
+    pub(crate) fn split_slice(&self) -> Option<SliceIndex> {
         self.digits.map(|digits| digits.slice)
     }
 
     /// Registers that are 1 where the four bits from one on are 0, 1 and so on.
-    fn digit(&mut self, column: u8, start: u32) -> Result<[u8; 16], Refusal> {
+    fn digit(&mut self, column: ColumnIndex, start: u32) -> Result<[Register; 16], Refusal> {
         let low = self.two_bits(column, start)?;
         let high = self.two_bits(column, start.saturating_add(2))?;
         let mut made = [0; 16];
@@ -88,7 +93,7 @@ impl Code<'_> {
     }
 
     /// Registers that are 1 where the two bits from one on are 0, 1, 2 and 3.
-    fn two_bits(&mut self, column: u8, start: u32) -> Result<[u8; 4], Refusal> {
+    fn two_bits(&mut self, column: ColumnIndex, start: u32) -> Result<[Register; 4], Refusal> {
         let low = self.bit(column, start)?;
         let high = self.bit(column, start.saturating_add(1))?;
         let none = self.joined(Logic::Or, low, high)?;
@@ -124,12 +129,12 @@ impl Code<'_> {
     /// kept from number to number, in their order, and let go after them.
     pub(crate) fn same_byte(
         &mut self,
-        column: u8,
-        slice: u8,
+        column: ColumnIndex,
+        slice: SliceIndex,
         byte: u8,
-        mask: Option<u8>,
+        mask: Option<Register>,
         before: &mut Option<Upper>,
-    ) -> Result<u8, Refusal> {
+    ) -> Result<Register, Refusal> {
         if let Some(digits) = self.digits_of(slice) {
             return self.same_digits(digits, byte, mask, before);
         }
@@ -141,7 +146,7 @@ impl Code<'_> {
     }
 
     /// The digits of a byte, if they are kept.
-    fn digits_of(&self, slice: u8) -> Option<Digits> {
+    fn digits_of(&self, slice: SliceIndex) -> Option<Digits> {
         let top = self.top_digit.filter(|digits| digits.slice == slice);
         top.or(self.digits.filter(|digits| digits.slice == slice))
     }
@@ -151,9 +156,9 @@ impl Code<'_> {
         &mut self,
         digits: Digits,
         byte: u8,
-        mask: Option<u8>,
+        mask: Option<Register>,
         before: &mut Option<Upper>,
-    ) -> Result<u8, Refusal> {
+    ) -> Result<Register, Refusal> {
         let lower = digits.lower[usize::from(byte & 15)];
         let upper = digits.upper.map(|upper| upper[usize::from(byte >> 4)]);
         let (Some(mask), Some(upper)) = (mask, upper) else {

@@ -13,7 +13,7 @@ use crate::refusal::Refusal;
 use bw_cert_lines::{BodyLine, Certificate, ChainLine, EndLine, Entry, NodeLine, ProductLine};
 use bw_diagram::{ChainColumns, Reason};
 use bw_model::{Schema, code};
-use bw_program::{Instr, Program};
+use bw_program::{ColumnIndex, Instr, Program, Register, SliceIndex};
 use indexmap::IndexMap;
 use std::alloc::{AllocError, Global};
 
@@ -22,7 +22,7 @@ pub(crate) fn program(
     alloc: Global,
     schema: &Schema,
     instrs: &[Instr],
-    answer: u8,
+    answer: Register,
 ) -> Result<Program, Refusal>
     ensures { IfOk result (λ program. IsTrue (fits schema.now.columns.items program)) }
 {
@@ -47,8 +47,8 @@ pub(crate) fn program(
 /// What stands after a keyword.
 #[derive(Clone, Copy)]
 enum Word {
-    Register(u8),
-    Column(u8),
+    Register(Register),
+    Column(ColumnIndex),
     Number(u64),
 }
 
@@ -61,33 +61,39 @@ fn put_instr(
 ) -> Result<(), AllocError> {
     use Word::{Column, Number, Register};
     match instr {
-        Instr::Load(r, column, bit) => {
-            let words = [Register(r), Column(column), Number(u64::from(bit))];
+        Instr::Load { to, column, bit } => {
+            let words = [Register(to), Column(column), Number(u64::from(bit))];
             put_line(alloc, schema, "LOAD", &words, text)
         }
-        Instr::Nulls(r, column) => {
-            put_line(alloc, schema, "NULLS", &[Register(r), Column(column)], text)
+        Instr::Nulls { to, column } => {
+            let words = [Register(to), Column(column)];
+            put_line(alloc, schema, "NULLS", &words, text)
         }
-        Instr::Fill(r, bit) => {
-            let words = [Register(r), Number(u64::from(bit))];
+        Instr::Fill { to, bit } => {
+            let words = [Register(to), Number(u64::from(bit))];
             put_line(alloc, schema, "FILL", &words, text)
         }
-        Instr::And(r, x, y) => put_three(alloc, schema, "AND", r, x, y, text),
-        Instr::Or(r, x, y) => put_three(alloc, schema, "OR", r, x, y, text),
-        Instr::Xor(r, x, y) => put_three(alloc, schema, "XOR", r, x, y, text),
-        Instr::Not(r, x) => put_line(alloc, schema, "NOT", &[Register(r), Register(x)], text),
-        Instr::ByteLt(r, column, slice, k) => {
-            let (slice, k) = (Number(u64::from(slice)), Number(u64::from(k)));
-            let words = [Register(r), Column(column), slice, k];
-            put_line(alloc, schema, "BYTELT", &words, text)
+        Instr::And { to, left, right } => put_three(alloc, schema, "AND", [to, left, right], text),
+        Instr::Or { to, left, right } => put_three(alloc, schema, "OR", [to, left, right], text),
+        Instr::Xor { to, left, right } => put_three(alloc, schema, "XOR", [to, left, right], text),
+        Instr::Not { to, from } => {
+            let words = [Register(to), Register(from)];
+            put_line(alloc, schema, "NOT", &words, text)
         }
-        Instr::ByteEq(r, column, slice, k) => {
-            let (slice, k) = (Number(u64::from(slice)), Number(u64::from(k)));
-            let words = [Register(r), Column(column), slice, k];
-            put_line(alloc, schema, "BYTEEQ", &words, text)
-        }
-        Instr::Skip(x, target) => {
-            let words = [Register(x), Number(target as u64)];
+        Instr::ByteLt {
+            to,
+            column,
+            slice,
+            below,
+        } => put_byte(alloc, schema, "BYTELT", to, column, slice, below, text),
+        Instr::ByteEq {
+            to,
+            column,
+            slice,
+            byte,
+        } => put_byte(alloc, schema, "BYTEEQ", to, column, slice, byte, text),
+        Instr::Skip { if_zero, target } => {
+            let words = [Register(if_zero), Number(target as u64)];
             put_line(alloc, schema, "SKIP", &words, text)
         }
     }
@@ -98,12 +104,32 @@ fn put_three(
     alloc: Global,
     schema: &Schema,
     keyword: &str,
-    r: u8,
-    x: u8,
-    y: u8,
+    registers: [Register; 3],
     text: &mut Vec<u8>,
 ) -> Result<(), AllocError> {
-    let words = [Word::Register(r), Word::Register(x), Word::Register(y)];
+    let [to, left, right] = registers;
+    let words = [
+        Word::Register(to),
+        Word::Register(left),
+        Word::Register(right),
+    ];
+    put_line(alloc, schema, keyword, &words, text)
+}
+
+/// Appends the line of a comparison of bytes.
+fn put_byte(
+    alloc: Global,
+    schema: &Schema,
+    keyword: &str,
+    to: Register,
+    column: ColumnIndex,
+    slice: SliceIndex,
+    byte: u8,
+    text: &mut Vec<u8>,
+) -> Result<(), AllocError> {
+    use Word::{Column, Number, Register};
+    let (slice, byte) = (Number(u64::from(slice)), Number(u64::from(byte)));
+    let words = [Register(to), Column(column), slice, byte];
     put_line(alloc, schema, keyword, &words, text)
 }
 
@@ -304,7 +330,7 @@ fn chain_line(
 }
 
 /// The name of a column, which the schema finds again.
-fn name(alloc: Global, schema: &Schema, column: u8) -> Result<Vec<u8>, Refusal>
+fn name(alloc: Global, schema: &Schema, column: ColumnIndex) -> Result<Vec<u8>, Refusal>
     ensures { IfOk result (λ word. IsTrue (is_column schema.now.columns.items word.items)) }
 {
     let Some(column) = schema.columns.get(column as usize) else {

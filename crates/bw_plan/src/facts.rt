@@ -5,6 +5,7 @@ use crate::order::{Ranks, VariableOrder};
 use crate::products::{Cited, Logic, Outcome, Products, Question};
 use crate::refusal::Refusal;
 use bw_model::{Cond, Schema};
+use bw_program::ColumnIndex;
 use indexmap::IndexMap;
 use std::alloc::Global;
 
@@ -66,7 +67,7 @@ impl<'a> Facts<'a> {
     pub(crate) fn bound(
         &mut self,
         kind: Kind,
-        column: u8,
+        column: ColumnIndex,
         start: u32,
         len: u32,
         bound: u64,
@@ -84,14 +85,19 @@ impl<'a> Facts<'a> {
 
     /// The chain that compares the codes of two columns, of which the shorter one has zeros above
     /// its top bit. Refused is, as `NoProgram`, what would pass 65,534 nodes or 65,536 chains.
-    pub(crate) fn columns(&mut self, kind: Kind, left: u8, right: u8) -> Result<Cited, Refusal> {
+    pub(crate) fn columns(
+        &mut self,
+        kind: Kind,
+        left: ColumnIndex,
+        right: ColumnIndex,
+    ) -> Result<Cited, Refusal> {
         self.chains
             .columns(self.schema, &mut self.nodes, kind, left, right)
     }
 
     /// The node that is 1 where a column is null, if it has a null variable. Refused is, as
     /// `NoProgram`, what would pass 65,534 nodes.
-    pub(crate) fn nulls(&mut self, column: u8) -> Result<Option<u32>, Refusal> {
+    pub(crate) fn nulls(&mut self, column: ColumnIndex) -> Result<Option<u32>, Refusal> {
         match chains::null_variable(self.schema, column) {
             Some(variable) => Ok(Some(self.nodes.test(variable, 0, 1)?)),
             None => Ok(None),
@@ -100,7 +106,7 @@ impl<'a> Facts<'a> {
 
     /// The node that is 1 where a bit of a column's code is 1. Refused are, as `NoProgram`, a bit
     /// that the column hasn't, and what would pass 65,534 nodes.
-    pub(crate) fn bit(&mut self, column: u8, bit: u32) -> Result<u32, Refusal> {
+    pub(crate) fn bit(&mut self, column: ColumnIndex, bit: u32) -> Result<u32, Refusal> {
         match chains::variable(self.schema, column, bit) {
             Some(variable) => self.nodes.test(variable, 0, 1),
             None => Err(Refusal::NoProgram),
@@ -113,13 +119,13 @@ impl<'a> Facts<'a> {
     }
 
     /// How many bits a column's codes have: none, where there is no such column.
-    pub(crate) fn width(&self, column: u8) -> u32 {
+    pub(crate) fn width(&self, column: ColumnIndex) -> u32 {
         chains::width(self.schema, column)
     }
 
     /// The least value of a column, whose code is 0. Refused is, as `NoProgram`, a column that the
     /// schema hasn't.
-    pub(crate) fn lo(&self, column: u8) -> Result<i64, Refusal> {
+    pub(crate) fn lo(&self, column: ColumnIndex) -> Result<i64, Refusal> {
         match self.schema.columns.get(column as usize) {
             Some(column) => Ok(column.lo),
             None => Err(Refusal::NoProgram),
@@ -128,7 +134,7 @@ impl<'a> Facts<'a> {
 
     /// A column's number as instructions hold it. Refused is, as `NoProgram`, a number above 255, or
     /// of a column that the schema hasn't.
-    pub(crate) fn column(&self, column: usize) -> Result<u8, Refusal> {
+    pub(crate) fn column(&self, column: usize) -> Result<ColumnIndex, Refusal> {
         if column >= self.schema.columns.len() {
             return Err(Refusal::NoProgram);
         }

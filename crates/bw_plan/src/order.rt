@@ -2,6 +2,7 @@
 use crate::refusal::Refusal;
 use crate::sequence::{Sequence, sequence_of};
 use bw_model::{Cond, Operand, Schema};
+use bw_program::ColumnIndex;
 use std::alloc::Global;
 
 /// The bit number that a null variable is given, above those of all bits.
@@ -21,7 +22,7 @@ pub(crate) enum VariableOrder {
 /// Where a variable stands.
 #[derive(Clone, Copy)]
 struct Standing {
-    column: u8,
+    column: ColumnIndex,
     bit: u32,
     rank: u32,
 }
@@ -83,7 +84,7 @@ struct Groups {
 
 impl Groups {
     /// The groups of columns that are compared, left with right.
-    fn of(sequence: &Sequence, compared: &[(u8, u8)]) -> Self {
+    fn of(sequence: &Sequence, compared: &[(ColumnIndex, ColumnIndex)]) -> Self {
         let mut groups = Groups {
             group: [0; 64],
             level: [0; 64],
@@ -124,7 +125,7 @@ impl Groups {
     }
 
     /// Where the variable of a column's bit stands.
-    fn standing(&self, column: u8, bit: u32) -> Standing {
+    fn standing(&self, column: ColumnIndex, bit: u32) -> Standing {
         let group = self.group.get(column as usize).copied().unwrap_or(column);
         let level = self.level.get(column as usize).copied().unwrap_or(0);
         let place = NULL_BIT.saturating_sub(bit);
@@ -139,7 +140,7 @@ impl Groups {
 
 /// Appends the columns that a condition compares with one another, left with right.
 #[cycle(collect)]
-fn collect(cond: &Cond, compared: &mut Vec<(u8, u8)>) -> Result<(), Refusal> {
+fn collect(cond: &Cond, compared: &mut Vec<(ColumnIndex, ColumnIndex)>) -> Result<(), Refusal> {
     match cond {
         Cond::Always | Cond::IsNull(_) => Ok(()),
         Cond::Cmp(op, x, y) => {
@@ -166,7 +167,10 @@ fn collect(cond: &Cond, compared: &mut Vec<(u8, u8)>) -> Result<(), Refusal> {
 
 /// The same of each of some parts.
 #[cycle(collect)]
-fn collect_all(parts: &[Cond], compared: &mut Vec<(u8, u8)>) -> Result<(), Refusal> {
+fn collect_all(
+    parts: &[Cond],
+    compared: &mut Vec<(ColumnIndex, ColumnIndex)>,
+) -> Result<(), Refusal> {
     for part in parts {
         collect(part, compared)?;
     }
@@ -177,7 +181,7 @@ fn collect_all(parts: &[Cond], compared: &mut Vec<(u8, u8)>) -> Result<(), Refus
 fn collect_pair(
     left: Operand,
     right: Operand,
-    compared: &mut Vec<(u8, u8)>,
+    compared: &mut Vec<(ColumnIndex, ColumnIndex)>,
 ) -> Result<(), Refusal> {
     let (Operand::Col(left), Operand::Col(right)) = (left, right) else {
         return Ok(());

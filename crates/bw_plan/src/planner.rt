@@ -16,7 +16,7 @@ use crate::steps::steps_of;
 use crate::truths::Wanted;
 use bw_cert_lines::Certificate;
 use bw_model::{Cond, Fault, Schema};
-use bw_program::Program;
+use bw_program::{Program, Register};
 use std::alloc::Global;
 
 /// A program without skips looks at so many bytes at most. A look takes some 40 ns a segment, another
@@ -110,7 +110,7 @@ fn programmed(
 }
 
 /// The row that says that a register holds a node.
-fn agreeing(code: &mut Code<'_>, register: u8, wanted: u32) -> Result<u32, Refusal> {
+fn agreeing(code: &mut Code<'_>, register: Register, wanted: u32) -> Result<u32, Refusal> {
     let node = code.node(register)?;
     let row = code
         .facts
@@ -139,7 +139,7 @@ fn certified(schema: &Schema, code: Code<'_>, row: u32) -> Result<Certificate, R
 }
 
 /// Writes the instructions of a condition, and gives the result register.
-fn written(code: &mut Code<'_>, cond: &Cond) -> Result<u8, Refusal> {
+fn written(code: &mut Code<'_>, cond: &Cond) -> Result<Register, Refusal> {
     let wanted = Wanted {
         yes: true,
         no: false,

@@ -4,31 +4,32 @@ use crate::code::Code;
 use crate::comparison::ColumnComparison;
 use crate::products::Logic;
 use crate::refusal::Refusal;
+use bw_program::Register;
 
 /// Registers of one bit of two columns.
 #[derive(Clone, Copy)]
 struct Bits {
     /// It is 1 where the bits differ.
-    differs: u8,
+    differs: Register,
     /// Where the bits differ, it is 1 where the left one is 0. It is `differs` itself where only the
     /// right column has the bit, and none where only the left one has it, or where nothing is asked
     /// but whether the columns are equal.
-    below: Option<u8>,
+    below: Option<Register>,
 }
 
 /// What the top bits of two columns say: where the left code is less by them, if that is asked, and
 /// where they are equal.
 #[derive(Clone, Copy)]
 struct Tops {
-    less: Option<u8>,
-    same: u8,
+    less: Option<Register>,
+    same: Register,
 }
 
 impl Code<'_> {
     /// A register that is 1 where the code of a column is less than (equal to) that of another. Their
     /// top bits are compared from the top down, with skips to where this ends if no row has them
     /// equal so far, and the bits below from the lowest one up.
-    pub(crate) fn relation(&mut self, relation: ColumnComparison) -> Result<u8, Refusal> {
+    pub(crate) fn relation(&mut self, relation: ColumnComparison) -> Result<Register, Refusal> {
         let left = self.facts.width(relation.left);
         let bits = left.max(self.facts.width(relation.right));
         let low = bits.saturating_sub(self.skipped_bits());
@@ -87,9 +88,9 @@ impl Code<'_> {
         &mut self,
         relation: ColumnComparison,
         bit: u32,
-        less: Option<u8>,
-        same: Option<u8>,
-    ) -> Result<u8, Refusal> {
+        less: Option<Register>,
+        same: Option<Register>,
+    ) -> Result<Register, Refusal> {
         let Bits { differs, below } = self.bits(relation, bit)?;
         if let (Some(less), Some(below)) = (less, below) {
             let below = if below == differs {
@@ -113,7 +114,7 @@ impl Code<'_> {
 
     /// A register that is 1 where so many low bits of a column spell a number that is less than
     /// (equal to) that of another's.
-    fn lows(&mut self, relation: ColumnComparison, bits: u32) -> Result<u8, Refusal> {
+    fn lows(&mut self, relation: ColumnComparison, bits: u32) -> Result<Register, Refusal> {
         let made = self.fill(relation.kind == Kind::Equal)?;
         for bit in 0..bits {
             let Bits { differs, below } = self.bits(relation, bit)?;

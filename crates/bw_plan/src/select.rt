@@ -7,11 +7,16 @@ use crate::refusal::Refusal;
 use crate::sets::{
     byte_of, first_group, going_on, groups_from, is_rare, is_soon_done, most_instructions,
 };
+use bw_program::{ColumnIndex, Register, SliceIndex};
 
 impl Code<'_> {
     /// A register that is 1 where a column's code has an odd number of bounds above it. The bounds
     /// are sorted and different.
-    pub(crate) fn codes(&mut self, column: u8, bounds: &[u64]) -> Result<u8, Refusal> {
+    pub(crate) fn codes(
+        &mut self,
+        column: ColumnIndex,
+        bounds: &[u64],
+    ) -> Result<Register, Refusal> {
         let top = self.facts.width(column).saturating_sub(1) / 8;
         let Ok(top) = u8::try_from(top) else {
             return Err(Refusal::NoProgram);
@@ -33,7 +38,12 @@ impl Code<'_> {
     }
 
     /// A register that is 1 where a column has this code.
-    fn code(&mut self, column: u8, top: u8, code: u64) -> Result<u8, Refusal> {
+    fn code(
+        &mut self,
+        column: ColumnIndex,
+        top: SliceIndex,
+        code: u64,
+    ) -> Result<Register, Refusal> {
         let first = self.waiting()?;
         let same = self.byte(Kind::Equal, column, top, byte_of(code, top))?;
         for slice in (0..top).rev() {
@@ -51,12 +61,12 @@ impl Code<'_> {
     #[cycle(within)]
     fn within(
         &mut self,
-        column: u8,
-        slice: u8,
+        column: ColumnIndex,
+        slice: SliceIndex,
         bounds: &[u64],
-        mask: Option<u8>,
-        out: Option<u8>,
-    ) -> Result<u8, Refusal> {
+        mask: Option<Register>,
+        out: Option<Register>,
+    ) -> Result<Register, Refusal> {
         let here = self.bytes(column, slice, bounds)?;
         let masked = if out.is_some() { mask } else { None };
         let mut out = self.added(here, masked, out)?;
@@ -80,13 +90,13 @@ impl Code<'_> {
     #[cycle(within)]
     fn below(
         &mut self,
-        column: u8,
-        slice: u8,
+        column: ColumnIndex,
+        slice: SliceIndex,
         group: &[u64],
-        mask: Option<u8>,
-        out: Option<u8>,
+        mask: Option<Register>,
+        out: Option<Register>,
         before: &mut Option<Upper>,
-    ) -> Result<Option<u8>, Refusal> {
+    ) -> Result<Option<Register>, Refusal> {
         let inner = going_on(group, slice);
         let Some(byte) = inner.first().map(|bound| byte_of(*bound, slice)) else {
             return Ok(out);
@@ -117,7 +127,13 @@ impl Code<'_> {
 
     /// Takes those lanes out of a register whose byte is above that of the last bound, and skips where none is left. That's
     /// so in most segments whose rows are in no order, if few codes remain, and else more than two looks at the byte come.
-    fn narrow(&mut self, column: u8, slice: u8, bounds: &[u64], same: u8) -> Result<(), Refusal> {
+    fn narrow(
+        &mut self,
+        column: ColumnIndex,
+        slice: SliceIndex,
+        bounds: &[u64],
+        same: Register,
+    ) -> Result<(), Refusal> {
         let Some(last) = bounds.last().map(|bound| byte_of(*bound, slice)) else {
             return Ok(());
         };
@@ -133,9 +149,14 @@ impl Code<'_> {
     }
 
     /// A register that is 1 where a byte has an odd number of the bounds' bytes above it.
-    fn bytes(&mut self, column: u8, slice: u8, bounds: &[u64]) -> Result<Option<u8>, Refusal> {
+    fn bytes(
+        &mut self,
+        column: ColumnIndex,
+        slice: SliceIndex,
+        bounds: &[u64],
+    ) -> Result<Option<Register>, Refusal> {
         let mut made = None;
-        let mut before: Option<u8> = None;
+        let mut before: Option<Register> = None;
         let mut upper = None;
         let mut rest = bounds;
         for _ in 0..bounds.len() {
@@ -174,10 +195,10 @@ impl Code<'_> {
     /// `mask`.
     fn added(
         &mut self,
-        next: Option<u8>,
-        mask: Option<u8>,
-        out: Option<u8>,
-    ) -> Result<Option<u8>, Refusal> {
+        next: Option<Register>,
+        mask: Option<Register>,
+        out: Option<Register>,
+    ) -> Result<Option<Register>, Refusal> {
         let Some(next) = next else {
             return Ok(out);
         };

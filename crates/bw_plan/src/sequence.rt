@@ -1,10 +1,11 @@
 //! In which order the columns of a condition are best tested.
 use bw_model::{Cond, Operand, Schema};
+use bw_program::ColumnIndex;
 
 /// Some columns, the one that is tested first at the front, and how much is compared with them.
 #[derive(Clone, Copy)]
 pub(crate) struct Sequence {
-    columns: [u8; 64],
+    columns: [ColumnIndex; 64],
     count: usize,
     weight: u64,
 }
@@ -20,7 +21,7 @@ impl Sequence {
     }
 
     /// The place of a column, or 64 where it isn't there.
-    pub(crate) fn place(&self, column: u8) -> u8 {
+    pub(crate) fn place(&self, column: ColumnIndex) -> u8 {
         for (place, other) in self.columns.iter().enumerate() {
             if place < self.count && *other == column {
                 return u8::try_from(place).unwrap_or(64);
@@ -30,7 +31,7 @@ impl Sequence {
     }
 
     /// Puts a column after the others, if it isn't among them.
-    fn push(&mut self, column: u8) {
+    fn push(&mut self, column: ColumnIndex) {
         if self.place(column) < 64 {
             return;
         }

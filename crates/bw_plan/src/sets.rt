@@ -2,6 +2,7 @@
 use crate::chains::Kind;
 use crate::comparison::LiteralComparison;
 use crate::refusal::Refusal;
+use bw_program::SliceIndex;
 use std::alloc::Global;
 
 /// A set of numbers of so many bits: those with an odd number of bounds above them, or, where it is
@@ -78,17 +79,17 @@ impl Set {
 }
 
 /// A byte of a number.
-pub(crate) fn byte_of(number: u64, slice: u8) -> u8 {
+pub(crate) fn byte_of(number: u64, slice: SliceIndex) -> u8 {
     (number >> (u32::from(slice) * 8).min(63) & 0xff) as u8
 }
 
 /// What a byte leaves of a number: the bytes below it.
-fn below(number: u64, slice: u8) -> u64 {
+fn below(number: u64, slice: SliceIndex) -> u64 {
     number % (1 << (u32::from(slice) * 8).min(63))
 }
 
 /// The first of sorted bounds with one byte in common, and the others.
-pub(crate) fn first_group(bounds: &[u64], slice: u8) -> (&[u64], &[u64]) {
+pub(crate) fn first_group(bounds: &[u64], slice: SliceIndex) -> (&[u64], &[u64]) {
     let Some((first, others)) = bounds.split_first() else {
         return (bounds, bounds);
     };
@@ -117,7 +118,11 @@ pub(crate) fn groups_from(bounds: &[u64], start: u32) -> usize {
 /// How many instructions it takes, or a few more, to tell codes that have an odd number of bounds
 /// above them, from a byte down: for each byte that is compared the comparison, an AND and a skip, or
 /// an AND and a skip by its digits, and for each range a comparison, an AND and a XOR.
-pub(crate) fn most_instructions(bounds: &[u64], top: u8, split: Option<u8>) -> usize {
+pub(crate) fn most_instructions(
+    bounds: &[u64],
+    top: SliceIndex,
+    split: Option<SliceIndex>,
+) -> usize {
     let mut most = bounds.len().saturating_mul(3) / 2;
     for slice in 1..=top {
         let start = u32::from(slice) * 8;
@@ -134,12 +139,12 @@ pub(crate) fn most_instructions(bounds: &[u64], top: u8, split: Option<u8>) -> u
 }
 
 /// Whether bounds that go on below a byte are those of one number, whose last byte is the next.
-pub(crate) fn is_soon_done(inner: &[u64], slice: u8) -> bool {
+pub(crate) fn is_soon_done(inner: &[u64], slice: SliceIndex) -> bool {
     slice == 1 && inner.len() <= 2
 }
 
 /// The bounds of a group that go on below a byte.
-pub(crate) fn going_on(group: &[u64], slice: u8) -> &[u64] {
+pub(crate) fn going_on(group: &[u64], slice: SliceIndex) -> &[u64] {
     match group {
         [first, rest @ ..] if below(*first, slice) == 0 => rest,
         _ => group,
@@ -148,7 +153,7 @@ pub(crate) fn going_on(group: &[u64], slice: u8) -> &[u64] {
 
 /// Whether a column of so many bits has, in less than one row of 512, a code with zeros above a byte and no more than this
 /// number in it, where all codes come as often.
-pub(crate) fn is_rare(byte: u8, slice: u8, width: u32) -> bool {
+pub(crate) fn is_rare(byte: u8, slice: SliceIndex, width: u32) -> bool {
     let above = u32::from(slice) * 8;
     let codes = (u64::from(byte) + 1) << above.min(55);
     codes < 1 << width.saturating_sub(9).min(63)

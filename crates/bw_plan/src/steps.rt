@@ -7,6 +7,7 @@ use crate::products::Logic;
 use crate::refusal::Refusal;
 use bw_cert_lines::{ConditionEntry, Entry};
 use bw_model::{Cond, Op, Operand, Truth};
+use bw_program::ColumnIndex;
 
 /// The numbers of a condition's nodes: where it is TRUE, and where it is FALSE.
 #[derive(Clone, Copy)]
@@ -212,7 +213,7 @@ fn compared(
 }
 
 /// The row and the node of where a column has a value: none, and 1, where it always has.
-fn values(facts: &mut Facts<'_>, column: u8) -> Result<(Option<u64>, u32), Refusal> {
+fn values(facts: &mut Facts<'_>, column: ColumnIndex) -> Result<(Option<u64>, u32), Refusal> {
     let Some(nulls) = facts.nulls(column)? else {
         return Ok((None, 1));
     };

@@ -7,6 +7,7 @@ use crate::refusal::Refusal;
 use crate::room::leading;
 use crate::sets::Set;
 use bw_model::{Cond, Op, Operand, Truth};
+use bw_program::{ColumnIndex, Register};
 
 /// Which truths are wanted.
 #[derive(Clone, Copy)]
@@ -34,8 +35,8 @@ impl Wanted {
 /// wanted.
 #[derive(Clone, Copy)]
 pub(crate) struct Halves {
-    pub(crate) yes: Option<u8>,
-    pub(crate) no: Option<u8>,
+    pub(crate) yes: Option<Register>,
+    pub(crate) no: Option<Register>,
 }
 
 impl Halves {
@@ -211,7 +212,12 @@ impl Code<'_> {
     }
 
     /// The registers of whether a column's code is in a set.
-    fn in_set(&mut self, column: u8, set: &Set, wanted: Wanted) -> Result<Halves, Refusal> {
+    fn in_set(
+        &mut self,
+        column: ColumnIndex,
+        set: &Set,
+        wanted: Wanted,
+    ) -> Result<Halves, Refusal> {
         let first = self.waiting()?;
         let start = self.instrs.len();
         let inside = self.codes(column, &set.bounds)?;
@@ -329,7 +335,7 @@ impl Code<'_> {
     /// where they have values and it is 0. Where there may be an early end, the null planes are left out at one.
     fn sides(
         &mut self,
-        held: u8,
+        held: Register,
         columns: &[u8],
         early: bool,
         wanted: Wanted,
@@ -365,7 +371,7 @@ impl Code<'_> {
     }
 
     /// A register with the same lanes as another.
-    pub(crate) fn copied(&mut self, register: u8) -> Result<u8, Refusal> {
+    pub(crate) fn copied(&mut self, register: Register) -> Result<Register, Refusal> {
         let copy = self.fill(false)?;
         self.join(Logic::Or, copy, copy, register)?;
         Ok(copy)

@@ -1,27 +1,77 @@
 //! The instructions of scan programs.
 
-/// One instruction. A register r0 to r63 holds a bit for each of a segment's 512 lanes; columns, bits and slices
-/// are numbered from 0, bit 0 and slice 0 being the least, and instructions too.
+/// The number of a register, below 64: r0 to r63. A register holds a bit for each of a segment's 512 lanes.
+pub type Register = u8;
+
+/// The number of a column of the schema, from 0.
+pub type ColumnIndex = u8;
+
+/// The number of a bit of a column's codes, from 0, the least, to 63.
+pub type BitIndex = u8;
+
+/// The number of a slice of a column's codes, eight bits each, from 0, the least, to 7.
+pub type SliceIndex = u8;
+
+/// One instruction: what the register `to` becomes, in each of a segment's 512 lanes, or where a run goes on.
 #[derive(Clone, Copy)]
 pub enum Instr {
-    /// The register, the column and the bit whose plane it becomes.
-    Load(u8, u8, u8),
-    /// The register and the column whose null plane it becomes.
-    Nulls(u8, u8),
-    /// The register, and the bit that it has in every lane.
-    Fill(u8, bool),
-    /// The register, and the two whose AND it becomes, lane by lane.
-    And(u8, u8, u8),
-    Or(u8, u8, u8),
-    Xor(u8, u8, u8),
-    /// The register, and the one whose opposite it becomes, in padding lanes too.
-    Not(u8, u8),
-    /// The register, the column and the slice of its codes, and the byte that the slice's bytes are below in the
-    /// lanes that are 1.
-    ByteLt(u8, u8, u8, u8),
-    /// The same, with the byte that they are.
-    ByteEq(u8, u8, u8, u8),
-    /// The register, and the instruction that comes next where it is 0 in all 512 lanes. The number after the
-    /// last instruction is the end.
-    Skip(u8, usize),
+    /// The plane of a column's bit.
+    Load {
+        to: Register,
+        column: ColumnIndex,
+        bit: BitIndex,
+    },
+    /// The null plane of a column.
+    Nulls {
+        to: Register,
+        column: ColumnIndex,
+    },
+    /// The same bit in every lane.
+    Fill {
+        to: Register,
+        bit: bool,
+    },
+    /// The AND of two registers, lane by lane.
+    And {
+        to: Register,
+        left: Register,
+        right: Register,
+    },
+    /// Their OR.
+    Or {
+        to: Register,
+        left: Register,
+        right: Register,
+    },
+    /// Their XOR.
+    Xor {
+        to: Register,
+        left: Register,
+        right: Register,
+    },
+    /// The opposite of a register, in padding lanes too.
+    Not {
+        to: Register,
+        from: Register,
+    },
+    /// 1 in the lanes in which the byte of a column's slice is below one.
+    ByteLt {
+        to: Register,
+        column: ColumnIndex,
+        slice: SliceIndex,
+        below: u8,
+    },
+    /// 1 in those in which it is this byte.
+    ByteEq {
+        to: Register,
+        column: ColumnIndex,
+        slice: SliceIndex,
+        byte: u8,
+    },
+    /// The instruction of number `target` comes next where a register is 0 in all 512 lanes, else the following one.
+    /// The number after the last instruction is the end.
+    Skip {
+        if_zero: Register,
+        target: usize,
+    },
 }

@@ -18,7 +18,7 @@ mod print;
 mod program;
 mod step;
 
-pub use instr::Instr;
+pub use instr::{BitIndex, ColumnIndex, Instr, Register, SliceIndex};
 pub use laws::{places_are_reached, programs_are_read_as_spelled, runs_go_on};
 pub use opcode::Opcode;
 pub use print::canonical_texts_spell_programs;

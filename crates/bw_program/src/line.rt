@@ -1,9 +1,9 @@
 //! The instruction that a line of a program text says.
-ghost use Rattle.std.specs.Prelude.{◌≡◌, ◌<◌, List, ℕ, map, drop, length, IfSome, IfOk, IfErr};
+ghost use Rattle.std.specs.Prelude.{◌≡◌, ◌<◌, List, Some, ℕ, map, drop, length, IfSome, IfOk, IfErr};
 ghost use Rattle.bw_model.specs.Lines.{line_of};
-ghost use Rattle.bw_program.specs.ProgramText.{register_of, natural_on, register_on, column_on, load_on, nulls_on, fill_on, three_on, not_on, byte_on, skip_on, instr_on, is_result_line, result_behind, IsProgramFault};
+ghost use Rattle.bw_program.specs.ProgramText.{register_of, natural_on, register_on, column_on, load_on, nulls_on, fill_on, three_on, not_on, byte_on, skip_on, instr_behind, instr_on, is_result_line, result_behind, IsProgramFault};
 
-use crate::instr::Instr;
+use crate::instr::{ColumnIndex, Instr, Register, SliceIndex};
 use crate::opcode::Opcode;
 use bw_model::{Fault, Line, REGISTERS, Schema, code, natural_number};
 
@@ -22,32 +22,57 @@ pub(crate) fn instr_of(schema: &Schema, number: usize, line: &Line) -> Result<In
     let Some(opcode) = Opcode::of(word) else {
         return Err(Fault::at_line(code::PROGRAM_FORM, line));
     };
+    instr_after(schema, number, line, opcode, rest)
+}
+
+/// The instruction of this number that the words after an opcode say.
+fn instr_after(
+    schema: &Schema,
+    number: usize,
+    line: u64,
+    opcode: Opcode,
+    words: &[&[u8]],
+) -> Result<Instr, Fault>
+    ensures said { result ≡ instr_behind schema.now.columns.items number line (Some opcode)
+        (map (λ word. word.now) words.now) }
+    ensures fault { IfErr result IsProgramFault }
+{
     match opcode {
-        Opcode::Load => load_of(schema, line, rest),
-        Opcode::Nulls => nulls_of(schema, line, rest),
-        Opcode::Fill => fill_of(line, rest),
+        Opcode::Load => load_of(schema, line, words),
+        Opcode::Nulls => nulls_of(schema, line, words),
+        Opcode::Fill => fill_of(line, words),
         Opcode::And => {
-            let (r, x, y) = three_of(line, rest)?;
-            Ok(Instr::And(r, x, y))
+            let (to, left, right) = three_of(line, words)?;
+            Ok(Instr::And { to, left, right })
         }
         Opcode::Or => {
-            let (r, x, y) = three_of(line, rest)?;
-            Ok(Instr::Or(r, x, y))
+            let (to, left, right) = three_of(line, words)?;
+            Ok(Instr::Or { to, left, right })
         }
         Opcode::Xor => {
-            let (r, x, y) = three_of(line, rest)?;
-            Ok(Instr::Xor(r, x, y))
+            let (to, left, right) = three_of(line, words)?;
+            Ok(Instr::Xor { to, left, right })
         }
-        Opcode::Not => not_of(line, rest),
+        Opcode::Not => not_of(line, words),
         Opcode::ByteLt => {
-            let (r, col, slice, byte) = byte_of(schema, line, rest)?;
-            Ok(Instr::ByteLt(r, col, slice, byte))
+            let (to, column, slice, below) = byte_of(schema, line, words)?;
+            Ok(Instr::ByteLt {
+                to,
+                column,
+                slice,
+                below,
+            })
         }
         Opcode::ByteEq => {
-            let (r, col, slice, byte) = byte_of(schema, line, rest)?;
-            Ok(Instr::ByteEq(r, col, slice, byte))
+            let (to, column, slice, byte) = byte_of(schema, line, words)?;
+            Ok(Instr::ByteEq {
+                to,
+                column,
+                slice,
+                byte,
+            })
         }
-        Opcode::Skip => skip_of(number, line, rest),
+        Opcode::Skip => skip_of(number, line, words),
         Opcode::Result => Err(Fault::at_line(code::PROGRAM_FORM, line)),
     }
 }
@@ -60,12 +85,16 @@ fn load_of(schema: &Schema, line: u64, words: &[&[u8]]) -> Result<Instr, Fault>
         return Err(Fault::at_line(code::PROGRAM_FORM, line));
     };
     let bit = natural_on(line, b)?;
-    let register = register_on(line, r)?;
+    let to = register_on(line, r)?;
     let column = column_on(schema, line, c)?;
     if bit >= u64::from(schema.width(column)) {
         return Err(Fault::at_line(code::COLUMN_OR_BIT, line));
     }
-    Ok(Instr::Load(register, column as u8, bit as u8))
+    Ok(Instr::Load {
+        to,
+        column: column as u8,
+        bit: bit as u8,
+    })
 }
 
 /// A number without sign, or 501.
@@ -77,7 +106,7 @@ fn natural_on(line: u64, word: &[u8]) -> Result<u64, Fault>
 }
 
 /// A register, or 502.
-fn register_on(line: u64, word: &[u8]) -> Result<u8, Fault>
+fn register_on(line: u64, word: &[u8]) -> Result<Register, Fault>
     ensures register { result ≡ register_on line word.now }
     ensures below { IfOk result (λ register. register < 64) }
     ensures fault { IfErr result IsProgramFault }
@@ -87,7 +116,7 @@ fn register_on(line: u64, word: &[u8]) -> Result<u8, Fault>
 
 /// The register that a word names: `r` or `R`, and a number below 64.
 #[tactic(auto, unfolding(crate::specs::ProgramText::register_of))]
-fn register_of(word: &[u8]) -> Option<u8>
+fn register_of(word: &[u8]) -> Option<Register>
     ensures register { result ≡ register_of word.now }
     ensures below { IfSome result (λ register. register < 64) }
 {
@@ -118,12 +147,15 @@ fn nulls_of(schema: &Schema, line: u64, words: &[&[u8]]) -> Result<Instr, Fault>
     let [r, c] = words else {
         return Err(Fault::at_line(code::PROGRAM_FORM, line));
     };
-    let register = register_on(line, r)?;
+    let to = register_on(line, r)?;
     let column = column_on(schema, line, c)?;
     if !schema.columns[column].nullable {
         return Err(Fault::at_line(code::NO_NULLS, line));
     }
-    Ok(Instr::Nulls(register, column as u8))
+    Ok(Instr::Nulls {
+        to,
+        column: column as u8,
+    })
 }
 
 fn fill_of(line: u64, words: &[&[u8]]) -> Result<Instr, Fault>
@@ -137,22 +169,22 @@ fn fill_of(line: u64, words: &[&[u8]]) -> Result<Instr, Fault>
     if bit > 1 {
         return Err(Fault::at_line(code::PROGRAM_FORM, line));
     }
-    let register = register_on(line, r)?;
-    Ok(Instr::Fill(register, bit == 1))
+    let to = register_on(line, r)?;
+    Ok(Instr::Fill { to, bit: bit == 1 })
 }
 
 /// Three registers.
-fn three_of(line: u64, words: &[&[u8]]) -> Result<(u8, u8, u8), Fault>
+fn three_of(line: u64, words: &[&[u8]]) -> Result<(Register, Register, Register), Fault>
     ensures said { result ≡ three_on line (map (λ word. word.now) words.now) }
     ensures fault { IfErr result IsProgramFault }
 {
     let [r, x, y] = words else {
         return Err(Fault::at_line(code::PROGRAM_FORM, line));
     };
-    let register = register_on(line, r)?;
-    let first = register_on(line, x)?;
-    let second = register_on(line, y)?;
-    Ok((register, first, second))
+    let to = register_on(line, r)?;
+    let left = register_on(line, x)?;
+    let right = register_on(line, y)?;
+    Ok((to, left, right))
 }
 
 fn not_of(line: u64, words: &[&[u8]]) -> Result<Instr, Fault>
@@ -162,13 +194,17 @@ fn not_of(line: u64, words: &[&[u8]]) -> Result<Instr, Fault>
     let [r, x] = words else {
         return Err(Fault::at_line(code::PROGRAM_FORM, line));
     };
-    let register = register_on(line, r)?;
-    let negated = register_on(line, x)?;
-    Ok(Instr::Not(register, negated))
+    let to = register_on(line, r)?;
+    let from = register_on(line, x)?;
+    Ok(Instr::Not { to, from })
 }
 
 /// A register, a column, a slice of its codes and a byte.
-fn byte_of(schema: &Schema, line: u64, words: &[&[u8]]) -> Result<(u8, u8, u8, u8), Fault>
+fn byte_of(
+    schema: &Schema,
+    line: u64,
+    words: &[&[u8]],
+) -> Result<(Register, ColumnIndex, SliceIndex, u8), Fault>
     ensures said { result ≡ byte_on schema.now.columns.items line (map (λ word. word.now) words.now) }
     ensures fault { IfErr result IsProgramFault }
 {
@@ -180,12 +216,12 @@ fn byte_of(schema: &Schema, line: u64, words: &[&[u8]]) -> Result<(u8, u8, u8, u
     if byte > 255 {
         return Err(Fault::at_line(code::PROGRAM_FORM, line));
     }
-    let register = register_on(line, r)?;
+    let to = register_on(line, r)?;
     let column = column_on(schema, line, c)?;
     if slice >= schema.slices(column) as u64 {
         return Err(Fault::at_line(code::COLUMN_OR_BIT, line));
     }
-    Ok((register, column as u8, slice as u8, byte as u8))
+    Ok((to, column as u8, slice as u8, byte as u8))
 }
 
 fn skip_of(number: usize, line: u64, words: &[&[u8]]) -> Result<Instr, Fault>
@@ -196,11 +232,14 @@ fn skip_of(number: usize, line: u64, words: &[&[u8]]) -> Result<Instr, Fault>
         return Err(Fault::at_line(code::PROGRAM_FORM, line));
     };
     let target = natural_on(line, l)?;
-    let register = register_on(line, x)?;
+    let if_zero = register_on(line, x)?;
     if target <= number as u64 {
         return Err(Fault::at_line(code::SKIP_TARGET, line));
     }
-    Ok(Instr::Skip(register, target as usize))
+    Ok(Instr::Skip {
+        if_zero,
+        target: target as usize,
+    })
 }
 
 /// Whether a line names the result.
@@ -214,7 +253,7 @@ pub(crate) fn is_result_line(line: &Line) -> bool
 }
 
 /// The result register that such a line names.
-pub(crate) fn result_of(line: &Line) -> Result<u8, Fault>
+pub(crate) fn result_of(line: &Line) -> Result<Register, Fault>
     ensures register { result ≡ result_behind line.now.number (drop 1 (line_of line.now).words) }
     ensures below { IfOk result (λ register. register < 64) }
     ensures fault { IfErr result IsProgramFault }

@@ -5,7 +5,7 @@ ghost use Rattle.bw_model.specs.Lines.{lines_in, end_in};
 ghost use Rattle.bw_program.specs.Program.{ProgramShape, fits, most_instructions};
 ghost use Rattle.bw_program.specs.ProgramText.{program_of, program_on, last_line, finished, instrs_of, within_end, goes_past, IsProgramText, IsProgramFault};
 
-use crate::instr::Instr;
+use crate::instr::{Instr, Register};
 use crate::line::{instr_of, is_result_line, result_of};
 use crate::program::{Program, registers_of};
 use crate::step::steps_of;
@@ -72,7 +72,7 @@ fn read_lines(
     schema: &Schema,
     lines: &mut Lines<'_>,
     placed: &mut Vec<Placed>,
-) -> Result<u8, Fault>
+) -> Result<Register, Fault>
     requires { placed.old.items ≡ [] }
     ensures read { IfOk result (λ register. program_on schema.now.columns.items [] (lines_in lines.old) (end_in
         lines.old)
@@ -147,7 +147,7 @@ fn goes_past(end: usize, instr: Instr) -> bool
     ensures { result ≡ goes_past end instr }
 {
     match instr {
-        Instr::Skip(_, target) => target > end,
+        Instr::Skip { target, .. } => target > end,
         _ => false,
     }
 }

@@ -4,6 +4,7 @@ ghost use Rattle.std.specs.Fmt.{decimal};
 ghost use Rattle.std.specs.List.{list_all};
 ghost use Rattle.bw_model.specs.declared.column.Column.{Column};
 ghost use Rattle.bw_model.specs.Fault.{no_memory};
+ghost use Rattle.bw_program.specs.declared.print.Operand.TheVariants as operand;
 ghost use Rattle.bw_program.specs.Opcode.{opcode_spelling};
 ghost use Rattle.bw_program.specs.Operand.{operand_text, operands_text, operand_fits};
 ghost use Rattle.bw_program.specs.PrintText.{print_text, instr_words, result_words, line_text};
@@ -12,7 +13,7 @@ ghost use Rattle.bw_model.specs.Name.{is_name, are_apart};
 ghost use Rattle.bw_program.specs.Program.{ProgramShape, is_program, fits, instr_fits};
 ghost use Rattle.bw_program.specs.ProgramText.{IsProgramText};
 
-use crate::instr::Instr;
+use crate::instr::{ColumnIndex, Instr, Register, SliceIndex};
 use crate::opcode::Opcode;
 use crate::program::Program;
 use bw_model::{Fault, Schema};
@@ -53,8 +54,8 @@ pub fn canonical_texts_spell_programs()
 /// What stands after an opcode.
 #[derive(Clone, Copy)]
 pub(crate) enum Operand {
-    Register(u8),
-    Column(u8),
+    Register(Register),
+    Column(ColumnIndex),
     Number(u64),
     Nothing,
 }
@@ -79,7 +80,7 @@ fn put_instr(
 fn put_result(
     alloc: Global,
     schema: &Schema,
-    register: u8,
+    register: Register,
     text: &mut Vec<u8>,
 ) -> Result<(), AllocError>
     ensures { OnOk result (text.new.items ≡ text.old.items ++ line_text (result_words register)) }
@@ -98,43 +99,71 @@ fn parts_of(instr: Instr) -> (Opcode, [Operand; 4])
 {
     use Operand::{Column, Nothing, Number, Register};
     match instr {
-        Instr::Load(r, column, bit) => {
+        Instr::Load { to, column, bit } => {
             let bit = Number(bit as u64);
-            (Opcode::Load, [Register(r), Column(column), bit, Nothing])
+            (Opcode::Load, [Register(to), Column(column), bit, Nothing])
         }
-        Instr::Nulls(r, column) => {
-            (
-                Opcode::Nulls,
-                [Register(r), Column(column), Nothing, Nothing],
-            )
+        Instr::Nulls { to, column } => {
+            let column = Column(column);
+            (Opcode::Nulls, [Register(to), column, Nothing, Nothing])
         }
-        Instr::Fill(r, bit) => {
+        Instr::Fill { to, bit } => {
             let bit = Number(bit as u64);
-            (Opcode::Fill, [Register(r), bit, Nothing, Nothing])
+            (Opcode::Fill, [Register(to), bit, Nothing, Nothing])
         }
-        Instr::And(r, x, y) => (
-            Opcode::And,
-            [Register(r), Register(x), Register(y), Nothing],
-        ),
-        Instr::Or(r, x, y) => (Opcode::Or, [Register(r), Register(x), Register(y), Nothing]),
-        Instr::Xor(r, x, y) => (
-            Opcode::Xor,
-            [Register(r), Register(x), Register(y), Nothing],
-        ),
-        Instr::Not(r, x) => (Opcode::Not, [Register(r), Register(x), Nothing, Nothing]),
-        Instr::ByteLt(r, column, slice, k) => {
-            let (slice, k) = (Number(slice as u64), Number(k as u64));
-            (Opcode::ByteLt, [Register(r), Column(column), slice, k])
+        Instr::And { to, left, right } => (Opcode::And, three_registers(to, left, right)),
+        Instr::Or { to, left, right } => (Opcode::Or, three_registers(to, left, right)),
+        Instr::Xor { to, left, right } => (Opcode::Xor, three_registers(to, left, right)),
+        Instr::Not { to, from } => {
+            let from = Register(from);
+            (Opcode::Not, [Register(to), from, Nothing, Nothing])
         }
-        Instr::ByteEq(r, column, slice, k) => {
-            let (slice, k) = (Number(slice as u64), Number(k as u64));
-            (Opcode::ByteEq, [Register(r), Column(column), slice, k])
-        }
-        Instr::Skip(x, target) => {
+        Instr::ByteLt {
+            to,
+            column,
+            slice,
+            below,
+        } => (Opcode::ByteLt, byte_operands(to, column, slice, below)),
+        Instr::ByteEq {
+            to,
+            column,
+            slice,
+            byte,
+        } => (Opcode::ByteEq, byte_operands(to, column, slice, byte)),
+        Instr::Skip { if_zero, target } => {
             let target = Number(target as u64);
-            (Opcode::Skip, [Register(x), target, Nothing, Nothing])
+            (Opcode::Skip, [Register(if_zero), target, Nothing, Nothing])
         }
     }
+}
+
+/// Three registers.
+const fn three_registers(to: Register, left: Register, right: Register) -> [Operand; 4]
+    ensures { result ≡ operand.Register to ∷ operand.Register left ∷ operand.Register right ∷ operand.Nothing ∷ [] }
+{
+    [
+        Operand::Register(to),
+        Operand::Register(left),
+        Operand::Register(right),
+        Operand::Nothing,
+    ]
+}
+
+/// A register, a column, a slice of its codes and a byte.
+const fn byte_operands(
+    to: Register,
+    column: ColumnIndex,
+    slice: SliceIndex,
+    byte: u8,
+) -> [Operand; 4]
+    ensures { result ≡ operand.Register to ∷ operand.Column column ∷ operand.Number slice ∷ operand.Number byte ∷ [] }
+{
+    [
+        Operand::Register(to),
+        Operand::Column(column),
+        Operand::Number(slice as u64),
+        Operand::Number(byte as u64),
+    ]
 }
 
 /// Appends a line.
