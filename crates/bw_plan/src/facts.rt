@@ -44,7 +44,7 @@ impl<'a> Facts<'a> {
     }
 
     /// The product rows, of which the first has number 0.
-    pub(crate) fn rows(&self) -> &IndexMap<Question, Outcome> {
+    pub(crate) fn products(&self) -> &IndexMap<Question, Outcome> {
         &self.products.rows
     }
 
