@@ -12,7 +12,7 @@ use Rattle.bw_model.specs.Row.{Value}
 use Rattle.bw_model.proofs.BitsLemmas.{both}
 use Rattle.bw_model.proofs.GroupLemmas.{groups_of-count, groups_of-sizes, groups_of-table}
 use Rattle.bw_segment.specs.Meaning.{IsGroup, Meaning}
-use Rattle.bw_segment.proofs.TextLemmas.{length-text}
+use Rattle.bw_segment.proofs.BytesLemmas.{length-text}
 use Rattle.bw_file.specs.declared.layout.Layout.{Layout}
 use Rattle.bw_file.specs.declared.table_reader.TableReader.{TableReader}
 use Rattle.bw_file.specs.Blocks.{form_of, segment_size, segment_bytes}
