@@ -1,11 +1,11 @@
 -- The codes that planes spell: 512, each of so many binary digits.
-use Rattle.std.proofs.Common.{◌≡◌, ◌∙◌, sym, ap, subst, ℕ, suc, ◌+◌, ◌-◌, ◌*◌, ◌/◌, ◌%◌, ◌^◌, ◌<◌, ◌≤◌, false, cond, ◌==◌, List, [], ◌∷◌, map, length, take, drop, get_or, bit_and, add-one, arith}
+use Rattle.std.proofs.Common.{◌≡◌, ◌∙◌, sym, ap, subst, ℕ, suc, ◌+◌, ◌-◌, ◌*◌, ◌/◌, ◌%◌, ◌^◌, ◌<◌, ◌≤◌, false, cond, ◌==◌, List, [], ◌∷◌, map, length, take, drop, get_or, bit_and, arith}
 use Rattle.std.specs.Int.{bit_at}
 use Rattle.std.specs.List.{range_with_len, AllByRecursion}
 use Rattle.std.proofs.Math.Pow.{pow_mono}
 use Rattle.std.proofs.lemmas.List.{get_or-take, get_or-drop, get_or-map, length-take, length-drop}
 use Rattle.std.proofs.lemmas.List.FromFn.{get_or-map-range_with_len}
-use Rattle.std.proofs.lemmas.Nat.{shr-shr, shr_le}
+use Rattle.std.proofs.lemmas.Nat.{shr_le}
 use Rattle.std.proofs.lemmas.Nat.Bits.{bit_at-lt, shr_and_one}
 use Rattle.std.proofs.lemmas.Simd.{map-map}
 use Rattle.bw_lanes.proofs.BitLemmas.{lane_of_bytes}
@@ -13,14 +13,9 @@ use Rattle.bw_model.specs.Code.{has_bit}
 use Rattle.bw_model.specs.Groups.{group_size}
 use Rattle.bw_model.specs.Variable.{spelled}
 use Rattle.bw_model.proofs.BitsLemmas.{bit_worth}
+use Rattle.bw_segment.proofs.DescentLemmas.{high_more}
 use Rattle.bw_planes.specs.Planes.{plane_lanes, row_bits, planes_codes}
 use Rattle.bw_planes.specs.Kept.{spelled_below, length-planes_codes, plane_of_codes}
-
--- a number from a bit on
-pub high_more : (n bit : ℕ) → n / 2 ^ bit ≡ 2 * (n / 2 ^ suc bit) + cond (has_bit n bit) 1 0
-high_more n bit =
-    let half : n / 2 ^ bit / 2 ≡ n / 2 ^ suc bit = shr-shr n bit 1 ∙ ap (λ k. n / 2 ^ k) (add-one bit) in
-    omega (arith, half, bit_worth (bit_at n bit) 1 (bit_at-lt n bit))
 
 pub codes_long : (width : ℕ) (bytes : List ℕ) → length (planes_codes width bytes) ≡ 512
 unfolding group_size

@@ -99,15 +99,15 @@ fn risen(at_least: &Plane, plane: &Plane, one: bool) -> Plane
     }
 }
 
-/// The lanes that were equal so far and have this bit in a plane.
+/// Of some lanes those that have this bit in a plane.
 #[tactic(auto, using(crate::proofs::CompareLemmas::zip2_map_right))]
-fn narrowed(equal: &Plane, plane: &Plane, one: bool) -> Plane
-    ensures { lanes_of_words result ≡ zip2 (λ e p. e && (if one then p else not p))
-        (lanes_of_words equal.now) (lanes_of_words plane.now) }
+pub(crate) fn narrowed(lanes: &Plane, plane: &Plane, one: bool) -> Plane
+    ensures { lanes_of_words result ≡ zip2 (λ l p. l && (if one then p else not p))
+        (lanes_of_words lanes.now) (lanes_of_words plane.now) }
 {
     if one {
-        and(equal, plane)
+        and(lanes, plane)
     } else {
-        and(equal, &not(plane))
+        and(lanes, &not(plane))
     }
 }

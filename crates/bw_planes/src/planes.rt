@@ -1,13 +1,14 @@
 //! Codes kept as planes, and what they answer.
-ghost use Rattle.std.specs.Prelude.{◌≡◌, ◌*◌, ◌^◌, ◌<◌, ◌≤◌, false, length, map, nat_lt, true};
-ghost use Rattle.std.specs.List.{list_any};
+ghost use Rattle.std.specs.Prelude.{◌≡◌, ◌*◌, ◌^◌, ◌<◌, ◌≤◌, IfSome, false, if◌then◌else◌, length, map, max, min, nat_lt, true};
+ghost use Rattle.std.specs.List.{list_any, reduce};
 ghost use Rattle.bw_lanes.specs.Lanes.{lanes_of_words};
 ghost use Rattle.bw_model.specs.Code.{has_bit};
+ghost use Rattle.bw_model.specs.Selection.{picked};
 ghost use Rattle.bw_model.specs.Stored.{byte_of};
 ghost use Rattle.bw_planes.specs.Planes.{plane_packing, planes_codes};
 ghost use Rattle.bw_planes.specs.Kept.{planes_keep_codes};
 
-use crate::compare::{at_least, eq};
+use crate::compare::{at_least, eq, narrowed};
 use crate::sum::sum_in_word;
 use bw_lanes::{LANES, Plane, and, bytes_bit, is_zero, load, not, or, push_bit, to_bytes};
 use bw_model::Fault;
@@ -84,41 +85,12 @@ impl CodeLayout for Planes {
         sum
     }
 
-    // From the top bit down the lanes that remain are those in which the bit is 0, or all of them where it is 1 in each.
     fn least(width: u32, bytes: &[u8], lanes: &Plane) -> Option<u64> {
-        if is_zero(lanes) {
-            return None;
-        }
-        let mut left = *lanes;
-        let mut code = 0;
-        for place in 0..width {
-            let zeros = and(&left, &not(&Planes::bit(width, bytes, width - 1 - place)));
-            code *= 2;
-            if is_zero(&zeros) {
-                code += 1;
-            } else {
-                left = zeros;
-            }
-        }
-        Some(code)
+        chosen_code(width, bytes, lanes, false)
     }
 
-    // From the top bit down the lanes that remain are those in which the bit is 1, or all of them where it is 0 in each.
     fn greatest(width: u32, bytes: &[u8], lanes: &Plane) -> Option<u64> {
-        if is_zero(lanes) {
-            return None;
-        }
-        let mut left = *lanes;
-        let mut code = 0;
-        for place in 0..width {
-            let ones = and(&left, &Planes::bit(width, bytes, width - 1 - place));
-            code *= 2;
-            if !is_zero(&ones) {
-                left = ones;
-                code += 1;
-            }
-        }
-        Some(code)
+        chosen_code(width, bytes, lanes, true)
     }
 
     fn code(width: u32, bytes: &[u8], lane: usize) -> u64 {
@@ -139,6 +111,35 @@ impl CodeLayout for Planes {
     }
 
     ghost keeps = { planes_keep_codes };
+}
+
+/// The greatest of the codes in some lanes, or the least; none where there are no lanes. From the top bit down the lanes that
+/// remain are those in which the bit is 1, or for the least 0, or all of them where there are none of these.
+#[inline(always)]
+fn chosen_code(width: u32, bytes: &[u8], lanes: &Plane, greatest: bool) -> Option<u64>
+    requires width { (1 ≤ width) × (width ≤ 63) }
+    requires size { length bytes.now ≡ 64 * width }
+    ensures chosen { result ≡ reduce (if greatest then max else min)
+        (picked (lanes_of_words lanes.now) (planes_codes width bytes.now)) }
+    ensures bound { IfSome result (λ code. code < 2 ^ 63) }
+{
+    if is_zero(lanes) {
+        return None;
+    }
+    let mut left = *lanes;
+    let mut code = 0;
+    for place in 0..width {
+        let plane = Planes::bit(width, bytes, width - 1 - place);
+        let sought = narrowed(&left, &plane, greatest);
+        code *= 2;
+        if is_zero(&sought) {
+            code += u64::from(!greatest);
+        } else {
+            code += u64::from(greatest);
+            left = sought;
+        }
+    }
+    Some(code)
 }
 
 /// So many of the highest digits tell in nearly all segments that no code is above a number: of 512 codes that are spread over

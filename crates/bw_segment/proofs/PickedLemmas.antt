@@ -5,16 +5,18 @@ use Rattle.std.proofs.lemmas.List.Sums.{sum_by-cons}
 use lib.Lanes.{zip2}
 use Rattle.bw_model.specs.Selection.{picked}
 
--- the items in the lanes that are picked and pass a test
-pub picked_both : (p : ℕ → Bool) (lanes : List Bool) (items : List ℕ) → picked (zip2 (λ a b. a && b) lanes (map p items)) items ≡ filter p (picked lanes items)
-picked_both p [] items = refl
-picked_both p (lane ∷ lanes) [] = refl
-picked_both p (true ∷ lanes) (item ∷ items) = put (p item) (picked_both p lanes items)
-  where
-    put : (b : Bool) → picked (zip2 (λ a b. a && b) lanes (map p items)) items ≡ filter p (picked lanes items) → picked (b ∷ zip2 (λ a b. a && b) lanes (map p items)) (item ∷ items) ≡ cond b (item ∷ filter p (picked lanes items)) (filter p (picked lanes items))
-    put true same = ap (λ l. item ∷ l) same
-    put false same = same
-picked_both p (false ∷ lanes) (item ∷ items) = picked_both p lanes items
+picked-cons : (lane : Bool) (lanes : List Bool) (item : ℕ) (items : List ℕ) → picked (lane ∷ lanes) (item ∷ items) ≡ cond lane (item ∷ picked lanes items) (picked lanes items)
+picked-cons true lanes item items = refl
+picked-cons false lanes item items = refl
+
+-- the items in the lanes that are picked and pass a test of a part of them
+pub picked_where : {A : Type 0} (test : A → Bool) (f : ℕ → A) (lanes : List Bool) (items : List ℕ)
+    → picked (zip2 (λ lane x. lane && test x) lanes (map f items)) items ≡ filter (λ n. test (f n)) (picked lanes items)
+picked_where test f [] items = refl
+picked_where test f (lane ∷ lanes) [] = refl
+picked_where test f (true ∷ lanes) (item ∷ items) =
+    picked-cons (test (f item)) _ item items ∙ ap (λ l. cond (test (f item)) (item ∷ l) l) (picked_where test f lanes items)
+picked_where test f (false ∷ lanes) (item ∷ items) = picked_where test f lanes items
 
 -- whether one of the items that are picked passes a test
 pub any_picked : (test : ℕ → Bool) (lanes : List Bool) (items : List ℕ) → list_any (λ lane. lane) (zip2 (λ a b. a && b) lanes (map test items)) ≡ list_any test (picked lanes items)

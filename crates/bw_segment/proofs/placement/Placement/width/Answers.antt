@@ -1,4 +1,4 @@
-use Rattle.std.proofs.Common.{◌≡◌, ◌∙◌, ap, ◌<◌, ◌≤◌, ℕ, length, get_or, arith}
+use Rattle.std.proofs.Common.{◌∙◌, ap, ◌<◌, ◌≤◌, ℕ, length, get_or, arith}
 use Rattle.std.proofs.lemmas.List.Elements.{All-get_or}
 use Rattle.std.proofs.lemmas.List.FromFn.{length-map-range_with_len, get_or-map-range_with_len}
 use Rattle.bw_model.specs.Code.{width_at}
