@@ -13,6 +13,9 @@ use Rattle.bw_model.specs.Code.{has_bit}
 use Rattle.bw_model.specs.Groups.{group_size}
 use Rattle.bw_model.specs.Variable.{spelled}
 use Rattle.bw_model.proofs.BitsLemmas.{bit_worth}
+use lib.Lanes.{zip2}
+use Rattle.bw_model.specs.Stored.{byte_of}
+use Rattle.bw_segment.proofs.ByteLemmas.{with_byte, codes_from, top_byte, byte_more, codes_whole}
 use Rattle.bw_segment.proofs.DescentLemmas.{high_more}
 use Rattle.bw_planes.specs.Planes.{plane_lanes, row_bits, planes_codes}
 use Rattle.bw_planes.specs.Kept.{spelled_below, length-planes_codes, plane_of_codes}
@@ -69,3 +72,10 @@ pub code_fits : (code width place : ℕ) → code < 2 ^ width → width ≤ 63 �
 code_fits code width place small few lt =
     let most = pow_mono {i = width} {j = 63} few in
     omega (arith, code_next code width place lt, shr_le code (width - (place + 1)), small, most)
+
+-- one more byte of each code
+pub next_byte : (width slices place : ℕ) (bytes held byte : List ℕ) → place < slices → width ≤ 63 → held ≡ codes_from (slices - place) (planes_codes width bytes)
+    → byte ≡ map (byte_of (slices - 1 - place)) (planes_codes width bytes) → zip2 with_byte held byte ≡ codes_from (slices - (place + 1)) (planes_codes width bytes)
+next_byte width slices place bytes held byte lt few before is = byte_more width slices place _ held byte lt (omega arith) (codes_small width bytes) before is
+
+pub ruleset byte_steps = (top_byte, codes_small, next_byte, codes_whole)

@@ -35,6 +35,7 @@ impl CodeLayout for Planes {
         Ok(())
     }
 
+    #[tactic(auto, using(crate::proofs::CompareLemmas::used_steps))]
     fn used(width: u32, bytes: &[u8]) -> Plane {
         let mut used = [0; 8];
         for bit in 0..width as usize {
@@ -75,6 +76,7 @@ impl CodeLayout for Planes {
         eq(width, bytes, low, (width - low).min(8), c)
     }
 
+    #[tactic(auto, using(crate::proofs::SumLemmas::word_sums))]
     fn sum(width: u32, bytes: &[u8], lanes: &Plane) -> u128 {
         let mut sum = 0;
         for word in 0..8 {
@@ -102,6 +104,7 @@ impl CodeLayout for Planes {
         code
     }
 
+    #[tactic(auto, using(crate::proofs::CodeLemmas::byte_steps))]
     fn unpack(width: u32, bytes: &[u8], codes: &mut [u64; LANES]) {
         let slices = (width as usize + 7) / 8;
         put_byte(codes, &byte_at(width, bytes, slices - 1));
@@ -174,6 +177,7 @@ pub(crate) fn plane_of(width: u32, bytes: &[u8], bit: usize) -> Plane
 
 /// A byte of each code, of which byte 0 is the least: the planes of its bits are shifted into a byte of each lane, from the
 /// top one down.
+#[tactic(auto, using(crate::proofs::TransposeLemmas::byte_steps))]
 fn byte_at(width: u32, bytes: &[u8], slice: usize) -> [u8; LANES]
     requires width { (1 ≤ width) × (width ≤ 63) }
     requires size { length bytes.now ≡ 64 * width }

@@ -1,20 +1,22 @@
 -- The codes that slices spell: how large they are, what the lanes tell of them, and sums of those that lanes pick.
-use Rattle.std.proofs.Common.{◌≡◌, ◌∙◌, refl, sym, ap, ap₂, ℕ, zero, suc, ◌+◌, ◌*◌, ◌^◌, ◌<◌, ◌≤◌, Bool, not, eqb, ◌==◌, ◌&&◌, List, [], ◌∷◌, map, length, get_or, ◌/◌, Fits, w64, arith, ◌%◌, true, false, sum, sum_by, inl, inr, cond, ◌++◌, take, drop, set, length-set, bit_and, All}
+use Rattle.std.proofs.Common.{◌≡◌, ◌∙◌, refl, sym, ap, ap₂, ℕ, zero, suc, ◌+◌, ◌-◌, ◌*◌, ◌^◌, ◌<◌, ◌≤◌, Bool, not, eqb, ◌==◌, ◌&&◌, List, [], ◌∷◌, map, length, get_or, ◌/◌, Fits, w8, w64, arith, ◌%◌, true, false, sum, sum_by, inl, inr, cond, take, drop, set, length-set, bit_and, All}
 use Rattle.std.specs.List.{range_with_len, list_all, AllByRecursion}
 use Rattle.std.proofs.Math.Pow.{pow_mono}
 use Rattle.std.proofs.lemmas.Bool.Decides.{nat_tests}
 use Rattle.std.proofs.lemmas.List.FromFn.{get_or-map-range_with_len, fill_by_all, length-map-range_with_len}
 use Rattle.std.proofs.lemmas.Nat.{pow-add, and_le_l}
 use Rattle.std.proofs.lemmas.Simd.{map-map}
+use lib.Lanes.{zip2}
 use Rattle.bw_lanes.specs.Lanes.{lanes_of_words, are_zero, bits_from_least}
 use Rattle.bw_lanes.proofs.WordLemmas.{length-lanes_of_words, zero_bits, no_lanes, lanes_more, length-first, before_and_part, part_is}
 use Rattle.bw_model.specs.Groups.{group_size}
 use Rattle.bw_model.specs.Selection.{picked}
-use Rattle.bw_segment.proofs.PickedLemmas.{is_none, none_picked}
+use Rattle.bw_segment.proofs.PickedLemmas.{is_none, none_picked, word_more, words_summed}
+use Rattle.bw_segment.proofs.ByteLemmas.{with_byte, codes_from, top_byte, byte_more as byte_below, codes_whole}
 use Rattle.bw_slices.specs.Slices.{number_from, slices_codes}
 use Rattle.bw_slices.specs.Kept.{bytes_in, length-slices_codes, next_byte}
 use Rattle.std.proofs.Math.Nat.{div-eq_of_lt, mul-le-mul_right}
-use Rattle.std.proofs.lemmas.List.Sums.{sum_by-cons, sum_by-append}
+use Rattle.std.proofs.lemmas.List.Sums.{sum_by-cons}
 use Rattle.bw_lanes.specs.Picked.{bytes_picked}
 use Rattle.bw_model.specs.Stored.{byte_of}
 use Rattle.std.specs.Int.{bit_at, bit_not}
@@ -22,7 +24,6 @@ use Rattle.std.proofs.lemmas.Bool.{cases_eq, cases_lt, eq-eqb}
 use Rattle.std.proofs.lemmas.List.{length-take, get_or-set_same, get_or-set_other}
 use Rattle.std.proofs.lemmas.List.Elements.{All-take, All-drop}
 use Rattle.std.proofs.lemmas.Nat.Bits.{bit_at_clear_same, bit_at_clear_other}
-use Rattle.bw_model.proofs.GroupLemmas.{picked-append}
 
 -- one byte more
 pub next_small : (head byte places : ℕ) → head < 2 ^ places → byte < 256 → 256 * head + byte < 2 ^ (places + 8)
@@ -127,15 +128,6 @@ pub picked_small : (lanes : List Bool) (first width : ℕ) (codes : List ℕ) �
 picked_small lanes first width codes few small =
     sum_small width 64 lanes (take 64 (drop first codes)) few (omega (arith, length-take 64 (drop first codes))) (All-take (λ code. code < 2 ^ width) 64 (drop first codes) (All-drop (λ code. code < 2 ^ width) first codes small))
 
-nothing_picked : (lanes : List Bool) (items : List ℕ) → list_all not lanes ≡ true → sum (picked lanes items) ≡ 0
-nothing_picked [] items none = refl
-nothing_picked (lane ∷ lanes) [] none = refl
-nothing_picked (true ∷ lanes) (item ∷ items) none = cc
-nothing_picked (false ∷ lanes) (item ∷ items) none = nothing_picked lanes items none
-
-pub no_bits : (n : ℕ) (items : List ℕ) → n ≡ 0 → sum (picked (bits_from_least 64 n) items) ≡ 0
-no_bits n items none = nothing_picked (bits_from_least 64 n) items (sym (zero_bits 64 n (omega arith)) ∙ eq-eqb n 0 none)
-
 first_item : (lane : Bool) (lanes : List Bool) (item : ℕ) (items : List ℕ) → sum (picked (lane ∷ lanes) (item ∷ items)) ≡ cond lane item 0 + sum (picked lanes items)
 first_item true lanes item items = sum_by-cons (λ k. k) item (picked lanes items)
 first_item false lanes item items = omega arith
@@ -176,16 +168,16 @@ without_less n t lt set = elim (cases_lt (without n t) n) [
       absurd (omega (arith, bit_at_clear_same w64 n t lt, ap (λ k. bit_at k t) same, set))
 ]
 
--- one word more
-pub word_more : (word : ℕ) (words codes : List ℕ) → length words ≡ 8 → length codes ≡ 512 → word < 8
-    → sum (picked (lanes_of_words (take (word + 1) words)) (take (64 * (word + 1)) codes))
-    ≡ sum (picked (lanes_of_words (take word words)) (take (64 * word) codes)) + sum (picked (bits_from_least 64 (get_or words word 0)) (take 64 (drop (64 * word) codes)))
-word_more word words codes eight long lt =
-    let front = lanes_of_words (take word words) in
-    let before = take (64 * word) codes in
-    let here = bits_from_least 64 (get_or words word 0) in
-    let part = take 64 (drop (64 * word) codes) in
-    ap₂ (λ l m. sum (picked l m)) (lanes_more word words eight lt) (before_and_part word codes lt ∙ ap (λ l. before ++ l) (part_is word codes lt))
-    ∙ ap sum (picked-append front here before part (omega (arith, length-first word words eight (omega arith), length-take (64 * word) codes))) ∙ sum_by-append (λ n. n) (picked front before) (picked here part)
+pub ruleset few_sums = (no_lanes, word_more, words_summed, length-slices_codes)
 
-pub ruleset few_sums = (no_lanes, word_more, length-slices_codes)
+-- one more byte of each code
+pub next_code : (slices place : ℕ) (bytes held byte : List ℕ) → slices ≤ 8 → place < slices → ((at : ℕ) → Fits w8 (get_or bytes at 0)) → held ≡ codes_from (slices - place) (slices_codes slices bytes)
+    → byte ≡ map (byte_of (slices - 1 - place)) (slices_codes slices bytes) → zip2 with_byte held byte ≡ codes_from (slices - (place + 1)) (slices_codes slices bytes)
+next_code slices place bytes held byte few lt fit before is =
+    byte_below (8 * slices) slices place _ held byte lt (omega arith) (codes_below bytes slices (λ at. (fit at).fits)) before is
+
+pub first_code : (slices : ℕ) (bytes byte : List ℕ) → 1 ≤ slices → ((at : ℕ) → Fits w8 (get_or bytes at 0)) → byte ≡ map (byte_of (slices - 1)) (slices_codes slices bytes)
+    → byte ≡ codes_from (slices - 1) (slices_codes slices bytes)
+first_code slices bytes byte some fit is = top_byte (8 * slices) (slices - 1) _ byte (omega arith) (codes_below bytes slices (λ at. (fit at).fits)) is
+
+pub ruleset byte_steps = (first_code, next_code, codes_whole)

@@ -105,6 +105,7 @@ impl CodeLayout for Slices {
         code
     }
 
+    #[tactic(auto, using(crate::proofs::CodeLemmas::byte_steps))]
     fn unpack(width: u32, bytes: &[u8], codes: &mut [u64; LANES]) {
         let slices = slices_in(width);
         put_byte(codes, slice_of(width, bytes, slices - 1));
