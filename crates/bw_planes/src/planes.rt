@@ -95,6 +95,7 @@ impl CodeLayout for Planes {
         chosen_code(width, bytes, lanes, true)
     }
 
+    #[tactic(auto, using(crate::proofs::CodeLemmas::code_steps))]
     fn code(width: u32, bytes: &[u8], lane: usize) -> u64 {
         let mut code = 0;
         for place in 0..width as usize {
@@ -164,6 +165,7 @@ fn none_is_near(width: u32, bytes: &[u8], most: u64) -> bool
 }
 
 /// The plane of a bit, whose place is reckoned in whole words, so that a loop over bits moves from plane to plane.
+#[tactic(auto, using(crate::proofs::CodeLemmas::plane_loaded))]
 #[inline(always)]
 pub(crate) fn plane_of(width: u32, bytes: &[u8], bit: usize) -> Plane
     requires width { width ≤ 63 }

@@ -1,5 +1,4 @@
-use Rattle.std.proofs.Common.{sym, ap, ◌/◌, ◌%◌, ◌^◌, false, not, ltb}
-use Rattle.std.proofs.lemmas.Bool.{lt-ltb}
+use Rattle.std.proofs.Common.{sym, ap, ◌/◌, ◌%◌, ◌^◌, false, not, ltb, lt-ltb}
 use Rattle.bw_lanes.proofs.WordLemmas.{zeros_are_zero}
 use Rattle.bw_planes.specs.Planes.{planes_codes}
 use Rattle.bw_planes.proofs.CodeLemmas.{codes_long}

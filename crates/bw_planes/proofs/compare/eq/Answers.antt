@@ -1,5 +1,4 @@
-use Rattle.std.proofs.Common.{sym, ◌/◌, ◌%◌, ◌^◌, false, eqb, arith}
-use Rattle.std.proofs.lemmas.Bool.{ne_eqb}
+use Rattle.std.proofs.Common.{sym, ◌/◌, ◌%◌, ◌^◌, false, eqb, arith, ne_eqb}
 use Rattle.bw_lanes.proofs.WordLemmas.{zeros_are_zero}
 use Rattle.bw_planes.specs.Planes.{planes_codes}
 use Rattle.bw_planes.proofs.CodeLemmas.{codes_long}
