@@ -1,9 +1,8 @@
 -- The greatest and the least of numbers, byte by byte from the most significant down.
-use Rattle.std.proofs.Common.{◌≡◌, ◌∙◌, refl, sym, ap, subst, ◌⊎◌, inl, inr, ℕ, ◌+◌, ◌*◌, ◌/◌, ◌%◌, ◌^◌, ◌<◌, Bool, true, false, cond, ◌==◌, List, [], ◌∷◌, map, filter, Some, arith, fold}
+use Rattle.std.proofs.Common.{◌≡◌, ◌∙◌, refl, sym, ap, subst, ◌⊎◌, inl, inr, ℕ, ◌+◌, ◌*◌, ◌/◌, ◌%◌, ◌^◌, ◌<◌, Bool, true, false, cond, ◌==◌, List, [], ◌∷◌, map, filter, Some, arith, fold, pow_pos}
 use Rattle.std.specs.List.{reduce, AllByRecursion}
 use Rattle.std.proofs.lemmas.Bool.{eqb-true, eqb-false, eq-eqb}
 use Rattle.std.proofs.lemmas.Bool.Decides.{nat_tests}
-use Rattle.std.proofs.lemmas.Nat.{pow_pos}
 use Rattle.bw_lanes.specs.Picked.{bytes_picked}
 use Rattle.bw_model.specs.Selection.{picked}
 use Rattle.bw_segment.proofs.PickedLemmas.{is_none}

@@ -1,7 +1,6 @@
 -- The codes that slices spell: how large they are, what the lanes tell of them, and sums of those that lanes pick.
-use Rattle.std.proofs.Common.{◌≡◌, ◌∙◌, refl, sym, ap, ap₂, ℕ, zero, suc, ◌+◌, ◌-◌, ◌*◌, ◌^◌, ◌<◌, ◌≤◌, Bool, not, eqb, ◌==◌, ◌&&◌, List, [], ◌∷◌, map, length, get_or, ◌/◌, Fits, w8, w64, arith, ◌%◌, true, false, sum, sum_by, inl, inr, cond, take, drop, set, length-set, bit_and, All}
+use Rattle.std.proofs.Common.{◌≡◌, ◌∙◌, refl, sym, ap, ap₂, ℕ, zero, suc, ◌+◌, ◌-◌, ◌*◌, ◌^◌, ◌<◌, ◌≤◌, Bool, not, eqb, ◌==◌, ◌&&◌, List, [], ◌∷◌, map, length, get_or, ◌/◌, Fits, w8, w64, arith, ◌%◌, true, false, sum, sum_by, inl, inr, cond, take, drop, set, length-set, bit_and, All, pow_mono, length-take, get_or-set_same, get_or-set_other, add-one}
 use Rattle.std.specs.List.{range_with_len, list_all, AllByRecursion}
-use Rattle.std.proofs.Math.Pow.{pow_mono}
 use Rattle.std.proofs.lemmas.Bool.Decides.{nat_tests}
 use Rattle.std.proofs.lemmas.List.FromFn.{get_or-map-range_with_len, fill_by_all, length-map-range_with_len}
 use Rattle.std.proofs.lemmas.Nat.{pow-add, and_le_l}
@@ -21,7 +20,6 @@ use Rattle.bw_lanes.specs.Picked.{bytes_picked}
 use Rattle.bw_model.specs.Stored.{byte_of}
 use Rattle.std.specs.Int.{bit_at, bit_not}
 use Rattle.std.proofs.lemmas.Bool.{cases_eq, cases_lt, eq-eqb}
-use Rattle.std.proofs.lemmas.List.{length-take, get_or-set_same, get_or-set_other}
 use Rattle.std.proofs.lemmas.List.Elements.{All-take, All-drop}
 use Rattle.std.proofs.lemmas.Nat.Bits.{bit_at_clear_same, bit_at_clear_other}
 
@@ -62,6 +60,29 @@ all_within width bits (n ∷ ns) le small =
 pub code_in_lane : (bytes : List ℕ) (count lane : ℕ) → lane < 512 → number_from (bytes_in bytes lane) count ≡ get_or (slices_codes count bytes) lane 0
 unfolding slices_codes group_size
 code_in_lane bytes count lane lt = sym (get_or-map-range_with_len (λ row. number_from (bytes_in bytes row) count) 0 512 lane lane 0 lt (omega arith))
+
+-- the number that the first bytes, so many, of a lane spell
+unfoldable pub front_code : ℕ → ℕ → List ℕ → ℕ
+front_code place lane bytes = number_from (bytes_in bytes lane) place
+
+pub front_none : (lane : ℕ) (bytes : List ℕ) → front_code 0 lane bytes ≡ 0
+unfolding front_code
+front_none lane bytes = refl
+
+pub front_more : (place lane : ℕ) (bytes : List ℕ) → front_code (place + 1) lane bytes ≡ 256 * front_code place lane bytes + get_or bytes (512 * place + lane) 0
+unfolding front_code
+front_more place lane bytes = ap (number_from (bytes_in bytes lane)) (add-one place)
+
+pub front_fits : (place lane : ℕ) (bytes : List ℕ) → place < 8 → ((at : ℕ) → Fits w8 (get_or bytes at 0)) → front_code place lane bytes < 2 ^ 56
+unfolding front_code
+front_fits place lane bytes few fit =
+    let most = pow_mono {i = 8 * place} {j = 56} (omega arith) in omega (arith, most, number_below (bytes_in bytes lane) place (λ k. (fit (512 * k + lane)).fits))
+
+pub front_whole : (place lane : ℕ) (bytes : List ℕ) → lane < 512 → front_code place lane bytes ≡ get_or (slices_codes place bytes) lane 0
+unfolding front_code
+front_whole place lane bytes lt = code_in_lane bytes place lane lt
+
+pub ruleset code_steps = (front_none, front_more, front_fits, front_whole)
 
 -- the lanes whose bytes are all 0 are those whose code is
 zero_is : (bytes : List ℕ) (row count : ℕ) → are_zero bytes row count ≡ (number_from (bytes_in bytes row) count == 0)

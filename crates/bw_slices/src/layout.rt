@@ -95,7 +95,7 @@ impl CodeLayout for Slices {
         chosen_code(width, bytes, lanes, true)
     }
 
-    #[tactic(auto, using(crate::proofs::CodeLemmas::code_in_lane))]
+    #[tactic(auto, using(crate::proofs::CodeLemmas::code_steps))]
     fn code(width: u32, bytes: &[u8], lane: usize) -> u64 {
         let slices = slices_in(width);
         let mut code = 0;
