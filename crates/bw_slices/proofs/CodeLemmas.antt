@@ -10,7 +10,7 @@ use Rattle.bw_lanes.specs.Lanes.{lanes_of_words, are_zero, bits_from_least}
 use Rattle.bw_lanes.proofs.WordLemmas.{length-lanes_of_words, zero_bits, no_lanes, lanes_more, length-first, before_and_part, part_is}
 use Rattle.bw_model.specs.Groups.{group_size}
 use Rattle.bw_model.specs.Selection.{picked}
-use Rattle.bw_segment.proofs.PickedLemmas.{is_none, none_picked, word_more, words_summed}
+use Rattle.bw_segment.proofs.PickedLemmas.{all_picked, is_none, none_picked, word_more, words_summed}
 use Rattle.bw_segment.proofs.ByteLemmas.{with_byte, codes_from, top_byte, byte_more as byte_below, codes_whole}
 use Rattle.bw_slices.specs.Slices.{number_from, slices_codes}
 use Rattle.bw_slices.specs.Kept.{bytes_in, length-slices_codes, next_byte}
@@ -27,7 +27,7 @@ use Rattle.std.proofs.lemmas.Nat.Bits.{bit_at_clear_same, bit_at_clear_other}
 pub next_small : (head byte places : ℕ) → head < 2 ^ places → byte < 256 → 256 * head + byte < 2 ^ (places + 8)
 next_small head byte places small one = omega (arith, small, one, pow-add 2 places 8)
 
-pub next_within : (head byte places next : ℕ) → next ≡ places + 1 → head < 2 ^ (8 * places) → byte < 256 → 256 * head + byte < 2 ^ (8 * next)
+next_within : (head byte places next : ℕ) → next ≡ places + 1 → head < 2 ^ (8 * places) → byte < 256 → 256 * head + byte < 2 ^ (8 * next)
 next_within head byte places next is small one = let more : 8 * next ≡ 8 * places + 8 = omega arith in rw more (next_small head byte (8 * places) small one)
 
 -- and that fits 64 bits
@@ -119,16 +119,11 @@ sum_next bit [] = refl
 sum_next bit (n ∷ ns) =
     omega (arith, sum_by-cons (λ n. n / 2 ^ bit) n ns, sum_by-cons (λ n. n / 2 ^ (bit + 8)) n ns, sum_by-cons (λ n. n / 2 ^ bit % 256) n ns, next_byte n bit, sum_next bit ns)
 
-pub sum_more : (high low slice head part : ℕ) (ns : List ℕ) → high ≡ 8 * slice + 8 → low ≡ 8 * slice → head ≡ sum_by (λ n. n / 2 ^ high) ns → part ≡ sum_by (byte_of slice) ns
-    → 256 * head + part ≡ sum_by (λ n. n / 2 ^ low) ns
-sum_more high low slice head part ns above here so_far is =
-    ap₂ (λ s b. 256 * s + b) (so_far ∙ ap (λ bit. sum_by (λ n. n / 2 ^ bit) ns) above) is ∙ sym (sum_next (8 * slice) ns) ∙ ap (λ bit. sum_by (λ n. n / 2 ^ bit) ns) (sym here)
-
-pub sum_of_high : (bit : ℕ) (ns : List ℕ) → AllByRecursion (λ n. n < 2 ^ bit) ns → 0 ≡ sum_by (λ n. n / 2 ^ bit) ns
+sum_of_high : (bit : ℕ) (ns : List ℕ) → AllByRecursion (λ n. n < 2 ^ bit) ns → 0 ≡ sum_by (λ n. n / 2 ^ bit) ns
 sum_of_high bit [] small = refl
 sum_of_high bit (n ∷ ns) small = ap₂ ◌+◌ (sym (div-eq_of_lt small.0)) (sum_of_high bit ns small.1) ∙ sym (sum_by-cons (λ n. n / 2 ^ bit) n ns)
 
-pub sum_of_all : (bit : ℕ) (ns : List ℕ) → bit ≡ 0 → sum_by (λ n. n / 2 ^ bit) ns ≡ sum ns
+sum_of_all : (bit : ℕ) (ns : List ℕ) → bit ≡ 0 → sum_by (λ n. n / 2 ^ bit) ns ≡ sum ns
 sum_of_all bit [] none = refl
 sum_of_all bit (n ∷ ns) none =
     let whole : n / 2 ^ bit ≡ n = ap (λ k. n / 2 ^ k) none ∙ omega arith in sum_by-cons (λ n. n / 2 ^ bit) n ns ∙ ap₂ ◌+◌ whole (sum_of_all bit ns none) ∙ sym (sum_by-cons (λ n. n) n ns)
@@ -143,6 +138,40 @@ small_sums (false ∷ lanes) (n ∷ ns) small = omega (arith, small_sums lanes n
 pub sum_small : (width most : ℕ) (lanes : List Bool) (ns : List ℕ) → width ≤ 63 → length ns ≤ most → All (λ n. n < 2 ^ width) ns → sum (picked lanes ns) ≤ most * 2 ^ 63
 sum_small width most lanes ns few long small =
     omega (arith, small_sums lanes ns (all_within width 63 ns few small), mul-le-mul_right {m = length ns} {n = most} (2 ^ 63) long)
+
+-- the sum of the numbers that the first bytes, so many, of the codes in some lanes spell
+unfoldable pub high_sum : ℕ → ℕ → List Bool → List ℕ → ℕ
+high_sum width place lanes bytes = sum_by (λ n. n / 2 ^ (8 * ((width + 7) / 8 - place))) (picked lanes (slices_codes ((width + 7) / 8) bytes))
+
+pub high_none : (width : ℕ) (lanes : List Bool) (bytes : List ℕ) → All (λ code. code < 2 ^ width) (slices_codes ((width + 7) / 8) bytes) → high_sum width 0 lanes bytes ≡ 0
+unfolding high_sum
+high_none width lanes bytes small =
+    let codes = slices_codes ((width + 7) / 8) bytes in
+    sym (sum_of_high _ _ (all_picked _ lanes codes (all_within width (8 * ((width + 7) / 8 - 0)) codes (omega arith) small)))
+
+pub high_more : (width place : ℕ) (lanes : List Bool) (bytes : List ℕ) → place < (width + 7) / 8
+    → high_sum width (place + 1) lanes bytes ≡ 256 * high_sum width place lanes bytes + sum (bytes_picked 0 lanes (map (byte_of ((width + 7) / 8 - 1 - place)) (slices_codes ((width + 7) / 8) bytes)))
+unfolding high_sum
+high_more width place lanes bytes lt =
+    let slice = (width + 7) / 8 - 1 - place in
+    let codes = slices_codes ((width + 7) / 8) bytes in
+    let next : 8 * ((width + 7) / 8 - (place + 1)) ≡ 8 * slice = omega arith in
+    let above : 8 * slice + 8 ≡ 8 * ((width + 7) / 8 - place) = omega arith in
+    ap (λ bit. sum_by (λ n. n / 2 ^ bit) (picked lanes codes)) next ∙ sum_next (8 * slice) (picked lanes codes)
+    ∙ ap₂ (λ bit part. 256 * sum_by (λ n. n / 2 ^ bit) (picked lanes codes) + part) above (sym (sum_picked (byte_of slice) lanes codes))
+
+pub high_whole : (width place : ℕ) (lanes : List Bool) (bytes : List ℕ) → (width + 7) / 8 ≤ place → high_sum width place lanes bytes ≡ sum (picked lanes (slices_codes ((width + 7) / 8) bytes))
+unfolding high_sum
+high_whole width place lanes bytes le = sum_of_all (8 * ((width + 7) / 8 - place)) (picked lanes (slices_codes ((width + 7) / 8) bytes)) (omega arith)
+
+pub all_summed : (width : ℕ) (lanes : List Bool) (bytes : List ℕ) → width ≤ 63 → All (λ code. code < 2 ^ width) (slices_codes ((width + 7) / 8) bytes)
+    → sum (picked lanes (slices_codes ((width + 7) / 8) bytes)) ≤ 2 ^ 72
+all_summed width lanes bytes few small = omega (arith, sum_small width 512 lanes _ few (omega (arith, length-slices_codes ((width + 7) / 8) bytes)) small)
+
+pub next_power : (place : ℕ) → 2 ^ (8 * (place + 1)) ≡ 256 * 2 ^ (8 * place)
+next_power place = let next : 8 * (place + 1) ≡ 8 * place + 8 = omega arith in ap (λ k. 2 ^ k) next ∙ omega (arith, pow-add 2 (8 * place) 8)
+
+pub ruleset sum_steps = (high_none, high_more, high_whole, all_summed, next_power)
 
 -- 64 of some codes
 pub picked_small : (lanes : List Bool) (first width : ℕ) (codes : List ℕ) → width ≤ 63 → All (λ code. code < 2 ^ width) codes → sum (picked lanes (take 64 (drop first codes))) ≤ 2 ^ 69

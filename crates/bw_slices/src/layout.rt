@@ -73,6 +73,7 @@ impl CodeLayout for Slices {
     }
 
     /// The sum of the bytes, each slice's 256 times the next one's worth. Few codes are added one by one.
+    #[tactic(auto, using(crate::proofs::CodeLemmas::sum_steps))]
     fn sum(width: u32, bytes: &[u8], lanes: &Plane) -> u128 {
         if count(lanes) <= FEW {
             return sum_of_few(width, bytes, lanes);
