@@ -1,7 +1,7 @@
 -- The first fault of lanes, from planes that tell of them.
 use Rattle.std.proofs.Common.{◌≡◌, ◌∙◌, refl, sym, ap, ap₂, ℕ, zero, suc, ◌+◌, ◌-◌, ◌<◌, ◌≤◌, Bool, true, false, not, cond, ltb, ◌==◌, ◌&&◌, ◌||◌, List, [], ◌∷◌, ◌++◌, map, length, get_or, replicate, length-append, Option, Some, None, ◌⊎◌, inl, inr, arith}
 use Rattle.std.specs.List.{list_all, list_any}
-use Rattle.std.proofs.lemmas.Bool.{cases_lt, lt-ltb}
+use Rattle.std.proofs.lemmas.Bool.{cases_lt, le-ltb, lt-ltb}
 use Rattle.std.proofs.lemmas.Bool.Decides.{nat_tests}
 use Rattle.std.proofs.lemmas.List.{get_or-map, length-map, length-replicate}
 use Rattle.std.proofs.lemmas.List.Folds.{list_any_at}
@@ -31,7 +31,7 @@ first_none_at fault (suc n) row none lt =
     ]
 
 -- a row's fault, where none before it has one
-pub first_stays : (fault : ℕ → Option ℕ) (n row x : ℕ) → first_fault fault row ≡ None → fault row ≡ Some x → row < n → first_fault fault n ≡ Some x
+first_stays : (fault : ℕ → Option ℕ) (n row x : ℕ) → first_fault fault row ≡ None → fault row ≡ Some x → row < n → first_fault fault n ≡ Some x
 first_stays fault zero row x none here lt = absurd (omega arith)
 first_stays fault (suc n) row x none here lt = elim (cases_lt row n) [
   | inl before ↦ ap (λ f. or_else f (fault n)) (first_stays fault n row x none here before)
@@ -104,7 +104,7 @@ one_somewhere [] all = cc
 one_somewhere (true ∷ lanes) all = (0, omega arith, refl)
 one_somewhere (false ∷ lanes) all = let more = one_somewhere lanes all in (suc more.0, omega (arith, more.1), more.2)
 
-zero_everywhere : (lanes : List Bool) (row : ℕ) → list_all not lanes ≡ true → get_or lanes row false ≡ false
+pub zero_everywhere : (lanes : List Bool) (row : ℕ) → list_all not lanes ≡ true → get_or lanes row false ≡ false
 zero_everywhere [] row all = refl
 zero_everywhere (true ∷ lanes) row all = cc
 zero_everywhere (false ∷ lanes) zero all = refl
@@ -119,17 +119,15 @@ length-outside rows le =
     length-map (replicate rows true ++ replicate (512 - rows) false) not
     ∙ omega (arith, length-append (replicate rows true) (replicate (512 - rows) false), length-replicate rows true, length-replicate (512 - rows) false)
 
-outside-past : (count rest row : ℕ) → count ≤ row → row < count + rest → get_or (map not (replicate count true ++ replicate rest false)) row false ≡ true
-outside-past zero zero row le lt = absurd (omega arith)
-outside-past zero (suc rest) zero le lt = refl
-outside-past zero (suc rest) (suc row) le lt = outside-past zero rest row (omega arith) (omega arith)
-outside-past (suc count) rest zero le lt = absurd (omega arith)
-outside-past (suc count) rest (suc row) le lt = outside-past count rest row (omega arith) (omega arith)
+next_less : (row count : ℕ) → not (ltb row count) ≡ not (ltb (suc row) (suc count))
+next_less row count = grind (arith, nat_tests)
 
-outside-before : (count rest row : ℕ) → row < count → get_or (map not (replicate count true ++ replicate rest false)) row false ≡ false
-outside-before zero rest row lt = absurd (omega arith)
-outside-before (suc count) rest zero lt = refl
-outside-before (suc count) rest (suc row) lt = outside-before count rest row (omega arith)
+outside_at : (count rest row : ℕ) → row < count + rest → get_or (map not (replicate count true ++ replicate rest false)) row false ≡ not (ltb row count)
+outside_at zero zero row lt = absurd (omega arith)
+outside_at zero (suc rest) zero lt = refl
+outside_at zero (suc rest) (suc row) lt = outside_at zero rest row (omega arith) ∙ ap not (le-ltb row 0 (omega arith) ∙ sym (le-ltb (suc row) 0 (omega arith)))
+outside_at (suc count) rest zero lt = sym (ap not (lt-ltb 0 (suc count) (omega arith)))
+outside_at (suc count) rest (suc row) lt = outside_at count rest row (omega arith) ∙ next_less row count
 
 module _ (rows : ℕ) (nulls used : List Bool) (few : rows ≤ 512) (long_nulls : length nulls ≡ 512) (long_used : length used ≡ 512) where
   abbrev pub either : List Bool
@@ -148,7 +146,7 @@ module _ (rows : ℕ) (nulls used : List Bool) (few : rows ≤ 512) (long_nulls 
 
   pub padding_is_clear : list_all not kept ≡ true → (row : ℕ) → rows ≤ row → row < 512 → (get_or nulls row false || get_or used row false) ≡ false
   padding_is_clear all row from to =
-      sym (kept_at row to ∙ ap (λ b. (get_or nulls row false || get_or used row false) && b) (outside-past rows (512 - rows) row from (omega arith)) ∙ and-true (get_or nulls row false || get_or used row false))
+      sym (kept_at row to ∙ ap (λ b. (get_or nulls row false || get_or used row false) && b) (outside_at rows (512 - rows) row (omega arith) ∙ ap not (le-ltb row rows from)) ∙ and-true (get_or nulls row false || get_or used row false))
       ∙ zero_everywhere kept row all
 
   pub padding_is_set : list_all not kept ≡ false → (row : ℕ) × (rows ≤ row) × (row < 512) × ((get_or nulls row false || get_or used row false) ≡ true)
@@ -160,7 +158,7 @@ module _ (rows : ℕ) (nulls used : List Bool) (few : rows ≤ 512) (long_nulls 
       let is = sym (kept_at row below) ∙ found.2 in
       elim (cases_lt row rows) [
         | inl before ↦
-            let none = sym is ∙ ap (λ b. (get_or nulls row false || get_or used row false) && b) (outside-before rows (512 - rows) row before) ∙ and-false (get_or nulls row false || get_or used row false) in
+            let none = sym is ∙ ap (λ b. (get_or nulls row false || get_or used row false) && b) (outside_at rows (512 - rows) row (omega arith) ∙ ap not (lt-ltb row rows before)) ∙ and-false (get_or nulls row false || get_or used row false) in
             cc
         | inr past ↦ (row, past, below, (both (get_or nulls row false || get_or used row false) (get_or (outside rows) row false) is).0)
       ]
@@ -198,6 +196,10 @@ module _ (span count : ℕ) (nulls used above : List Bool) (codes : List ℕ) (f
   unfolding group_size
   fault_in_rows clear =
       lanes_none span count nulls codes (λ row from to. told (get_or nulls row false) (get_or used row false) (get_or codes row 0) (tells.padding row from to) ∙ ap (λ b. cond b (Some 308) None) (clear row from to))
+
+  pub fault_at : (x row : ℕ) → ((row : ℕ) → count ≤ row → row < 512 → (get_or nulls row false || get_or used row false) ≡ false)
+      → first_fault (of_rows span count nulls codes) row ≡ None → of_rows span count nulls codes row ≡ Some x → row < count → lanes_fault span count nulls codes ≡ Some x
+  fault_at x row clear before here lt = fault_in_rows clear ∙ first_stays (of_rows span count nulls codes) count row x before here lt
 
   pub row_with_code : (row : ℕ) → row < 512 → get_or with_code row false ≡ true → of_rows span count nulls codes row ≡ Some 307
   row_with_code row lt set = row_is row lt ∙ ap (λ b. cond b (Some 307) (cond (get_or above row false) (Some 306) None)) set

@@ -1,5 +1,4 @@
-use Rattle.std.proofs.Common.{◌∙◌, sym, arith}
-use Rattle.std.proofs.lemmas.List.{ext_get_or}
+use Rattle.std.proofs.Common.{◌∙◌, sym, arith, ext_get_or}
 use Rattle.bw_segment.proofs.codes.put_byte.Goals as goal
 
 pub returns : goal.returns

@@ -1,7 +1,6 @@
-use Rattle.std.proofs.Common.{◌∙◌, sym, ap, map, take_all, arith}
+use Rattle.std.proofs.Common.{◌∙◌, sym, ap, map, take_all, arith, true≢false}
 use Rattle.std.specs.List.{list_all}
 use Rattle.std.proofs.lemmas.List.{length-map}
-use Rattle.std.proofs.lemmas.Bool.{true≢false}
 use Rattle.bw_model.specs.Column.{admits_values}
 use Rattle.bw_model.specs.Groups.{group_size}
 use Rattle.bw_model.specs.Row.{values_of}
