@@ -23,12 +23,6 @@ returns-then-is_zero c = λ span codes long tells is_above.
     sym (fault_in_rows span c.args.rows _ _ _ codes c.requires (lanes_long _ c.told-nulls) (lanes_long _ c.told-used) long tells is_above clear
     ∙ rows_fine span c.args.rows _ _ _ codes c.requires (lanes_long _ c.told-nulls) (lanes_long _ c.told-used) long tells is_above all)
 
-pub lane-requires : goal.lane-requires
-lane-requires c = omega (arith, c.requires)
-
-pub lane-requires-in-loop-row : goal.lane-requires-in-loop-row
-lane-requires-in-loop-row c = omega (arith, c.requires)
-
 pub returns-then-lane : goal.returns-then-lane
 returns-then-lane c = λ span codes long tells is_above.
     let clear = c.is_padding_clear.ensures.clear c.if-not-is_padding_clear.false in
