@@ -27,9 +27,6 @@ use Rattle.std.proofs.lemmas.Nat.Bits.{bit_at_clear_same, bit_at_clear_other}
 pub next_small : (head byte places : ℕ) → head < 2 ^ places → byte < 256 → 256 * head + byte < 2 ^ (places + 8)
 next_small head byte places small one = omega (arith, small, one, pow-add 2 places 8)
 
-next_within : (head byte places next : ℕ) → next ≡ places + 1 → head < 2 ^ (8 * places) → byte < 256 → 256 * head + byte < 2 ^ (8 * next)
-next_within head byte places next is small one = let more : 8 * next ≡ 8 * places + 8 = omega arith in rw more (next_small head byte (8 * places) small one)
-
 -- and that fits 64 bits
 pub byte_more : (code byte place : ℕ) → code < 2 ^ (8 * place) → byte < 256 → place < 8 → Fits w64 (256 * code + byte)
 byte_more code byte place small one few = let most = pow_mono {i = 8 * place} {j = 56} (omega arith) in record { fits = omega arith }
@@ -39,7 +36,8 @@ bytes_before code place small few = let fits = byte_more code 0 place small (ome
 
 pub number_below : (byte : ℕ → ℕ) (count : ℕ) → ((place : ℕ) → byte place < 256) → number_from byte count < 2 ^ (8 * count)
 number_below byte zero small = omega arith
-number_below byte (suc count) small = next_within (number_from byte count) (byte count) count _ (omega arith) (number_below byte count small) (small count)
+number_below byte (suc count) small =
+    let more : 8 * suc count ≡ 8 * count + 8 = omega arith in rw more (next_small _ _ (8 * count) (number_below byte count small) (small count))
 
 -- so many bytes spell a number of so many
 pub codes_below : (bytes : List ℕ) (count : ℕ) → ((at : ℕ) → get_or bytes at 0 < 256) → AllByRecursion (λ code. code < 2 ^ (8 * count)) (slices_codes count bytes)
