@@ -1,16 +1,14 @@
 -- Whether a lane is 1, word by word.
-use Rattle.std.proofs.Common.{◌≡◌, ◌∙◌, refl, sym, ap, ap₂, ℕ, zero, suc, replicate, ◌+◌, ◌*◌, ◌^◌, ◌<◌, ◌≤◌, Bool, true, false, not, ◌==◌, ◌&&◌, ◌||◌, List, [], ◌∷◌, ◌++◌, map, length, take, take_all, get_or, bit_and, w64, arith}
+use Rattle.std.proofs.Common.{◌≡◌, ◌∙◌, refl, sym, ap, ap₂, ℕ, zero, suc, replicate, ◌+◌, ◌*◌, ◌^◌, ◌<◌, ◌≤◌, Bool, true, false, not, ◌==◌, ◌&&◌, ◌||◌, List, [], ◌∷◌, ◌++◌, map, length, take, take_all, get_or, bit_and, w64, arith, length-take}
 use Rattle.std.specs.Int.{bit_not}
 use Rattle.std.specs.List.{list_all, list_any, range_with_len}
-use Rattle.std.proofs.lemmas.List.{length-take}
-use Rattle.std.proofs.lemmas.List.FromFn.{length-range_with_len}
 use Rattle.std.proofs.lemmas.Simd.{map-map}
 use Rattle.std.proofs.lemmas.List.Folds.{list_any-append}
 use Rattle.std.proofs.lemmas.Nat.{and_le_l}
 use lib.Lanes.{zip2}
 use Rattle.bw_lanes.specs.Lanes.{bits_from_least, lanes_of_words}
 use Rattle.bw_lanes.proofs.BitLemmas.{bits_of_and, bits_of_not}
-use Rattle.bw_lanes.proofs.ByteLemmas.{rows_of_word}
+use Rattle.bw_lanes.proofs.ByteLemmas.{all_rows, length-all_rows, rows_of_word}
 use Rattle.bw_lanes.proofs.WordLemmas.{lanes_more, length-first, before_and_part, mapped_right, zip2-append, zero_bits}
 
 pub any_is : (lanes : List Bool) → list_any (λ lane. lane) lanes ≡ not (list_all not lanes)
@@ -40,19 +38,26 @@ pub none_left : (test : ℕ → Bool) (rows : List ℕ) → false ≡ list_any (
 unfolding bits_from_least
 none_left test rows = none_of test 64 rows
 
--- whether one of the first words has one
-abbrev pub lanes_to : (Bool → ℕ → Bool) → ℕ → List ℕ → List Bool
-lanes_to f word words = zip2 f (lanes_of_words (take word words)) (take (64 * word) (range_with_len 0 512))
+-- whether one of the first words has one, and whether one more word has
+unfoldable pub any_to : (Bool → ℕ → Bool) → ℕ → List ℕ → Bool
+any_to f word words = list_any (λ lane. lane) (zip2 f (lanes_of_words (take word words)) (take (64 * word) all_rows))
 
-pub any_more : (f : Bool → ℕ → Bool) (word : ℕ) (words : List ℕ) (before here : Bool) → length words ≡ 8 → word < 8 → before ≡ list_any (λ lane. lane) (lanes_to f word words)
-    → here ≡ list_any (λ lane. lane) (zip2 f (bits_from_least 64 (get_or words word 0)) (range_with_len (64 * word) 64)) → (before || here) ≡ list_any (λ lane. lane) (lanes_to f (word + 1) words)
-any_more f word words before here eight lt so_far is =
-    let rows = range_with_len 0 512 in
-    ap₂ (λ a b. a || b) so_far is ∙ sym (list_any-append (λ lane. lane) (lanes_to f word words) _) ∙ ap (list_any (λ lane. lane)) (sym (
-    ap₂ (zip2 f) (lanes_more word words eight lt) (before_and_part word rows lt ∙ ap (λ l. take (64 * word) rows ++ l) (rows_of_word word lt))
-    ∙ zip2-append f (lanes_of_words (take word words)) (bits_from_least 64 (get_or words word 0)) (take (64 * word) rows) (range_with_len (64 * word) 64)
-    (omega (arith, length-first word words eight (omega arith), length-take (64 * word) rows, length-range_with_len 0 512))))
+pub any_none : (f : Bool → ℕ → Bool) (words : List ℕ) → any_to f 0 words ≡ false
+unfolding any_to lanes_of_words
+any_none f words = refl
 
-pub any_whole : (f : Bool → ℕ → Bool) (word : ℕ) (words : List ℕ) → length words ≡ 8 → 8 ≤ word → lanes_to f word words ≡ zip2 f (lanes_of_words words) (range_with_len 0 512)
+pub any_more : (f : Bool → ℕ → Bool) (word : ℕ) (words : List ℕ) → length words ≡ 8 → word < 8
+    → any_to f (word + 1) words ≡ (any_to f word words || list_any (λ lane. lane) (zip2 f (bits_from_least 64 (get_or words word 0)) (range_with_len (64 * word) 64)))
+unfolding any_to
+any_more f word words eight lt =
+    let first = take (64 * word) all_rows in
+    ap₂ (λ l r. list_any (λ lane. lane) (zip2 f l r)) (lanes_more word words eight lt) (before_and_part word all_rows lt ∙ ap (λ l. first ++ l) (rows_of_word word lt))
+    ∙ ap (list_any (λ lane. lane)) (zip2-append f (lanes_of_words (take word words)) (bits_from_least 64 (get_or words word 0)) first (range_with_len (64 * word) 64)
+    (omega (arith, length-first word words eight (omega arith), length-take (64 * word) all_rows, length-all_rows))) ∙ list_any-append (λ lane. lane) (zip2 f (lanes_of_words (take word words)) first) _
+
+pub any_whole : (f : Bool → ℕ → Bool) (word : ℕ) (words : List ℕ) → length words ≡ 8 → 8 ≤ word → any_to f word words ≡ list_any (λ lane. lane) (zip2 f (lanes_of_words words) (range_with_len 0 512))
+unfolding any_to all_rows
 any_whole f word words eight le =
-    ap₂ (λ w r. zip2 f (lanes_of_words w) r) (take_all word words (omega arith)) (take_all (64 * word) (range_with_len 0 512) (omega (arith, length-range_with_len 0 512)))
+    ap₂ (λ w r. list_any (λ lane. lane) (zip2 f (lanes_of_words w) r)) (take_all word words (omega arith)) (take_all (64 * word) all_rows (omega (arith, length-all_rows)))
+
+pub ruleset any_steps = (any_none, any_more)

@@ -1,25 +1,16 @@
 -- Words made of bytes, 64 at a time.
-use Rattle.std.proofs.Common.{◌≡◌, ◌∙◌, sym, ap, ap₂, refl, add-one, get_or, bit_or, ◌&&◌, ℕ, zero, suc, ◌+◌, ◌*◌, ◌%◌, ◌^◌, ◌<◌, ◌≤◌, Bool, cond, eqb, ◌==◌, List, [], ◌∷◌, ◌++◌, map, length, take, take_all, drop, set, replicate, bit_and, arith, w8}
+use Rattle.std.proofs.Common.{◌≡◌, ◌∙◌, sym, ap, ap₂, refl, add-one, get_or, bit_or, ◌&&◌, ℕ, zero, suc, ◌+◌, ◌*◌, ◌%◌, ◌^◌, ◌<◌, ◌≤◌, Bool, cond, eqb, ◌==◌, List, [], ◌∷◌, map, length, take, drop, replicate, bit_and, arith, w8, eq-eqb, ne_eqb, drop-cons}
 use Rattle.std.specs.Int.{bit_at}
-use Rattle.std.proofs.lemmas.Bool.{eq-eqb, ne_eqb}
 use Rattle.std.specs.List.{range_with_len}
-use Rattle.std.proofs.lemmas.List.{map-append, map-id, length-map}
+use Rattle.std.proofs.lemmas.List.{map-id, length-map}
 use Rattle.std.proofs.lemmas.List.FromFn.{length-range_with_len, length-map-range_with_len, get_or-range_with_len}
 use Rattle.std.proofs.lemmas.Nat.{one_shl, pow_pos}
 use Rattle.std.proofs.lemmas.Nat.Bits.{and_pow, bit_at-lt}
 use Rattle.std.proofs.lemmas.Simd.{bitmask_splat, zip2_splat, map-map, splat_is_map, zip2_of_maps}
-use Rattle.std.proofs.Math.Seq.{drop-cons}
 use lib.Lanes.{zip2, mask_l, top}
-use Rattle.bw_lanes.specs.Lanes.{bits_from_least, lanes_of_words, are_zero}
+use Rattle.bw_lanes.specs.Lanes.{bits_from_least, are_zero}
 use Rattle.bw_lanes.proofs.BitLemmas.{bits_of_flags, of_bit, same_on_range}
-use Rattle.bw_lanes.proofs.WordLemmas.{part, part_is, before_and_part, either_is_zero, lanes_set}
-
--- the step of a loop that makes a word of each 64 bytes
-pub words_more : (test : ℕ → Bool) (bytes words : List ℕ) (word made : ℕ) → length words ≡ 8 → word < 8
-    → lanes_of_words (take word words) ≡ map test (take (64 * word) bytes) → bits_from_least 64 made ≡ map test (part word bytes)
-    → lanes_of_words (take (word + 1) (set words word made)) ≡ map test (take (64 * (word + 1)) bytes)
-words_more test bytes words word made eight within before here =
-    lanes_set word words made eight within ∙ ap₂ ◌++◌ before here ∙ sym (ap (map test) (before_and_part word bytes within) ∙ map-append test (take (64 * word) bytes) (part word bytes))
+use Rattle.bw_lanes.proofs.WordLemmas.{part, part_is, either_is_zero}
 
 -- a bit that is taken by a mask of that bit alone
 pub bit_by_mask : (bit n : ℕ) → eqb (bit_and n (2 ^ bit)) (2 ^ bit) ≡ (bit_at n bit == 1)
@@ -48,12 +39,19 @@ part_by_rows bytes base at first zero is le = refl
 part_by_rows bytes base at first (suc count) is le =
     ap (take (suc count)) (drop-cons bytes at 0 (omega arith)) ∙ ap₂ ◌∷◌ (ap (λ k. get_or bytes k 0) is) (part_by_rows bytes base (suc at) (first + 1) count (omega arith) (omega arith))
 
--- the rows of a word
-pub rows_of_word : (word : ℕ) → word < 8 → part word (range_with_len 0 512) ≡ range_with_len (64 * word) 64
+-- all rows, and those of a word
+unfoldable pub all_rows : List ℕ
+all_rows = range_with_len 0 512
+
+pub length-all_rows : length all_rows ≡ 512
+unfolding all_rows
+length-all_rows = length-range_with_len 0 512
+
+pub rows_of_word : (word : ℕ) → word < 8 → part word all_rows ≡ range_with_len (64 * word) 64
+unfolding all_rows
 rows_of_word word lt =
-    let rows = range_with_len 0 512 in
-    part_is word rows lt ∙ part_by_rows rows 0 (64 * word) (64 * word) 64 (omega arith) (omega (arith, length-range_with_len 0 512))
-    ∙ same_on_range (λ row. get_or rows (0 + row) 0) (λ row. row) (64 * word) 64 (λ row _ to. get_or-range_with_len 0 512 (0 + row) 0 (omega arith) ∙ omega arith) ∙ map-id (range_with_len (64 * word) 64)
+    part_is word all_rows lt ∙ part_by_rows all_rows 0 (64 * word) (64 * word) 64 (omega arith) (omega (arith, length-range_with_len 0 512))
+    ∙ same_on_range (λ row. get_or all_rows (0 + row) 0) (λ row. row) (64 * word) 64 (λ row _ to. get_or-range_with_len 0 512 (0 + row) 0 (omega arith) ∙ omega arith) ∙ map-id (range_with_len (64 * word) 64)
 
 zero_where_both : (xs ys : List ℕ) → map (λ byte. byte == 0) (zip2 bit_or xs ys) ≡ zip2 (λ a b. a && b) (map (λ byte. byte == 0) xs) (map (λ byte. byte == 0) ys)
 zero_where_both [] ys = refl
@@ -76,8 +74,3 @@ joined_more slices bytes count place first long lt within so_far =
     ∙ ap (λ k. map (λ row. are_zero slices row k) rows) (sym (add-one place))
 
 pub ruleset joined_so_far = (none_joined, joined_more)
-
--- all words
-pub words_whole : (test : ℕ → Bool) (bytes words : List ℕ) (word : ℕ) → length words ≡ 8 → length bytes ≡ 512 → 8 ≤ word
-    → lanes_of_words (take word words) ≡ map test (take (64 * word) bytes) → lanes_of_words words ≡ map test bytes
-words_whole test bytes words word eight long le is = ap lanes_of_words (sym (take_all word words (omega arith))) ∙ is ∙ ap (map test) (take_all (64 * word) bytes (omega arith))

@@ -1,5 +1,5 @@
 -- Some rows, a byte each, the bytes of a slice in these rows, and what is chosen among bytes, in one order or in another.
-use Rattle.std.proofs.Common.{◌≡◌, ◌∙◌, refl, sym, ap, ap₂, ℕ, ◌+◌, ◌*◌, ◌<◌, min, max, cond, ltb, List, [], ◌∷◌, ◌++◌, map, length, take, drop, take_all, arith, w8, zero, suc, ◌-◌, ◌/◌, ◌%◌, ◌^◌, ◌≤◌, Bool, true, false, eqb, ◌==◌, ◌&&◌, get_or, replicate, append-nil, sum, Fits, bit_and, bit_or, fold}
+use Rattle.std.proofs.Common.{◌≡◌, ◌∙◌, refl, sym, ap, ap₂, ℕ, ◌+◌, ◌*◌, ◌<◌, min, max, cond, ltb, List, [], ◌∷◌, ◌++◌, map, length, take, drop, take_all, arith, w8, zero, suc, ◌-◌, ◌/◌, ◌%◌, ◌^◌, ◌≤◌, Bool, true, false, eqb, ◌==◌, ◌&&◌, get_or, replicate, append-nil, sum, Fits, bit_and, bit_or, fold, pow-suc}
 use Rattle.std.specs.List.{range_with_len}
 use Rattle.std.proofs.lemmas.Bool.Decides.{nat_tests}
 use Rattle.std.proofs.lemmas.List.{take-append-drop, take-append-le, drop-append-le, length-take, length-drop, length-append, take_all, drop_all}
@@ -12,7 +12,6 @@ use Rattle.std.specs.Int.Bits.{or_zero_r, or_add_and}
 use Rattle.std.proofs.lemmas.Nat.{and_mask, pow-add, shr-shr}
 use Rattle.std.proofs.lemmas.Nat.Bits.{bit_at_cat_low}
 use Rattle.std.proofs.lemmas.List.FromFn.{length-map-range_with_len}
-use Rattle.std.proofs.Math.Nat.{pow-suc}
 use Rattle.bw_lanes.specs.Lanes.{bits_from_least}
 use Rattle.bw_lanes.specs.Picked.{as_byte, bytes_picked}
 use Rattle.bw_lanes.specs.Shifted.{with_bit}
@@ -163,6 +162,10 @@ pub kept_lanes : (c : ℕ) (lanes : List Bool) (bytes : List ℕ) → zip2 (λ r
 kept_lanes c [] bytes = refl
 kept_lanes c (lane ∷ lanes) [] = refl
 kept_lanes c (lane ∷ lanes) (byte ∷ bytes) = ap₂ ◌∷◌ (both_lanes lane (byte == c)) (kept_lanes c lanes bytes)
+
+pub kept_rows : (c : ℕ) (lanes : List Bool) (rows bytes : List ℕ) → rows ≡ map as_byte lanes
+    → zip2 (λ row byte. cond (byte == c) row 0) rows bytes ≡ map as_byte (zip2 (λ lane byte. lane && (byte == c)) lanes bytes)
+kept_rows c lanes rows bytes are = ap (λ l. zip2 (λ (row byte : ℕ). cond (byte == c) row 0) l bytes) are ∙ kept_lanes c lanes bytes
 
 -- a byte that is added to itself, with 255 taken from that where the bit is 1
 pub shifted_computed : (bytes : List ℕ) (lanes : List Bool) → zip2 (λ a b. (a + (256 - b)) % 256) (zip2 (λ a b. (a + b) % 256) bytes bytes) (map as_byte lanes) ≡ zip2 with_bit bytes lanes

@@ -1,9 +1,8 @@
 -- Lanes and the bytes that they are kept in undo each other.
-use Rattle.std.proofs.Common.{◌≡◌, ◌∙◌, refl, sym, ap, ap₂, ℕ, zero, suc, ◌+◌, ◌*◌, ◌/◌, ◌%◌, ◌^◌, ◌<◌, Bool, cond, ◌==◌, List, [], ◌∷◌, ◌++◌, length, take, drop, Fits, w8, w64, arith, flat_map}
+use Rattle.std.proofs.Common.{◌≡◌, ◌∙◌, refl, sym, ap, ap₂, ℕ, zero, suc, ◌+◌, ◌*◌, ◌/◌, ◌%◌, ◌^◌, ◌<◌, Bool, cond, ◌==◌, List, [], ◌∷◌, ◌++◌, length, take, drop, Fits, w8, w64, arith, flat_map, mod-lt}
 use Rattle.std.proofs.Math.Seq.{drop-append_seam, take-append_seam}
 use Rattle.std.proofs.Math.Nat.{two-pow-succ}
 use Rattle.std.proofs.lemmas.List.{take-append-drop, length-take, length-drop, nil_from_length}
-use Rattle.std.proofs.Math.Nat.{mod-lt}
 use Rattle.std.proofs.lemmas.Simd.{below_from_Fits}
 use lib.Lanes.{Each1, mask_l, number_l, digits_l}
 use Rattle.bw_lanes.specs.Lanes.{bits_from_least, lanes_of_bytes, lanes_of_words, number_of_bits, bytes_from, bytes_of_lanes}

@@ -1,8 +1,7 @@
 -- The lanes of words, of words that are joined and of those whose first lanes are 1, and the parts of 64 rows, one a word.
-use Rattle.std.proofs.Common.{get_or, ◌≡◌, ◌∙◌, refl, sym, ap, ap₂, ℕ, zero, suc, ◌+◌, ◌-◌, ◌*◌, ◌/◌, ◌%◌, ◌^◌, ◌<◌, ◌≤◌, Bool, true, false, not, cond, ◌==◌, ◌&&◌, ◌||◌, List, [], ◌∷◌, ◌++◌, map, flat_map, replicate, length, take, set, count_by, Fits, arith, w64, max, length-append, append_assoc, append-nil, min, add-zero, zero-add, drop, take_all, bit_or, count_ones, bit_xor, bit_and}
+use Rattle.std.proofs.Common.{get_or, ◌≡◌, ◌∙◌, refl, sym, ap, ap₂, ℕ, zero, suc, ◌+◌, ◌-◌, ◌*◌, ◌/◌, ◌%◌, ◌^◌, ◌<◌, ◌≤◌, Bool, true, false, not, cond, ◌==◌, ◌&&◌, ◌||◌, List, [], ◌∷◌, ◌++◌, map, flat_map, replicate, length, take, set, length-set, count_by, Fits, arith, w64, max, length-append, append_assoc, append-nil, min, add-zero, zero-add, drop, take_all, bit_or, count_ones, bit_xor, bit_and, eq-eqb}
 use Rattle.std.proofs.Math.Nat.{two-pow-succ}
 use Rattle.std.proofs.Math.Bool.{and-true, and_assoc}
-use Rattle.std.proofs.lemmas.Bool.{eq-eqb}
 use Rattle.std.proofs.lemmas.Nat.{le_or_l, ones_le_self, one_shl, pow_pos}
 use Rattle.std.proofs.lemmas.List.{map-append, length-map, length-take, take_more, take_more_set, replicate-append-replicate, take-append-drop, take-take, length-drop, drop_all}
 use Rattle.std.proofs.lemmas.List.Folds.{list_all-append}
@@ -222,27 +221,54 @@ pub zipped_all : {A B C : Type 0} (f : A → B → C) (word : ℕ) (xs : List A)
     → zip2 f (take (64 * word) xs) (take (64 * word) ys) ≡ zip2 f xs ys
 zipped_all f word xs ys here there le = ap₂ (zip2 f) (take_all (64 * word) xs (omega arith)) (take_all (64 * word) ys (omega arith))
 
+-- what a test says of the items of the first words
+unfoldable pub tests_to : (ℕ → Bool) → ℕ → List ℕ → List Bool
+tests_to test word xs = map test (take (64 * word) xs)
+
+pub tests_none : (test : ℕ → Bool) (xs : List ℕ) → tests_to test 0 xs ≡ []
+unfolding tests_to
+tests_none test xs = refl
+
+pub tests_more : (test : ℕ → Bool) (word : ℕ) (xs : List ℕ) → word < 8 → tests_to test (word + 1) xs ≡ tests_to test word xs ++ map test (part word xs)
+unfolding tests_to
+tests_more test word xs lt = ap (map test) (before_and_part word xs lt) ∙ map-append test (take (64 * word) xs) (part word xs)
+
+pub tests_all : (test : ℕ → Bool) (word : ℕ) (xs : List ℕ) → length xs ≡ 512 → 8 ≤ word → tests_to test word xs ≡ map test xs
+unfolding tests_to
+tests_all test word xs all le = ap (map test) (take_all (64 * word) xs (omega arith))
+
+-- the step of a loop that makes a word of each 64 items
+pub ruleset words_made = (no_lanes, lanes_set, length-set, take_all, tests_none, tests_more, tests_all)
+
 -- a list whose first parts were zipped with another one's, and the others are as they were
-abbrev pub written : {B : Type 0} → (ℕ → B → ℕ) → ℕ → List ℕ → List B → List ℕ
+unfoldable pub written : {B : Type 0} → (ℕ → B → ℕ) → ℕ → List ℕ → List B → List ℕ
 written f word old ys = zip2 f (take (64 * word) old) (take (64 * word) ys) ++ drop (64 * word) old
 
-pub written_more : {B : Type 0} (f : ℕ → B → ℕ) (word : ℕ) (old rows some new : List ℕ) (ys here : List B) → length old ≡ 512 → length ys ≡ 512 → word < 8
-    → rows ≡ written f word old ys → here ≡ part word ys → some ≡ zip2 f (part word rows) here → new ≡ put_chunk (64 * word) rows some → new ≡ written f (word + 1) old ys
-written_more f word old rows some new ys here long size lt so_far of is made =
+pub written_none : {B : Type 0} (f : ℕ → B → ℕ) (old : List ℕ) (ys : List B) → written f 0 old ys ≡ old
+unfolding written
+written_none f old ys = refl
+
+pub written_more : {B : Type 0} (f : ℕ → B → ℕ) (word : ℕ) (old : List ℕ) (ys : List B) → length old ≡ 512 → length ys ≡ 512 → word < 8
+    → written f (word + 1) old ys ≡ put_chunk (64 * word) (written f word old ys) (zip2 f (part word (written f word old ys)) (part word ys))
+unfolding written
+written_more f word old ys long size lt =
     let at = 64 * word in
+    let rows = written f word old ys in
     let front = zip2 f (take at old) (take at ys) in
     let before : length front ≡ at = omega (arith, length-zip2 f (take at old) (take at ys) (omega (arith, length-take at old, length-take at ys)), length-take at old) in
-    let behind : drop at rows ≡ drop at old = ap₂ drop (sym before) so_far ∙ drop-append_seam front (drop at old) in
-    let first : take at rows ≡ front = ap₂ take (sym before) so_far ∙ take-append_seam front (drop at old) in
-    let made_of : some ≡ zip2 f (part word old) (part word ys) = is ∙ ap₂ (λ l k. zip2 f (take 64 (take (512 - at) l)) k) behind of in
+    let behind : drop at rows ≡ drop at old = ap (λ n. drop n rows) (sym before) ∙ drop-append_seam front (drop at old) in
+    let first : take at rows ≡ front = ap (λ n. take n rows) (sym before) ∙ take-append_seam front (drop at old) in
+    let some = zip2 f (part word rows) (part word ys) in
+    let made_of : some ≡ zip2 f (part word old) (part word ys) = ap (λ l. zip2 f (take 64 (take (512 - at) l)) (part word ys)) behind in
     let all = length-part word old long lt in
     let count : length some ≡ 64 = ap length made_of ∙ length-zip2 f (part word old) (part word ys) (all ∙ sym (length-part word ys size lt)) ∙ all in
     let next : at + 64 ≡ 64 * (word + 1) = omega arith in
-    made ∙ put_chunk_is at rows some (omega (arith, ap length behind, length-drop at rows, length-drop at old)) ∙ ap₂ ◌++◌ first (ap₂ (λ k l. some ++ drop k l) count behind)
+    sym (put_chunk_is at rows some (omega (arith, ap length behind, length-drop at rows, length-drop at old)) ∙ ap₂ ◌++◌ first (ap₂ (λ k l. some ++ drop k l) count behind)
     ∙ sym (append_assoc front some (drop 64 (drop at old)))
-    ∙ ap₂ ◌++◌ (ap (λ l. front ++ l) made_of ∙ sym (zipped_more f word old ys long size lt)) (drop-drop 64 at old ∙ ap (λ n. drop n old) next)
+    ∙ ap₂ ◌++◌ (ap (λ l. front ++ l) made_of ∙ sym (zipped_more f word old ys long size lt)) (drop-drop 64 at old ∙ ap (λ n. drop n old) next))
 
 pub written_all : {B : Type 0} (f : ℕ → B → ℕ) (word : ℕ) (old : List ℕ) (ys : List B) → length old ≡ 512 → length ys ≡ 512 → 8 ≤ word → written f word old ys ≡ zip2 f old ys
+unfolding written
 written_all f word old ys long size le = ap₂ ◌++◌ (zipped_all f word old ys long size le) (drop_all (64 * word) old (omega arith)) ∙ append-nil (zip2 f old ys)
 
 -- the part of a word's lanes
@@ -262,3 +288,6 @@ pub put_more : (word : ℕ) (bytes some : List ℕ) → length bytes ≡ 512 →
 put_more word bytes some all long lt = take_more_put_chunk (64 * word) bytes some (64 * (word + 1)) (omega arith) (omega arith)
 
 pub ruleset put_bytes = (no_lanes, put_more, lanes_more, map-append, length-put_chunk, length-map, length-bits_from_least)
+
+-- the step of a loop that writes 64 bytes at a time
+pub ruleset parts_written = (written_none, written_more, written_all, part_of_lanes, length-lanes_of_words)

@@ -10,7 +10,7 @@ use crate::plane::Plane;
 use std::simd::prelude::*;
 
 /// The rows whose byte is below c. Byte i is row i's.
-#[tactic(auto, using(crate::proofs::WordLemmas::no_lanes))]
+#[tactic(auto, using(crate::proofs::WordLemmas::words_made))]
 #[inline(always)]
 pub fn bytes_lt(bytes: &[u8; LANES], c: u8) -> Plane
     ensures { lanes_of_words result ≡ map (λ byte. nat_lt byte c) bytes.now }
@@ -23,7 +23,7 @@ pub fn bytes_lt(bytes: &[u8; LANES], c: u8) -> Plane
 }
 
 /// The rows whose byte is c. Byte i is row i's.
-#[tactic(auto, using(crate::proofs::WordLemmas::no_lanes))]
+#[tactic(auto, using(crate::proofs::WordLemmas::words_made))]
 #[inline(always)]
 pub fn bytes_eq(bytes: &[u8; LANES], c: u8) -> Plane
     ensures { lanes_of_words result ≡ map (λ byte. byte == c) bytes.now }
@@ -36,7 +36,7 @@ pub fn bytes_eq(bytes: &[u8; LANES], c: u8) -> Plane
 }
 
 /// The rows in whose byte a bit is 1, of which bit 0 is the least. Byte i is row i's.
-#[tactic(auto, using(crate::proofs::WordLemmas::no_lanes))]
+#[tactic(auto, using(crate::proofs::WordLemmas::words_made))]
 pub fn bytes_bit(bytes: &[u8; LANES], bit: u32) -> Plane
     requires { bit < 8 }
     ensures { lanes_of_words result ≡ map (λ byte. bit_at byte bit == 1) bytes.now }
@@ -49,7 +49,7 @@ pub fn bytes_bit(bytes: &[u8; LANES], bit: u32) -> Plane
 }
 
 /// The rows whose bytes in so many slices, one after the other, are all 0. Byte i of a slice is row i's.
-#[tactic(auto, using(crate::proofs::WordLemmas::no_lanes))]
+#[tactic(auto, using(crate::proofs::WordLemmas::words_made))]
 pub fn bytes_none(slices: &[u8], count: usize) -> Plane
     requires { 512 * count ≤ length slices.now }
     ensures { lanes_of_words result
@@ -64,7 +64,7 @@ pub fn bytes_none(slices: &[u8], count: usize) -> Plane
 
 /// Whether a row among some has a byte that isn't 0 in so many slices, one after the other. Byte i of a slice is row i's. Of 64
 /// rows of which none is among them no byte is read.
-#[tactic(auto, using(crate::proofs::WordLemmas::no_lanes))]
+#[tactic(auto, using(crate::proofs::AnyLemmas::any_steps))]
 #[inline(always)]
 pub fn bytes_any(slices: &[u8], count: usize, rows: &Plane) -> bool
     requires { 512 * count ≤ length slices.now }

@@ -109,6 +109,7 @@ pub fn greatest_in(bytes: &[u8; LANES], rows: &[u8; LANES]) -> u8
 }
 
 /// Of some rows those whose byte is c.
+#[tactic(auto, using(crate::proofs::WordLemmas::parts_written))]
 pub fn keep_in(rows: &mut [u8; LANES], bytes: &[u8; LANES], c: u8)
     ensures { (lanes : List Bool) → rows.old ≡ map as_byte lanes
         → rows.new ≡ map as_byte (zip2 (λ lane byte. lane && (byte == c)) lanes bytes.now) }

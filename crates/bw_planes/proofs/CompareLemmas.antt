@@ -1,17 +1,18 @@
 -- Some bits of codes, compared bit by bit with a constant: from the top bit down, or from the least one up.
-use Rattle.std.proofs.Common.{◌≡◌, ◌∙◌, sym, ap, ap₂, subst, ℕ, ◌+◌, ◌-◌, ◌*◌, ◌/◌, ◌%◌, ◌^◌, ◌<◌, Bool, true, false, not, cond, ltb, eqb, ◌==◌, ◌&&◌, ◌||◌, List, map, length, bit_and, replicate, min, inl, inr, arith}
+use Rattle.std.proofs.Common.{◌≡◌, ◌∙◌, refl, sym, ap, ap₂, subst, ℕ, ◌+◌, ◌-◌, ◌*◌, ◌/◌, ◌%◌, ◌^◌, ◌<◌, Bool, true, false, not, cond, ltb, eqb, ◌==◌, ◌&&◌, ◌||◌, List, map, length, bit_and, replicate, min, inl, inr, arith, pow_mono, shr_lt, div-add-mod', shr-shr, pow_pos}
 use Rattle.std.proofs.Math.Nat.{div-eq_of_lt, mod-eq_of_lt, mod-lt}
-use Rattle.std.proofs.Math.Pow.{pow_mono, shr_lt}
 use Rattle.std.proofs.lemmas.Bool.{cases_lt}
 use Rattle.std.proofs.lemmas.Bool.Decides.{nat_tests}
-use Rattle.std.proofs.lemmas.Nat.{div-add-mod', shr-shr, pow_pos}
 use Rattle.std.proofs.lemmas.Nat.Bits.{shr_and_one}
-use Rattle.std.proofs.lemmas.Simd.{zip2_of_maps, splat_is_map}
+use Rattle.std.proofs.lemmas.Simd.{map-map, zip2_of_maps, splat_is_map}
 use lib.Lanes.{zip2}
-use Rattle.bw_lanes.proofs.WordLemmas.{mapped_right}
+use Rattle.bw_lanes.specs.Lanes.{lanes_of_words}
+use Rattle.bw_lanes.proofs.WordLemmas.{mapped_right, ones_are_one, zeros_are_zero}
 use Rattle.bw_model.specs.Code.{has_bit}
 use Rattle.bw_model.specs.Stored.{byte_of}
+use Rattle.bw_planes.specs.Planes.{planes_codes}
 use Rattle.bw_planes.specs.Kept.{low_more}
+use Rattle.bw_planes.proofs.CodeLemmas.{codes_agree, codes_long}
 
 pub zip2_map_right : {A B C D : Type 0} (f : A → C → D) (g : B → C) (xs : List A) (ys : List B) → zip2 f xs (map g ys) ≡ zip2 (λ x y. f x (g y)) xs ys
 zip2_map_right = mapped_right
@@ -31,46 +32,63 @@ above_all n count c some = elim (cases_lt c (2 ^ count)) [
   | inr not_less ↦ omega (arith, mod-lt n (pow_pos count))
 ]
 
--- before a bit is compared, there is nothing to tell
-pub none_compared : (test : ℕ → ℕ → Bool) → true ≡ test 0 0 → (n c : ℕ) → true ≡ test (n % 2 ^ 0) (c % 2 ^ 0)
-none_compared test same n c =
-    let no_bits : 0 ≡ n % 2 ^ 0 = omega arith in
-    let none : 0 ≡ c % 2 ^ 0 = omega arith in
-    same ∙ ap₂ test no_bits none
-
 -- A test of numbers by their highest bit and those below it: in codes, with one bit more.
 abbrev pub IsByBit : (ℕ → ℕ → Bool) → (Bool → Bool → Bool → Bool) → Type 0
 IsByBit test step = (s t p : ℕ) (b one : Bool) → s < p → t < p → step one (test s t) b ≡ test (cond b p 0 + s) (cond one p 0 + t)
 
-pub at_least_by_bit : IsByBit (λ s t. not (ltb s t)) (λ one a p. cond one (a && p) (a || p))
+at_least_by_bit : IsByBit (λ s t. not (ltb s t)) (λ one a p. cond one (a && p) (a || p))
 at_least_by_bit s t p b one ls lt = grind (arith, nat_tests, ls, lt)
 
-pub equal_by_bit : IsByBit eqb (λ one e p. e && cond one p (not p))
+equal_by_bit : IsByBit eqb (λ one e p. e && cond one p (not p))
 equal_by_bit s t p b one ls lt = grind (arith, nat_tests, ls, lt)
 
-pub compared_next : (test : ℕ → ℕ → Bool) (step : Bool → Bool → Bool → Bool) → IsByBit test step → (codes : List ℕ) (low place c : ℕ) (so_far plane : List Bool)
-    → so_far ≡ map (λ code. test (code / 2 ^ low % 2 ^ place) (c % 2 ^ place)) codes → plane ≡ map (λ code. has_bit code (low + place)) codes
-    → zip2 (step (bit_and (c / 2 ^ place) 1 == 1)) so_far plane ≡ map (λ code. test (code / 2 ^ low % 2 ^ (place + 1)) (c % 2 ^ (place + 1))) codes
-compared_next test step by_bit codes low place c so_far plane is here =
-    (λ i. zip2 (step (shr_and_one c place i == 1)) so_far plane)
-    ∙ zip2_of_maps (step (has_bit c place)) (λ code. test (code / 2 ^ low % 2 ^ place) (c % 2 ^ place)) (λ code. has_bit code (low + place)) codes is here ∙ (λ i. map (λ code. more code i) codes)
+-- how so many bits of codes, from one on, stand to those of a constant
+unfoldable pub compared_in : (ℕ → ℕ → Bool) → ℕ → ℕ → ℕ → List ℕ → List Bool
+compared_in test low bits c codes = map (λ code. test (code / 2 ^ low % 2 ^ bits) (c % 2 ^ bits)) codes
+
+pub compared_none : (test : ℕ → ℕ → Bool) (low c : ℕ) (codes : List ℕ) → true ≡ test 0 0 → length codes ≡ 512 → compared_in test low 0 c codes ≡ lanes_of_words (replicate 8 (2 ^ 64 - 1))
+unfolding compared_in
+compared_none test low c codes same long = sym (everywhere codes (λ code. test (code / 2 ^ low % 2 ^ 0) (c % 2 ^ 0)) true _ long ones_are_one none)
   where
-    more : (code : ℕ) → step (has_bit c place) (test (code / 2 ^ low % 2 ^ place) (c % 2 ^ place)) (has_bit code (low + place)) ≡ test (code / 2 ^ low % 2 ^ (place + 1)) (c % 2 ^ (place + 1))
+    none : (code : ℕ) → true ≡ test (code / 2 ^ low % 2 ^ 0) (c % 2 ^ 0)
+    none code =
+        let no_bits : 0 ≡ code / 2 ^ low % 2 ^ 0 = omega arith in
+        let nothing : 0 ≡ c % 2 ^ 0 = omega arith in
+        same ∙ ap₂ test no_bits nothing
+
+compared_more : (test : ℕ → ℕ → Bool) (step : Bool → Bool → Bool → Bool) → IsByBit test step → (low bits c : ℕ) (codes : List ℕ)
+    → compared_in test low (bits + 1) c codes ≡ zip2 (step (bit_and (c / 2 ^ bits) 1 == 1)) (compared_in test low bits c codes) (map (λ code. has_bit code (low + bits)) codes)
+unfolding compared_in
+compared_more test step by_bit low bits c codes =
+    sym ((λ i. zip2 (step (shr_and_one c bits i == 1)) (map (λ code. test (code / 2 ^ low % 2 ^ bits) (c % 2 ^ bits)) codes) (map (λ code. has_bit code (low + bits)) codes))
+    ∙ zip2_of_maps (step (has_bit c bits)) (λ code. test (code / 2 ^ low % 2 ^ bits) (c % 2 ^ bits)) (λ code. has_bit code (low + bits)) codes refl refl ∙ (λ i. map (λ code. more code i) codes))
+  where
+    more : (code : ℕ) → step (has_bit c bits) (test (code / 2 ^ low % 2 ^ bits) (c % 2 ^ bits)) (has_bit code (low + bits)) ≡ test (code / 2 ^ low % 2 ^ (bits + 1)) (c % 2 ^ (bits + 1))
     more code =
         let n = code / 2 ^ low in
-        ap (step (has_bit c place) (test (n % 2 ^ place) (c % 2 ^ place))) (bit_from code low place)
-        ∙ by_bit (n % 2 ^ place) (c % 2 ^ place) (2 ^ place) (has_bit n place) (has_bit c place) (mod-lt n (pow_pos place)) (mod-lt c (pow_pos place))
-        ∙ sym (ap₂ test (low_more n place) (low_more c place))
+        ap (step (has_bit c bits) (test (n % 2 ^ bits) (c % 2 ^ bits))) (bit_from code low bits)
+        ∙ by_bit (n % 2 ^ bits) (c % 2 ^ bits) (2 ^ bits) (has_bit n bits) (has_bit c bits) (mod-lt n (pow_pos bits)) (mod-lt c (pow_pos bits)) ∙ sym (ap₂ test (low_more n bits) (low_more c bits))
 
--- with a constant that has no 1 above so many bits
-pub whole_compared : (test : ℕ → ℕ → Bool) (codes : List ℕ) (low count bits c : ℕ) (lanes : List Bool) → count ≡ bits → c / 2 ^ count ≡ 0
-    → lanes ≡ map (λ code. test (code / 2 ^ low % 2 ^ bits) (c % 2 ^ bits)) codes → lanes ≡ map (λ code. test (code / 2 ^ low % 2 ^ count) c) codes
-whole_compared test codes low count bits c lanes same none is =
+pub at_least_more : (low bits c : ℕ) (codes : List ℕ) → compared_in (λ s t. not (ltb s t)) low (bits + 1) c codes
+    ≡ zip2 (λ a p. cond (bit_and (c / 2 ^ bits) 1 == 1) (a && p) (a || p)) (compared_in (λ s t. not (ltb s t)) low bits c codes) (map (λ code. has_bit code (low + bits)) codes)
+at_least_more = compared_more (λ s t. not (ltb s t)) (λ one a p. cond one (a && p) (a || p)) at_least_by_bit
+
+pub equal_more : (low bits c : ℕ) (codes : List ℕ) → compared_in eqb low (bits + 1) c codes
+    ≡ zip2 (λ e p. e && cond (bit_and (c / 2 ^ bits) 1 == 1) p (not p)) (compared_in eqb low bits c codes) (map (λ code. has_bit code (low + bits)) codes)
+equal_more = compared_more eqb (λ one e p. e && cond one p (not p)) equal_by_bit
+
+-- with a constant that has no higher bit
+pub compared_all : (test : ℕ → ℕ → Bool) (low bits count c : ℕ) (codes : List ℕ) → bits ≡ count → c / 2 ^ count ≡ 0
+    → compared_in test low bits c codes ≡ map (λ code. test (code / 2 ^ low % 2 ^ count) c) codes
+unfolding compared_in
+compared_all test low bits count c codes same none =
     let whole : c % 2 ^ count ≡ c = omega (arith, div-add-mod' c (2 ^ count), ap (λ q. q * 2 ^ count) none) in
-    is ∙ ap (λ k. map (λ code. test (code / 2 ^ low % 2 ^ k) (c % 2 ^ k)) codes) (sym same) ∙ ap (λ m. map (λ code. test (code / 2 ^ low % 2 ^ count) m) codes) whole
+    ap (λ k. map (λ code. test (code / 2 ^ low % 2 ^ k) (c % 2 ^ k)) codes) same ∙ ap (λ m. map (λ code. test (code / 2 ^ low % 2 ^ count) m) codes) whole
+
+pub ruleset comparison = (compared_none, at_least_more, equal_more, compared_all, codes_long)
 
 -- the bits of a byte of a number of so many digits are this byte
-pub byte_bits : (code width slice count : ℕ) → code < 2 ^ width → 8 * slice < width → count ≡ min (width - 8 * slice) 8 → code / 2 ^ (8 * slice) % 2 ^ count ≡ byte_of slice code
+byte_bits : (code width slice count : ℕ) → code < 2 ^ width → 8 * slice < width → count ≡ min (width - 8 * slice) 8 → code / 2 ^ (8 * slice) % 2 ^ count ≡ byte_of slice code
 byte_bits code width slice count small there is = elim (cases_lt (width - 8 * slice) 8) [
   | inl fewer ↦
       let split : width ≡ count + 8 * slice = omega (arith, is) in
@@ -80,22 +98,43 @@ byte_bits code width slice count small there is = elim (cases_lt (width - 8 * sl
   | inr eight ↦ let all : count ≡ 8 = omega (arith, is) in ap (λ k. code / 2 ^ (8 * slice) % 2 ^ k) all
 ]
 
+pub of_byte : {A : Type 0} (f : ℕ → A) (width slice count : ℕ) (bytes : List ℕ) → 8 * slice < width → count ≡ min (width - 8 * slice) 8
+    → map (λ code. f (code / 2 ^ (8 * slice) % 2 ^ count)) (planes_codes width bytes) ≡ map (λ code. f (byte_of slice code)) (planes_codes width bytes)
+of_byte f width slice count bytes there is = codes_agree _ _ width bytes (λ code small. ap f (byte_bits code width slice count small there is))
+
 -- negated comparisons
 pub above_or_not : (n most : ℕ) → not (ltb n (most + 1)) ≡ ltb most n
 above_or_not n most = grind (arith, nat_tests)
 
-pub not_not : (b : Bool) → not (not b) ≡ b
+not_not : (b : Bool) → not (not b) ≡ b
 not_not b = grind (arith, nat_tests)
 
--- before a bit is looked at, none is known to be used
-pub none_used : (n : ℕ) → false ≡ not (n % 2 ^ 0 == 0)
-none_used n = let no_bits : n % 2 ^ 0 ≡ 0 = omega arith in sym (ap (λ k. not (k == 0)) no_bits)
+pub negated : (test : ℕ → Bool) (codes : List ℕ) → map not (map (λ code. not (test code)) codes) ≡ map test codes
+negated test codes = map-map not (λ code. not (test code)) codes ∙ (λ i. map (λ code. not_not (test code) i) codes)
 
-pub used_next : (codes : List ℕ) (bit : ℕ) (used plane : List Bool) → used ≡ map (λ code. not (code % 2 ^ bit == 0)) codes → plane ≡ map (λ code. has_bit code bit) codes
-    → zip2 (λ x y. x || y) used plane ≡ map (λ code. not (code % 2 ^ (bit + 1) == 0)) codes
-used_next codes bit used plane so_far here =
-    zip2_of_maps (λ x y. x || y) (λ code. not (code % 2 ^ bit == 0)) (λ code. has_bit code bit) codes so_far here
-    ∙ (λ i. map (λ code. (one_more (code % 2 ^ bit) (2 ^ bit) (has_bit code bit) (pow_pos bit) ∙ ap (λ n. not (n == 0)) (sym (low_more code bit))) i) codes)
+-- in which lanes the lowest bits, so many, aren't all 0
+unfoldable pub used_in : ℕ → List ℕ → List Bool
+used_in bits codes = map (λ code. not (code % 2 ^ bits == 0)) codes
+
+pub used_none : (codes : List ℕ) → length codes ≡ 512 → used_in 0 codes ≡ lanes_of_words (replicate 8 0)
+unfolding used_in
+used_none codes long = sym (everywhere codes (λ code. not (code % 2 ^ 0 == 0)) false _ long zeros_are_zero none)
+  where
+    none : (n : ℕ) → false ≡ not (n % 2 ^ 0 == 0)
+    none n = let no_bits : n % 2 ^ 0 ≡ 0 = omega arith in sym (ap (λ k. not (k == 0)) no_bits)
+
+pub used_more : (bit : ℕ) (codes : List ℕ) → used_in (bit + 1) codes ≡ zip2 (λ x y. x || y) (used_in bit codes) (map (λ code. has_bit code bit) codes)
+unfolding used_in
+used_more bit codes =
+    sym (zip2_of_maps (λ x y. x || y) (λ code. not (code % 2 ^ bit == 0)) (λ code. has_bit code bit) codes refl refl
+    ∙ (λ i. map (λ code. (one_more (code % 2 ^ bit) (2 ^ bit) (has_bit code bit) (pow_pos bit) ∙ ap (λ n. not (n == 0)) (sym (low_more code bit))) i) codes))
   where
     one_more : (s p : ℕ) (b : Bool) → 0 < p → (not (eqb s 0) || b) ≡ not (eqb (cond b p 0 + s) 0)
     one_more s p b some = grind (arith, nat_tests, some)
+
+pub used_all : (bits width : ℕ) (bytes : List ℕ) → bits ≡ width → used_in bits (planes_codes width bytes) ≡ map (λ code. not (code == 0)) (planes_codes width bytes)
+unfolding used_in
+used_all bits width bytes all =
+    codes_agree _ _ width bytes (λ code small. ap (λ k. not (code % 2 ^ k == 0)) all ∙ ap (λ n. not (n == 0)) (mod-eq_of_lt small))
+
+pub ruleset used_steps = (used_none, used_more, used_all, codes_long)

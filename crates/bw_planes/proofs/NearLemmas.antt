@@ -1,10 +1,7 @@
 -- The highest digits of codes, which tell in nearly all segments that none is above a number.
-use Rattle.std.proofs.Common.{◌≡◌, ◌∙◌, refl, sym, ap, subst, ℕ, ◌+◌, ◌/◌, ◌%◌, ◌^◌, ◌<◌, true, false, not, ltb, ◌||◌, List, [], ◌∷◌, map, arith}
+use Rattle.std.proofs.Common.{◌≡◌, ◌∙◌, refl, sym, ap, subst, ℕ, ◌+◌, ◌/◌, ◌%◌, ◌^◌, ◌<◌, true, false, not, ltb, ◌||◌, List, [], ◌∷◌, map, arith, mod-eq_of_lt, le-ltb, ltb-true, pow_pos}
 use Rattle.std.specs.List.{AllByRecursion, list_all, list_any}
 use Rattle.std.proofs.Math.Bool.{not-not}
-use Rattle.std.proofs.Math.Nat.{mod-eq_of_lt}
-use Rattle.std.proofs.lemmas.Bool.{le-ltb, ltb-true}
-use Rattle.std.proofs.lemmas.Nat.{pow_pos}
 use Rattle.bw_model.proofs.BitsLemmas.{both}
 use Rattle.bw_segment.proofs.DescentLemmas.{below}
 use Rattle.bw_segment.proofs.LowLemmas.{without_ones}

@@ -1,26 +1,24 @@
 -- The sum of the codes in some lanes: word by word, and in a word by the bits of the codes.
-use Rattle.std.proofs.Common.{◌≡◌, ◌∙◌, refl, sym, subst, ap, ap₂, ℕ, suc, ◌+◌, ◌-◌, ◌*◌, ◌/◌, ◌%◌, ◌^◌, ◌<◌, ◌≤◌, Bool, true, false, cond, List, [], ◌∷◌, ◌++◌, map, length, take, drop, get_or, take_all, sum, sum_by, count_by, arith}
+use Rattle.std.proofs.Common.{◌≡◌, ◌∙◌, refl, sym, subst, ap, ap₂, ℕ, suc, ◌+◌, ◌-◌, ◌*◌, ◌/◌, ◌%◌, ◌^◌, ◌<◌, ◌≤◌, cond, List, [], ◌∷◌, ◌++◌, map, length, take, drop, sum, sum_by, count_by, arith, mod-eq_of_lt, mul-le-mul, pow_mono}
 use Rattle.std.specs.List.{AllByRecursion, range_with_len}
 use Rattle.std.specs.Int.{bit_at}
-use Rattle.std.proofs.Math.Nat.{mod-eq_of_lt, mul-le-mul}
-use Rattle.std.proofs.Math.Pow.{pow_mono}
 use Rattle.std.proofs.Math.Seq.{drop-append_seam, take-append_seam, drop-drop}
 use Rattle.std.proofs.lemmas.Nat.{mod-pow-add, pow-add}
 use Rattle.std.proofs.lemmas.Nat.Bits.{bit_at-lt}
 use Rattle.std.proofs.lemmas.List.{take-append-drop, length-drop, take-take, drop-take, take-map, drop-map, length-take}
 use Rattle.std.proofs.lemmas.List.Concat.{flat_map-append}
-use Rattle.std.proofs.lemmas.List.Sums.{sum_by-cons, sum_by-append}
-use Rattle.bw_lanes.specs.Lanes.{bits_from_least, lanes_of_words, lanes_of_bytes}
-use Rattle.bw_lanes.proofs.WordLemmas.{length-lanes_of_bytes, length-first, lanes_more, before_and_part, part_is}
+use Rattle.std.proofs.lemmas.List.Sums.{sum_by-cons}
+use Rattle.bw_lanes.specs.Lanes.{bits_from_least, lanes_of_bytes}
+use Rattle.bw_lanes.proofs.WordLemmas.{length-lanes_of_bytes, no_lanes}
 use Rattle.bw_model.specs.Groups.{group_size}
 use Rattle.bw_model.specs.Variable.{spelled}
 use Rattle.bw_model.specs.Code.{has_bit}
-use Rattle.bw_model.specs.Selection.{picked}
-use Rattle.bw_model.proofs.GroupLemmas.{picked-append}
 use Rattle.bw_model.proofs.BitsLemmas.{bit_worth}
 use Rattle.bw_planes.specs.Planes.{plane_lanes, row_bits, planes_codes, codes_in_word}
 use Rattle.bw_planes.specs.Kept.{plane_of_codes}
-use Rattle.bw_planes.proofs.CodeLemmas.{high_more, small_in_rows}
+use Rattle.bw_segment.proofs.DescentLemmas.{high_more}
+use Rattle.bw_segment.proofs.PickedLemmas.{no_bits, word_more, words_summed}
+use Rattle.bw_planes.proofs.CodeLemmas.{codes_long, small_in_rows}
 
 lanes_range : (k n : ℕ) (bytes : List ℕ) → k + n ≤ length bytes → lanes_of_bytes (take n (drop k bytes)) ≡ take (8 * n) (drop (8 * k) (lanes_of_bytes bytes))
 unfolding lanes_of_bytes
@@ -111,32 +109,4 @@ few_joined few rest lower upper here there le =
     associated : (n k : ℕ) → 64 * n * k ≡ 64 * (n * k)
     associated n k = grind arith
 
--- the codes that are picked among those of the first words
-abbrev pub picked_before : ℕ → List ℕ → List ℕ → List ℕ
-picked_before word lanes codes = picked (lanes_of_words (take word lanes)) (take (64 * word) codes)
-
-pub sum_more : (word : ℕ) (lanes codes : List ℕ) → length lanes ≡ 8 → length codes ≡ 512 → word < 8
-    → sum (picked_before (word + 1) lanes codes) ≡ sum (picked_before word lanes codes) + sum (picked (bits_from_least 64 (get_or lanes word 0)) (codes_in_word word codes))
-sum_more word lanes codes eight long lt =
-    let rows = get_or lanes word 0 in
-    let front = lanes_of_words (take word lanes) in
-    let before = take (64 * word) codes in
-    ap₂ (λ l m. sum (picked l m)) (lanes_more word lanes eight lt) (before_and_part word codes lt ∙ ap (λ l. before ++ l) (part_is word codes lt))
-    ∙ ap sum (picked-append front (bits_from_least 64 rows) before (codes_in_word word codes) (omega (arith, length-first word lanes eight (omega arith), length-take (64 * word) codes)))
-    ∙ sum_by-append (λ n. n) (picked front before) (picked (bits_from_least 64 rows) (codes_in_word word codes))
-
-pub sum_whole : (word : ℕ) (lanes codes : List ℕ) → length lanes ≡ 8 → length codes ≡ 512 → word ≡ 8 → sum (picked_before word lanes codes) ≡ sum (picked (lanes_of_words lanes) codes)
-sum_whole word lanes codes eight long end =
-    ap (λ k. sum (picked_before k lanes codes)) end
-    ∙ (λ i. sum (picked (lanes_of_words (take_all 8 lanes (omega (arith, eight)) i)) (take_all 512 codes (omega (arith, long)) i)))
-
--- of no rows none is picked
-none_picked : (lanes : List Bool) (codes : List ℕ) → count_by (λ lane. lane) lanes ≡ 0 → sum (picked lanes codes) ≡ 0
-none_picked [] codes none = refl
-none_picked (lane ∷ lanes) [] none = refl
-none_picked (true ∷ lanes) (code ∷ codes) none = absurd (omega (arith, none, sum_by-cons (λ lane. cond lane 1 0) true lanes))
-none_picked (false ∷ lanes) (code ∷ codes) none = none_picked lanes codes (omega (arith, none, sum_by-cons (λ lane. cond lane 1 0) false lanes))
-
-pub nothing_added : (rows : ℕ) (codes : List ℕ) → rows ≡ 0 → sum (picked (bits_from_least 64 rows) codes) ≡ 0
-unfolding bits_from_least
-nothing_added rows codes none = ap (λ k. sum (picked (bits_from_least 64 k) codes)) none ∙ none_picked (bits_from_least 64 0) codes refl
+pub ruleset word_sums = (no_lanes, word_more, words_summed, no_bits, codes_long)

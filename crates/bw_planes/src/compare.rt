@@ -30,15 +30,17 @@ pub(crate) fn at_least(width: u32, bytes: &[u8], low: u32, count: u32, c: u64) -
     }
 }
 
-/// The lanes in which that number isn't below the same bits of c. It's compiled into its callers, so that the loop over the
-/// planes of a whole byte, which most are, is written out.
+/// The same with a constant that has no higher bit. It's compiled into its callers, so that the loop over the planes of a
+/// whole byte, which most are, is written out.
+#[tactic(auto, using(crate::proofs::CompareLemmas::comparison))]
 #[inline(always)]
 fn low_at_least(width: u32, bytes: &[u8], low: u32, count: u32, c: u64) -> Plane
     requires width { (1 ≤ width) × (width ≤ 63) }
     requires size { length bytes.now ≡ 64 * width }
     requires bits { low + count ≤ width }
+    requires top { c / 2 ^ count ≡ 0 }
     ensures { lanes_of_words result
-        ≡ map (λ code. not (nat_lt (code / 2 ^ low % 2 ^ count) (c % 2 ^ count))) (planes_codes width bytes.now) }
+        ≡ map (λ code. not (nat_lt (code / 2 ^ low % 2 ^ count) c)) (planes_codes width bytes.now) }
 {
     let mut at_least = ONES;
     for place in 0..count as usize {
@@ -68,15 +70,17 @@ pub(crate) fn eq(width: u32, bytes: &[u8], low: u32, count: u32, c: u8) -> Plane
     }
 }
 
-/// The lanes in which that number is that of the same bits of c.
+/// The same with a constant that has no higher bit.
+#[tactic(auto, using(crate::proofs::CompareLemmas::comparison))]
 #[inline(always)]
 fn low_eq(width: u32, bytes: &[u8], low: u32, count: u32, c: u8) -> Plane
     requires width { (1 ≤ width) × (width ≤ 63) }
     requires size { length bytes.now ≡ 64 * width }
     requires bits { low + count ≤ width }
     requires byte { count ≤ 8 }
+    requires top { c / 2 ^ count ≡ 0 }
     ensures { lanes_of_words result
-        ≡ map (λ code. code / 2 ^ low % 2 ^ count == c % 2 ^ count) (planes_codes width bytes.now) }
+        ≡ map (λ code. code / 2 ^ low % 2 ^ count == c) (planes_codes width bytes.now) }
 {
     let mut equal = ONES;
     for place in 0..count as usize {
@@ -99,15 +103,15 @@ fn risen(at_least: &Plane, plane: &Plane, one: bool) -> Plane
     }
 }
 
-/// The lanes that were equal so far and have this bit in a plane.
+/// Of some lanes those that have this bit in a plane.
 #[tactic(auto, using(crate::proofs::CompareLemmas::zip2_map_right))]
-fn narrowed(equal: &Plane, plane: &Plane, one: bool) -> Plane
-    ensures { lanes_of_words result ≡ zip2 (λ e p. e && (if one then p else not p))
-        (lanes_of_words equal.now) (lanes_of_words plane.now) }
+pub(crate) fn narrowed(lanes: &Plane, plane: &Plane, one: bool) -> Plane
+    ensures { lanes_of_words result ≡ zip2 (λ l p. l && (if one then p else not p))
+        (lanes_of_words lanes.now) (lanes_of_words plane.now) }
 {
     if one {
-        and(equal, plane)
+        and(lanes, plane)
     } else {
-        and(equal, &not(plane))
+        and(lanes, &not(plane))
     }
 }

@@ -1,13 +1,14 @@
 //! Codes kept as planes, and what they answer.
-ghost use Rattle.std.specs.Prelude.{◌≡◌, ◌*◌, ◌^◌, ◌<◌, ◌≤◌, false, length, map, nat_lt, true};
-ghost use Rattle.std.specs.List.{list_any};
+ghost use Rattle.std.specs.Prelude.{◌≡◌, ◌*◌, ◌^◌, ◌<◌, ◌≤◌, IfSome, false, if◌then◌else◌, length, map, max, min, nat_lt, true};
+ghost use Rattle.std.specs.List.{list_any, reduce};
 ghost use Rattle.bw_lanes.specs.Lanes.{lanes_of_words};
 ghost use Rattle.bw_model.specs.Code.{has_bit};
+ghost use Rattle.bw_model.specs.Selection.{picked};
 ghost use Rattle.bw_model.specs.Stored.{byte_of};
 ghost use Rattle.bw_planes.specs.Planes.{plane_packing, planes_codes};
 ghost use Rattle.bw_planes.specs.Kept.{planes_keep_codes};
 
-use crate::compare::{at_least, eq};
+use crate::compare::{at_least, eq, narrowed};
 use crate::sum::sum_in_word;
 use bw_lanes::{LANES, Plane, and, bytes_bit, is_zero, load, not, or, push_bit, to_bytes};
 use bw_model::Fault;
@@ -34,6 +35,7 @@ impl CodeLayout for Planes {
         Ok(())
     }
 
+    #[tactic(auto, using(crate::proofs::CompareLemmas::used_steps))]
     fn used(width: u32, bytes: &[u8]) -> Plane {
         let mut used = [0; 8];
         for bit in 0..width as usize {
@@ -74,6 +76,7 @@ impl CodeLayout for Planes {
         eq(width, bytes, low, (width - low).min(8), c)
     }
 
+    #[tactic(auto, using(crate::proofs::SumLemmas::word_sums))]
     fn sum(width: u32, bytes: &[u8], lanes: &Plane) -> u128 {
         let mut sum = 0;
         for word in 0..8 {
@@ -84,43 +87,15 @@ impl CodeLayout for Planes {
         sum
     }
 
-    // From the top bit down the lanes that remain are those in which the bit is 0, or all of them where it is 1 in each.
     fn least(width: u32, bytes: &[u8], lanes: &Plane) -> Option<u64> {
-        if is_zero(lanes) {
-            return None;
-        }
-        let mut left = *lanes;
-        let mut code = 0;
-        for place in 0..width {
-            let zeros = and(&left, &not(&Planes::bit(width, bytes, width - 1 - place)));
-            code *= 2;
-            if is_zero(&zeros) {
-                code += 1;
-            } else {
-                left = zeros;
-            }
-        }
-        Some(code)
+        chosen_code(width, bytes, lanes, false)
     }
 
-    // From the top bit down the lanes that remain are those in which the bit is 1, or all of them where it is 0 in each.
     fn greatest(width: u32, bytes: &[u8], lanes: &Plane) -> Option<u64> {
-        if is_zero(lanes) {
-            return None;
-        }
-        let mut left = *lanes;
-        let mut code = 0;
-        for place in 0..width {
-            let ones = and(&left, &Planes::bit(width, bytes, width - 1 - place));
-            code *= 2;
-            if !is_zero(&ones) {
-                left = ones;
-                code += 1;
-            }
-        }
-        Some(code)
+        chosen_code(width, bytes, lanes, true)
     }
 
+    #[tactic(auto, using(crate::proofs::CodeLemmas::code_steps))]
     fn code(width: u32, bytes: &[u8], lane: usize) -> u64 {
         let mut code = 0;
         for place in 0..width as usize {
@@ -130,6 +105,7 @@ impl CodeLayout for Planes {
         code
     }
 
+    #[tactic(auto, using(crate::proofs::CodeLemmas::byte_steps))]
     fn unpack(width: u32, bytes: &[u8], codes: &mut [u64; LANES]) {
         let slices = (width as usize + 7) / 8;
         put_byte(codes, &byte_at(width, bytes, slices - 1));
@@ -139,6 +115,35 @@ impl CodeLayout for Planes {
     }
 
     ghost keeps = { planes_keep_codes };
+}
+
+/// The greatest of the codes in some lanes, or the least; none where there are no lanes. From the top bit down the lanes that
+/// remain are those in which the bit is 1, or for the least 0, or all of them where there are none of these.
+#[inline(always)]
+fn chosen_code(width: u32, bytes: &[u8], lanes: &Plane, greatest: bool) -> Option<u64>
+    requires width { (1 ≤ width) × (width ≤ 63) }
+    requires size { length bytes.now ≡ 64 * width }
+    ensures chosen { result ≡ reduce (if greatest then max else min)
+        (picked (lanes_of_words lanes.now) (planes_codes width bytes.now)) }
+    ensures bound { IfSome result (λ code. code < 2 ^ 63) }
+{
+    if is_zero(lanes) {
+        return None;
+    }
+    let mut left = *lanes;
+    let mut code = 0;
+    for place in 0..width {
+        let plane = Planes::bit(width, bytes, width - 1 - place);
+        let sought = narrowed(&left, &plane, greatest);
+        code *= 2;
+        if is_zero(&sought) {
+            code += u64::from(!greatest);
+        } else {
+            code += u64::from(greatest);
+            left = sought;
+        }
+    }
+    Some(code)
 }
 
 /// So many of the highest digits tell in nearly all segments that no code is above a number: of 512 codes that are spread over
@@ -160,6 +165,7 @@ fn none_is_near(width: u32, bytes: &[u8], most: u64) -> bool
 }
 
 /// The plane of a bit, whose place is reckoned in whole words, so that a loop over bits moves from plane to plane.
+#[tactic(auto, using(crate::proofs::CodeLemmas::plane_loaded))]
 #[inline(always)]
 pub(crate) fn plane_of(width: u32, bytes: &[u8], bit: usize) -> Plane
     requires width { width ≤ 63 }
@@ -173,6 +179,7 @@ pub(crate) fn plane_of(width: u32, bytes: &[u8], bit: usize) -> Plane
 
 /// A byte of each code, of which byte 0 is the least: the planes of its bits are shifted into a byte of each lane, from the
 /// top one down.
+#[tactic(auto, using(crate::proofs::TransposeLemmas::byte_steps))]
 fn byte_at(width: u32, bytes: &[u8], slice: usize) -> [u8; LANES]
     requires width { (1 ≤ width) × (width ≤ 63) }
     requires size { length bytes.now ≡ 64 * width }

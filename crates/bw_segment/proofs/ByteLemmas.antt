@@ -1,8 +1,6 @@
 -- Codes made of their bytes, from the most significant down, in many lanes at once.
-use Rattle.std.proofs.Common.{◌≡◌, ◌∙◌, sym, ap, ap₂, ℕ, suc, ◌+◌, ◌*◌, ◌/◌, ◌%◌, ◌^◌, ◌<◌, ◌≤◌, List, [], ◌∷◌, map, refl, bit_or, arith}
+use Rattle.std.proofs.Common.{◌≡◌, ◌∙◌, sym, ap, ap₂, ℕ, suc, ◌+◌, ◌-◌, ◌*◌, ◌/◌, ◌%◌, ◌^◌, ◌<◌, ◌≤◌, List, [], ◌∷◌, map, refl, bit_or, arith, div-one, mod-eq_of_lt, pow_mono, shr_lt}
 use Rattle.std.specs.List.{AllByRecursion}
-use Rattle.std.proofs.Math.Nat.{div-one, mod-eq_of_lt}
-use Rattle.std.proofs.Math.Pow.{pow_mono, shr_lt}
 use Rattle.std.proofs.lemmas.Nat.{shr-shr, shr_le, or_shifted}
 use lib.Lanes.{zip2}
 use Rattle.bw_model.specs.Stored.{byte_of}
@@ -44,9 +42,13 @@ with_bytes width slice (code ∷ codes) few small =
     ap₂ ◌∷◌ (ap (λ k. with_byte (code / 2 ^ k) (rest % 256)) next ∙ ap (λ k. with_byte k (rest % 256)) (sym (shr-shr code (8 * slice) 8)) ∙ ap (λ k. k % 2 ^ 64) whole ∙ mod-eq_of_lt fits)
     (with_bytes width slice codes few small.1)
 
-pub byte_more : (width above slice : ℕ) (codes held bytes : List ℕ) → above ≡ suc slice → width ≤ 64 → AllByRecursion (λ code. code < 2 ^ width) codes → held ≡ codes_from above codes → bytes ≡ map (byte_of slice) codes
-    → zip2 with_byte held bytes ≡ codes_from slice codes
-byte_more width above slice codes held bytes next few small before is = ap₂ (zip2 with_byte) (before ∙ ap (λ k. codes_from k codes) next) is ∙ with_bytes width slice codes few small
+pub byte_more : (width slices place : ℕ) (codes held bytes : List ℕ) → place < slices → width ≤ 64 → AllByRecursion (λ code. code < 2 ^ width) codes → held ≡ codes_from (slices - place) codes
+    → bytes ≡ map (byte_of (slices - 1 - place)) codes → zip2 with_byte held bytes ≡ codes_from (slices - (place + 1)) codes
+byte_more width slices place codes held bytes lt few small before is =
+    let slice = slices - 1 - place in
+    let above : slices - place ≡ suc slice = omega arith in
+    let next : slice ≡ slices - (place + 1) = omega arith in
+    ap₂ (zip2 with_byte) (before ∙ ap (λ k. codes_from k codes) above) is ∙ with_bytes width slice codes few small ∙ ap (λ k. codes_from k codes) next
 
 -- from byte 0 on there are the codes
 pub codes_whole : (slice : ℕ) (codes : List ℕ) → slice ≡ 0 → codes_from slice codes ≡ codes

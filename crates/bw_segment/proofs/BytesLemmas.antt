@@ -1,10 +1,10 @@
 -- The bytes of a group: its blocks, which are without fault, and the rows that they spell.
-use Rattle.std.proofs.Common.{◌≡◌, ◌∙◌, refl, sym, ap, ap₂, ℕ, zero, suc, ◌+◌, ◌-◌, ◌<◌, ◌≤◌, ◌^◌, Bool, true, false, cond, List, [], ◌∷◌, ◌++◌, map, length, take, drop, get_or, replicate, length-append, None, inl, inr, arith}
+use Rattle.std.proofs.Common.{◌≡◌, ◌∙◌, refl, sym, ap, ap₂, ℕ, zero, suc, ◌+◌, ◌-◌, ◌<◌, ◌≤◌, ◌^◌, Bool, true, false, cond, List, [], ◌∷◌, ◌++◌, map, length, take, drop, get_or, replicate, length-append, None, inl, inr, arith, pow_pos}
 use Rattle.std.specs.List.{range_with_len, list_all, All}
 use Rattle.std.proofs.Math.Seq.{drop-append_seam, take-append_seam}
 use Rattle.std.proofs.Math.ListN.{get_or-append}
 use Rattle.std.proofs.lemmas.Bool.{cases_lt}
-use Rattle.std.proofs.lemmas.List.{take-append-drop, length-map, length-take, length-drop, length-replicate, get_or-map, get_or-take, get_or-drop, replicate-append-replicate}
+use Rattle.std.proofs.lemmas.List.{get_or_default, take-append-drop, length-map, length-take, length-drop, length-replicate, get_or-map, get_or-take, get_or-drop, replicate-append-replicate}
 use Rattle.std.proofs.lemmas.List.FromFn.{fill_by_all, length-map-range_with_len}
 use Rattle.std.proofs.lemmas.Simd.{map-map}
 use Rattle.bw_lanes.specs.Lanes.{bytes_of_lanes, lanes_of_bytes}
@@ -19,7 +19,6 @@ use Rattle.bw_model.specs.Truth.{is_null}
 use Rattle.bw_model.specs.Variable.{is_nullable}
 use Rattle.bw_model.proofs.StoredLemmas.{stored_below}
 use Rattle.bw_model.proofs.BitsLemmas.{both}
-use Rattle.std.proofs.lemmas.Nat.{pow_pos}
 use Rattle.bw_segment.specs.Packing.{Packing, IsPacking, null_bits, null_size, block_size, segment_size, block_bytes, segment_bytes, block_at, block_nulls, block_codes, value_held, value_in_block, rows_spelled}
 use Rattle.bw_segment.specs.BlockFault.{padding_fault, row_fault, lanes_fault, block_fault, IsSound}
 use Rattle.bw_segment.specs.Meaning.{Meaning, IsGroup, stored_codes}
@@ -71,11 +70,6 @@ no_nulls columns (row ∷ rows) col all lt never =
     let each = both (admits_values columns row) (list_all (admits_values columns) rows) all in
     ap₂ ◌∷◌ (null_admitted columns row col each.0 lt never) (no_nulls columns rows col each.1 lt never)
 
-get_or-default : (xs : List ℕ) (at d e : ℕ) → at < length xs → get_or xs at d ≡ get_or xs at e
-get_or-default [] at d e lt = absurd (omega arith)
-get_or-default (x ∷ xs) zero d e lt = refl
-get_or-default (x ∷ xs) (suc at) d e lt = get_or-default xs at d e (omega arith)
-
 -- the bytes of a group
 module _ (packing : Packing) (law : IsPacking packing) (meaning : Meaning) (group : IsGroup meaning) where
   abbrev pub columns : List Column
@@ -117,7 +111,7 @@ module _ (packing : Packing) (law : IsPacking packing) (meaning : Meaning) (grou
 
   pub small_codes : (col : ℕ) → col < length columns → All (λ code. code < 2 ^ width_at columns col) (stored_codes columns rows col)
   small_codes col there = λ row d lt.
-      let here = get_or-default (stored_codes columns rows col) row d 0 lt in
+      let here = get_or_default (stored_codes columns rows col) row d 0 lt in
       elim (cases_lt row (length rows)) [
         | inl before ↦
             let below = stored_below columns (get_or rows row []) col (row_admitted row before) there in

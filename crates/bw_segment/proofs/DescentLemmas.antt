@@ -1,12 +1,15 @@
--- The least and the greatest of numbers, found bit by bit from the top.
-use Rattle.std.proofs.Common.{◌≡◌, ◌∙◌, refl, sym, ap, subst, ◌⊎◌, inl, inr, ℕ, zero, suc, ◌+◌, ◌*◌, ◌/◌, ◌^◌, ◌<◌, ◌≤◌, min, max, Bool, true, false, not, cond, ◌==◌, List, [], ◌∷◌, filter, Some, None, arith}
-use Rattle.std.specs.List.{fold, reduce, AllByRecursion}
+-- The least and the greatest of numbers, found from the top digit down.
+use Rattle.std.proofs.Common.{◌≡◌, ◌∙◌, refl, sym, ap, ap₂, subst, ◌⊎◌, inl, inr, ℕ, suc, ◌+◌, ◌*◌, ◌/◌, ◌^◌, ◌<◌, min, max, Bool, true, false, not, cond, List, [], ◌∷◌, filter, fold, Some, None, add-one, shr-shr, pow_pos, arith}
+use Rattle.std.specs.List.{reduce, AllByRecursion}
 use Rattle.std.specs.Int.{bit_at}
-use Rattle.std.proofs.Math.Nat.{div-div-eq-div-mul, div-mul-le_self, div-eq_of_lt, pow-suc}
-use Rattle.std.proofs.lemmas.Nat.{le-div, pow_pos}
+use Rattle.std.proofs.Math.Nat.{div-mul-le_self, div-eq_of_lt}
+use Rattle.std.proofs.lemmas.Nat.{le-div}
+use Rattle.std.proofs.lemmas.Nat.Bits.{bit_at-lt}
 use Rattle.std.proofs.lemmas.Bool.{cases_lt}
+use Rattle.std.proofs.lemmas.Bool.Decides.{nat_tests}
 use Rattle.std.proofs.lemmas.Grind.{pow_more}
 use Rattle.bw_model.specs.Code.{has_bit}
+use Rattle.bw_model.proofs.BitsLemmas.{bit_worth}
 use Rattle.bw_segment.proofs.PickedLemmas.{is_none}
 
 -- what passes a test
@@ -27,192 +30,125 @@ all_fail P Q test next (x ∷ xs) all none = put (all_fail P Q test next xs all.
     put later true is none = cc
     put later false is none = (next x all.0 is, later none)
 
--- A choice between two numbers is one of them, and it's the one that passes a test where only one does.
-pub record Chooses (f : ℕ → ℕ → ℕ) (test : ℕ → Bool) (P : ℕ → Type 0) : Type 0 where
-  pub one : (a b : ℕ) → (f a b ≡ a) ⊎ (f a b ≡ b)
-  pub first : (a b : ℕ) → P a → P b → test a ≡ true → test b ≡ false → f a b ≡ a
-  pub second : (a b : ℕ) → P a → P b → test a ≡ false → test b ≡ true → f a b ≡ b
+-- the greater or the lesser of two numbers
+abbrev pub choice : Bool → ℕ → ℕ → ℕ
+choice greatest = cond greatest max min
 
--- what one of two has, a choice between them has
-of_choice : (f : ℕ → ℕ → ℕ) (P : ℕ → Type 0) (a b : ℕ) → (f a b ≡ a) ⊎ (f a b ≡ b) → P a → P b → P (f a b)
-of_choice f P a b (inl is) pa pb = subst P (sym is) pa
-of_choice f P a b (inr is) pa pb = subst P (sym is) pb
+pub one_of : (g : Bool) (a b : ℕ) → (choice g a b ≡ a) ⊎ (choice g a b ≡ b)
+one_of true a b = elim (cases_lt a b) [ inl lt ↦ inr (omega arith) | inr le ↦ inl (omega arith) ]
+one_of false a b = elim (cases_lt a b) [ inl lt ↦ inl (omega arith) | inr le ↦ inr (omega arith) ]
 
--- from a number that passes on, those that fail make no difference
-fold_kept : (f : ℕ → ℕ → ℕ) (test : ℕ → Bool) (P : ℕ → Type 0) → Chooses f test P → (a : ℕ) (xs : List ℕ) → P a → test a ≡ true → AllByRecursion P xs → fold f a (filter test xs) ≡ fold f a xs
-fold_kept f test P chooses a [] pa passes all = refl
-fold_kept f test P chooses a (x ∷ xs) pa passes all = put (λ b pb is. fold_kept f test P chooses b xs pb is all.1) (test x) refl
-  where
-    put : ((b : ℕ) → P b → test b ≡ true → fold f b (filter test xs) ≡ fold f b xs) → (b : Bool) → test x ≡ b → fold f a (cond b (x ∷ filter test xs) (filter test xs)) ≡ fold f (f a x) xs
-    put later true is = later (f a x) (of_choice f P a x (chooses.one a x) pa all.0) (of_choice f (λ y. test y ≡ true) a x (chooses.one a x) passes is)
-    put later false is = later a pa passes ∙ ap (λ y. fold f y xs) (sym (chooses.first a x pa all.0 passes is))
+-- what two numbers have, the choice between them has
+pub of_both : (P : ℕ → Type 0) (g : Bool) (a b : ℕ) → P a → P b → P (choice g a b)
+of_both P g a b pa pb = elim (one_of g a b) [ inl is ↦ subst P (sym is) pa | inr is ↦ subst P (sym is) pb ]
 
--- where one passes, those that fail make no difference
-fold_found : (f : ℕ → ℕ → ℕ) (test : ℕ → Bool) (P : ℕ → Type 0) → Chooses f test P → (a : ℕ) (xs : List ℕ) → P a → test a ≡ false → AllByRecursion P xs → is_none (filter test xs) ≡ false
-    → reduce f (filter test xs) ≡ Some (fold f a xs)
-fold_found f test P chooses a [] pa fails all some = cc
-fold_found f test P chooses a (x ∷ xs) pa fails all some = put (λ b pb is. fold_found f test P chooses b xs pb is all.1) (test x) refl some
-  where
-    put : ((b : ℕ) → P b → test b ≡ false → is_none (filter test xs) ≡ false → reduce f (filter test xs) ≡ Some (fold f b xs)) → (b : Bool) → test x ≡ b → is_none (cond b (x ∷ filter test xs) (filter test xs)) ≡ false → reduce f (cond b (x ∷ filter test xs) (filter test xs)) ≡ Some (fold f (f a x) xs)
-    put later true is some = ap Some (fold_kept f test P chooses x xs all.0 is all.1 ∙ ap (λ y. fold f y xs) (sym (chooses.second a x pa all.0 fails is)))
-    put later false is some = later (f a x) (of_choice f P a x (chooses.one a x) pa all.0) (of_choice f (λ y. test y ≡ false) a x (chooses.one a x) fails is) some
+-- of two numbers of which one alone passes a test the choice is that one
+abbrev pub Chooses : Bool → (ℕ → Bool) → (ℕ → Type 0) → Type 0
+Chooses g test P = (a b : ℕ) → P a → P b → test a ≡ true → test b ≡ false → (choice g a b ≡ a) × (choice g b a ≡ a)
 
-pub reduce_kept : (f : ℕ → ℕ → ℕ) (test : ℕ → Bool) (P : ℕ → Type 0) → Chooses f test P → (xs : List ℕ) → AllByRecursion P xs → is_none (filter test xs) ≡ false → reduce f (filter test xs) ≡ reduce f xs
-reduce_kept f test P chooses [] all some = refl
-reduce_kept f test P chooses (x ∷ xs) all some = put (test x) refl some
-  where
-    put : (b : Bool) → test x ≡ b → is_none (cond b (x ∷ filter test xs) (filter test xs)) ≡ false → reduce f (cond b (x ∷ filter test xs) (filter test xs)) ≡ Some (fold f x xs)
-    put true is some = ap Some (fold_kept f test P chooses x xs all.0 is all.1)
-    put false is some = fold_found f test P chooses x xs all.0 is all.1 some
+-- so where one passes, those that fail make no difference
+one_kept : (f : ℕ → ℕ → ℕ) (test : ℕ → Bool) (a : ℕ) → is_none (filter test (a ∷ [])) ≡ false → reduce f (filter test (a ∷ [])) ≡ Some a
+one_kept f test a some = grind arith
+
+pair_kept : (f : ℕ → ℕ → ℕ) (test : ℕ → Bool) (a x : ℕ) (xs : List ℕ) → (test a ≡ true → test x ≡ false → f a x ≡ a)
+    → (test a ≡ false → test x ≡ true → f a x ≡ x) → (f a x ≡ a) ⊎ (f a x ≡ x)
+    → (reduce f (filter test (a ∷ x ∷ xs)) ≡ reduce f (filter test (f a x ∷ xs))) × (is_none (filter test (a ∷ x ∷ xs)) ≡ is_none (filter test (f a x ∷ xs)))
+pair_kept f test a x xs first second one = (grind arith, grind arith)
+
+some_kept : (g : Bool) (test : ℕ → Bool) (P : ℕ → Type 0) → Chooses g test P → (a : ℕ) (xs : List ℕ) → AllByRecursion P (a ∷ xs) → is_none (filter test (a ∷ xs)) ≡ false
+    → reduce (choice g) (filter test (a ∷ xs)) ≡ Some (fold (choice g) a xs)
+some_kept g test P chooses a [] all some = one_kept (choice g) test a some
+some_kept g test P chooses a (x ∷ xs) all some =
+    let px = all.1.0 in
+    let pair = pair_kept (choice g) test a x xs (λ ta tx. (chooses a x all.0 px ta tx).0) (λ ta tx. (chooses x a px all.0 tx ta).1) (one_of g a x) in
+    pair.0 ∙ some_kept g test P chooses (choice g a x) xs (of_both P g a x all.0 px, all.1.1) (sym pair.1 ∙ some)
+
+pub reduce_kept : (g : Bool) (test : ℕ → Bool) (P : ℕ → Type 0) → Chooses g test P → (xs : List ℕ) → AllByRecursion P xs → is_none (filter test xs) ≡ false
+    → reduce (choice g) (filter test xs) ≡ reduce (choice g) xs
+reduce_kept g test P chooses [] all some = refl
+reduce_kept g test P chooses (x ∷ xs) all some = some_kept g test P chooses x xs all some
 
 -- a choice among numbers that are all the same
-fold_same : (f : ℕ → ℕ → ℕ) (n a : ℕ) (xs : List ℕ) → f n n ≡ n → a ≡ n → AllByRecursion (λ x. x ≡ n) xs → fold f a xs ≡ n
-fold_same f n a [] one is all = is
-fold_same f n a (x ∷ xs) one is all = fold_same f n (f a x) xs one (ap (λ y. f y x) is ∙ ap (f n) all.0 ∙ one) all.1
+fold_same : (g : Bool) (n a : ℕ) (xs : List ℕ) → AllByRecursion (λ x. x / 2 ^ 0 ≡ n) (a ∷ xs) → fold (choice g) a xs ≡ n
+fold_same g n a [] all = let is = all.0 in omega (arith, is)
+fold_same g n a (x ∷ xs) all = fold_same g n (choice g a x) xs (of_both (λ k. k / 2 ^ 0 ≡ n) g a x all.0 all.1.0, all.1.1)
 
-pub reduce_same : (f : ℕ → ℕ → ℕ) (n : ℕ) (xs : List ℕ) → f n n ≡ n → AllByRecursion (λ x. x / 2 ^ 0 ≡ n) xs → is_none xs ≡ false → reduce f xs ≡ Some n
-reduce_same f n [] one all some = cc
-reduce_same f n (x ∷ xs) one all some = ap Some (fold_same f n x xs one (whole x all.0) (each xs all.1))
-  where
-    whole : (y : ℕ) → y / 2 ^ 0 ≡ n → y ≡ n
-    whole y is = omega (arith, is)
-
-    each : (ys : List ℕ) → AllByRecursion (λ y. y / 2 ^ 0 ≡ n) ys → AllByRecursion (λ y. y ≡ n) ys
-    each [] all = tt
-    each (y ∷ ys) all = (whole y all.0, each ys all.1)
-
--- one more bit
-next_bit : (n bit : ℕ) → n / 2 ^ bit ≡ 2 * (n / 2 ^ suc bit) + bit_at n bit
-next_bit n bit =
-    let half : n / 2 ^ bit / 2 ≡ n / 2 ^ suc bit = div-div-eq-div-mul n (2 ^ bit) 2 ∙ ap (λ k. n / k) (sym (pow-suc 2 bit)) in
-    omega (arith, half)
-
-bit_is : (n bit : ℕ) (b : Bool) → has_bit n bit ≡ b → bit_at n bit ≡ cond b 1 0
-bit_is n bit b is = worth (bit_at n bit) b (omega arith) is
-  where
-    worth : (k : ℕ) (b : Bool) → k < 2 → (k == 1) ≡ b → k ≡ cond b 1 0
-    worth zero true lt e = cc
-    worth zero false lt e = refl
-    worth (suc zero) true lt e = refl
-    worth (suc zero) false lt e = cc
-    worth (suc (suc k)) b lt e = absurd (omega arith)
-
-pub head_of : (n bit head : ℕ) (b : Bool) → n / 2 ^ suc bit ≡ head → has_bit n bit ≡ b → n / 2 ^ bit ≡ 2 * head + cond b 1 0
-head_of n bit head b before is = next_bit n bit ∙ ap (λ k. 2 * k + bit_at n bit) before ∙ ap (λ k. 2 * head + k) (bit_is n bit b is)
+-- a number from a bit on
+pub high_more : (n bit : ℕ) → n / 2 ^ bit ≡ 2 * (n / 2 ^ suc bit) + cond (has_bit n bit) 1 0
+high_more n bit =
+    let half : n / 2 ^ bit / 2 ≡ n / 2 ^ suc bit = shr-shr n bit 1 ∙ ap (λ k. n / 2 ^ k) (add-one bit) in
+    omega (arith, half, bit_worth (bit_at n bit) 1 (bit_at-lt n bit))
 
 -- the smaller of two heads is of the smaller number
 pub below : (a b k : ℕ) → 0 < k → a / k < b / k → a < b
-below a b k some lt = go (cases_lt a b)
-  where
-    go : (a < b) ⊎ (b ≤ a) → a < b
-    go (inl less) = less
-    go (inr le) = let up = le-div (b / k) a k some (let low = div-mul-le_self b k in omega (arith, low)) in absurd (omega (arith, up))
+below a b k some lt = elim (cases_lt a b) [
+  | inl less ↦ less
+  | inr le ↦ let low = div-mul-le_self b k in absurd (omega (arith, le-div (b / k) a k some (omega (arith, low))))
+]
 
-not_is : (b c : Bool) → not b ≡ c → b ≡ not c
-not_is true c is = ap not is
-not_is false c is = ap not is
+-- the numbers with the bit that is sought: towards the greatest a 1, and towards the least a 0
+abbrev pub sought : Bool → ℕ → ℕ → Bool
+sought g bit n = cond g (has_bit n bit) (not (has_bit n bit))
 
-pub less : (a b bit head : ℕ) → a / 2 ^ suc bit ≡ head → b / 2 ^ suc bit ≡ head → has_bit a bit ≡ false → has_bit b bit ≡ true → a < b
-less a b bit head same alike zero_bit one_bit =
-    let low = head_of a bit head false same zero_bit in
-    let high = head_of b bit head true alike one_bit in
-    below a b (2 ^ bit) (pow_pos bit) (omega (arith, low, high))
+bit_sought : (g b c : Bool) → cond g b (not b) ≡ c → b ≡ cond c g (not g)
+bit_sought g b c is = grind (arith, nat_tests)
 
-pub least_chooses : (bit head : ℕ) → Chooses min (λ n. not (has_bit n bit)) (λ n. n / 2 ^ suc bit ≡ head)
-least_chooses bit head = record {
-  one = λ a b. one a b (cases_lt a b);
-  first = λ a b pa pb ta tb. let lt = less a b bit head pa pb (not_is (has_bit a bit) true ta) (not_is (has_bit b bit) false tb) in omega arith;
-  second = λ a b pa pb ta tb. let lt = less b a bit head pb pa (not_is (has_bit b bit) true tb) (not_is (has_bit a bit) false ta) in omega arith;
-}
-  where
-    one : (a b : ℕ) → (a < b) ⊎ (b ≤ a) → (min a b ≡ a) ⊎ (min a b ≡ b)
-    one a b (inl lt) = inl (omega arith)
-    one a b (inr le) = inr (omega arith)
+head_of : (g : Bool) (n bit head : ℕ) (c : Bool) → n / 2 ^ suc bit ≡ head → sought g bit n ≡ c → n / 2 ^ bit ≡ 2 * head + cond (cond c g (not g)) 1 0
+head_of g n bit head c before is = high_more n bit ∙ ap₂ (λ k b. 2 * k + cond b 1 0) before (bit_sought g (has_bit n bit) c is)
 
-pub greatest_chooses : (bit head : ℕ) → Chooses max (λ n. has_bit n bit) (λ n. n / 2 ^ suc bit ≡ head)
-greatest_chooses bit head = record {
-  one = λ a b. one a b (cases_lt a b);
-  first = λ a b pa pb ta tb. let lt = less b a bit head pb pa tb ta in omega arith;
-  second = λ a b pa pb ta tb. let lt = less a b bit head pa pb ta tb in omega arith;
-}
-  where
-    one : (a b : ℕ) → (a < b) ⊎ (b ≤ a) → (max a b ≡ a) ⊎ (max a b ≡ b)
-    one a b (inl lt) = inr (omega arith)
-    one a b (inr le) = inl (omega arith)
+chooses : (g : Bool) (bit head : ℕ) → Chooses g (sought g bit) (λ n. n / 2 ^ suc bit ≡ head)
+chooses true bit head a b pa pb ta tb =
+    let lt = below b a (2 ^ bit) (pow_pos bit) (omega (arith, head_of true a bit head true pa ta, head_of true b bit head false pb tb)) in
+    (omega arith, omega arith)
+chooses false bit head a b pa pb ta tb =
+    let lt = below a b (2 ^ bit) (pow_pos bit) (omega (arith, head_of false a bit head true pa ta, head_of false b bit head false pb tb)) in
+    (omega arith, omega arith)
 
 -- The numbers that are left have the same top bits, those from `bit` on, which spell `head` in so many places, and what is
 -- chosen among them is what is chosen among all.
-pub record IsDescended (f : ℕ → ℕ → ℕ) (all left : List ℕ) (bit places head : ℕ) : Type 0 where
+pub record IsDescended (g : Bool) (all left : List ℕ) (bit places head : ℕ) : Type 0 where
   pub some : is_none left ≡ false
   pub heads : AllByRecursion (λ n. n / 2 ^ bit ≡ head) left
-  pub chosen : reduce f left ≡ reduce f all
+  pub chosen : reduce (choice g) left ≡ reduce (choice g) all
   pub small : head < 2 ^ places
 
 next_small : (head places : ℕ) (b : Bool) → head < 2 ^ places → 2 * head + cond b 1 0 < 2 ^ (places + 1)
-next_small head places true lt = let double = pow_more 2 places in omega (arith, lt, double)
-next_small head places false lt = let double = pow_more 2 places in omega (arith, lt, double)
+next_small head places b lt = grind (arith, nat_tests, pow_more 2 places, lt)
 
-kept_heads : (f : ℕ → ℕ → ℕ) (test : ℕ → Bool) (all left : List ℕ) (bit places head : ℕ) (b : Bool) → Chooses f test (λ n. n / 2 ^ suc bit ≡ head) → ((n : ℕ) → test n ≡ true → has_bit n bit ≡ b)
-    → IsDescended f all left (suc bit) places head → is_none (filter test left) ≡ false → IsDescended f all (filter test left) bit (places + 1) (2 * head + cond b 1 0)
-kept_heads f test all left bit places head b chooses means so_far some = record {
-  some = some;
-  heads = all_kept (λ n. n / 2 ^ suc bit ≡ head) (λ n. n / 2 ^ bit ≡ 2 * head + cond b 1 0) test (λ n before is. head_of n bit head b before (means n is)) left so_far.heads;
-  chosen = reduce_kept f test (λ n. n / 2 ^ suc bit ≡ head) chooses left so_far.heads some ∙ so_far.chosen;
-  small = next_small head places b so_far.small;
+-- one bit further down: those with the bit that is sought are left, or all where none has it
+pub next_descended : (g : Bool) (all left : List ℕ) (bit places head : ℕ) (some : Bool) → is_none (filter (sought g bit) left) ≡ not some
+    → IsDescended g all left (suc bit) places head
+    → IsDescended g all (cond some (filter (sought g bit) left) left) bit (places + 1) (2 * head + cond (cond some g (not g)) 1 0)
+next_descended g all left bit places head true found so_far = record {
+  some = found;
+  heads = all_kept (λ n. n / 2 ^ suc bit ≡ head) (λ n. n / 2 ^ bit ≡ 2 * head + cond g 1 0) (sought g bit) (λ n. head_of g n bit head true) left so_far.heads;
+  chosen = reduce_kept g (sought g bit) (λ n. n / 2 ^ suc bit ≡ head) (chooses g bit head) left so_far.heads found ∙ so_far.chosen;
+  small = next_small head places g so_far.small;
 }
-
-same_heads : (f : ℕ → ℕ → ℕ) (test : ℕ → Bool) (all left : List ℕ) (bit places head : ℕ) (b : Bool) → ((n : ℕ) → test n ≡ false → has_bit n bit ≡ b)
-    → IsDescended f all left (suc bit) places head → is_none (filter test left) ≡ true → IsDescended f all left bit (places + 1) (2 * head + cond b 1 0)
-same_heads f test all left bit places head b means so_far none = record {
+next_descended g all left bit places head false none so_far = record {
   some = so_far.some;
-  heads = all_fail (λ n. n / 2 ^ suc bit ≡ head) (λ n. n / 2 ^ bit ≡ 2 * head + cond b 1 0) test (λ n before is. head_of n bit head b before (means n is)) left so_far.heads none;
+  heads = all_fail (λ n. n / 2 ^ suc bit ≡ head) (λ n. n / 2 ^ bit ≡ 2 * head + cond (not g) 1 0) (sought g bit) (λ n. head_of g n bit head false) left so_far.heads none;
   chosen = so_far.chosen;
-  small = next_small head places b so_far.small;
+  small = next_small head places (not g) so_far.small;
 }
-
--- one bit further down towards the least number: those with a 0 are left, or all where none has
-pub least_kept : (all left : List ℕ) (bit places head : ℕ) → IsDescended min all left (suc bit) places head → is_none (filter (λ n. not (has_bit n bit)) left) ≡ false
-    → IsDescended min all (filter (λ n. not (has_bit n bit)) left) bit (places + 1) (2 * head + 0)
-least_kept all left bit places head so_far some =
-    kept_heads min (λ n. not (has_bit n bit)) all left bit places head false (least_chooses bit head) (λ n is. not_is (has_bit n bit) true is) so_far some
-
-pub least_same : (all left : List ℕ) (bit places head : ℕ) → IsDescended min all left (suc bit) places head → is_none (filter (λ n. not (has_bit n bit)) left) ≡ true
-    → IsDescended min all left bit (places + 1) (2 * head + 1)
-least_same all left bit places head so_far none =
-    same_heads min (λ n. not (has_bit n bit)) all left bit places head true (λ n is. not_is (has_bit n bit) false is) so_far none
-
--- and towards the greatest: those with a 1 are left, or all where none has
-pub greatest_kept : (all left : List ℕ) (bit places head : ℕ) → IsDescended max all left (suc bit) places head → is_none (filter (λ n. has_bit n bit) left) ≡ false
-    → IsDescended max all (filter (λ n. has_bit n bit) left) bit (places + 1) (2 * head + 1)
-greatest_kept all left bit places head so_far some =
-    kept_heads max (λ n. has_bit n bit) all left bit places head true (greatest_chooses bit head) (λ n is. is) so_far some
-
-pub greatest_same : (all left : List ℕ) (bit places head : ℕ) → IsDescended max all left (suc bit) places head → is_none (filter (λ n. has_bit n bit) left) ≡ true
-    → IsDescended max all left bit (places + 1) (2 * head + 0)
-greatest_same all left bit places head so_far none =
-    same_heads max (λ n. has_bit n bit) all left bit places head false (λ n is. is) so_far none
 
 -- before the first bit nothing is known, and after the last one all that are left are the same number
-pub descent_begins : (f : ℕ → ℕ → ℕ) (all : List ℕ) (width : ℕ) → AllByRecursion (λ n. n < 2 ^ width) all → is_none all ≡ false → IsDescended f all all width 0 0
-descent_begins f all width small some = record {
-  some = some;
-  heads = each all small;
-  chosen = refl;
-  small = omega arith;
-}
+pub descent_begins : (g : Bool) (all : List ℕ) (width : ℕ) → AllByRecursion (λ n. n < 2 ^ width) all → is_none all ≡ false → IsDescended g all all width 0 0
+descent_begins g all width small some = record { some = some; heads = each all small; chosen = refl; small = omega arith }
   where
     each : (ns : List ℕ) → AllByRecursion (λ n. n < 2 ^ width) ns → AllByRecursion (λ n. n / 2 ^ width ≡ 0) ns
     each [] small = tt
     each (n ∷ ns) small = (div-eq_of_lt small.0, each ns small.1)
 
-pub descent_ends : (f : ℕ → ℕ → ℕ) (all left : List ℕ) (places head : ℕ) → f head head ≡ head → IsDescended f all left 0 places head → Some head ≡ reduce f all
-descent_ends f all left places head one so_far = sym (reduce_same f head left one so_far.heads so_far.some) ∙ so_far.chosen
+pub descent_ends : (g : Bool) (all left : List ℕ) (places head : ℕ) → IsDescended g all left 0 places head → Some head ≡ reduce (choice g) all
+descent_ends g all [] places head so_far = let some = so_far.some in cc
+descent_ends g all (n ∷ left) places head so_far = sym (ap Some (fold_same g head n left so_far.heads)) ∙ so_far.chosen
 
 pub none_chosen : (f : ℕ → ℕ → ℕ) (all : List ℕ) → is_none all ≡ true → None ≡ reduce f all
 none_chosen f [] none = refl
 none_chosen f (n ∷ all) none = cc
 
 -- the same under other names
-pub descended_as : (f : ℕ → ℕ → ℕ) (all left other : List ℕ) (bit bit' places head head' : ℕ) → left ≡ other → bit ≡ bit' → head ≡ head' → IsDescended f all left bit places head → IsDescended f all other bit' places head'
-descended_as f all left other bit bit' places head head' same_left same_bit same_head so_far =
-    subst (λ l. IsDescended f all l bit' places head') same_left (subst (λ b. IsDescended f all left b places head') same_bit (subst (λ h. IsDescended f all left bit places h) same_head so_far))
+pub descended_as : (g : Bool) (all left other : List ℕ) (bit bit' places head head' : ℕ) → left ≡ other → bit ≡ bit' → head ≡ head' → IsDescended g all left bit places head → IsDescended g all other bit' places head'
+descended_as g all left other bit bit' places head head' same_left same_bit same_head so_far =
+    subst (λ l. IsDescended g all l bit' places head') same_left (subst (λ b. IsDescended g all left b places head') same_bit (subst (λ h. IsDescended g all left bit places h) same_head so_far))

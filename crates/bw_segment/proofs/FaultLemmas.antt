@@ -1,7 +1,8 @@
 -- The first fault of lanes, from planes that tell of them.
 use Rattle.std.proofs.Common.{◌≡◌, ◌∙◌, refl, sym, ap, ap₂, ℕ, zero, suc, ◌+◌, ◌-◌, ◌<◌, ◌≤◌, Bool, true, false, not, cond, ltb, ◌==◌, ◌&&◌, ◌||◌, List, [], ◌∷◌, ◌++◌, map, length, get_or, replicate, length-append, Option, Some, None, ◌⊎◌, inl, inr, arith}
 use Rattle.std.specs.List.{list_all, list_any}
-use Rattle.std.proofs.lemmas.Bool.{cases_lt, ltb-false, le-ltb, lt-ltb, eqb-true, eq-eqb}
+use Rattle.std.proofs.lemmas.Bool.{cases_lt, le-ltb, lt-ltb}
+use Rattle.std.proofs.lemmas.Bool.Decides.{nat_tests}
 use Rattle.std.proofs.lemmas.List.{get_or-map, length-map, length-replicate}
 use Rattle.std.proofs.lemmas.List.Folds.{list_any_at}
 use Rattle.std.proofs.lemmas.Simd.{get_or-zip2, length-zip2}
@@ -30,7 +31,7 @@ first_none_at fault (suc n) row none lt =
     ]
 
 -- a row's fault, where none before it has one
-pub first_stays : (fault : ℕ → Option ℕ) (n row x : ℕ) → first_fault fault row ≡ None → fault row ≡ Some x → row < n → first_fault fault n ≡ Some x
+first_stays : (fault : ℕ → Option ℕ) (n row x : ℕ) → first_fault fault row ≡ None → fault row ≡ Some x → row < n → first_fault fault n ≡ Some x
 first_stays fault zero row x none here lt = absurd (omega arith)
 first_stays fault (suc n) row x none here lt = elim (cases_lt row n) [
   | inl before ↦ ap (λ f. or_else f (fault n)) (first_stays fault n row x none here before)
@@ -40,15 +41,12 @@ first_stays fault (suc n) row x none here lt = elim (cases_lt row n) [
 ]
 
 -- where each fault is the same
+either_is : (x : ℕ) (a b : Option ℕ) → (a ≡ None) ⊎ (a ≡ Some x) → (b ≡ None) ⊎ (b ≡ Some x) → (or_else a b ≡ None) ⊎ (or_else a b ≡ Some x)
+either_is x a b first second = grind arith
+
 first_is : (fault : ℕ → Option ℕ) (x n : ℕ) → ((row : ℕ) → (fault row ≡ None) ⊎ (fault row ≡ Some x)) → (first_fault fault n ≡ None) ⊎ (first_fault fault n ≡ Some x)
 first_is fault x zero each = inl refl
-first_is fault x (suc n) each = elim (first_is fault x n each) [
-  | inl none ↦ elim (each n) [
-    | inl here ↦ inl (ap (λ f. or_else f (fault n)) none ∙ here)
-    | inr here ↦ inr (ap (λ f. or_else f (fault n)) none ∙ here)
-  ]
-  | inr some ↦ inr (ap (λ f. or_else f (fault n)) some)
-]
+first_is fault x (suc n) each = either_is x (first_fault fault n) (fault n) (first_is fault x n each) (each n)
 
 first_same : (fault : ℕ → Option ℕ) (x n row : ℕ) → ((row : ℕ) → (fault row ≡ None) ⊎ (fault row ≡ Some x)) → fault row ≡ Some x → row < n → first_fault fault n ≡ Some x
 first_same fault x n row each here lt = elim (first_is fault x n each) [
@@ -57,37 +55,17 @@ first_same fault x n row each here lt = elim (first_is fault x n each) [
 ]
 
 padding_or : (null : Bool) (code : ℕ) → (padding_fault null code ≡ None) ⊎ (padding_fault null code ≡ Some 308)
-padding_or null code = shown (null || not (code == 0))
-  where
-    shown : (b : Bool) → (◌≡◌ {A = Option ℕ} (cond b (Some 308) None) None) ⊎ (◌≡◌ {A = Option ℕ} (cond b (Some 308) None) (Some 308))
-    shown true = inr refl
-    shown false = inl refl
+padding_or null code = grind (arith, nat_tests)
 
 -- what stands in a lane that is without fault
 pub padding_none : (null : Bool) (code : ℕ) → padding_fault null code ≡ None → (null ≡ false) × (code ≡ 0)
-padding_none true code none = cc
-padding_none false code none = (refl, zero_of (code == 0) refl)
-  where
-    zero_of : (b : Bool) → (code == 0) ≡ b → code ≡ 0
-    zero_of true is = eqb-true code 0 is
-    zero_of false is = let fault = sym none ∙ ap (λ b. cond (not b) (Some 308) None) is in cc
+padding_none null code none = (grind (arith, nat_tests), grind (arith, nat_tests))
 
 pub row_none : (span : ℕ) (null : Bool) (code : ℕ) → row_fault span null code ≡ None → (null ≡ true → code ≡ 0) × (code ≤ span)
-row_none span true code none = let is_zero = zero_of (code == 0) refl in (λ e. is_zero, omega (arith, is_zero))
-  where
-    zero_of : (b : Bool) → (code == 0) ≡ b → code ≡ 0
-    zero_of true is = eqb-true code 0 is
-    zero_of false is = let fault = sym none ∙ ap (λ b. cond (not b) (Some 307) (cond (ltb span code) (Some 306) None)) is in cc
-row_none span false code none = (λ e. cc, le (ltb span code) refl)
-  where
-    le : (b : Bool) → ltb span code ≡ b → code ≤ span
-    le true above = let fault = sym none ∙ ap (λ b. cond b (Some 306) None) above in cc
-    le false within = ltb-false span code within
+row_none span null code none = (λ set. grind (arith, nat_tests), grind (arith, nat_tests))
 
 pub row_clear : (span : ℕ) (null : Bool) (code : ℕ) → (null ≡ true → code ≡ 0) → code ≤ span → row_fault span null code ≡ None
-row_clear span true code zero_of within =
-    ap (λ b. cond (not b) (Some 307) (cond (ltb span code) (Some 306) None)) (eq-eqb code 0 (zero_of refl)) ∙ ap (λ b. cond b (Some 306) None) (le-ltb span code within)
-row_clear span false code zero_of within = ap (λ b. cond b (Some 306) None) (le-ltb span code within)
+row_clear span null code zero_of within = grind (arith, nat_tests, zero_of)
 
 module _ (span count : ℕ) (nulls : List Bool) (codes : List ℕ) where
   -- the faults of padding rows, and of rows
@@ -126,7 +104,7 @@ one_somewhere [] all = cc
 one_somewhere (true ∷ lanes) all = (0, omega arith, refl)
 one_somewhere (false ∷ lanes) all = let more = one_somewhere lanes all in (suc more.0, omega (arith, more.1), more.2)
 
-zero_everywhere : (lanes : List Bool) (row : ℕ) → list_all not lanes ≡ true → get_or lanes row false ≡ false
+pub zero_everywhere : (lanes : List Bool) (row : ℕ) → list_all not lanes ≡ true → get_or lanes row false ≡ false
 zero_everywhere [] row all = refl
 zero_everywhere (true ∷ lanes) row all = cc
 zero_everywhere (false ∷ lanes) zero all = refl
@@ -141,17 +119,15 @@ length-outside rows le =
     length-map (replicate rows true ++ replicate (512 - rows) false) not
     ∙ omega (arith, length-append (replicate rows true) (replicate (512 - rows) false), length-replicate rows true, length-replicate (512 - rows) false)
 
-outside-past : (count rest row : ℕ) → count ≤ row → row < count + rest → get_or (map not (replicate count true ++ replicate rest false)) row false ≡ true
-outside-past zero zero row le lt = absurd (omega arith)
-outside-past zero (suc rest) zero le lt = refl
-outside-past zero (suc rest) (suc row) le lt = outside-past zero rest row (omega arith) (omega arith)
-outside-past (suc count) rest zero le lt = absurd (omega arith)
-outside-past (suc count) rest (suc row) le lt = outside-past count rest row (omega arith) (omega arith)
+next_less : (row count : ℕ) → not (ltb row count) ≡ not (ltb (suc row) (suc count))
+next_less row count = grind (arith, nat_tests)
 
-outside-before : (count rest row : ℕ) → row < count → get_or (map not (replicate count true ++ replicate rest false)) row false ≡ false
-outside-before zero rest row lt = absurd (omega arith)
-outside-before (suc count) rest zero lt = refl
-outside-before (suc count) rest (suc row) lt = outside-before count rest row (omega arith)
+outside_at : (count rest row : ℕ) → row < count + rest → get_or (map not (replicate count true ++ replicate rest false)) row false ≡ not (ltb row count)
+outside_at zero zero row lt = absurd (omega arith)
+outside_at zero (suc rest) zero lt = refl
+outside_at zero (suc rest) (suc row) lt = outside_at zero rest row (omega arith) ∙ ap not (le-ltb row 0 (omega arith) ∙ sym (le-ltb (suc row) 0 (omega arith)))
+outside_at (suc count) rest zero lt = sym (ap not (lt-ltb 0 (suc count) (omega arith)))
+outside_at (suc count) rest (suc row) lt = outside_at count rest row (omega arith) ∙ next_less row count
 
 module _ (rows : ℕ) (nulls used : List Bool) (few : rows ≤ 512) (long_nulls : length nulls ≡ 512) (long_used : length used ≡ 512) where
   abbrev pub either : List Bool
@@ -170,7 +146,7 @@ module _ (rows : ℕ) (nulls used : List Bool) (few : rows ≤ 512) (long_nulls 
 
   pub padding_is_clear : list_all not kept ≡ true → (row : ℕ) → rows ≤ row → row < 512 → (get_or nulls row false || get_or used row false) ≡ false
   padding_is_clear all row from to =
-      sym (kept_at row to ∙ ap (λ b. (get_or nulls row false || get_or used row false) && b) (outside-past rows (512 - rows) row from (omega arith)) ∙ and-true (get_or nulls row false || get_or used row false))
+      sym (kept_at row to ∙ ap (λ b. (get_or nulls row false || get_or used row false) && b) (outside_at rows (512 - rows) row (omega arith) ∙ ap not (le-ltb row rows from)) ∙ and-true (get_or nulls row false || get_or used row false))
       ∙ zero_everywhere kept row all
 
   pub padding_is_set : list_all not kept ≡ false → (row : ℕ) × (rows ≤ row) × (row < 512) × ((get_or nulls row false || get_or used row false) ≡ true)
@@ -182,10 +158,13 @@ module _ (rows : ℕ) (nulls used : List Bool) (few : rows ≤ 512) (long_nulls 
       let is = sym (kept_at row below) ∙ found.2 in
       elim (cases_lt row rows) [
         | inl before ↦
-            let none = sym is ∙ ap (λ b. (get_or nulls row false || get_or used row false) && b) (outside-before rows (512 - rows) row before) ∙ and-false (get_or nulls row false || get_or used row false) in
+            let none = sym is ∙ ap (λ b. (get_or nulls row false || get_or used row false) && b) (outside_at rows (512 - rows) row (omega arith) ∙ ap not (lt-ltb row rows before)) ∙ and-false (get_or nulls row false || get_or used row false) in
             cc
         | inr past ↦ (row, past, below, (both (get_or nulls row false || get_or used row false) (get_or (outside rows) row false) is).0)
       ]
+
+neither : (a b : Bool) → (a || b) ≡ false → (a ≡ false) × (b ≡ false)
+neither a b is = (grind arith, grind arith)
 
 told : (null used : Bool) (code : ℕ) → used ≡ not (code == 0) → padding_fault null code ≡ cond (null || used) (Some 308) None
 told null used code tells = ap (λ b. cond (null || b) (Some 308) None) (sym tells)
@@ -218,6 +197,10 @@ module _ (span count : ℕ) (nulls used above : List Bool) (codes : List ℕ) (f
   fault_in_rows clear =
       lanes_none span count nulls codes (λ row from to. told (get_or nulls row false) (get_or used row false) (get_or codes row 0) (tells.padding row from to) ∙ ap (λ b. cond b (Some 308) None) (clear row from to))
 
+  pub fault_at : (x row : ℕ) → ((row : ℕ) → count ≤ row → row < 512 → (get_or nulls row false || get_or used row false) ≡ false)
+      → first_fault (of_rows span count nulls codes) row ≡ None → of_rows span count nulls codes row ≡ Some x → row < count → lanes_fault span count nulls codes ≡ Some x
+  fault_at x row clear before here lt = fault_in_rows clear ∙ first_stays (of_rows span count nulls codes) count row x before here lt
+
   pub row_with_code : (row : ℕ) → row < 512 → get_or with_code row false ≡ true → of_rows span count nulls codes row ≡ Some 307
   row_with_code row lt set = row_is row lt ∙ ap (λ b. cond b (Some 307) (cond (get_or above row false) (Some 306) None)) set
 
@@ -235,10 +218,6 @@ module _ (span count : ℕ) (nulls used above : List Bool) (codes : List ℕ) (f
       let none = sym (get_or-zip2 (λ x y. x || y) with_code above row false false false (omega (arith, long_with)) (omega (arith, long_above))) ∙ zero_everywhere (zip2 (λ x y. x || y) with_code above) row all in
       let parts = neither (get_or with_code row false) (get_or above row false) none in
       row_fine row (omega arith) parts.0 parts.1)
-    where
-      neither : (a b : Bool) → (a || b) ≡ false → (a ≡ false) × (b ≡ false)
-      neither true b is = cc
-      neither false b is = (refl, is)
 
 -- planes that tell which codes aren't 0, where that is asked
 pub tells_all : (count : ℕ) (nulls used : List Bool) (codes : List ℕ) → length codes ≡ group_size → used ≡ map (λ code. not (code == 0)) codes → TellsCodes count nulls codes used
@@ -265,20 +244,15 @@ none_used test (lane ∷ lanes) [] none = refl
 none_used test (true ∷ lanes) (code ∷ codes) none = cc
 none_used test (false ∷ lanes) (code ∷ codes) none = none_used test lanes codes none
 
+no_code : (code : ℕ) → not (code == 0) ≡ false → code ≡ 0
+no_code code is = grind (arith, nat_tests)
+
 unused_at : (lanes : List Bool) (codes : List ℕ) (row : ℕ) → list_any (λ code. not (code == 0)) (picked lanes codes) ≡ false → row < length codes → get_or lanes row false ≡ true → get_or codes row 0 ≡ 0
 unused_at [] codes row none lt set = cc
 unused_at (lane ∷ lanes) [] row none lt set = absurd (omega arith)
-unused_at (true ∷ lanes) (code ∷ codes) zero none lt set = first (code == 0) refl none
-  where
-    first : (b : Bool) → (code == 0) ≡ b → (not b || list_any (λ code. not (code == 0)) (picked lanes codes)) ≡ false → code ≡ 0
-    first true is none = eqb-true code 0 is
-    first false is none = cc
+unused_at (true ∷ lanes) (code ∷ codes) zero none lt set = no_code code (neither (not (code == 0)) _ none).0
 unused_at (false ∷ lanes) (code ∷ codes) zero none lt set = cc
-unused_at (true ∷ lanes) (code ∷ codes) (suc row) none lt set = unused_at lanes codes row (rest (not (code == 0)) none) (omega arith) set
-  where
-    rest : (b : Bool) → (b || list_any (λ code. not (code == 0)) (picked lanes codes)) ≡ false → list_any (λ code. not (code == 0)) (picked lanes codes) ≡ false
-    rest true none = cc
-    rest false none = none
+unused_at (true ∷ lanes) (code ∷ codes) (suc row) none lt set = unused_at lanes codes row (neither (not (code == 0)) _ none).1 (omega arith) set
 unused_at (false ∷ lanes) (code ∷ codes) (suc row) none lt set = unused_at lanes codes row none (omega arith) set
 
 -- 512 rows of which none that is null has a code, and none a code above the greatest

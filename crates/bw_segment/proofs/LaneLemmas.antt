@@ -1,12 +1,11 @@
 -- The lanes of a group: those of its rows and then those of zeros.
-use Rattle.std.proofs.Common.{◌≡◌, ◌∙◌, refl, sym, ap, ap₂, ℕ, zero, suc, ◌+◌, ◌-◌, ◌*◌, ◌%◌, ◌^◌, ◌<◌, Bool, true, false, cond, ◌==◌, List, [], ◌∷◌, ◌++◌, map, length, replicate, Some, ◌/◌, get_or, None, arith}
+use Rattle.std.proofs.Common.{◌≡◌, ◌∙◌, refl, sym, ap, ap₂, ℕ, zero, suc, ◌+◌, ◌-◌, ◌*◌, ◌%◌, ◌^◌, ◌<◌, Bool, true, false, cond, ◌==◌, List, [], ◌∷◌, ◌++◌, map, length, replicate, Some, ◌/◌, get_or, None, arith, pow-add}
 use Rattle.std.specs.List.{list_all}
 use Rattle.std.proofs.Math.Nat.{zero-div}
 use Rattle.std.specs.Int.{bit_at}
 use Rattle.std.proofs.Math.Nat.{div-div-eq-div-mul}
 use Rattle.std.proofs.lemmas.List.{map-append}
 use Rattle.std.proofs.lemmas.List.FromFn.{get_or-map-range_with_len}
-use Rattle.std.proofs.lemmas.Nat.{pow-add}
 use Rattle.std.proofs.lemmas.Simd.{map-map}
 use Rattle.bw_lanes.specs.Lanes.{bits_from_least}
 use Rattle.bw_lanes.proofs.BitLemmas.{bits_of_low}
@@ -51,16 +50,17 @@ lanes_agree meaning number of_number of_bits group same none =
     ∙ ap₂ ◌++◌ (rows_agree meaning.columns number of_number of_bits same meaning.rows group.admitted) (map-replicate of_number count 0 ∙ ap (replicate count) none)
     ∙ sym (map-append of_bits assigned (replicate count no_bits) ∙ ap (λ l. map of_bits assigned ++ l) (map-replicate of_bits count no_bits))
 
+-- a bit as a number
+shown : (b : Bool) → has_bit (cond b 1 0) 0 ≡ b
+shown true = refl
+shown false = refl
+
 pub nulls_in_lanes : (meaning : Meaning) (col variable : ℕ) → IsGroup meaning → col < length meaning.columns → null_variable meaning.columns col ≡ Some variable
     → map (λ null. has_bit null 0) (null_lanes meaning col) ≡ variable_lanes meaning variable
 unfolding stored_nulls
 nulls_in_lanes meaning col variable group lt is =
     lanes_agree meaning (λ row. cond (is_null (value_in row col)) 1 0) (λ null. has_bit null 0) (λ bits. bits variable) group
     (λ values admitted. shown (is_null (value_in values col)) ∙ sym (null_bit_at_variable meaning.columns values col variable admitted lt is)) refl
-  where
-    shown : (b : Bool) → has_bit (cond b 1 0) 0 ≡ b
-    shown true = refl
-    shown false = refl
 
 -- the null bits of rows
 pub bits_of_nulls : (rows : List (List Value)) (col : ℕ) → map (λ null. has_bit null 0) (stored_nulls rows col) ≡ null_bits rows col
@@ -70,10 +70,6 @@ bits_of_nulls rows col =
     let count = group_size - length rows in
     map-append (λ null. has_bit null 0) (map null rows) (replicate count 0)
     ∙ ap₂ ◌++◌ (map-map (λ null. has_bit null 0) null rows ∙ (λ i. map (λ row. shown (is_null (value_in row col)) i) rows)) (map-replicate (λ null. has_bit null 0) count 0)
-  where
-    shown : (b : Bool) → has_bit (cond b 1 0) 0 ≡ b
-    shown true = refl
-    shown false = refl
 
 pub bits_in_lanes : (meaning : Meaning) (col bit : ℕ) → IsGroup meaning → col < length meaning.columns → bit < width_at meaning.columns col
     → map (λ code. has_bit code bit) (code_lanes meaning col) ≡ variable_lanes meaning (bit_variable meaning.columns col bit)

@@ -15,6 +15,7 @@ use Rattle.bw_model.specs.Truth.{is_null}
 use Rattle.bw_model.proofs.BitsLemmas.{both}
 use Rattle.bw_segment.specs.Packing.{null_bits, value_held}
 use Rattle.bw_segment.specs.Meaning.{Meaning, IsGroup, stored_codes, code_lanes, null_lanes}
+use Rattle.bw_segment.proofs.FaultLemmas.{zero_everywhere}
 use Rattle.bw_segment.proofs.LaneLemmas.{bits_of_nulls}
 use Rattle.bw_segment.proofs.ValueLemmas.{held_admitted, stored_within}
 
@@ -63,12 +64,6 @@ chosen (true ∷ lanes) zero n = refl
 chosen (false ∷ lanes) zero n = refl
 chosen (empty ∷ lanes) (suc lane) n = chosen lanes lane n
 
-none_empty : (lanes : List Bool) (lane : ℕ) → list_all not lanes ≡ true → get_or lanes lane false ≡ false
-none_empty [] lane none = refl
-none_empty (true ∷ lanes) lane none = cc
-none_empty (false ∷ lanes) zero none = refl
-none_empty (false ∷ lanes) (suc lane) none = none_empty lanes lane none
-
 -- the value that is put into a lane
 module _ (meaning : Meaning) (col lane : ℕ) (column : Column) (group : IsGroup meaning) (lt : col < length meaning.columns) (there : lane < 512) (is : column ≡ get_or meaning.columns col column) where
   abbrev empty : List Bool
@@ -88,4 +83,4 @@ module _ (meaning : Meaning) (col lane : ℕ) (column : Column) (group : IsGroup
 
   -- where no lane is without one
   pub put_in_full : list_all not empty ≡ true → Some (value_of_code column code) ≡ value_in (get_or meaning.rows lane []) col
-  put_in_full none = ap {B = Value} (λ null. cond null None (Some (value_of_code column code))) (sym (none_empty empty lane none)) ∙ value_here
+  put_in_full none = ap {B = Value} (λ null. cond null None (Some (value_of_code column code))) (sym (zero_everywhere empty lane none)) ∙ value_here

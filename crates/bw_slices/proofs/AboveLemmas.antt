@@ -1,10 +1,8 @@
 -- Which codes are above a number, from the least significant byte up, and whether one is or isn't 0.
-use Rattle.std.proofs.Common.{◌≡◌, ◌∙◌, refl, sym, ap, ap₂, ℕ, suc, ◌+◌, ◌-◌, ◌*◌, ◌/◌, ◌%◌, ◌^◌, ◌<◌, ◌≤◌, max, Bool, false, not, cond, ltb, eqb, ◌==◌, ◌&&◌, ◌||◌, List, [], ◌∷◌, ◌++◌, map, length, take, drop, get_or, replicate, bit_or, w8, w64, Fits, arith}
+use Rattle.std.proofs.Common.{◌≡◌, ◌∙◌, refl, sym, ap, ap₂, ℕ, suc, ◌+◌, ◌-◌, ◌*◌, ◌/◌, ◌%◌, ◌^◌, ◌<◌, ◌≤◌, max, Bool, false, not, cond, ltb, eqb, ◌==◌, ◌&&◌, ◌||◌, List, [], ◌∷◌, ◌++◌, map, length, take, drop, get_or, replicate, bit_or, w8, w64, Fits, arith, mod-eq_of_lt, mod-lt, mul-le-mul_right, suc-mul, le-ltb}
 use Rattle.std.specs.Int.{bit_not}
 use Rattle.std.specs.List.{list_any, range_with_len}
-use Rattle.std.proofs.Math.Nat.{mod-eq_of_lt, mod-lt, mul-le-mul_right, suc-mul}
 use Rattle.std.proofs.Math.Bool.{or-false, or_assoc}
-use Rattle.std.proofs.lemmas.Bool.{le-ltb}
 use Rattle.std.proofs.lemmas.Bool.Decides.{nat_tests}
 use Rattle.std.proofs.lemmas.List.{length-map, length-take, length-drop}
 use Rattle.std.proofs.lemmas.List.Folds.{list_any-append}
@@ -17,7 +15,7 @@ use Rattle.bw_lanes.proofs.AnyLemmas.{any_mapped}
 use Rattle.bw_lanes.proofs.BitLemmas.{bits_of_not, same_on_range}
 use Rattle.bw_lanes.proofs.ByteLemmas.{compared, part_by_rows}
 use Rattle.bw_lanes.proofs.PickedLemmas.{greater_computed, kept_computed}
-use Rattle.bw_lanes.proofs.WordLemmas.{either_is_zero, mapped_right, before_and_part, part_is}
+use Rattle.bw_lanes.proofs.WordLemmas.{either_is_zero, mapped_right, before_and_part, part_is, words_made}
 use Rattle.bw_model.specs.Groups.{group_size}
 use Rattle.bw_model.specs.Selection.{picked}
 use Rattle.bw_model.specs.Stored.{byte_of}
@@ -172,3 +170,5 @@ used_any bytes lanes count =
     let rows = range_with_len 0 512 in
     ap (list_any (λ lane. lane)) (sym (mapped_right (λ x y. x && y) (λ row. not (are_zero bytes row count)) lanes rows) ∙ ap (zip2 (λ x y. x && y) lanes) (sym (map-map not (λ row. are_zero bytes row count) rows) ∙ used_is bytes count))
     ∙ any_picked set lanes (slices_codes count bytes)
+
+pub ruleset above_steps = (words_made, part_is, length-slices_codes)

@@ -1,44 +1,26 @@
 -- The greatest and the least of numbers, byte by byte from the most significant down.
-use Rattle.std.proofs.Common.{◌≡◌, ◌∙◌, refl, sym, ap, subst, ◌⊎◌, inl, inr, ℕ, ◌+◌, ◌*◌, ◌/◌, ◌%◌, ◌^◌, ◌<◌, min, max, Bool, true, false, cond, ◌==◌, ◌&&◌, List, [], ◌∷◌, map, filter, Some, arith, fold}
+use Rattle.std.proofs.Common.{◌≡◌, ◌∙◌, refl, sym, ap, subst, ◌⊎◌, inl, inr, ℕ, ◌+◌, ◌*◌, ◌/◌, ◌%◌, ◌^◌, ◌<◌, Bool, true, false, cond, ◌==◌, List, [], ◌∷◌, map, filter, Some, arith, fold, pow_pos}
 use Rattle.std.specs.List.{reduce, AllByRecursion}
-use Rattle.std.proofs.lemmas.Bool.{cases_lt, eqb-true, eqb-false, eq-eqb}
+use Rattle.std.proofs.lemmas.Bool.{eqb-true, eqb-false, eq-eqb}
 use Rattle.std.proofs.lemmas.Bool.Decides.{nat_tests}
-use Rattle.std.proofs.lemmas.Nat.{pow_pos}
-use lib.Lanes.{zip2}
 use Rattle.bw_lanes.specs.Picked.{bytes_picked}
-use Rattle.bw_lanes.proofs.WordLemmas.{mapped_right}
 use Rattle.bw_model.specs.Selection.{picked}
-use Rattle.bw_segment.proofs.PickedLemmas.{is_none, picked_both}
-use Rattle.bw_segment.proofs.DescentLemmas.{Chooses, IsDescended, descended_as, all_kept, reduce_kept, below}
+use Rattle.bw_segment.proofs.PickedLemmas.{is_none}
+use Rattle.bw_segment.proofs.DescentLemmas.{choice, one_of, of_both, Chooses, IsDescended, descended_as, all_kept, reduce_kept, below}
 use Rattle.bw_model.specs.Stored.{byte_of}
 use Rattle.bw_slices.specs.Kept.{next_byte}
 use Rattle.bw_slices.proofs.CodeLemmas.{next_small}
 
--- the greater or the lesser of two numbers, and the byte that stands for none
-abbrev pub choice : Bool → ℕ → ℕ → ℕ
-choice greatest = cond greatest max min
-
+-- the byte that stands for none
 abbrev pub blank : Bool → ℕ
 blank greatest = cond greatest 0 255
 
 pub blank_small : (g : Bool) → blank g < 256
 blank_small g = grind (arith, nat_tests)
 
-one_of : (g : Bool) (a b : ℕ) → (choice g a b ≡ a) ⊎ (choice g a b ≡ b)
-one_of true a b = elim (cases_lt a b) [ inl lt ↦ inr (omega arith) | inr le ↦ inl (omega arith) ]
-one_of false a b = elim (cases_lt a b) [ inl lt ↦ inl (omega arith) | inr le ↦ inr (omega arith) ]
-
-pub itself : (g : Bool) (a : ℕ) → choice g a a ≡ a
-itself true a = omega arith
-itself false a = omega arith
-
 unchanged : (g : Bool) (a : ℕ) → a < 256 → (choice g a (blank g) ≡ a) × (choice g (blank g) a ≡ a)
 unchanged true a small = (omega arith, omega arith)
 unchanged false a small = (omega arith, omega arith)
-
--- what two numbers have, the choice between them has
-of_both : (P : ℕ → Type 0) (g : Bool) (a b : ℕ) → P a → P b → P (choice g a b)
-of_both P g a b pa pb = elim (one_of g a b) [ inl is ↦ subst P (sym is) pa | inr is ↦ subst P (sym is) pb ]
 
 chosen_has : (P : ℕ → Type 0) (g : Bool) (a : ℕ) (ns : List ℕ) → P a → AllByRecursion P ns → P (fold (choice g) a ns)
 chosen_has P g a [] first all = first
@@ -55,11 +37,6 @@ chosen_picked g bit a (lane ∷ lanes) [] small = refl
 chosen_picked g bit a (true ∷ lanes) (n ∷ ns) small = chosen_picked g bit (choice g a (n / 2 ^ bit % 256)) lanes ns (of_both (λ k. k < 256) g a (n / 2 ^ bit % 256) small (omega arith))
 chosen_picked g bit a (false ∷ lanes) (n ∷ ns) small =
     ap (λ k. fold (choice g) k (bytes_picked (blank g) lanes (map (λ n. n / 2 ^ bit % 256) ns))) (unchanged g a small).0 ∙ chosen_picked g bit a lanes ns small
-
--- the numbers that are kept by their bytes
-pub kept_picked : (f : ℕ → ℕ) (c : ℕ) (lanes : List Bool) (ns : List ℕ) → picked (zip2 (λ lane byte. lane && (byte == c)) lanes (map f ns)) ns ≡ filter (λ n. f n == c) (picked lanes ns)
-kept_picked f c lanes ns =
-    ap (λ l. picked l ns) (mapped_right (λ lane byte. lane && (byte == c)) f lanes ns ∙ sym (mapped_right (λ a b. a && b) (λ n. f n == c) lanes ns)) ∙ picked_both (λ n. f n == c) lanes ns
 
 -- The byte c is chosen among those of numbers: some number has it, and none has one that were chosen before it.
 module _ (g : Bool) (byte : ℕ → ℕ) (c : ℕ) where
@@ -89,7 +66,7 @@ module _ (g : Bool) (byte : ℕ → ℕ) (c : ℕ) where
   apart false a b is = (omega arith, omega arith)
 
   chosen_first : (a : ℕ) (ns : List ℕ) → c ≡ fold (choice g) a (map byte ns) → (choice g c a ≡ c) × AllByRecursion (λ n. choice g c (byte n) ≡ c) ns
-  chosen_first a [] is = (ap (choice g c) (sym is) ∙ itself g c, tt)
+  chosen_first a [] is = (ap (choice g c) (sym is) ∙ of_both (λ k. k ≡ c) g c c refl refl, tt)
   chosen_first a (n ∷ ns) is =
       let later = chosen_first (choice g a (byte n)) ns is in
       let both = apart g a (byte n) later.0 in
@@ -104,12 +81,8 @@ nearer : (g : Bool) (a b bit head byte : ℕ) → a / 2 ^ (bit + 8) ≡ head →
 nearer true a b bit head byte same alike is has other = let lt = lower bit head b a alike same (omega arith) in (omega arith, omega arith)
 nearer false a b bit head byte same alike is has other = let lt = lower bit head a b same alike (omega arith) in (omega arith, omega arith)
 
-chooses : (g : Bool) (bit head byte : ℕ) → Chooses (choice g) (λ n. n / 2 ^ bit % 256 == byte) (λ n. (n / 2 ^ (bit + 8) ≡ head) × (choice g byte (n / 2 ^ bit % 256) ≡ byte))
-chooses g bit head byte = record {
-  one = one_of g;
-  first = λ a b pa pb ta tb. (nearer g a b bit head byte pa.0 pb.0 pb.1 (eqb-true (a / 2 ^ bit % 256) byte ta) (eqb-false (b / 2 ^ bit % 256) byte tb)).0;
-  second = λ a b pa pb ta tb. (nearer g b a bit head byte pb.0 pa.0 pa.1 (eqb-true (b / 2 ^ bit % 256) byte tb) (eqb-false (a / 2 ^ bit % 256) byte ta)).1;
-}
+chooses : (g : Bool) (bit head byte : ℕ) → Chooses g (λ n. n / 2 ^ bit % 256 == byte) (λ n. (n / 2 ^ (bit + 8) ≡ head) × (choice g byte (n / 2 ^ bit % 256) ≡ byte))
+chooses g bit head byte a b pa pb ta tb = nearer g a b bit head byte pa.0 pb.0 pb.1 (eqb-true (a / 2 ^ bit % 256) byte ta) (eqb-false (b / 2 ^ bit % 256) byte tb)
 
 both_hold : (P Q : ℕ → Type 0) (ns : List ℕ) → AllByRecursion P ns → AllByRecursion Q ns → AllByRecursion (λ n. P n × Q n) ns
 both_hold P Q [] p q = tt
@@ -117,7 +90,7 @@ both_hold P Q (n ∷ ns) p q = ((p.0, q.0), both_hold P Q ns p.1 q.1)
 
 -- one byte further down: those with the byte that is chosen are left
 next_byte_chosen : (g : Bool) (all left : List ℕ) (bit places head byte : ℕ) → byte < 256 → byte ≡ fold (choice g) (blank g) (map (λ n. n / 2 ^ bit % 256) left)
-    → IsDescended (choice g) all left (bit + 8) places head → IsDescended (choice g) all (filter (λ n. n / 2 ^ bit % 256 == byte) left) bit (places + 8) (256 * head + byte)
+    → IsDescended g all left (bit + 8) places head → IsDescended g all (filter (λ n. n / 2 ^ bit % 256 == byte) left) bit (places + 8) (256 * head + byte)
 next_byte_chosen g all left bit places head byte fits is so_far =
     let digit = λ (n : ℕ). n / 2 ^ bit % 256 in
     let some = found g digit byte left (λ n. omega arith) is so_far.some in
@@ -126,15 +99,15 @@ next_byte_chosen g all left bit places head byte fits is so_far =
       some = some;
       heads = all_kept (λ n. (n / 2 ^ (bit + 8) ≡ head) × (choice g byte (digit n) ≡ byte)) (λ n. n / 2 ^ bit ≡ 256 * head + byte) (λ n. digit n == byte)
           (λ n before has. let same = before.0 in omega (arith, next_byte n bit, same, eqb-true (digit n) byte has)) left both;
-      chosen = reduce_kept (choice g) (λ n. digit n == byte) (λ n. (n / 2 ^ (bit + 8) ≡ head) × (choice g byte (digit n) ≡ byte)) (chooses g bit head byte) left both some ∙ so_far.chosen;
+      chosen = reduce_kept g (λ n. digit n == byte) (λ n. (n / 2 ^ (bit + 8) ≡ head) × (choice g byte (digit n) ≡ byte)) (chooses g bit head byte) left both some ∙ so_far.chosen;
       small = next_small head byte places so_far.small fits;
     }
 
 -- the same under other names
 pub next_chosen : (g : Bool) (all left other : List ℕ) (slice high low places more head byte value : ℕ) → high ≡ 8 * slice + 8 → low ≡ 8 * slice → more ≡ places + 8 → value ≡ byte
-    → other ≡ filter (λ n. byte_of slice n == byte) left → byte < 256 → byte ≡ fold (choice g) (blank g) (map (byte_of slice) left) → IsDescended (choice g) all left high places head
-    → IsDescended (choice g) all other low more (256 * head + value)
+    → other ≡ filter (λ n. byte_of slice n == byte) left → byte < 256 → byte ≡ fold (choice g) (blank g) (map (byte_of slice) left) → IsDescended g all left high places head
+    → IsDescended g all other low more (256 * head + value)
 next_chosen g all left other slice high low places more head byte value above here next same are fits is so_far =
-    let before = descended_as (choice g) all left left high (8 * slice + 8) places head head refl above refl so_far in
-    subst (λ p. IsDescended (choice g) all other low p (256 * head + value)) (sym next) (descended_as (choice g) all _ other (8 * slice) low (places + 8) (256 * head + byte) _ (sym are) (sym here)
+    let before = descended_as g all left left high (8 * slice + 8) places head head refl above refl so_far in
+    subst (λ p. IsDescended g all other low p (256 * head + value)) (sym next) (descended_as g all _ other (8 * slice) low (places + 8) (256 * head + byte) _ (sym are) (sym here)
     (ap (λ k. 256 * head + k) (sym same)) (next_byte_chosen g all left (8 * slice) places head byte fits is before))

@@ -1,35 +1,31 @@
 -- The codes that slices spell: how large they are, what the lanes tell of them, and sums of those that lanes pick.
-use Rattle.std.proofs.Common.{◌≡◌, ◌∙◌, refl, sym, ap, ap₂, ℕ, zero, suc, ◌+◌, ◌*◌, ◌^◌, ◌<◌, ◌≤◌, Bool, not, eqb, ◌==◌, ◌&&◌, List, [], ◌∷◌, map, length, get_or, ◌/◌, Fits, w64, arith, ◌%◌, true, false, sum, sum_by, inl, inr, cond, ◌++◌, take, drop, set, length-set, bit_and, All}
+use Rattle.std.proofs.Common.{◌≡◌, ◌∙◌, refl, sym, ap, ap₂, ℕ, zero, suc, ◌+◌, ◌-◌, ◌*◌, ◌^◌, ◌<◌, ◌≤◌, Bool, not, eqb, ◌==◌, ◌&&◌, List, [], ◌∷◌, map, length, get_or, ◌/◌, Fits, w8, w64, arith, ◌%◌, true, false, sum, sum_by, inl, inr, cond, take, drop, set, length-set, bit_and, All, pow_mono, length-take, get_or-set_same, get_or-set_other, add-one}
 use Rattle.std.specs.List.{range_with_len, list_all, AllByRecursion}
-use Rattle.std.proofs.Math.Pow.{pow_mono}
 use Rattle.std.proofs.lemmas.Bool.Decides.{nat_tests}
 use Rattle.std.proofs.lemmas.List.FromFn.{get_or-map-range_with_len, fill_by_all, length-map-range_with_len}
 use Rattle.std.proofs.lemmas.Nat.{pow-add, and_le_l}
 use Rattle.std.proofs.lemmas.Simd.{map-map}
+use lib.Lanes.{zip2}
 use Rattle.bw_lanes.specs.Lanes.{lanes_of_words, are_zero, bits_from_least}
 use Rattle.bw_lanes.proofs.WordLemmas.{length-lanes_of_words, zero_bits, no_lanes, lanes_more, length-first, before_and_part, part_is}
 use Rattle.bw_model.specs.Groups.{group_size}
 use Rattle.bw_model.specs.Selection.{picked}
-use Rattle.bw_segment.proofs.PickedLemmas.{is_none, none_picked}
+use Rattle.bw_segment.proofs.PickedLemmas.{all_picked, is_none, none_picked, word_more, words_summed}
+use Rattle.bw_segment.proofs.ByteLemmas.{with_byte, codes_from, top_byte, byte_more as byte_below, codes_whole}
 use Rattle.bw_slices.specs.Slices.{number_from, slices_codes}
 use Rattle.bw_slices.specs.Kept.{bytes_in, length-slices_codes, next_byte}
 use Rattle.std.proofs.Math.Nat.{div-eq_of_lt, mul-le-mul_right}
-use Rattle.std.proofs.lemmas.List.Sums.{sum_by-cons, sum_by-append}
+use Rattle.std.proofs.lemmas.List.Sums.{sum_by-cons}
 use Rattle.bw_lanes.specs.Picked.{bytes_picked}
 use Rattle.bw_model.specs.Stored.{byte_of}
 use Rattle.std.specs.Int.{bit_at, bit_not}
 use Rattle.std.proofs.lemmas.Bool.{cases_eq, cases_lt, eq-eqb}
-use Rattle.std.proofs.lemmas.List.{length-take, get_or-set_same, get_or-set_other}
 use Rattle.std.proofs.lemmas.List.Elements.{All-take, All-drop}
 use Rattle.std.proofs.lemmas.Nat.Bits.{bit_at_clear_same, bit_at_clear_other}
-use Rattle.bw_model.proofs.GroupLemmas.{picked-append}
 
 -- one byte more
 pub next_small : (head byte places : ℕ) → head < 2 ^ places → byte < 256 → 256 * head + byte < 2 ^ (places + 8)
 next_small head byte places small one = omega (arith, small, one, pow-add 2 places 8)
-
-pub next_within : (head byte places next : ℕ) → next ≡ places + 1 → head < 2 ^ (8 * places) → byte < 256 → 256 * head + byte < 2 ^ (8 * next)
-next_within head byte places next is small one = let more : 8 * next ≡ 8 * places + 8 = omega arith in rw more (next_small head byte (8 * places) small one)
 
 -- and that fits 64 bits
 pub byte_more : (code byte place : ℕ) → code < 2 ^ (8 * place) → byte < 256 → place < 8 → Fits w64 (256 * code + byte)
@@ -40,7 +36,8 @@ bytes_before code place small few = let fits = byte_more code 0 place small (ome
 
 pub number_below : (byte : ℕ → ℕ) (count : ℕ) → ((place : ℕ) → byte place < 256) → number_from byte count < 2 ^ (8 * count)
 number_below byte zero small = omega arith
-number_below byte (suc count) small = next_within (number_from byte count) (byte count) count _ (omega arith) (number_below byte count small) (small count)
+number_below byte (suc count) small =
+    let more : 8 * suc count ≡ 8 * count + 8 = omega arith in rw more (next_small _ _ (8 * count) (number_below byte count small) (small count))
 
 -- so many bytes spell a number of so many
 pub codes_below : (bytes : List ℕ) (count : ℕ) → ((at : ℕ) → get_or bytes at 0 < 256) → AllByRecursion (λ code. code < 2 ^ (8 * count)) (slices_codes count bytes)
@@ -61,6 +58,29 @@ all_within width bits (n ∷ ns) le small =
 pub code_in_lane : (bytes : List ℕ) (count lane : ℕ) → lane < 512 → number_from (bytes_in bytes lane) count ≡ get_or (slices_codes count bytes) lane 0
 unfolding slices_codes group_size
 code_in_lane bytes count lane lt = sym (get_or-map-range_with_len (λ row. number_from (bytes_in bytes row) count) 0 512 lane lane 0 lt (omega arith))
+
+-- the number that the first bytes, so many, of a lane spell
+unfoldable pub front_code : ℕ → ℕ → List ℕ → ℕ
+front_code place lane bytes = number_from (bytes_in bytes lane) place
+
+pub front_none : (lane : ℕ) (bytes : List ℕ) → front_code 0 lane bytes ≡ 0
+unfolding front_code
+front_none lane bytes = refl
+
+pub front_more : (place lane : ℕ) (bytes : List ℕ) → front_code (place + 1) lane bytes ≡ 256 * front_code place lane bytes + get_or bytes (512 * place + lane) 0
+unfolding front_code
+front_more place lane bytes = ap (number_from (bytes_in bytes lane)) (add-one place)
+
+pub front_fits : (place lane : ℕ) (bytes : List ℕ) → place < 8 → ((at : ℕ) → Fits w8 (get_or bytes at 0)) → front_code place lane bytes < 2 ^ 56
+unfolding front_code
+front_fits place lane bytes few fit =
+    let most = pow_mono {i = 8 * place} {j = 56} (omega arith) in omega (arith, most, number_below (bytes_in bytes lane) place (λ k. (fit (512 * k + lane)).fits))
+
+pub front_whole : (place lane : ℕ) (bytes : List ℕ) → lane < 512 → front_code place lane bytes ≡ get_or (slices_codes place bytes) lane 0
+unfolding front_code
+front_whole place lane bytes lt = code_in_lane bytes place lane lt
+
+pub ruleset code_steps = (front_none, front_more, front_fits, front_whole)
 
 -- the lanes whose bytes are all 0 are those whose code is
 zero_is : (bytes : List ℕ) (row count : ℕ) → are_zero bytes row count ≡ (number_from (bytes_in bytes row) count == 0)
@@ -97,16 +117,11 @@ sum_next bit [] = refl
 sum_next bit (n ∷ ns) =
     omega (arith, sum_by-cons (λ n. n / 2 ^ bit) n ns, sum_by-cons (λ n. n / 2 ^ (bit + 8)) n ns, sum_by-cons (λ n. n / 2 ^ bit % 256) n ns, next_byte n bit, sum_next bit ns)
 
-pub sum_more : (high low slice head part : ℕ) (ns : List ℕ) → high ≡ 8 * slice + 8 → low ≡ 8 * slice → head ≡ sum_by (λ n. n / 2 ^ high) ns → part ≡ sum_by (byte_of slice) ns
-    → 256 * head + part ≡ sum_by (λ n. n / 2 ^ low) ns
-sum_more high low slice head part ns above here so_far is =
-    ap₂ (λ s b. 256 * s + b) (so_far ∙ ap (λ bit. sum_by (λ n. n / 2 ^ bit) ns) above) is ∙ sym (sum_next (8 * slice) ns) ∙ ap (λ bit. sum_by (λ n. n / 2 ^ bit) ns) (sym here)
-
-pub sum_of_high : (bit : ℕ) (ns : List ℕ) → AllByRecursion (λ n. n < 2 ^ bit) ns → 0 ≡ sum_by (λ n. n / 2 ^ bit) ns
+sum_of_high : (bit : ℕ) (ns : List ℕ) → AllByRecursion (λ n. n < 2 ^ bit) ns → 0 ≡ sum_by (λ n. n / 2 ^ bit) ns
 sum_of_high bit [] small = refl
 sum_of_high bit (n ∷ ns) small = ap₂ ◌+◌ (sym (div-eq_of_lt small.0)) (sum_of_high bit ns small.1) ∙ sym (sum_by-cons (λ n. n / 2 ^ bit) n ns)
 
-pub sum_of_all : (bit : ℕ) (ns : List ℕ) → bit ≡ 0 → sum_by (λ n. n / 2 ^ bit) ns ≡ sum ns
+sum_of_all : (bit : ℕ) (ns : List ℕ) → bit ≡ 0 → sum_by (λ n. n / 2 ^ bit) ns ≡ sum ns
 sum_of_all bit [] none = refl
 sum_of_all bit (n ∷ ns) none =
     let whole : n / 2 ^ bit ≡ n = ap (λ k. n / 2 ^ k) none ∙ omega arith in sum_by-cons (λ n. n / 2 ^ bit) n ns ∙ ap₂ ◌+◌ whole (sum_of_all bit ns none) ∙ sym (sum_by-cons (λ n. n) n ns)
@@ -122,19 +137,44 @@ pub sum_small : (width most : ℕ) (lanes : List Bool) (ns : List ℕ) → width
 sum_small width most lanes ns few long small =
     omega (arith, small_sums lanes ns (all_within width 63 ns few small), mul-le-mul_right {m = length ns} {n = most} (2 ^ 63) long)
 
+-- the sum of the numbers that the first bytes, so many, of the codes in some lanes spell
+unfoldable pub high_sum : ℕ → ℕ → List Bool → List ℕ → ℕ
+high_sum width place lanes bytes = sum_by (λ n. n / 2 ^ (8 * ((width + 7) / 8 - place))) (picked lanes (slices_codes ((width + 7) / 8) bytes))
+
+pub high_none : (width : ℕ) (lanes : List Bool) (bytes : List ℕ) → All (λ code. code < 2 ^ width) (slices_codes ((width + 7) / 8) bytes) → high_sum width 0 lanes bytes ≡ 0
+unfolding high_sum
+high_none width lanes bytes small =
+    let codes = slices_codes ((width + 7) / 8) bytes in
+    sym (sum_of_high _ _ (all_picked _ lanes codes (all_within width (8 * ((width + 7) / 8 - 0)) codes (omega arith) small)))
+
+pub high_more : (width place : ℕ) (lanes : List Bool) (bytes : List ℕ) → place < (width + 7) / 8
+    → high_sum width (place + 1) lanes bytes ≡ 256 * high_sum width place lanes bytes + sum (bytes_picked 0 lanes (map (byte_of ((width + 7) / 8 - 1 - place)) (slices_codes ((width + 7) / 8) bytes)))
+unfolding high_sum
+high_more width place lanes bytes lt =
+    let slice = (width + 7) / 8 - 1 - place in
+    let codes = slices_codes ((width + 7) / 8) bytes in
+    let next : 8 * ((width + 7) / 8 - (place + 1)) ≡ 8 * slice = omega arith in
+    let above : 8 * slice + 8 ≡ 8 * ((width + 7) / 8 - place) = omega arith in
+    ap (λ bit. sum_by (λ n. n / 2 ^ bit) (picked lanes codes)) next ∙ sum_next (8 * slice) (picked lanes codes)
+    ∙ ap₂ (λ bit part. 256 * sum_by (λ n. n / 2 ^ bit) (picked lanes codes) + part) above (sym (sum_picked (byte_of slice) lanes codes))
+
+pub high_whole : (width place : ℕ) (lanes : List Bool) (bytes : List ℕ) → (width + 7) / 8 ≤ place → high_sum width place lanes bytes ≡ sum (picked lanes (slices_codes ((width + 7) / 8) bytes))
+unfolding high_sum
+high_whole width place lanes bytes le = sum_of_all (8 * ((width + 7) / 8 - place)) (picked lanes (slices_codes ((width + 7) / 8) bytes)) (omega arith)
+
+pub all_summed : (width : ℕ) (lanes : List Bool) (bytes : List ℕ) → width ≤ 63 → All (λ code. code < 2 ^ width) (slices_codes ((width + 7) / 8) bytes)
+    → sum (picked lanes (slices_codes ((width + 7) / 8) bytes)) ≤ 2 ^ 72
+all_summed width lanes bytes few small = omega (arith, sum_small width 512 lanes _ few (omega (arith, length-slices_codes ((width + 7) / 8) bytes)) small)
+
+pub next_power : (place : ℕ) → 2 ^ (8 * (place + 1)) ≡ 256 * 2 ^ (8 * place)
+next_power place = let next : 8 * (place + 1) ≡ 8 * place + 8 = omega arith in ap (λ k. 2 ^ k) next ∙ omega (arith, pow-add 2 (8 * place) 8)
+
+pub ruleset sum_steps = (high_none, high_more, high_whole, all_summed, next_power)
+
 -- 64 of some codes
 pub picked_small : (lanes : List Bool) (first width : ℕ) (codes : List ℕ) → width ≤ 63 → All (λ code. code < 2 ^ width) codes → sum (picked lanes (take 64 (drop first codes))) ≤ 2 ^ 69
 picked_small lanes first width codes few small =
     sum_small width 64 lanes (take 64 (drop first codes)) few (omega (arith, length-take 64 (drop first codes))) (All-take (λ code. code < 2 ^ width) 64 (drop first codes) (All-drop (λ code. code < 2 ^ width) first codes small))
-
-nothing_picked : (lanes : List Bool) (items : List ℕ) → list_all not lanes ≡ true → sum (picked lanes items) ≡ 0
-nothing_picked [] items none = refl
-nothing_picked (lane ∷ lanes) [] none = refl
-nothing_picked (true ∷ lanes) (item ∷ items) none = cc
-nothing_picked (false ∷ lanes) (item ∷ items) none = nothing_picked lanes items none
-
-pub no_bits : (n : ℕ) (items : List ℕ) → n ≡ 0 → sum (picked (bits_from_least 64 n) items) ≡ 0
-no_bits n items none = nothing_picked (bits_from_least 64 n) items (sym (zero_bits 64 n (omega arith)) ∙ eq-eqb n 0 none)
 
 first_item : (lane : Bool) (lanes : List Bool) (item : ℕ) (items : List ℕ) → sum (picked (lane ∷ lanes) (item ∷ items)) ≡ cond lane item 0 + sum (picked lanes items)
 first_item true lanes item items = sum_by-cons (λ k. k) item (picked lanes items)
@@ -176,16 +216,16 @@ without_less n t lt set = elim (cases_lt (without n t) n) [
       absurd (omega (arith, bit_at_clear_same w64 n t lt, ap (λ k. bit_at k t) same, set))
 ]
 
--- one word more
-pub word_more : (word : ℕ) (words codes : List ℕ) → length words ≡ 8 → length codes ≡ 512 → word < 8
-    → sum (picked (lanes_of_words (take (word + 1) words)) (take (64 * (word + 1)) codes))
-    ≡ sum (picked (lanes_of_words (take word words)) (take (64 * word) codes)) + sum (picked (bits_from_least 64 (get_or words word 0)) (take 64 (drop (64 * word) codes)))
-word_more word words codes eight long lt =
-    let front = lanes_of_words (take word words) in
-    let before = take (64 * word) codes in
-    let here = bits_from_least 64 (get_or words word 0) in
-    let part = take 64 (drop (64 * word) codes) in
-    ap₂ (λ l m. sum (picked l m)) (lanes_more word words eight lt) (before_and_part word codes lt ∙ ap (λ l. before ++ l) (part_is word codes lt))
-    ∙ ap sum (picked-append front here before part (omega (arith, length-first word words eight (omega arith), length-take (64 * word) codes))) ∙ sum_by-append (λ n. n) (picked front before) (picked here part)
+pub ruleset few_sums = (no_lanes, word_more, words_summed, length-slices_codes)
 
-pub ruleset few_sums = (no_lanes, word_more, length-slices_codes)
+-- one more byte of each code
+pub next_code : (slices place : ℕ) (bytes held byte : List ℕ) → slices ≤ 8 → place < slices → ((at : ℕ) → Fits w8 (get_or bytes at 0)) → held ≡ codes_from (slices - place) (slices_codes slices bytes)
+    → byte ≡ map (byte_of (slices - 1 - place)) (slices_codes slices bytes) → zip2 with_byte held byte ≡ codes_from (slices - (place + 1)) (slices_codes slices bytes)
+next_code slices place bytes held byte few lt fit before is =
+    byte_below (8 * slices) slices place _ held byte lt (omega arith) (codes_below bytes slices (λ at. (fit at).fits)) before is
+
+pub first_code : (slices : ℕ) (bytes byte : List ℕ) → 1 ≤ slices → ((at : ℕ) → Fits w8 (get_or bytes at 0)) → byte ≡ map (byte_of (slices - 1)) (slices_codes slices bytes)
+    → byte ≡ codes_from (slices - 1) (slices_codes slices bytes)
+first_code slices bytes byte some fit is = top_byte (8 * slices) (slices - 1) _ byte (omega arith) (codes_below bytes slices (λ at. (fit at).fits)) is
+
+pub ruleset byte_steps = (first_code, next_code, codes_whole)

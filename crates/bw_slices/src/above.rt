@@ -10,7 +10,7 @@ use bw_lanes::{LANES, Plane};
 use std::simd::prelude::*;
 
 /// The lanes in which the number that so many slices spell is above one of so many bytes.
-#[tactic(auto, using(bw_lanes::proofs::WordLemmas::no_lanes))]
+#[tactic(auto, using(crate::proofs::AboveLemmas::above_steps))]
 pub(crate) fn above(bytes: &[u8], slices: usize, most: u64) -> Plane
     requires size { 512 * slices ≤ length bytes.now }
     requires few { slices ≤ 8 }

@@ -24,7 +24,7 @@ pub(crate) fn sum_of_few(width: u32, bytes: &[u8], lanes: &Plane) -> u128
 }
 
 /// The same of the 64 rows of a word.
-#[tactic(auto, using(crate::proofs::CodeLemmas::no_bits))]
+#[tactic(auto, using(bw_segment::proofs::PickedLemmas::no_bits))]
 fn sum_of_word(width: u32, bytes: &[u8], word: usize, rows: u64) -> u128
     requires width { (1 ≤ width) × (width ≤ 63) }
     requires size { length bytes.now ≡ 512 * ((width + 7) / 8) }

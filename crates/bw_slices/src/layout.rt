@@ -73,6 +73,7 @@ impl CodeLayout for Slices {
     }
 
     /// The sum of the bytes, each slice's 256 times the next one's worth. Few codes are added one by one.
+    #[tactic(auto, using(crate::proofs::CodeLemmas::sum_steps))]
     fn sum(width: u32, bytes: &[u8], lanes: &Plane) -> u128 {
         if count(lanes) <= FEW {
             return sum_of_few(width, bytes, lanes);
@@ -95,7 +96,7 @@ impl CodeLayout for Slices {
         chosen_code(width, bytes, lanes, true)
     }
 
-    #[tactic(auto, using(crate::proofs::CodeLemmas::code_in_lane))]
+    #[tactic(auto, using(crate::proofs::CodeLemmas::code_steps))]
     fn code(width: u32, bytes: &[u8], lane: usize) -> u64 {
         let slices = slices_in(width);
         let mut code = 0;
@@ -105,6 +106,7 @@ impl CodeLayout for Slices {
         code
     }
 
+    #[tactic(auto, using(crate::proofs::CodeLemmas::byte_steps))]
     fn unpack(width: u32, bytes: &[u8], codes: &mut [u64; LANES]) {
         let slices = slices_in(width);
         put_byte(codes, slice_of(width, bytes, slices - 1));

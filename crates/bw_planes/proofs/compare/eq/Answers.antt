@@ -1,9 +1,8 @@
-use Rattle.std.proofs.Common.{refl, sym, ◌/◌, ◌%◌, ◌^◌, false, eqb, arith}
-use Rattle.std.proofs.lemmas.Bool.{ne_eqb}
+use Rattle.std.proofs.Common.{sym, ◌/◌, ◌%◌, ◌^◌, false, eqb, arith, ne_eqb}
 use Rattle.bw_lanes.proofs.WordLemmas.{zeros_are_zero}
 use Rattle.bw_planes.specs.Planes.{planes_codes}
 use Rattle.bw_planes.proofs.CodeLemmas.{codes_long}
-use Rattle.bw_planes.proofs.CompareLemmas.{everywhere, above_all, whole_compared}
+use Rattle.bw_planes.proofs.CompareLemmas.{everywhere, above_all}
 use Rattle.bw_planes.proofs.compare.eq.Goals as goal
 
 pub returns-then-c-count-ne0 : goal.returns-then-c-count-ne0
@@ -14,9 +13,4 @@ returns-then-c-count-ne0 c =
     (λ code. let below = above_all (code / 2 ^ c.args.low) c.args.count c.args.c c.if-c-count-ne0.true in sym (ne_eqb _ _ (λ same. omega arith)))
 
 pub returns-then-count-eq8 : goal.returns-then-count-eq8
-returns-then-count-eq8 c =
-    whole_compared eqb (planes_codes c.args.width c.args.bytes.now) c.args.low c.args.count 8 c.args.c _ c.if-count-eq8.true c.if-c-count-ne0.false c.low_eq.ensures
-
-pub returns-else-count-eq8 : goal.returns-else-count-eq8
-returns-else-count-eq8 c =
-    whole_compared eqb (planes_codes c.args.width c.args.bytes.now) c.args.low c.args.count c.args.count c.args.c _ refl c.if-c-count-ne0.false c.low_eq-else-count-eq8.ensures
+returns-then-count-eq8 c = rw c.if-count-eq8.true c.low_eq.ensures

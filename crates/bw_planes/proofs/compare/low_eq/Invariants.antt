@@ -1,8 +1,9 @@
-use Rattle.std.proofs.Common.{◌≡◌, ◌/◌, ◌%◌, ◌^◌, eqb, map}
+use Rattle.std.proofs.Common.{◌≡◌, eqb}
 use Rattle.bw_lanes.specs.Lanes.{lanes_of_words}
 use Rattle.bw_planes.specs.Planes.{planes_codes}
+use Rattle.bw_planes.proofs.CompareLemmas.{compared_in}
 use Rattle.bw_planes.proofs.compare.low_eq.Given as goal
 
 -- in which lanes the lowest bits, so many, are those of the constant
 abbrev pub invariant-loop-place : goal.invariant-loop-place
-invariant-loop-place l = lanes_of_words l.equal ≡ map (λ code. eqb (code / 2 ^ l.low % 2 ^ l.place) (l.c % 2 ^ l.place)) (planes_codes l.width l.bytes)
+invariant-loop-place l = lanes_of_words l.equal ≡ compared_in eqb l.low l.place l.c (planes_codes l.width l.bytes)

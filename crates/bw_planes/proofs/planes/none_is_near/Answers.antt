@@ -1,4 +1,4 @@
-use Rattle.std.proofs.Common.{◌≡◌, ◌∙◌, ap, sym, ◌+◌, ◌-◌, not, arith}
+use Rattle.std.proofs.Common.{◌∙◌, ap, sym, ◌-◌, not, arith}
 use Rattle.std.specs.List.{list_all}
 use Rattle.bw_planes.specs.Planes.{planes_codes}
 use Rattle.bw_planes.proofs.CodeLemmas.{codes_small}

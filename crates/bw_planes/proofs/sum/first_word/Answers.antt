@@ -1,6 +1,5 @@
-use Rattle.std.proofs.Common.{◌≡◌, ◌∙◌, ap, ◌*◌, length, take, w8, arith}
+use Rattle.std.proofs.Common.{◌≡◌, ◌∙◌, ap, ◌*◌, length, take, w8, arith, length-take}
 use lib.Lanes.{number_l}
-use Rattle.std.proofs.lemmas.List.{length-take}
 use Rattle.std.proofs.lemmas.Simd.{below_from_Fits, chunk-fits}
 use Rattle.bw_lanes.specs.Lanes.{bits_from_least, lanes_of_bytes}
 use Rattle.bw_lanes.proofs.BitLemmas.{bits_of_low, bits_of_number}

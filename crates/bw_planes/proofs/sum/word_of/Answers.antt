@@ -1,5 +1,4 @@
-use Rattle.std.proofs.Common.{◌∙◌, ap, ◌+◌, ◌-◌, ◌*◌, length, drop, arith}
-use Rattle.std.proofs.lemmas.List.{take-take}
+use Rattle.std.proofs.Common.{◌∙◌, ap, ◌+◌, ◌-◌, ◌*◌, length, drop, arith, take-take}
 use Rattle.bw_lanes.specs.Lanes.{lanes_of_bytes}
 use Rattle.bw_planes.proofs.SumLemmas.{word_of_codes}
 use Rattle.bw_planes.proofs.sum.word_of.Goals as goal

@@ -1,15 +1,11 @@
-use Rattle.std.proofs.Common.{◌∙◌, sym, ap, map, take_all, arith}
+use Rattle.std.proofs.Common.{◌∙◌, sym, ap, map, take_all, arith, true≢false}
 use Rattle.std.specs.List.{list_all}
 use Rattle.std.proofs.lemmas.List.{length-map}
-use Rattle.std.proofs.lemmas.Bool.{true≢false}
 use Rattle.bw_model.specs.Column.{admits_values}
 use Rattle.bw_model.specs.Groups.{group_size}
 use Rattle.bw_model.specs.Row.{values_of}
 use Rattle.bw_segment.proofs.CodeLemmas.{admitted_at, few_rows}
 use Rattle.bw_segment.proofs.group.is_group.Goals as goal
-
-pub returns-then-count-eq0-clause-none : goal.returns-then-count-eq0-clause-none
-returns-then-count-eq0-clause-none c = λ no group. let same = length-map c.args.rows.now values_of in let some = group.some in omega arith
 
 pub returns-then-count-gt-LANES-clause-none : goal.returns-then-count-gt-LANES-clause-none
 returns-then-count-gt-LANES-clause-none c = λ no group. let few = few_rows c.args.schema.now c.args.rows.now group in omega arith

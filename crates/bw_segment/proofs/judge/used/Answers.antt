@@ -1,12 +1,7 @@
 use Rattle.std.proofs.Common.{◌∙◌, sym}
 use Rattle.bw_lanes.specs.Lanes.{lanes_of_words}
-use Rattle.bw_segment.proofs.FaultLemmas.{tells_all, tells_nothing}
+use Rattle.bw_segment.proofs.FaultLemmas.{tells_nothing}
 use Rattle.bw_segment.proofs.judge.used.Goals as goal
 
 pub returns-then-is_zero : goal.returns-then-is_zero
 returns-then-is_zero g c = tells_nothing c.args.rows (lanes_of_words c.args.nulls.now) _ (g.L.CodeLayout.packing.codes c.args.width c.args.codes.now) c.if-rows-eq-LANES.true (sym c.is_zero.ensures ∙ c.if-is_zero.true)
-
-pub returns : goal.returns
-returns g c =
-    let codes = g.L.CodeLayout.packing.codes c.args.width c.args.codes.now in
-    tells_all c.args.rows (lanes_of_words c.args.nulls.now) (lanes_of_words c.used.result) codes (g.met.L.CodeLayout.keeps.codes_length c.args.width c.args.codes.now c.requires.size) c.used.ensures

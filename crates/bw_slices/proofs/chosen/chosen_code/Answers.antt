@@ -4,11 +4,11 @@ use Rattle.bw_lanes.specs.Lanes.{lanes_of_words}
 use Rattle.bw_lanes.specs.Picked.{as_byte, bytes_picked}
 use Rattle.bw_model.specs.Selection.{picked}
 use Rattle.bw_model.specs.Stored.{byte_of}
-use Rattle.bw_segment.proofs.PickedLemmas.{all_picked}
-use Rattle.bw_segment.proofs.DescentLemmas.{descended_as, descent_begins, descent_ends, none_chosen}
+use Rattle.bw_segment.proofs.PickedLemmas.{all_picked, picked_where}
+use Rattle.bw_segment.proofs.DescentLemmas.{choice, descended_as, descent_begins, descent_ends, none_chosen}
 use Rattle.bw_slices.specs.Slices.{slices_codes}
 use Rattle.bw_slices.proofs.CodeLemmas.{all_within, byte_more, bytes_before, none_left}
-use Rattle.bw_slices.proofs.ChosenLemmas.{choice, blank, blank_small, itself, chosen_picked, kept_picked, next_chosen, chosen_below}
+use Rattle.bw_slices.proofs.ChosenLemmas.{blank, blank_small, chosen_picked, next_chosen, chosen_below}
 use Rattle.bw_slices.proofs.chosen.chosen_code.Goals as goal
 
 pub returns-then-is_zero-clause-chosen : goal.returns-then-is_zero-clause-chosen
@@ -24,7 +24,7 @@ loop-place-init c =
     let lanes = lanes_of_words c.args.lanes.now in
     let bits = 8 * (c.slices_in-slices.result - 0) in
     let some = sym (none_left c.args.bytes.now c.args.lanes.now slices c.told-lanes) ∙ sym c.is_zero.ensures ∙ c.if-is_zero.false in
-    (lanes, c.bytes_of_plane-left.ensures, descent_begins (choice c.args.greatest) (picked lanes codes) bits (all_picked _ lanes codes (all_within c.args.width bits codes (omega arith) c.requires.small)) some)
+    (lanes, c.bytes_of_plane-left.ensures, descent_begins c.args.greatest (picked lanes codes) bits (all_picked _ lanes codes (all_within c.args.width bits codes (omega arith) c.requires.small)) some)
 
 pub overflow_mul-code : goal.overflow_mul-code
 overflow_mul-code c = bytes_before c.loop-place.code c.loop-place.place c.loop-place.invariant.2.small (omega arith)
@@ -46,14 +46,14 @@ loop-place-preserved c =
       kept,
       rows,
       next_chosen g _ (picked lanes codes) (picked kept codes) slice _ _ _ _ c.loop-place.code byte c.from.result (omega arith) (omega arith) (omega arith) c.from.ensures
-          (kept_picked (byte_of slice) byte lanes codes) (omega arith) is c.loop-place.invariant.2,
+          (picked_where (λ b. b == byte) (byte_of slice) lanes codes) (omega arith) is c.loop-place.invariant.2,
     )
 
 pub returns-clause-chosen : goal.returns-clause-chosen
 returns-clause-chosen c =
     let code = c.loop-place.code in
     let end : 8 * (c.slices_in-slices.result - c.loop-place.place) ≡ 0 = omega arith in
-    descent_ends (choice c.args.greatest) _ _ _ code (itself c.args.greatest code) (descended_as _ _ _ _ _ 0 _ code code refl end refl c.loop-place.invariant.2)
+    descent_ends c.args.greatest _ _ _ code (descended_as c.args.greatest _ _ _ _ 0 _ code code refl end refl c.loop-place.invariant.2)
 
 pub returns-clause-bound : goal.returns-clause-bound
 returns-clause-bound c =

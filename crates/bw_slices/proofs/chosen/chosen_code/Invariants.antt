@@ -4,7 +4,6 @@ use Rattle.bw_lanes.specs.Picked.{as_byte}
 use Rattle.bw_model.specs.Selection.{picked}
 use Rattle.bw_segment.proofs.DescentLemmas.{IsDescended}
 use Rattle.bw_slices.specs.Slices.{slices_codes}
-use Rattle.bw_slices.proofs.ChosenLemmas.{choice}
 use Rattle.bw_slices.proofs.chosen.chosen_code.Given as goal
 
 -- the codes in the lanes that are left have the same bytes so far, and the one that is sought is among them
@@ -12,4 +11,4 @@ abbrev pub invariant-loop-place : goal.invariant-loop-place
 invariant-loop-place l =
     let codes = slices_codes ((l.width + 7) / 8) l.bytes in
     (left : List Bool) × (l.left ≡ map as_byte left)
-    × IsDescended (choice l.greatest) (picked (lanes_of_words l.lanes) codes) (picked left codes) (8 * (l.slices - l.place)) (8 * l.place) l.code
+    × IsDescended l.greatest (picked (lanes_of_words l.lanes) codes) (picked left codes) (8 * (l.slices - l.place)) (8 * l.place) l.code

@@ -1,5 +1,4 @@
-use Rattle.std.proofs.Common.{◌≡◌, ◌∙◌, sym, ap, suc, ◌+◌, ◌-◌, ◌*◌, ◌/◌, map, length, take, drop, arith}
-use Rattle.std.proofs.lemmas.List.{take-take}
+use Rattle.std.proofs.Common.{◌≡◌, ◌∙◌, sym, ap, suc, ◌+◌, ◌-◌, ◌*◌, ◌/◌, map, length, take, drop, arith, take-take}
 use Rattle.bw_model.specs.Stored.{byte_of}
 use Rattle.bw_slices.specs.Slices.{slices_codes}
 use Rattle.bw_slices.specs.Kept.{slice_of_codes}

@@ -1,5 +1,4 @@
-use Rattle.std.proofs.Common.{◌∙◌, ap, ◌+◌, ◌-◌, ◌/◌, ◌%◌, ◌^◌, not, ltb, arith}
-use Rattle.std.proofs.Math.Nat.{mod-eq_of_lt}
+use Rattle.std.proofs.Common.{◌∙◌, ap, ◌+◌, ◌-◌, ◌/◌, ◌%◌, ◌^◌, not, ltb, arith, mod-eq_of_lt}
 use Rattle.bw_segment.proofs.LowLemmas.{lowest_ones, without_ones, above_ones}
 use Rattle.bw_planes.proofs.CodeLemmas.{codes_agree}
 use Rattle.bw_planes.proofs.CompareLemmas.{above_or_not}

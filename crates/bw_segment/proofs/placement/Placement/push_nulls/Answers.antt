@@ -1,16 +1,10 @@
-use Rattle.std.proofs.Common.{◌∙◌, sym, ap, ◌++◌, cond, [], map, ◌==◌, append-nil}
+use Rattle.std.proofs.Common.{◌∙◌, sym, ap, ◌++◌, cond, [], map, ◌==◌}
 use Rattle.std.specs.Int.{bit_at}
 use Rattle.bw_lanes.specs.Lanes.{bytes_of_lanes}
 use Rattle.bw_segment.specs.Packing.{null_bits}
 use Rattle.bw_segment.proofs.LaneLemmas.{bits_of_nulls}
 use Rattle.bw_segment.proofs.PlacementLemmas.{nullable_read}
 use Rattle.bw_segment.proofs.placement.Placement.push_nulls.Goals as goal
-
-pub returns-then-not-index-clause-added : goal.returns-then-not-index-clause-added
-returns-then-not-index-clause-added c = λ rows held.
-    let columns = c.args.self.now.schema.columns.items in
-    let never = nullable_read columns c.args.col c.index.result.now c.requires c.index.ensures ∙ c.if-not-index.true in
-    sym (ap (λ b. c.args.bytes.now.items ++ cond b (bytes_of_lanes (null_bits rows c.args.col)) []) never ∙ append-nil c.args.bytes.now.items)
 
 pub returns-clause-added : goal.returns-clause-added
 returns-clause-added c = λ rows held.
