@@ -22,7 +22,7 @@ use crate::kept::is_kept;
 use crate::listing::Listing;
 use crate::picked::total_picked;
 use crate::totals::{add_count, add_kept, totals_of, with_totals};
-use bw_lanes::Plane;
+use bw_lanes::Selection;
 use bw_model::{
     Fault, Item, Query, Row, RowTaker, Schema, admitted_rows_have_each_value, totals_join,
 };
@@ -122,7 +122,7 @@ impl<'a> Answer<'a> {
     /// Takes the rows of a segment, of which a plane picks those that the query keeps. Only the columns that the query
     /// names are fetched. That there is room for the segment's rows, and that it is of the answer's table, is the caller's
     /// condition. Refuses as 801 alone.
-    pub fn take_picked<S: Segment>(&mut self, segment: &S, plane: &Plane) -> Result<(), Fault>
+    pub fn take_picked<S: Segment>(&mut self, segment: &S, plane: &Selection) -> Result<(), Fault>
         requires picks { lanes_of_words plane.now
             ≡ selection (asked_by self.old).cond (S.meaning segment.now).rows
             ++ replicate (group_size - length (S.meaning segment.now).rows) false }
@@ -269,7 +269,7 @@ fn put_picked<S: Segment>(
     query: &Query,
     lists: bool,
     segment: &S,
-    plane: &Plane,
+    plane: &Selection,
 ) -> Result<(), Fault>
     requires picks { lanes_of_words plane.now ≡ selection query.now.cond (S.meaning segment.now).rows
         ++ replicate (group_size - length (S.meaning segment.now).rows) false }

@@ -5,7 +5,7 @@ ghost use Rattle.bw_model.specs.Fault.{no_memory};
 ghost use Rattle.bw_model.specs.Row.{value_in, values_of};
 ghost use Rattle.bw_answer.specs.Fetched.{HasPicked, HasRow, value_in_lane};
 
-use bw_lanes::{LANES, Plane, count, last_between};
+use bw_lanes::{LANES, Selection, count, last_between};
 use bw_model::{Fault, Row, Value};
 use bw_segment::{Segment, values_in_lanes};
 use std::alloc::Global;
@@ -87,7 +87,7 @@ pub(crate) fn fetch_picked<S: Segment>(
     lanes: &mut [ColumnValues],
     columns: &[usize],
     segment: &S,
-    plane: &Plane,
+    plane: &Selection,
 )
     requires lanes { length lanes.old ≡ length (S.meaning segment.now).columns }
     requires columns { All (λ column. column < length lanes.old) columns.now }
@@ -113,7 +113,12 @@ fn fetch_columns<S: Segment>(lanes: &mut [ColumnValues], columns: &[usize], segm
 }
 
 /// Fetches the values that columns have in the rows of a segment that a plane picks, row by row from the last one down.
-fn fetch_rows<S: Segment>(lanes: &mut [ColumnValues], columns: &[usize], segment: &S, plane: &Plane)
+fn fetch_rows<S: Segment>(
+    lanes: &mut [ColumnValues],
+    columns: &[usize],
+    segment: &S,
+    plane: &Selection,
+)
     requires lanes { length lanes.old ≡ length (S.meaning segment.now).columns }
     requires columns { All (λ column. column < length lanes.old) columns.now }
     ensures { HasPicked (S.meaning segment.now).rows (lanes_of_words plane.now) columns.now lanes.new }

@@ -12,7 +12,7 @@ ghost use Rattle.bw_answer.specs.Columns.{columns_of, fields_of};
 use crate::lanes::{ColumnValues, fetch_picked, no_values, put_row};
 use crate::record::{FIELD, push_record};
 use crate::records::push_records;
-use bw_lanes::{LANES, Plane, is_zero};
+use bw_lanes::{LANES, Selection, is_zero};
 use bw_model::{Fault, Item, Row, code};
 use bw_segment::Segment;
 use std::alloc::Global;
@@ -73,7 +73,7 @@ impl Listing {
         &mut self,
         text: &mut Vec<u8>,
         segment: &S,
-        plane: &Plane,
+        plane: &Selection,
     ) -> Result<(), Fault>
         requires some { 1 ≤ vec_len self.old.columns }
         requires wide { vec_len self.old.lanes ≡ length (S.meaning segment.now).columns }

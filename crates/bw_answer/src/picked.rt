@@ -5,12 +5,12 @@ ghost use Rattle.bw_model.specs.Limits.{most_rows};
 ghost use Rattle.bw_model.specs.Total.{item_within};
 ghost use Rattle.bw_rows.specs.Picked.{IsWithin, picked_rows, with_picked};
 
-use bw_lanes::Plane;
+use bw_lanes::Selection;
 use bw_rows::{Accumulator, add_picked};
 use bw_segment::Segment;
 
 /// Adds the rows of a segment that a plane picks to each total.
-pub(crate) fn total_picked<S: Segment>(totals: &mut [Accumulator], segment: &S, plane: &Plane)
+pub(crate) fn total_picked<S: Segment>(totals: &mut [Accumulator], segment: &S, plane: &Selection)
     requires columns { All (λ tally. IsTrue (item_within (length (S.meaning segment.now).columns) tally.item))
         totals.old }
     requires room { All (λ tally. tally.count + length (S.meaning segment.now).rows ≤ most_rows) totals.old }

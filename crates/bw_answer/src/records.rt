@@ -8,7 +8,7 @@ ghost use Rattle.bw_answer.specs.Fetched.{fields_in_lane, positions_between};
 
 use crate::lanes::ColumnValues;
 use crate::record::put_record;
-use bw_lanes::{LANES, Plane, last_between};
+use bw_lanes::{LANES, Selection, last_between};
 use bw_model::Fault;
 
 /// Adds the records of the rows that a plane picks to a text. They are written into a draft first, so many rows at once,
@@ -18,7 +18,7 @@ pub(crate) fn push_records(
     draft: &mut [u8],
     lanes: &[ColumnValues],
     columns: &[usize],
-    plane: &Plane,
+    plane: &Selection,
     rows: usize,
 ) -> Result<(), Fault>
     requires some { 1 ≤ length columns.now }
@@ -45,7 +45,7 @@ fn put_records(
     draft: &mut [u8],
     lanes: &[ColumnValues],
     columns: &[usize],
-    plane: &Plane,
+    plane: &Selection,
     first: usize,
     past: usize,
 ) -> usize

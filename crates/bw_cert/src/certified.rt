@@ -13,7 +13,7 @@ ghost use Rattle.std.specs.Prelude.{IsTrue};
 ghost use Rattle.bw_program.specs.Program.{fits};
 ghost use Rattle.bw_cert.specs.Selects.{Selects, selection_by};
 
-use bw_lanes::Plane;
+use bw_lanes::Selection;
 use bw_model::{Cond, Fault, Schema, groups_make_the_table};
 use bw_program::Program;
 use bw_run::{Counts, run_segment};
@@ -89,7 +89,7 @@ impl Certified {
     /// Runs the program on a segment of a table of the schema: gives, for each of its rows, whether
     /// the condition is TRUE on it, and 0 past the last one, with the counts of the run, which are
     /// together no more than the program's instructions, and so than 4,096. No memory, no refusal.
-    pub fn run_segment<S: Segment>(&self, segment: &S) -> (Plane, Counts)
+    pub fn run_segment<S: Segment>(&self, segment: &S) -> (Selection, Counts)
         requires { (S.meaning segment.now).columns ≡ self.now.schema.columns.items }
         ensures rows { lanes_of_words result.0
             ≡ selection self.now.condition (S.meaning segment.now).rows

@@ -9,7 +9,7 @@ ghost use Rattle.bw_file.specs.Blocks.{form_of, block_size, block_fault, segment
 
 use crate::layout::Layout;
 use bw_device::SharedBytes;
-use bw_lanes::{LANES, Plane};
+use bw_lanes::{LANES, Plane, Selection};
 use bw_model::{Fault, Schema, Value};
 use bw_planes::{PlaneSegment, Planes};
 use bw_segment::{ColumnCodes, Placement, Segment};
@@ -80,7 +80,7 @@ impl Segment for AnySegment {
     }
 
     #[tactic(auto, unfolding(crate::specs::AnySegment::any_meaning))]
-    fn sum_of_codes(&self, col: usize, rows: &Plane) -> u128 {
+    fn sum_of_codes(&self, col: usize, rows: &Selection) -> u128 {
         match self {
             AnySegment::Planes(segment) => segment.sum_of_codes(col, rows),
             AnySegment::Slices(segment) => segment.sum_of_codes(col, rows),
@@ -88,7 +88,7 @@ impl Segment for AnySegment {
     }
 
     #[tactic(auto, unfolding(crate::specs::AnySegment::any_meaning))]
-    fn least_code(&self, col: usize, rows: &Plane) -> Option<u64> {
+    fn least_code(&self, col: usize, rows: &Selection) -> Option<u64> {
         match self {
             AnySegment::Planes(segment) => segment.least_code(col, rows),
             AnySegment::Slices(segment) => segment.least_code(col, rows),
@@ -96,7 +96,7 @@ impl Segment for AnySegment {
     }
 
     #[tactic(auto, unfolding(crate::specs::AnySegment::any_meaning))]
-    fn greatest_code(&self, col: usize, rows: &Plane) -> Option<u64> {
+    fn greatest_code(&self, col: usize, rows: &Selection) -> Option<u64> {
         match self {
             AnySegment::Planes(segment) => segment.greatest_code(col, rows),
             AnySegment::Slices(segment) => segment.greatest_code(col, rows),

@@ -20,6 +20,6 @@ pub use bytes::{bytes_any, bytes_bit, bytes_eq, bytes_lt, bytes_none};
 pub use lanes::LANES;
 pub use last::last_between;
 pub use picked::{bytes_of_plane, greatest_in, keep_in, least_in, sum_in};
-pub use plane::{Plane, and, count, count_and, is_zero, lane, mask, not, or, xor};
+pub use plane::{Plane, Selection, and, count, count_and, is_zero, lane, mask, not, or, xor};
 pub use shifted::push_bit;
 pub use stored::{load, to_bytes};

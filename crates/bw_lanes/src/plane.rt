@@ -9,6 +9,9 @@ use std::simd::prelude::*;
 /// One bit of each of 512 rows: row i's is bit i mod 64, the least first, of word i / 64.
 pub type Plane = [u64; 8];
 
+/// Which rows of a segment are picked: a plane that has a 1 in the lane of each, and no other 1.
+pub type Selection = Plane;
+
 /// The lanes that are 1 in both.
 #[tactic(auto, using(crate::proofs::WordLemmas::lanes_of_and))]
 pub fn and(a: &Plane, b: &Plane) -> Plane

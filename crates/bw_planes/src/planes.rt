@@ -10,7 +10,9 @@ ghost use Rattle.bw_planes.specs.Kept.{planes_keep_codes};
 
 use crate::compare::{at_least, eq, narrowed};
 use crate::sum::sum_in_word;
-use bw_lanes::{LANES, Plane, and, bytes_bit, is_zero, load, not, or, push_bit, to_bytes};
+use bw_lanes::{
+    LANES, Plane, Selection, and, bytes_bit, is_zero, load, not, or, push_bit, to_bytes,
+};
 use bw_model::Fault;
 use bw_segment::{CodeLayout, push_byte, put_byte, slices_of};
 
@@ -77,7 +79,7 @@ impl CodeLayout for Planes {
     }
 
     #[tactic(auto, using(crate::proofs::SumLemmas::word_sums))]
-    fn sum(width: u32, bytes: &[u8], lanes: &Plane) -> u128 {
+    fn sum(width: u32, bytes: &[u8], lanes: &Selection) -> u128 {
         let mut sum = 0;
         for word in 0..8 {
             if lanes[word] != 0 {
@@ -87,11 +89,11 @@ impl CodeLayout for Planes {
         sum
     }
 
-    fn least(width: u32, bytes: &[u8], lanes: &Plane) -> Option<u64> {
+    fn least(width: u32, bytes: &[u8], lanes: &Selection) -> Option<u64> {
         chosen_code(width, bytes, lanes, false)
     }
 
-    fn greatest(width: u32, bytes: &[u8], lanes: &Plane) -> Option<u64> {
+    fn greatest(width: u32, bytes: &[u8], lanes: &Selection) -> Option<u64> {
         chosen_code(width, bytes, lanes, true)
     }
 
@@ -120,7 +122,7 @@ impl CodeLayout for Planes {
 /// The greatest of the codes in some lanes, or the least; none where there are no lanes. From the top bit down the lanes that
 /// remain are those in which the bit is 1, or for the least 0, or all of them where there are none of these.
 #[inline(always)]
-fn chosen_code(width: u32, bytes: &[u8], lanes: &Plane, greatest: bool) -> Option<u64>
+fn chosen_code(width: u32, bytes: &[u8], lanes: &Selection, greatest: bool) -> Option<u64>
     requires width { (1 ≤ width) × (width ≤ 63) }
     requires size { length bytes.now ≡ 64 * width }
     ensures chosen { result ≡ reduce (if greatest then max else min)

@@ -7,11 +7,11 @@ ghost use Rattle.bw_model.specs.Code.{value_at};
 ghost use Rattle.bw_rows.specs.Picked.{present_lanes, values_in};
 ghost use Rattle.bw_rows.specs.Accumulator.{IsTotalOfRows};
 
-use bw_lanes::{Plane, and, count, not};
+use bw_lanes::{Selection, and, count, not};
 use bw_segment::Segment;
 
 /// Of some rows those in which a column isn't null.
-pub(crate) fn present<S: Segment>(segment: &S, col: usize, rows: &Plane) -> Plane
+pub(crate) fn present<S: Segment>(segment: &S, col: usize, rows: &Selection) -> Selection
     requires { col < length (S.meaning segment.now).columns }
     ensures { lanes_of_words result
         ≡ present_lanes (S.meaning segment.now) col (lanes_of_words rows.now) }
@@ -28,7 +28,7 @@ fn lowest<S: Segment>(segment: &S, col: usize) -> i64
 }
 
 /// The sum of the values of the codes in some rows; none where there are none.
-pub(crate) fn sum<S: Segment>(segment: &S, col: usize, rows: &Plane) -> Option<i128>
+pub(crate) fn sum<S: Segment>(segment: &S, col: usize, rows: &Selection) -> Option<i128>
     requires { col < length (S.meaning segment.now).columns }
     ensures sum { result ≡ reduce (λ a b. a +ℤ b)
         (values_in (S.meaning segment.now) col (lanes_of_words rows.now)) }
@@ -43,7 +43,7 @@ pub(crate) fn sum<S: Segment>(segment: &S, col: usize, rows: &Plane) -> Option<i
 }
 
 /// The least value of the codes in some rows; none where there are none.
-pub(crate) fn least<S: Segment>(segment: &S, col: usize, rows: &Plane) -> Option<i128>
+pub(crate) fn least<S: Segment>(segment: &S, col: usize, rows: &Selection) -> Option<i128>
     requires { col < length (S.meaning segment.now).columns }
     ensures least { result
         ≡ reduce int_min (values_in (S.meaning segment.now) col (lanes_of_words rows.now)) }
@@ -54,7 +54,7 @@ pub(crate) fn least<S: Segment>(segment: &S, col: usize, rows: &Plane) -> Option
 }
 
 /// The greatest value of the codes in some rows; none where there are none.
-pub(crate) fn greatest<S: Segment>(segment: &S, col: usize, rows: &Plane) -> Option<i128>
+pub(crate) fn greatest<S: Segment>(segment: &S, col: usize, rows: &Selection) -> Option<i128>
     requires { col < length (S.meaning segment.now).columns }
     ensures greatest { result
         ≡ reduce int_max (values_in (S.meaning segment.now) col (lanes_of_words rows.now)) }

@@ -9,7 +9,7 @@ ghost use Rattle.bw_rows.specs.Numbers.{among_numbers};
 
 use crate::logic::{both, compared, either, opposite};
 use crate::numbers::Numbers;
-use bw_lanes::{LANES, Plane, bytes_eq};
+use bw_lanes::{LANES, Selection, bytes_eq};
 use bw_model::{Op, Truth, Value};
 
 /// A value in each lane.
@@ -103,7 +103,7 @@ pub fn tested_in_lanes(a: &Truths, wanted: Truth) -> Truths
 }
 
 /// The lanes of the first rows, so many, that are TRUE.
-pub fn true_in_lanes(truths: &Truths, rows: u32) -> Plane
+pub fn true_in_lanes(truths: &Truths, rows: u32) -> Selection
     requires { rows ≤ 512 }
     ensures { (those : List (List Value)) (keeps : List Value → Bool) → length those ≡ rows
         → ((lane : ℕ) → lane < rows → is_truth (slice_index_or truths.now lane False) True

@@ -9,14 +9,14 @@ ghost use Rattle.bw_rows.specs.Picked.{IsWithin, picked_rows, with_picked};
 
 use crate::accumulator::Accumulator;
 use crate::column::{greatest, least, present, sum};
-use bw_lanes::{Plane, count};
+use bw_lanes::{Selection, count};
 use bw_model::Item;
 use bw_segment::Segment;
 
 /// Adds the rows of a segment that a plane picks to a total: row i is picked where lane i is 1. The plane has no bit
 /// past the segment's rows, the segment has the aggregate's column, and with the segment's rows the total is of at most 2^24.
 /// Where no row is picked, only the plane is looked at.
-pub fn add_picked<S: Segment>(total: &mut Accumulator, segment: &S, plane: &Plane)
+pub fn add_picked<S: Segment>(total: &mut Accumulator, segment: &S, plane: &Selection)
     requires column { IsTrue (item_within (length (S.meaning segment.now).columns) total.old.item) }
     requires plane { IsWithin (length (S.meaning segment.now).rows) (lanes_of_words plane.now) }
     requires room { total.old.count + length (S.meaning segment.now).rows ≤ most_rows }
@@ -37,7 +37,7 @@ pub fn add_picked<S: Segment>(total: &mut Accumulator, segment: &S, plane: &Plan
 }
 
 /// The total over the rows of a segment that a plane picks.
-fn total_of<S: Segment>(item: Item, segment: &S, plane: &Plane) -> Option<i128>
+fn total_of<S: Segment>(item: Item, segment: &S, plane: &Selection) -> Option<i128>
     requires column { IsTrue (item_within (length (S.meaning segment.now).columns) item) }
     requires plane { IsWithin (length (S.meaning segment.now).rows) (lanes_of_words plane.now) }
     ensures total { result

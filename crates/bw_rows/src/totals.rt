@@ -9,7 +9,7 @@ ghost use Rattle.bw_rows.specs.Picked.{IsWithin, picked_rows};
 
 use crate::accumulator::Accumulator;
 use crate::picked::add_picked;
-use bw_lanes::Plane;
+use bw_lanes::Selection;
 use bw_model::Item;
 use bw_segment::Segment;
 use std::marker::Model;
@@ -52,7 +52,7 @@ impl Totals {
     /// past the segment's rows, and the segment has the aggregate's column. With the rows of the segments
     /// before it there are at most 2^24.
     #[tactic(auto, using(crate::proofs::PickedLemmas::few_picked))]
-    pub fn add<S: Segment>(&mut self, segment: &S, plane: &Plane)
+    pub fn add<S: Segment>(&mut self, segment: &S, plane: &Selection)
         requires column { IsTrue (item_within (length (S.meaning segment.now).columns) self.old.picked.item) }
         requires plane { IsWithin (length (S.meaning segment.now).rows) (lanes_of_words plane.now) }
         requires room { self.old.rows + length (S.meaning segment.now).rows ≤ most_rows }

@@ -5,13 +5,13 @@ ghost use Rattle.bw_lanes.specs.Lanes.{lanes_of_words};
 ghost use Rattle.bw_model.specs.Selection.{picked};
 
 use crate::layout::CodeLayout;
-use bw_lanes::{LANES, Plane, count, last_between};
+use bw_lanes::{LANES, Selection, count, last_between};
 
 /// Up to how many rows the least and the greatest code are found one row after the other, in place of over all 512 lanes.
 const FEW: u32 = 4;
 
 /// The least of the codes in some lanes; none where there are no lanes.
-pub(crate) fn least_in<L: CodeLayout>(width: u32, bytes: &[u8], lanes: &Plane) -> Option<u64>
+pub(crate) fn least_in<L: CodeLayout>(width: u32, bytes: &[u8], lanes: &Selection) -> Option<u64>
     requires width { (1 ≤ width) × (width ≤ 63) }
     requires size { length bytes.now ≡ L.packing.size width }
     requires small { All (λ code. code < 2 ^ width) (L.packing.codes width bytes.now) }
@@ -27,7 +27,7 @@ pub(crate) fn least_in<L: CodeLayout>(width: u32, bytes: &[u8], lanes: &Plane) -
 }
 
 /// The greatest of these codes.
-pub(crate) fn greatest_in<L: CodeLayout>(width: u32, bytes: &[u8], lanes: &Plane) -> Option<u64>
+pub(crate) fn greatest_in<L: CodeLayout>(width: u32, bytes: &[u8], lanes: &Selection) -> Option<u64>
     requires width { (1 ≤ width) × (width ≤ 63) }
     requires size { length bytes.now ≡ L.packing.size width }
     requires small { All (λ code. code < 2 ^ width) (L.packing.codes width bytes.now) }
@@ -43,7 +43,7 @@ pub(crate) fn greatest_in<L: CodeLayout>(width: u32, bytes: &[u8], lanes: &Plane
 }
 
 /// The least code, from the last lane down.
-fn least_of_few<L: CodeLayout>(width: u32, bytes: &[u8], lanes: &Plane) -> Option<u64>
+fn least_of_few<L: CodeLayout>(width: u32, bytes: &[u8], lanes: &Selection) -> Option<u64>
     requires width { (1 ≤ width) × (width ≤ 63) }
     requires size { length bytes.now ≡ L.packing.size width }
     requires small { All (λ code. code < 2 ^ width) (L.packing.codes width bytes.now) }
@@ -65,7 +65,7 @@ fn least_of_few<L: CodeLayout>(width: u32, bytes: &[u8], lanes: &Plane) -> Optio
 }
 
 /// The greatest code, from the last lane down.
-fn greatest_of_few<L: CodeLayout>(width: u32, bytes: &[u8], lanes: &Plane) -> Option<u64>
+fn greatest_of_few<L: CodeLayout>(width: u32, bytes: &[u8], lanes: &Selection) -> Option<u64>
     requires width { (1 ≤ width) × (width ≤ 63) }
     requires size { length bytes.now ≡ L.packing.size width }
     requires small { All (λ code. code < 2 ^ width) (L.packing.codes width bytes.now) }

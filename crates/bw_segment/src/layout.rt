@@ -8,7 +8,7 @@ ghost use Rattle.bw_model.specs.Selection.{picked};
 ghost use Rattle.bw_model.specs.Stored.{byte_of};
 ghost use Rattle.bw_segment.specs.Packing.{Packing, IsPacking};
 
-use bw_lanes::{LANES, Plane};
+use bw_lanes::{LANES, Plane, Selection};
 use bw_model::Fault;
 
 /// How the codes of 512 lanes are kept as bytes. Each method but `size` and `push_codes` is given the bytes of such codes, of
@@ -82,7 +82,7 @@ pub trait CodeLayout {
             ≡ map (λ code. byte_of slice code == c) (packing.codes width bytes.now) };
 
     /// The sum of the codes in some lanes.
-    fn sum(width: u32, bytes: &[u8], lanes: &Plane) -> u128
+    fn sum(width: u32, bytes: &[u8], lanes: &Selection) -> u128
         requires width { (1 ≤ width) × (width ≤ 63) }
         requires size { length bytes.now ≡ packing.size width }
         requires small { All (λ code. code < 2 ^ width) (packing.codes width bytes.now) }
@@ -91,7 +91,7 @@ pub trait CodeLayout {
         ensures bound { result ≤ 2 ^ 72 };
 
     /// The least of the codes in some lanes; none where there are no lanes.
-    fn least(width: u32, bytes: &[u8], lanes: &Plane) -> Option<u64>
+    fn least(width: u32, bytes: &[u8], lanes: &Selection) -> Option<u64>
         requires width { (1 ≤ width) × (width ≤ 63) }
         requires size { length bytes.now ≡ packing.size width }
         requires small { All (λ code. code < 2 ^ width) (packing.codes width bytes.now) }
@@ -100,7 +100,7 @@ pub trait CodeLayout {
         ensures bound { IfSome result (λ code. code < 2 ^ 63) };
 
     /// The greatest of these codes.
-    fn greatest(width: u32, bytes: &[u8], lanes: &Plane) -> Option<u64>
+    fn greatest(width: u32, bytes: &[u8], lanes: &Selection) -> Option<u64>
         requires width { (1 ≤ width) × (width ≤ 63) }
         requires size { length bytes.now ≡ packing.size width }
         requires small { All (λ code. code < 2 ^ width) (packing.codes width bytes.now) }

@@ -11,7 +11,7 @@ use crate::layout::CodeLayout;
 use crate::placement::Placement;
 use crate::segment::Segment;
 use bw_device::SharedBytes;
-use bw_lanes::{LANES, Plane, lane};
+use bw_lanes::{LANES, Plane, Selection, lane};
 use bw_model::{Schema, Value};
 use std::marker::PhantomData;
 use std::rc::Rc;
@@ -62,17 +62,17 @@ impl<L: CodeLayout> Segment for PackedSegment<L> {
         L::byte_eq(width, codes, slice, c)
     }
 
-    fn sum_of_codes(&self, col: usize, rows: &Plane) -> u128 {
+    fn sum_of_codes(&self, col: usize, rows: &Selection) -> u128 {
         let (width, codes) = self.kept(col);
         L::sum(width, codes, rows)
     }
 
-    fn least_code(&self, col: usize, rows: &Plane) -> Option<u64> {
+    fn least_code(&self, col: usize, rows: &Selection) -> Option<u64> {
         let (width, codes) = self.kept(col);
         least_in::<L>(width, codes, rows)
     }
 
-    fn greatest_code(&self, col: usize, rows: &Plane) -> Option<u64> {
+    fn greatest_code(&self, col: usize, rows: &Selection) -> Option<u64> {
         let (width, codes) = self.kept(col);
         greatest_in::<L>(width, codes, rows)
     }

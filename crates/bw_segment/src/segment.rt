@@ -9,7 +9,7 @@ ghost use Rattle.bw_model.specs.Variable.{bit_variable, null_variable, variables
 ghost use Rattle.bw_segment.specs.Meaning.{Meaning, IsGroup, variable_lanes, byte_lanes, code_lanes, null_lanes};
 ghost use Rattle.bw_segment.specs.Picked.{bit_lanes, codes_in};
 
-use bw_lanes::{LANES, Plane};
+use bw_lanes::{LANES, Plane, Selection};
 use bw_model::{Schema, Value};
 
 /// At least 1 and at most 512 rows of a table, kept by columns. The methods take no memory and refuse nothing.
@@ -55,21 +55,21 @@ pub trait Segment {
             ≡ map (λ byte. byte == c) (byte_lanes (meaning self.now) col slice) };
 
     /// The sum of a column's codes in some rows, where null and the rows past the last one count as code 0.
-    fn sum_of_codes(&self, col: usize, rows: &Plane) -> u128
+    fn sum_of_codes(&self, col: usize, rows: &Selection) -> u128
         requires { col < length (meaning self.now).columns }
         ensures sum { result ≡ sum (codes_in (meaning self.now) col (lanes_of_words rows.now)) }
         ensures bound { result ≤ 2 ^ 72 };
 
     /// The least of a column's codes in some rows, where null and the rows past the last one count as code 0; none
     /// where there are no rows.
-    fn least_code(&self, col: usize, rows: &Plane) -> Option<u64>
+    fn least_code(&self, col: usize, rows: &Selection) -> Option<u64>
         requires { col < length (meaning self.now).columns }
         ensures least { result
             ≡ reduce min (codes_in (meaning self.now) col (lanes_of_words rows.now)) }
         ensures bound { IfSome result (λ code. code < 2 ^ 63) };
 
     /// The greatest of these codes.
-    fn greatest_code(&self, col: usize, rows: &Plane) -> Option<u64>
+    fn greatest_code(&self, col: usize, rows: &Selection) -> Option<u64>
         requires { col < length (meaning self.now).columns }
         ensures greatest { result
             ≡ reduce max (codes_in (meaning self.now) col (lanes_of_words rows.now)) }

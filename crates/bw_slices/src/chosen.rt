@@ -7,11 +7,16 @@ ghost use Rattle.bw_model.specs.Selection.{picked};
 ghost use Rattle.bw_slices.specs.Slices.{slices_codes};
 
 use crate::read::{slice_of, slices_in};
-use bw_lanes::{LANES, Plane, bytes_of_plane, greatest_in, is_zero, keep_in, least_in};
+use bw_lanes::{LANES, Selection, bytes_of_plane, greatest_in, is_zero, keep_in, least_in};
 
 /// The greatest of the codes in some lanes, or the least; none where there are no lanes. From the most significant byte
 /// down the lanes that remain are those with the greatest, or the least, byte among them.
-pub(crate) fn chosen_code(width: u32, bytes: &[u8], lanes: &Plane, greatest: bool) -> Option<u64>
+pub(crate) fn chosen_code(
+    width: u32,
+    bytes: &[u8],
+    lanes: &Selection,
+    greatest: bool,
+) -> Option<u64>
     requires width { (1 ≤ width) × (width ≤ 63) }
     requires size { length bytes.now ≡ 512 * ((width + 7) / 8) }
     requires small { All (λ code. code < 2 ^ width) (slices_codes ((width + 7) / 8) bytes.now) }

@@ -5,12 +5,12 @@ ghost use Rattle.bw_model.specs.Selection.{picked};
 ghost use Rattle.bw_slices.specs.Slices.{slices_codes};
 
 use crate::layout::Slices;
-use bw_lanes::Plane;
+use bw_lanes::Selection;
 use bw_segment::CodeLayout;
 
 /// The sum of the codes in some lanes.
 #[tactic(auto, using(crate::proofs::CodeLemmas::few_sums))]
-pub(crate) fn sum_of_few(width: u32, bytes: &[u8], lanes: &Plane) -> u128
+pub(crate) fn sum_of_few(width: u32, bytes: &[u8], lanes: &Selection) -> u128
     requires width { (1 ≤ width) × (width ≤ 63) }
     requires size { length bytes.now ≡ 512 * ((width + 7) / 8) }
     requires small { All (λ code. code < 2 ^ width) (slices_codes ((width + 7) / 8) bytes.now) }

@@ -8,7 +8,8 @@ use crate::chosen::chosen_code;
 use crate::few::sum_of_few;
 use crate::read::{slice_of, slices_in};
 use bw_lanes::{
-    LANES, Plane, bytes_bit, bytes_eq, bytes_lt, bytes_none, bytes_of_plane, count, not, sum_in,
+    LANES, Plane, Selection, bytes_bit, bytes_eq, bytes_lt, bytes_none, bytes_of_plane, count, not,
+    sum_in,
 };
 use bw_model::Fault;
 use bw_segment::{CodeLayout, bytes_of, push_byte, put_byte};
@@ -74,7 +75,7 @@ impl CodeLayout for Slices {
 
     /// The sum of the bytes, each slice's 256 times the next one's worth. Few codes are added one by one.
     #[tactic(auto, using(crate::proofs::CodeLemmas::sum_steps))]
-    fn sum(width: u32, bytes: &[u8], lanes: &Plane) -> u128 {
+    fn sum(width: u32, bytes: &[u8], lanes: &Selection) -> u128 {
         if count(lanes) <= FEW {
             return sum_of_few(width, bytes, lanes);
         }
@@ -88,11 +89,11 @@ impl CodeLayout for Slices {
         sum
     }
 
-    fn least(width: u32, bytes: &[u8], lanes: &Plane) -> Option<u64> {
+    fn least(width: u32, bytes: &[u8], lanes: &Selection) -> Option<u64> {
         chosen_code(width, bytes, lanes, false)
     }
 
-    fn greatest(width: u32, bytes: &[u8], lanes: &Plane) -> Option<u64> {
+    fn greatest(width: u32, bytes: &[u8], lanes: &Selection) -> Option<u64> {
         chosen_code(width, bytes, lanes, true)
     }
 

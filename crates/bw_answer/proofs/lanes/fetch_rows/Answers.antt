@@ -21,15 +21,15 @@ loop-last-preserved g c =
       within = omega (arith, last.to, so_far.within);
       fetched = λ k from to one. elim (cases_lt here k) [
         | inl past ↦ elim (cases_lt k c.loop-last.number) [
-            | inl before ↦ absurd (true≢false (sym one ∙ last.clear k past before))
-            | inr kept ↦ λ i within. c.fetch_row.ensures.others k (get_or columns i 0) (omega arith) ∙ so_far.fetched k kept to one i within
-          ]
+          | inl before ↦ absurd (true≢false (sym one ∙ last.clear k past before))
+          | inr kept ↦ λ i within. c.fetch_row.ensures.others k (get_or columns i 0) (omega arith) ∙ so_far.fetched k kept to one i within
+        ]
         | inr upto ↦ let same : here ≡ k = omega arith in subst (λ n. HasRow (get_or rows n []) columns n c.fetch_row.new.lanes) same c.fetch_row.ensures.row
       ];
     }
 
 pub returns : goal.returns
 returns g c = λ k to one. elim (cases_lt k c.loop-last.number) [
-    | inl before ↦ absurd (true≢false (sym one ∙ c.in_default.ensures.none refl k (omega arith) before))
-    | inr kept ↦ c.loop-last.invariant.fetched k kept to one
-  ]
+  | inl before ↦ absurd (true≢false (sym one ∙ c.in_default.ensures.none refl k (omega arith) before))
+  | inr kept ↦ c.loop-last.invariant.fetched k kept to one
+]
