@@ -20,7 +20,7 @@ use Rattle.bw_cert_lines.specs.declared.lines.InstructionEntry.{InstructionEntry
 use Rattle.bw_cert_lines.specs.declared.lines.Keep.{Keep}
 use Rattle.bw_cert_parts.specs.declared.edge.Edge.{Edge}
 use Rattle.bw_cert_parts.specs.Accepted.{KeepLine, keep_line, are_kept}
-use Rattle.bw_cert_parts.specs.Instruction.{behind, put, is_fill, is_skip_line, loaded_node, operation_row, byte_chain, byte_node, terminal, plane_on, read_on, joined_on, opposite_on, byte_on}
+use Rattle.bw_cert_parts.specs.Instruction.{after, put, is_fill, is_skip_line, loaded_node, operation_row, byte_chain, byte_node, terminal, plane_on, read_on, joined_on, opposite_on, byte_on}
 use Rattle.bw_cert_parts.specs.Join.{is_kept}
 use Rattle.bw_cert_parts.specs.Known.{Known, node_of, nothing_known, with_node}
 use Rattle.bw_cert_parts.specs.Walk.{Taken, keep_in, by_keep, keeps_taken, join_taken, is_join, instruction_on, instruction_taken, joined}
@@ -162,8 +162,8 @@ module _ (facts : Facts) (end place : ℕ) (through : Known) where
   pub join_stops : (edges : List Edge) (lines : List BodyLine) (taken : Taken) → 0 < length edges → joined facts end place edges (taken_of lines through) ≡ Ok taken → NoKeep taken.rest
   join_stops [] lines taken some is = absurd (omega (arith, some))
   join_stops (edge ∷ edges) lines taken some is =
-      let behind = bind_ok (join_taken end place lines) (behind_join (edge ∷ edges)) taken is in
-      keeps_stop facts through (edge ∷ edges) 0 nothing_known behind.0 taken behind.2
+      let after = bind_ok (join_taken end place lines) (behind_join (edge ∷ edges)) taken is in
+      keeps_stop facts through (edge ∷ edges) 0 nothing_known after.0 taken after.2
 
 -- where there is a fault, it stands on this line
 record OnLine (A : Type 0) (line : ℕ) (r : Result A Fault) : Type 0 where
@@ -211,8 +211,8 @@ byte_stands facts line kind there column slice k given =
     then_stands (Option ℕ) ℕ line (found_on 607 line (byte_chain given)) _ (found_stands (Option ℕ) 607 line (byte_chain given))
     (λ chain. refused_stands ℕ (not there) 607 line _ (found_stands ℕ 607 line (byte_node facts kind column slice k chain)))
 
-behind_stands : (facts : Facts) (known : Known) (line : ℕ) (i : Instr) (given : InstructionEntry) → OnLine Known line (behind facts known line i given)
-unfolding behind
+behind_stands : (facts : Facts) (known : Known) (line : ℕ) (i : Instr) (given : InstructionEntry) → OnLine Known line (after facts known line i given)
+unfolding after
 behind_stands facts known line (does.Load r column bit) given = put_stands known line r _ (plane_stands facts line _ _ given)
 behind_stands facts known line (does.Nulls r column) given = put_stands known line r _ (plane_stands facts line _ _ given)
 behind_stands facts known line (does.Fill r bit) given = refused_stands Known (not (is_fill given)) 607 line _ (ok_stands Known line (with_node known r (terminal bit)))

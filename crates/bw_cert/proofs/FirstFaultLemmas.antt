@@ -11,7 +11,7 @@ use Rattle.bw_cert_lines.specs.declared.lines.BodyLine.{BodyLine}
 use Rattle.bw_cert_lines.specs.declared.lines.Entry.TheVariants as line_of
 use Rattle.bw_cert_parts.specs.declared.edge.Edge.{Edge}
 use Rattle.bw_cert_parts.specs.Accepted.{KeepLine, JoinLines, Part, keep_line, join_lines, lines_of, before, edges_before, edge_at, fallen, past, known_past, kept_by, are_kept, obeys_join, Obeys}
-use Rattle.bw_cert_parts.specs.Instruction.{behind}
+use Rattle.bw_cert_parts.specs.Instruction.{after}
 use Rattle.bw_cert_parts.specs.Join.{edge_of, with_edge, edges_into}
 use Rattle.bw_cert_parts.specs.Known.{Known, nothing_known, with_node}
 use Rattle.bw_cert_parts.specs.Walk.{Taken, by_keep, keeps_taken, instruction_taken, joined, walked, judged}
@@ -77,8 +77,8 @@ come_further facts end lines first instr edges taken through gone come line took
     one_more : suc (length first) ≡ length (with_one first instr)
     one_more = omega (arith, length-append first (instr ∷ []))
 
-    says : behind facts (known_behind facts first come.parts) line.line instr line.entry ≡ Ok through.known
-    says = ap (λ (known : Known). behind facts known line.line instr line.entry) (sym come.known) ∙ line.says
+    says : after facts (known_behind facts first come.parts) line.line instr line.entry ≡ Ok through.known
+    says = ap (λ (known : Known). after facts known line.line instr line.entry) (sym come.known) ∙ line.says
 
     edges_same : with_edge edges (edge_of taken.known instr) ≡ with_edge (edges_before facts first come.parts (length first)) (edge_of (known_behind facts first come.parts) instr)
     edges_same = ap₂ (λ (edges : List Edge) (known : Known). with_edge edges (edge_of known instr)) come.edges_are come.known
@@ -139,7 +139,7 @@ stands_from facts end lines fault instrs (instr ∷ others) first edges taken pr
           rest = through.rest;
           spelled = line.spelled;
           through = through.known;
-          says = ap (λ (known : Known). behind facts known line.line instr line.entry) (sym come.known) ∙ line.says;
+          says = ap (λ (known : Known). after facts known line.line instr line.entry) (sym come.known) ∙ line.says;
           skips = wrong.0;
           wrong = wrong.1;
         }))
@@ -317,7 +317,7 @@ lines_behind facts instrs end lines fault f = at f.wrong
       others = others;
       spelled = f.spelled ∙ ap (λ rest. front ++ rest) there;
       stands = line_stands facts known f.instr line line.entry fault is;
-      alike = λ behind. refused (line ∷ behind) (λ place part join last given some. subst NoKeep there (f.whole place part join last given some)) (inl is);
+      alike = λ after. refused (line ∷ after) (λ place part join last given some. subst NoKeep there (f.whole place part join last given some)) (inl is);
     })
 
     own : WrongPlace facts end (suc (length f.first)) known edges f.instr f.rest fault → BodyLine
@@ -345,7 +345,7 @@ lines_behind facts instrs end lines fault f = at f.wrong
       others = others;
       spelled = f.spelled ∙ ap (λ (rest : List BodyLine). front ++ rest) (place.spelled ∙ ap (λ (rest : List BodyLine). own place ∷ rest) there) ∙ sym (append_assoc front (own place ∷ []) (line ∷ others));
       stands = at_end 608 line.line fault stands;
-      alike = λ behind. ap (judged facts instrs end) (append_assoc front (own place ∷ []) (line ∷ behind)) ∙ again place (line ∷ behind) (inl (other, stands));
+      alike = λ after. ap (judged facts instrs end) (append_assoc front (own place ∷ []) (line ∷ after)) ∙ again place (line ∷ after) (inl (other, stands));
     })
     by_join place (line ∷ others) there (inr (joins, keep)) = inl (record {
       upto = front ++ own place ∷ line ∷ map keep_line keep.keeps;
@@ -355,13 +355,13 @@ lines_behind facts instrs end lines fault f = at f.wrong
           ∙ ap (λ (rest : List BodyLine). front ++ rest) (place.spelled ∙ ap (λ (rest : List BodyLine). own place ∷ rest) (there ∙ ap (λ (lines : List BodyLine). line ∷ lines) keep.spelled))
           ∙ sym (append_assoc front (own place ∷ line ∷ map keep_line keep.keeps) (keep_line keep.wrong ∷ keep.others));
       stands = at_end 608 keep.wrong.line fault keep.stands;
-      alike = λ behind. ap (judged facts instrs end) (append_assoc front (own place ∷ line ∷ map keep_line keep.keeps) (keep_line keep.wrong ∷ behind))
-          ∙ again place (line ∷ map keep_line keep.keeps ++ keep_line keep.wrong ∷ behind) (inr (
+      alike = λ after. ap (judged facts instrs end) (append_assoc front (own place ∷ line ∷ map keep_line keep.keeps) (keep_line keep.wrong ∷ after))
+          ∙ again place (line ∷ map keep_line keep.keeps ++ keep_line keep.wrong ∷ after) (inr (
             joins,
             record {
               keeps = keep.keeps;
               wrong = keep.wrong;
-              others = behind;
+              others = after;
               spelled = refl;
               kept = keep.kept;
               broken = keep.broken;

@@ -7,7 +7,7 @@ use Rattle.bw_cert_lines.specs.declared.lines.BodyLine.{BodyLine}
 use Rattle.bw_cert_lines.specs.declared.lines.Entry.TheVariants as line_of
 use Rattle.bw_cert_parts.specs.declared.edge.Edge.{Edge}
 use Rattle.bw_cert_parts.specs.Accepted.{Part, join_lines, lines_of, before, edges_before, edge_at, fallen, known_or_nothing, past, known_past, obeys_join, Obeys}
-use Rattle.bw_cert_parts.specs.Instruction.{behind}
+use Rattle.bw_cert_parts.specs.Instruction.{after}
 use Rattle.bw_cert_parts.specs.Join.{edge_of, with_edge, edges_into}
 use Rattle.bw_cert_parts.specs.Known.{Known}
 
@@ -66,7 +66,7 @@ module _ (facts : Facts) (first : List Instr) (instr : Instr) (parts : List Part
   pub part_here : slice_get (with_one parts part) (length first) ≡ Some part
   part_here = ap (slice_get (with_one parts part)) (sym count) ∙ stands_last parts part
 
-  pub known_here : (through : Known) → behind facts (before facts first parts (length first)) part.line instr part.entry ≡ Ok through →
+  pub known_here : (through : Known) → after facts (before facts first parts (length first)) part.line instr part.entry ≡ Ok through →
       before facts (with_one first instr) (with_one parts part) (suc (length first)) ≡ past through part.join
   unfolding before
   known_here through says =
@@ -75,15 +75,15 @@ module _ (facts : Facts) (first : List Instr) (instr : Instr) (parts : List Part
       ∙ ap (λ (known : Known). past known part.join) (ap known_or_nothing says)
 
   -- where it obeys, they all do
-  pub obeys_more : (through : Known) → Obeys facts first parts → behind facts (before facts first parts (length first)) part.line instr part.entry ≡ Ok through →
+  pub obeys_more : (through : Known) → Obeys facts first parts → after facts (before facts first parts (length first)) part.line instr part.entry ≡ Ok through →
       IsTrue (obeys_join facts through (edges_into (suc (length first)) (with_edge (edges_before facts first parts (length first)) (edge_of (before facts first parts (length first)) instr))) part.join) →
       Obeys facts (with_one first instr) (with_one parts part)
   obeys_more through obeys says joins = record {
     counted = omega (arith, count, length-append parts (part ∷ []), length-append first (instr ∷ []));
-    instruction = each_more (λ (place : ℕ) (i : Instr) (p : Part). behind facts (before facts (with_one first instr) (with_one parts part) place) p.line i p.entry ≡ Ok (fallen facts (before facts (with_one first instr) (with_one parts part) place) i p))
+    instruction = each_more (λ (place : ℕ) (i : Instr) (p : Part). after facts (before facts (with_one first instr) (with_one parts part) place) p.line i p.entry ≡ Ok (fallen facts (before facts (with_one first instr) (with_one parts part) place) i p))
         first instr parts part count
-        (λ place i p there given. subst (λ (known : Known). behind facts known p.line i p.entry ≡ Ok (fallen facts known i p)) (sym (known_more place (omega (arith, slice_get_within first place i there)))) (obeys.instruction place i p there given))
-        (subst (λ (known : Known). behind facts known part.line instr part.entry ≡ Ok (fallen facts known instr part)) (sym (known_more (length first) (omega arith))) (says ∙ ap Ok (sym (ap known_or_nothing says))));
+        (λ place i p there given. subst (λ (known : Known). after facts known p.line i p.entry ≡ Ok (fallen facts known i p)) (sym (known_more place (omega (arith, slice_get_within first place i there)))) (obeys.instruction place i p there given))
+        (subst (λ (known : Known). after facts known part.line instr part.entry ≡ Ok (fallen facts known instr part)) (sym (known_more (length first) (omega arith))) (says ∙ ap Ok (sym (ap known_or_nothing says))));
     join = each_more (λ (place : ℕ) (i : Instr) (p : Part). IsTrue (obeys_join facts (fallen facts (before facts (with_one first instr) (with_one parts part) place) i p)
         (edges_into (suc place) (edges_before facts (with_one first instr) (with_one parts part) (suc place))) p.join))
         first instr parts part count

@@ -24,7 +24,7 @@ use Rattle.bw_program.specs.ProgramText.{found_on}
 use Rattle.bw_cert_lines.specs.declared.lines.BodyLine.{BodyLine}
 use Rattle.bw_cert_lines.specs.declared.lines.InstructionEntry.{InstructionEntry}
 use Rattle.bw_cert_lines.specs.CertificateShape.{CertificateShape}
-use Rattle.bw_cert_parts.specs.Instruction.{behind, loaded_node, byte_chain, plane_on, byte_on}
+use Rattle.bw_cert_parts.specs.Instruction.{after, loaded_node, byte_chain, plane_on, byte_on}
 use Rattle.bw_cert_parts.specs.Join.{is_zero}
 use Rattle.bw_cert_parts.specs.Known.{Known, node_of}
 use Rattle.bw_cert_parts.specs.Walk.{Taken}
@@ -121,8 +121,8 @@ stated_true columns certificate facts start node chain row is =
     start nodes.1) chains.1) chains.2
 
 -- an instruction whose line is right names what the columns have
-pub behind_fits : (facts : Facts) (known past : Known) (line : ℕ) (i : Instr) (given : InstructionEntry) → behind facts known line i given ≡ Ok past → instr_fits facts.columns i ≡ true
-unfolding behind
+pub behind_fits : (facts : Facts) (known past : Known) (line : ℕ) (i : Instr) (given : InstructionEntry) → after facts known line i given ≡ Ok past → instr_fits facts.columns i ≡ true
+unfolding after
 behind_fits facts known past line (instr.Load r column bit) given is =
     let node = bind_ok (plane_on facts line (instr_fits facts.columns (instr.Load r column bit)) (bit_variable facts.columns column bit) given) _ past is in
     let named = bind_ok (found_on 607 line (loaded_node given)) _ node.0 node.1 in

@@ -11,7 +11,7 @@ use Rattle.bw_cert_lines.specs.declared.lines.Entry.TheVariants as line_of
 use Rattle.bw_cert_lines.specs.declared.lines.InstructionEntry.{InstructionEntry}
 use Rattle.bw_cert_parts.specs.declared.edge.Edge.{Edge}
 use Rattle.bw_cert_parts.specs.Accepted.{KeepLine, JoinLines, Part, Obeys, keep_line, lines_of, before, edges_before, are_kept}
-use Rattle.bw_cert_parts.specs.Instruction.{behind}
+use Rattle.bw_cert_parts.specs.Instruction.{after}
 use Rattle.bw_cert_parts.specs.Join.{edge_of, with_edge, edges_into}
 use Rattle.bw_cert_parts.specs.Known.{Known}
 use Rattle.bw_cert_parts.specs.Walk.{instruction_on, is_join, keep_in, judged}
@@ -61,7 +61,7 @@ pub record WrongPlace (facts : Facts) (end place : ℕ) (known : Known) (edges :
   pub rest : List BodyLine
   pub spelled : lines ≡ record { line = line; entry = line_of.Instruction entry } ∷ rest
   pub through : Known
-  pub says : behind facts known line instr entry ≡ Ok through
+  pub says : after facts known line instr entry ≡ Ok through
   pub skips : 0 < length edges
   pub wrong : WrongJoin facts end place through edges rest fault
 

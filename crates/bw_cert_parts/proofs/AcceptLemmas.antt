@@ -12,7 +12,7 @@ use Rattle.bw_cert_lines.specs.declared.lines.InstructionEntry.{InstructionEntry
 use Rattle.bw_cert_lines.specs.declared.lines.Keep.{Keep}
 use Rattle.bw_cert_parts.specs.declared.edge.Edge.{Edge}
 use Rattle.bw_cert_parts.specs.Accepted.{KeepLine, JoinLines, Part, keep_line, join_lines, lines_of, before, edges_before, edge_at, fallen, known_or_nothing, past, known_past, kept_by, are_kept, obeys_join, Accepts}
-use Rattle.bw_cert_parts.specs.Instruction.{behind}
+use Rattle.bw_cert_parts.specs.Instruction.{after}
 use Rattle.bw_cert_parts.specs.Join.{edge_of, with_edge, edges_into, is_kept}
 use Rattle.bw_cert_parts.specs.Known.{Known, nothing_known, with_node}
 use Rattle.bw_cert_parts.specs.Walk.{Taken, keep_in, by_keep, keeps_taken, join_taken, is_join, instruction_on, instruction_taken, joined, walked, judged}
@@ -37,7 +37,7 @@ pub record Line (facts : Facts) (known : Known) (instr : Instr) (lines : List Bo
   pub line : ℕ
   pub entry : InstructionEntry
   pub spelled : lines ≡ record { line = line; entry = line_of.Instruction entry } ∷ through.rest
-  pub says : behind facts known line instr entry ≡ Ok through.known
+  pub says : after facts known line instr entry ≡ Ok through.known
 
 pub line_read : (facts : Facts) (end : ℕ) (known : Known) (instr : Instr) (lines : List BodyLine) (through : Taken) → instruction_taken facts end known instr lines ≡ Ok through → Line facts known instr lines through
 line_read facts end known instr [] through is = cc
@@ -205,7 +205,7 @@ record Come (facts : Facts) (instrs : List Instr) (lines : List BodyLine) (place
   parts : List Part
   counted : length parts ≡ place
   instruction : (k : ℕ) (instr : Instr) (part : Part) → slice_get instrs k ≡ Some instr → slice_get parts k ≡ Some part →
-      behind facts (before facts instrs parts k) part.line instr part.entry ≡ Ok (fallen facts (before facts instrs parts k) instr part)
+      after facts (before facts instrs parts k) part.line instr part.entry ≡ Ok (fallen facts (before facts instrs parts k) instr part)
   joins : (k : ℕ) (instr : Instr) (part : Part) → slice_get instrs k ≡ Some instr → slice_get parts k ≡ Some part →
       obeys_join facts (fallen facts (before facts instrs parts k) instr part) (edges_into (suc k) (edges_before facts instrs parts (suc k))) part.join ≡ true
   edges_are : edges ≡ edges_before facts instrs parts place
@@ -260,8 +260,8 @@ come_on facts instrs lines place edges taken through past_it instr there come li
     known_there : before facts instrs all (suc place) ≡ past (fallen facts (before facts instrs all place) instr part) join.join
     known_there = ap₂ (known_past facts (before facts instrs all place)) there last_there
 
-    says : behind facts (before facts instrs all place) line.line instr line.entry ≡ Ok (fallen facts (before facts instrs all place) instr part)
-    says = ap (λ k. behind facts k line.line instr line.entry) here ∙ line.says ∙ ap Ok (sym through_is)
+    says : after facts (before facts instrs all place) line.line instr line.entry ≡ Ok (fallen facts (before facts instrs all place) instr part)
+    says = ap (λ k. after facts k line.line instr line.entry) here ∙ line.says ∙ ap Ok (sym through_is)
 
     obeyed : obeys_join facts (fallen facts (before facts instrs all place) instr part) (edges_into (suc place) (edges_before facts instrs all (suc place))) join.join ≡ true
     obeyed = ap₂ (λ k es. obeys_join facts k (edges_into (suc place) es) join.join) through_is (edges_more facts instrs come.parts part (suc place) (omega (arith, come.counted)) ∙ sym edges_same) ∙ join.obeys
@@ -270,14 +270,14 @@ come_on facts instrs lines place edges taken through past_it instr there come li
     same_instr k i at i_there = some_is (sym there ∙ ap (slice_get instrs) (sym at) ∙ i_there)
 
     instruction_at : (k : ℕ) (i : Instr) (q : Part) → slice_get instrs k ≡ Some i → ((k < length come.parts) × (slice_get come.parts k ≡ Some q)) ⊎ ((k ≡ length come.parts) × (part ≡ q)) →
-        behind facts (before facts instrs all k) q.line i q.entry ≡ Ok (fallen facts (before facts instrs all k) i q)
+        after facts (before facts instrs all k) q.line i q.entry ≡ Ok (fallen facts (before facts instrs all k) i q)
     instruction_at k i q i_there (inl (lt, earlier)) =
-        subst (λ known. behind facts known q.line i q.entry ≡ Ok (fallen facts known i q)) (sym (before_more facts instrs come.parts part k (omega (arith, lt)))) (come.instruction k i q i_there earlier)
+        subst (λ known. after facts known q.line i q.entry ≡ Ok (fallen facts known i q)) (sym (before_more facts instrs come.parts part k (omega (arith, lt)))) (come.instruction k i q i_there earlier)
     instruction_at k i q i_there (inr (last, same)) =
         let at : k ≡ place = last ∙ come.counted in
-        subst (λ k. behind facts (before facts instrs all k) q.line i q.entry ≡ Ok (fallen facts (before facts instrs all k) i q)) (sym at)
-        (subst (λ i. behind facts (before facts instrs all place) q.line i q.entry ≡ Ok (fallen facts (before facts instrs all place) i q)) (same_instr k i at i_there)
-        (subst (λ (q : Part). behind facts (before facts instrs all place) q.line instr q.entry ≡ Ok (fallen facts (before facts instrs all place) instr q)) same says))
+        subst (λ k. after facts (before facts instrs all k) q.line i q.entry ≡ Ok (fallen facts (before facts instrs all k) i q)) (sym at)
+        (subst (λ i. after facts (before facts instrs all place) q.line i q.entry ≡ Ok (fallen facts (before facts instrs all place) i q)) (same_instr k i at i_there)
+        (subst (λ (q : Part). after facts (before facts instrs all place) q.line instr q.entry ≡ Ok (fallen facts (before facts instrs all place) instr q)) same says))
 
     join_at : (k : ℕ) (i : Instr) (q : Part) → slice_get instrs k ≡ Some i → ((k < length come.parts) × (slice_get come.parts k ≡ Some q)) ⊎ ((k ≡ length come.parts) × (part ≡ q)) →
         obeys_join facts (fallen facts (before facts instrs all k) i q) (edges_into (suc k) (edges_before facts instrs all (suc k))) q.join ≡ true

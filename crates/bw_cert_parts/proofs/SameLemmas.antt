@@ -15,7 +15,7 @@ use Rattle.bw_cert_lines.specs.declared.lines.Entry.TheVariants as entry
 use Rattle.bw_cert_lines.specs.declared.lines.Keep.{Keep}
 use Rattle.bw_cert_lines.specs.CertificateFields.{BodyFields, EntryFields, KeepFields, Condition, Instruction, Join, Kept, body_fields, entry_fields, keep_fields}
 use Rattle.bw_cert_parts.specs.declared.edge.Edge.{Edge}
-use Rattle.bw_cert_parts.specs.Instruction.{behind}
+use Rattle.bw_cert_parts.specs.Instruction.{after}
 use Rattle.bw_cert_parts.specs.Join.{edge_of, with_edge, edges_into, is_zero, keeps_by_skip, keeps_by_skips, is_kept}
 use Rattle.bw_cert_parts.specs.Known.{Known, node_of, with_node, nothing_known}
 use Rattle.bw_cert_parts.specs.Walk.{Taken, told, instruction_on, instruction_taken, is_join, keep_in, by_keep, keeps_taken, joined, walked}
@@ -32,7 +32,7 @@ taken_of known rest = record { known = known; rest = rest }
 
 -- what a line says of an instruction, of a join and of a register
 abbrev instruction_said : Facts → Known → Instr → ℕ → EntryFields → Result Known Fault
-instruction_said facts known instr line (Instruction given) = behind facts known line instr given
+instruction_said facts known instr line (Instruction given) = after facts known line instr given
 instruction_said facts known instr line (Condition given) = Err (at_line 607 line)
 instruction_said facts known instr line (Join place) = Err (at_line 607 line)
 instruction_said facts known instr line (Kept keep) = Err (at_line 607 line)

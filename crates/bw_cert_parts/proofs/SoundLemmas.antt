@@ -24,7 +24,7 @@ use Rattle.bw_cert_parts.specs.Join.{with_edge, edges_into, is_zero, is_kept, ke
 use Rattle.bw_cert_parts.specs.Known.{Known, node_of, nothing_known, with_node}
 use Rattle.bw_cert_parts.specs.Sound.{Hold}
 use Rattle.bw_cert_parts.proofs.HoldLemmas.{map_same, holds_nothing, holds_kept}
-use Rattle.bw_cert_parts.proofs.StepLemmas.{values, holds_behind}
+use Rattle.bw_cert_parts.proofs.StepLemmas.{values, holds_after_instr}
 
 -- two bits whose XOR is 0 are the same
 xor_zero : (a b : Bool) → joined connective.Xor a b ≡ false → a ≡ b
@@ -217,7 +217,7 @@ unfolding HoldsAt
 fell facts lanes instrs parts state instr next worth obeys there holds place registers =
     let part = part_there instrs parts state.place instr obeys.counted there in
     let known : Known = before facts instrs parts state.place in
-    let stepped = holds_behind facts lanes known (fallen facts known instr part.0) state part.0.line instr part.0.entry worth holds (obeys.instruction state.place instr part.0 there part.1) in
+    let stepped = holds_after_instr facts lanes known (fallen facts known instr part.0) state part.0.line instr part.0.entry worth holds (obeys.instruction state.place instr part.0 there part.1) in
     let past_join = past_through facts lanes (fallen facts known instr part.0) (step facts.columns lanes instr state).registers _ part.0.join worth stepped (obeys.join state.place instr part.0 there part.1) in
     let here = past_is facts instrs parts state.place instr part.0 there part.1 in
     subst (λ p. Hold facts lanes (before facts instrs parts p) next.registers) (sym place)

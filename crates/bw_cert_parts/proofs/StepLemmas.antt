@@ -21,7 +21,7 @@ use Rattle.bw_program.specs.Machine.{State, in_lanes, differ, step, after_skip, 
 use Rattle.bw_program.specs.Program.{instr_fits}
 use Rattle.bw_program.specs.ProgramText.{found_on}
 use Rattle.bw_cert_lines.specs.declared.lines.InstructionEntry.{InstructionEntry}
-use Rattle.bw_cert_parts.specs.Instruction.{loaded_node, operation_row, byte_chain, is_fill, is_skip_line, terminal, plane_on, operation_on, read_on, joined_on, opposite_on, past_node, byte_node, byte_on, behind}
+use Rattle.bw_cert_parts.specs.Instruction.{loaded_node, operation_row, byte_chain, is_fill, is_skip_line, terminal, plane_on, operation_on, read_on, joined_on, opposite_on, past_node, byte_node, byte_on, after}
 use Rattle.bw_cert_parts.specs.Known.{Known}
 use Rattle.bw_cert_parts.specs.Sound.{Hold}
 use Rattle.bw_cert_parts.proofs.HoldLemmas.{bind_ok, not_refused, found_ok, map_same, holds_written, spelled_small}
@@ -123,46 +123,46 @@ differ_joins false true = refl
 differ_joins false false = refl
 
 -- What is known after an instruction by its line holds after its step, where what was known held before it.
-pub holds_behind : (facts : Facts) (lanes : List Assignment) (known past : Known) (state : State) (line : ℕ) (instr : Instr) (given : InstructionEntry) → AreWorth facts → Hold facts lanes known state.registers →
-    behind facts known line instr given ≡ Ok past → Hold facts lanes past (step facts.columns lanes instr state).registers
-unfolding behind
-holds_behind facts lanes known past state line (Load r column bit) given worth holds is =
+pub holds_after_instr : (facts : Facts) (lanes : List Assignment) (known past : Known) (state : State) (line : ℕ) (instr : Instr) (given : InstructionEntry) → AreWorth facts → Hold facts lanes known state.registers →
+    after facts known line instr given ≡ Ok past → Hold facts lanes past (step facts.columns lanes instr state).registers
+unfolding after
+holds_after_instr facts lanes known past state line (Load r column bit) given worth holds is =
     let node = bind_ok (plane_on facts line (instr_fits facts.columns (Load r column bit)) (bit_variable facts.columns column bit) given) _ past is in
     subst (λ k. Hold facts lanes k (step facts.columns lanes (Load r column bit) state).registers) (ok_same node.2)
     (holds_written facts lanes known state.registers r node.0 _ holds (plane_worth facts lanes line _ node.0 _ given worth node.1))
-holds_behind facts lanes known past state line (Nulls r column) given worth holds is =
+holds_after_instr facts lanes known past state line (Nulls r column) given worth holds is =
     let node = bind_ok (plane_on facts line (instr_fits facts.columns (Nulls r column)) (first_variable facts.columns column) given) _ past is in
     subst (λ k. Hold facts lanes k (step facts.columns lanes (Nulls r column) state).registers) (ok_same node.2)
     (holds_written facts lanes known state.registers r node.0 _ holds (plane_worth facts lanes line _ node.0 _ given worth node.1))
-holds_behind facts lanes known past state line (Fill r bit) given worth holds is =
+holds_after_instr facts lanes known past state line (Fill r bit) given worth holds is =
     let passed = not_refused (not (is_fill given)) _ _ past is in
     subst (λ k. Hold facts lanes k (step facts.columns lanes (Fill r bit) state).registers) (ok_same passed.1)
     (holds_written facts lanes known state.registers r (terminal bit) _ holds (fill_worth facts lanes bit worth))
-holds_behind facts lanes known past state line (And r x y) given worth holds is =
+holds_after_instr facts lanes known past state line (And r x y) given worth holds is =
     let node = bind_ok (joined_on facts known line connective.And x y given) _ past is in
     subst (λ k. Hold facts lanes k (step facts.columns lanes (And r x y) state).registers) (ok_same node.2)
     (holds_written facts lanes known state.registers r node.0 _ holds (joined_worth facts lanes known state.registers line connective.And (λ a b. a && b) x y node.0 given worth holds (λ a b. refl) node.1))
-holds_behind facts lanes known past state line (Or r x y) given worth holds is =
+holds_after_instr facts lanes known past state line (Or r x y) given worth holds is =
     let node = bind_ok (joined_on facts known line connective.Or x y given) _ past is in
     subst (λ k. Hold facts lanes k (step facts.columns lanes (Or r x y) state).registers) (ok_same node.2)
     (holds_written facts lanes known state.registers r node.0 _ holds (joined_worth facts lanes known state.registers line connective.Or (λ a b. a || b) x y node.0 given worth holds (λ a b. refl) node.1))
-holds_behind facts lanes known past state line (Xor r x y) given worth holds is =
+holds_after_instr facts lanes known past state line (Xor r x y) given worth holds is =
     let node = bind_ok (joined_on facts known line connective.Xor x y given) _ past is in
     subst (λ k. Hold facts lanes k (step facts.columns lanes (Xor r x y) state).registers) (ok_same node.2)
     (holds_written facts lanes known state.registers r node.0 _ holds (joined_worth facts lanes known state.registers line connective.Xor differ x y node.0 given worth holds differ_joins node.1))
-holds_behind facts lanes known past state line (Not r x) given worth holds is =
+holds_after_instr facts lanes known past state line (Not r x) given worth holds is =
     let node = bind_ok (opposite_on facts known line x given) _ past is in
     subst (λ k. Hold facts lanes k (step facts.columns lanes (Not r x) state).registers) (ok_same node.2)
     (holds_written facts lanes known state.registers r node.0 _ holds (opposite_worth facts lanes known state.registers line x node.0 given worth holds node.1))
-holds_behind facts lanes known past state line (ByteLt r column slice k) given worth holds is =
+holds_after_instr facts lanes known past state line (ByteLt r column slice k) given worth holds is =
     let node = bind_ok (byte_on facts line Less (instr_fits facts.columns (ByteLt r column slice k)) column slice k given) _ past is in
     subst (λ ks. Hold facts lanes ks (step facts.columns lanes (ByteLt r column slice k) state).registers) (ok_same node.2)
     (holds_written facts lanes known state.registers r node.0 _ holds (byte_worth facts lanes line Less _ column slice k node.0 given worth node.1))
-holds_behind facts lanes known past state line (ByteEq r column slice k) given worth holds is =
+holds_after_instr facts lanes known past state line (ByteEq r column slice k) given worth holds is =
     let node = bind_ok (byte_on facts line Equal (instr_fits facts.columns (ByteEq r column slice k)) column slice k given) _ past is in
     subst (λ ks. Hold facts lanes ks (step facts.columns lanes (ByteEq r column slice k) state).registers) (ok_same node.2)
     (holds_written facts lanes known state.registers r node.0 _ holds (byte_worth facts lanes line Equal _ column slice k node.0 given worth node.1))
-holds_behind facts lanes known past state line (Skip x target) given worth holds is =
+holds_after_instr facts lanes known past state line (Skip x target) given worth holds is =
     let passed = not_refused (not (is_skip_line given)) _ _ past is in
     let read = bind_ok (read_on known line x) _ past passed.1 in
     subst (λ k. Hold facts lanes k (after_skip state (is_zero_in_all (state.registers x)) target).registers) (ok_same read.2) (at (is_zero_in_all (state.registers x)))

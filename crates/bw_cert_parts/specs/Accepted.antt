@@ -9,7 +9,7 @@ use Rattle.bw_cert_lines.specs.declared.lines.InstructionEntry.{InstructionEntry
 use Rattle.bw_cert_lines.specs.declared.lines.Keep.{Keep}
 use Rattle.bw_cert_parts.specs.declared.edge.Edge.{Edge}
 use Rattle.bw_cert_parts.specs.Known.{Known, nothing_known, with_node}
-use Rattle.bw_cert_parts.specs.Instruction.{behind}
+use Rattle.bw_cert_parts.specs.Instruction.{after}
 use Rattle.bw_cert_parts.specs.Walk.{Taken}
 use Rattle.bw_cert_parts.specs.Join.{edge_of, with_edge, edges_into, is_kept}
 
@@ -54,7 +54,7 @@ known_or_nothing (Ok known) = known
 known_or_nothing (Err fault) = nothing_known
 
 abbrev pub fallen : Facts → Known → Instr → Part → Known
-fallen facts known instr part = known_or_nothing (behind facts known part.line instr part.entry)
+fallen facts known instr part = known_or_nothing (after facts known part.line instr part.entry)
 
 -- what is known after an instruction: what its join keeps, and where there is none, what falls through
 abbrev pub past : Known → Option JoinLines → Known
@@ -102,7 +102,7 @@ pub record Obeys (facts : Facts) (instrs : List Instr) (parts : List Part) : Typ
   pub counted : length parts ≡ length instrs
   pub instruction : (place : ℕ) (instr : Instr) (part : Part) → slice_get instrs place ≡ Some instr
       → slice_get parts place ≡ Some part
-      → behind facts (before facts instrs parts place) part.line instr part.entry
+      → after facts (before facts instrs parts place) part.line instr part.entry
       ≡ Ok (fallen facts (before facts instrs parts place) instr part)
   pub join : (place : ℕ) (instr : Instr) (part : Part) → slice_get instrs place ≡ Some instr → slice_get parts place
       ≡ Some part

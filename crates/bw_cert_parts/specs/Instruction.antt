@@ -123,20 +123,20 @@ look known line register given = refused_if (not (is_skip_line given)) (at_line 
 -- What is known after an instruction, by its line: the register that it writes has the node that the line shows. A
 -- line of another kind, and one that doesn't show it, is refused as 607, and one of the right kind that reads a register
 -- without a node as 609. A skip changes nothing.
-unfoldable pub behind : Facts → Known → ℕ → Instr → InstructionEntry → Result Known Fault
-behind facts known line (Load r column bit) given =
+unfoldable pub after : Facts → Known → ℕ → Instr → InstructionEntry → Result Known Fault
+after facts known line (Load r column bit) given =
     put known r (plane_on facts line (instr_fits facts.columns (Load r column bit))
     (bit_variable facts.columns column bit) given)
-behind facts known line (Nulls r column) given =
+after facts known line (Nulls r column) given =
     put known r (plane_on facts line (instr_fits facts.columns (Nulls r column))
     (first_variable facts.columns column) given)
-behind facts known line (Fill r bit) given = fill known line r bit given
-behind facts known line (And r x y) given = put known r (joined_on facts known line connective.And x y given)
-behind facts known line (Or r x y) given = put known r (joined_on facts known line connective.Or x y given)
-behind facts known line (Xor r x y) given = put known r (joined_on facts known line connective.Xor x y given)
-behind facts known line (Not r x) given = put known r (opposite_on facts known line x given)
-behind facts known line (ByteLt r column slice k) given =
+after facts known line (Fill r bit) given = fill known line r bit given
+after facts known line (And r x y) given = put known r (joined_on facts known line connective.And x y given)
+after facts known line (Or r x y) given = put known r (joined_on facts known line connective.Or x y given)
+after facts known line (Xor r x y) given = put known r (joined_on facts known line connective.Xor x y given)
+after facts known line (Not r x) given = put known r (opposite_on facts known line x given)
+after facts known line (ByteLt r column slice k) given =
     put known r (byte_on facts line Less (instr_fits facts.columns (ByteLt r column slice k)) column slice k given)
-behind facts known line (ByteEq r column slice k) given =
+after facts known line (ByteEq r column slice k) given =
     put known r (byte_on facts line Equal (instr_fits facts.columns (ByteEq r column slice k)) column slice k given)
-behind facts known line (Skip x target) given = look known line x given
+after facts known line (Skip x target) given = look known line x given

@@ -12,7 +12,7 @@ use Rattle.bw_cert_lines.specs.declared.lines.Keep.{Keep}
 use Rattle.bw_cert_lines.specs.CertificateFields.{BodyFields, body_fields}
 use Rattle.bw_cert_parts.specs.declared.edge.Edge.{Edge}
 use Rattle.bw_cert_parts.specs.Known.{Known, with_node, nothing_known}
-use Rattle.bw_cert_parts.specs.Instruction.{behind}
+use Rattle.bw_cert_parts.specs.Instruction.{after}
 use Rattle.bw_cert_parts.specs.Join.{edge_of, with_edge, edges_into, is_kept}
 
 -- what is known where lines have been taken, and the lines to come
@@ -27,7 +27,7 @@ told (Err fault) = Err fault
 
 -- where the line of an instruction is wanted, any other is wrong (607); where the lines have run out, that is so at the end
 abbrev pub instruction_on : Facts → Known → Instr → BodyLine → Entry → Result Known Fault
-instruction_on facts known instr line (line_of.Instruction given) = behind facts known line.line instr given
+instruction_on facts known instr line (line_of.Instruction given) = after facts known line.line instr given
 instruction_on facts known instr line (line_of.Condition given) = Err (at_line INSTRUCTION_LINE line.line)
 instruction_on facts known instr line (line_of.Join place) = Err (at_line INSTRUCTION_LINE line.line)
 instruction_on facts known instr line (line_of.Keep keep) = Err (at_line INSTRUCTION_LINE line.line)

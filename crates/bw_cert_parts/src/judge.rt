@@ -5,7 +5,7 @@ ghost use Rattle.bw_model.specs.Code.{width_at, slices_at};
 ghost use Rattle.bw_model.specs.Fault.{at_line};
 ghost use Rattle.bw_model.specs.Variable.{first_variable, bit_variable, is_nullable};
 ghost use Rattle.bw_program.specs.Program.{named_by, register_count};
-ghost use Rattle.bw_cert_parts.specs.Instruction.{behind, put, fill, look, plane_on, read_on, joined_on, opposite_on, operation_on, byte_on, byte_node, past_node};
+ghost use Rattle.bw_cert_parts.specs.Instruction.{after, put, fill, look, plane_on, read_on, joined_on, opposite_on, operation_on, byte_on, byte_node, past_node};
 ghost use Rattle.bw_cert_parts.specs.Known.{is_known_fault};
 
 use crate::known::Known;
@@ -78,8 +78,8 @@ fn look(known: &Known, line: u64, register: Register, given: InstructionEntry) -
 impl Judge<'_> {
     /// What is known after an instruction, by its line. Where the line is refused, it may be known
     /// already or not.
-    #[tactic(auto, unfolding(crate::specs::Instruction::behind))]
-    pub(crate) fn behind(
+    #[tactic(auto, unfolding(crate::specs::Instruction::after))]
+    pub(crate) fn after(
         self,
         known: &mut Known,
         line: u64,
@@ -89,9 +89,9 @@ impl Judge<'_> {
         requires columns { self.diagram.now.columns ≡ self.schema.now.columns.items }
         requires registers { named_by instr ≤ register_count }
         ensures known { IfOk result (λ _.
-            behind self.entry.diagram.now known.old line instr given ≡ Ok known.new) }
+            after self.entry.diagram.now known.old line instr given ≡ Ok known.new) }
         ensures fault { IfErr result (λ fault.
-            behind self.entry.diagram.now known.old line instr given ≡ Err fault) }
+            after self.entry.diagram.now known.old line instr given ≡ Err fault) }
         ensures code { IfErr result (λ fault. IsTrue (is_known_fault fault)) }
     {
         match instr {

@@ -82,7 +82,7 @@ impl Judge<'_> {
         let Entry::Instruction(given) = &line.entry else {
             return Err(Fault::at_line(code::INSTRUCTION_LINE, line.line));
         };
-        self.behind(known, line.line, instr, *given)?;
+        self.after(known, line.line, instr, *given)?;
         Ok(rest)
     }
 }

@@ -14,7 +14,7 @@ use Rattle.bw_program.specs.declared.instr.Instr.TheVariants.{Load, Nulls, Fill,
 use Rattle.bw_program.specs.declared.opcode.Opcode.{Opcode}
 use Rattle.bw_program.specs.declared.opcode.Opcode.TheVariants as op
 use Rattle.bw_program.specs.Opcode.{opcode_of}
-use Rattle.bw_program.specs.ProgramText.{register_of, found_on, load_on, nulls_on, fill_on, three_on, not_on, byte_on, skip_on, opcode_in, instr_behind, instr_on, goes_past, SpellsInstr, load, nulls, fill, conjunction, disjunction, difference, negation, below, same, skip}
+use Rattle.bw_program.specs.ProgramText.{register_of, found_on, load_on, nulls_on, fill_on, three_on, not_on, byte_on, skip_on, opcode_in, instr_after, instr_on, goes_past, SpellsInstr, load, nulls, fill, conjunction, disjunction, difference, negation, below, same, skip}
 
 negated_not : (b : Bool) → not b ≡ false → b ≡ true
 negated_not true e = refl
@@ -193,7 +193,7 @@ module _ (columns : List Column) (end number line : ℕ) where
   placed_so word rest words instr i alike there spelled =
       subst (λ (x : Instr). SpellsInstr columns end number (word ∷ rest) x) there (subst (λ (ws : List (List ℕ)). SpellsInstr columns end number (word ∷ ws) i) (sym alike) spelled)
 
-  by_opcode : (word : List ℕ) (rest : List (List ℕ)) (o : Option Opcode) (instr : Instr) → opcode_of word ≡ o → instr_behind columns number line o rest ≡ Ok instr → goes_past end instr ≡ false →
+  by_opcode : (word : List ℕ) (rest : List (List ℕ)) (o : Option Opcode) (instr : Instr) → opcode_of word ≡ o → instr_after columns number line o rest ≡ Ok instr → goes_past end instr ≡ false →
       SpellsInstr columns end number (word ∷ rest) instr
   by_opcode word rest None instr is e within = absurd (cc e)
   by_opcode word (r ∷ c ∷ b ∷ []) (Some op.Load) instr is e within = load_spelled word r c b instr is e
@@ -234,7 +234,7 @@ pub instr_spelled : (columns : List Column) (end number : ℕ) (line : NumberedW
 unfolding instr_on
 instr_spelled columns end number line instr e within = go line.words e
   where
-    go : (words : List (List ℕ)) → instr_behind columns number line.number (opcode_in words) (drop 1 words) ≡ Ok instr → SpellsInstr columns end number words instr
+    go : (words : List (List ℕ)) → instr_after columns number line.number (opcode_in words) (drop 1 words) ≡ Ok instr → SpellsInstr columns end number words instr
     go [] e = absurd (cc e)
     go (word ∷ rest) e = by_opcode columns end number line.number word rest (opcode_of word) instr refl e within
 
@@ -245,7 +245,7 @@ unfolding instr_on
 spelled_instr columns end number line instr spelled = go line.words instr spelled
   where
     go : (words : List (List ℕ)) (instr : Instr) → SpellsInstr columns end number words instr →
-        (instr_behind columns number line.number (opcode_in words) (drop 1 words) ≡ Ok instr) × (goes_past end instr ≡ false)
+        (instr_after columns number line.number (opcode_in words) (drop 1 words) ≡ Ok instr) × (goes_past end instr ≡ false)
     go _ _ (load {column = column} {bit = bit} o r c b lt) = let fits : nat_lt bit (width_at columns column) ≡ true = lt-ltb _ _ lt in (rw (o, b, r, c, fits) refl, refl)
     go _ _ (nulls o r c nullable) = (rw (o, r, c, nullable) refl, refl)
     go _ _ (fill {bit = bit} o r b le) = let small : nat_lt 1 bit ≡ false = le-ltb _ _ le in (rw (o, b, small, r) refl, refl)

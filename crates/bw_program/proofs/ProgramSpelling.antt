@@ -17,7 +17,7 @@ use Rattle.bw_program.specs.declared.opcode.Opcode.{Opcode}
 use Rattle.bw_program.specs.declared.opcode.Opcode.TheVariants as op
 use Rattle.bw_program.specs.Opcode.{opcode_of}
 use Rattle.bw_program.specs.Program.{ProgramShape, most_instructions, is_register, is_sound, are_sound, is_program, instr_fits, fits}
-use Rattle.bw_program.specs.ProgramText.{register_of, register_below, found_on, names_result, opcode_in, is_result_line, result_behind, last_line, within_end, goes_past, instrs_of, ended, finished, instr_on, program_on, program_of, SpellsInstr, SpellsLines, result_line, instr_line, IsProgramText}
+use Rattle.bw_program.specs.ProgramText.{register_of, register_below, found_on, names_result, opcode_in, is_result_line, result_after, last_line, within_end, goes_past, instrs_of, ended, finished, instr_on, program_on, program_of, SpellsInstr, SpellsLines, result_line, instr_line, IsProgramText}
 use Rattle.bw_program.specs.ProgramText as text
 use Rattle.bw_program.proofs.InstrSpelling.{instr_spelled, spelled_instr}
 
@@ -41,9 +41,9 @@ unfolding within_end
 read_within end [] x all = refl
 read_within end (p ∷ placed) x all = rw all.0 (read_within end placed x all.1)
 
-within_behind : (end : ℕ) (before rest : List Placed) → AllWithin end (before ++ rest) → AllWithin end rest
-within_behind end [] rest all = all
-within_behind end (p ∷ before) rest all = within_behind end before rest all.1
+within_after : (end : ℕ) (before rest : List Placed) → AllWithin end (before ++ rest) → AllWithin end rest
+within_after end [] rest all = all
+within_after end (p ∷ before) rest all = within_after end before rest all.1
 
 within_more : (end : ℕ) (before : List Placed) (p : Placed) → AllWithin end before → goes_past end p.instr ≡ false → AllWithin end (before ++ p ∷ [])
 within_more end [] p all here = (here, tt)
@@ -58,7 +58,7 @@ record Read (columns : List Column) (before : List Placed) (lines : List Numbere
   spelled : SpellsLines columns (length (before ++ rest)) (length before) lines (instrs_of rest) program.result
 
 pub result_spelled : (columns : List Column) (end number line : ℕ) (words : List (List ℕ)) (lines : List NumberedWords) (result : ℕ) → names_result (opcode_in words) ≡ true →
-    result_behind line (drop 1 words) ≡ Ok result → lines ≡ [] → SpellsLines columns end number (record { number = line; words = words } ∷ lines) [] result
+    result_after line (drop 1 words) ≡ Ok result → lines ≡ [] → SpellsLines columns end number (record { number = line; words = words } ∷ lines) [] result
 result_spelled columns end number line [] lines result is e last = absurd (cc is)
 result_spelled columns end number line (word ∷ []) lines result is e last = absurd (cc e)
 result_spelled columns end number line (word ∷ r ∷ s ∷ words) lines result is e last = absurd (cc e)
@@ -83,10 +83,10 @@ result_spelled columns end number line (word ∷ r ∷ []) lines result is e las
 -- the lines after the result's line, and the end
 finished_read : (columns : List Column) (before : List Placed) (line : NumberedWords) (lines : List NumberedWords) (program : ProgramShape) →
     is_result_line line ≡ true → length before ≤ most_instructions →
-    (result_behind line.number (drop 1 line.words) >>= λ result. finished before lines result) ≡ Ok program → Read columns before (line ∷ lines) program
-finished_read columns before line lines program is few e = go (result_behind line.number (drop 1 line.words)) lines refl refl e
+    (result_after line.number (drop 1 line.words) >>= λ result. finished before lines result) ≡ Ok program → Read columns before (line ∷ lines) program
+finished_read columns before line lines program is few e = go (result_after line.number (drop 1 line.words)) lines refl refl e
   where
-    go : (r : Result ℕ Fault) (rest : List NumberedWords) → result_behind line.number (drop 1 line.words) ≡ r → lines ≡ rest →
+    go : (r : Result ℕ Fault) (rest : List NumberedWords) → result_after line.number (drop 1 line.words) ≡ r → lines ≡ rest →
         (r >>= λ result. finished before rest result) ≡ Ok program → Read columns before (line ∷ lines) program
     go (Err fault) rest read none e = absurd (cc e)
     go (Ok result) (l ∷ rest) read none e = absurd (cc e)
@@ -119,26 +119,26 @@ program_read columns before (line ∷ lines) end program few e =
     next (Ok instr) read room e more =
         let p : Placed = record { line = line.number; instr = instr } in
         let longer = length-append before (p ∷ []) in
-        let behind = more instr (omega arith) e in
-        let same : (before ++ p ∷ []) ++ behind.rest ≡ before ++ (p ∷ behind.rest) = append_assoc before (p ∷ []) behind.rest in
-        let within = subst (λ (all : List Placed). AllWithin (length all) all) same behind.within in
-        let here = within_behind (length (before ++ (p ∷ behind.rest))) before (p ∷ behind.rest) within in
-        let first = instr_spelled columns (length (before ++ (p ∷ behind.rest))) (length before) line instr read here.0 in
-        let end_same : length ((before ++ p ∷ []) ++ behind.rest) ≡ length (before ++ (p ∷ behind.rest)) = ap length same in
+        let after = more instr (omega arith) e in
+        let same : (before ++ p ∷ []) ++ after.rest ≡ before ++ (p ∷ after.rest) = append_assoc before (p ∷ []) after.rest in
+        let within = subst (λ (all : List Placed). AllWithin (length all) all) same after.within in
+        let here = within_after (length (before ++ (p ∷ after.rest))) before (p ∷ after.rest) within in
+        let first = instr_spelled columns (length (before ++ (p ∷ after.rest))) (length before) line instr read here.0 in
+        let end_same : length ((before ++ p ∷ []) ++ after.rest) ≡ length (before ++ (p ∷ after.rest)) = ap length same in
         let number_same : length (before ++ p ∷ []) ≡ suc (length before) = longer ∙ add-one (length before) in
-        let others : SpellsLines columns (length (before ++ (p ∷ behind.rest))) (suc (length before)) lines (instrs_of behind.rest) program.result =
-        subst (λ (k : ℕ). SpellsLines columns (length (before ++ (p ∷ behind.rest))) k lines (instrs_of behind.rest) program.result) number_same
-        (subst (λ (k : ℕ). SpellsLines columns k (length (before ++ p ∷ [])) lines (instrs_of behind.rest) program.result) end_same behind.spelled) in
+        let others : SpellsLines columns (length (before ++ (p ∷ after.rest))) (suc (length before)) lines (instrs_of after.rest) program.result =
+        subst (λ (k : ℕ). SpellsLines columns (length (before ++ (p ∷ after.rest))) k lines (instrs_of after.rest) program.result) number_same
+        (subst (λ (k : ℕ). SpellsLines columns k (length (before ++ p ∷ [])) lines (instrs_of after.rest) program.result) end_same after.spelled) in
         record {
-          rest = p ∷ behind.rest;
-          instrs = behind.instrs ∙ ap instrs_of same;
-          few = subst (λ (all : List Placed). length all ≤ most_instructions) same behind.few;
+          rest = p ∷ after.rest;
+          instrs = after.instrs ∙ ap instrs_of same;
+          few = subst (λ (all : List Placed). length all ≤ most_instructions) same after.few;
           within = within;
           spelled = instr_line first others;
         }
 
     go : (b : Bool) → is_result_line line ≡ b →
-        cond b (result_behind line.number (drop 1 line.words) >>= λ result. finished before lines result)
+        cond b (result_after line.number (drop 1 line.words) >>= λ result. finished before lines result)
         (refused_if (nat_le most_instructions (length before)) (at_line 505 line.number)
         (instr_on columns (length before) line >>= λ instr. program_on columns (before ++ record { line = line.number; instr = instr } ∷ []) lines end)) ≡ Ok program →
         ((instr : Instr) → length (before ++ record { line = line.number; instr = instr } ∷ []) ≤ most_instructions →

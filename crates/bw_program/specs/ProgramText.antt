@@ -84,21 +84,21 @@ skip_on number line (a ∷ l ∷ []) =
     refused_if (nat_le target number) (at_line SKIP_TARGET line) (Ok (Skip x target))
 skip_on number line words = Err (at_line PROGRAM_FORM line)
 
-abbrev pub instr_behind : List Column → ℕ → ℕ → Option Opcode → List (List ℕ) → Result Instr Fault
-instr_behind columns number line None words = Err (at_line PROGRAM_FORM line)
-instr_behind columns number line (Some op.Load) words = load_on columns line words
-instr_behind columns number line (Some op.Nulls) words = nulls_on columns line words
-instr_behind columns number line (Some op.Fill) words = fill_on line words
-instr_behind columns number line (Some op.And) words = three_on line words >>= λ three. Ok (And three.0 three.1 three.2)
-instr_behind columns number line (Some op.Or) words = three_on line words >>= λ three. Ok (Or three.0 three.1 three.2)
-instr_behind columns number line (Some op.Xor) words = three_on line words >>= λ three. Ok (Xor three.0 three.1 three.2)
-instr_behind columns number line (Some op.Not) words = not_on line words
-instr_behind columns number line (Some op.ByteLt) words = byte_on columns line words
+abbrev pub instr_after : List Column → ℕ → ℕ → Option Opcode → List (List ℕ) → Result Instr Fault
+instr_after columns number line None words = Err (at_line PROGRAM_FORM line)
+instr_after columns number line (Some op.Load) words = load_on columns line words
+instr_after columns number line (Some op.Nulls) words = nulls_on columns line words
+instr_after columns number line (Some op.Fill) words = fill_on line words
+instr_after columns number line (Some op.And) words = three_on line words >>= λ three. Ok (And three.0 three.1 three.2)
+instr_after columns number line (Some op.Or) words = three_on line words >>= λ three. Ok (Or three.0 three.1 three.2)
+instr_after columns number line (Some op.Xor) words = three_on line words >>= λ three. Ok (Xor three.0 three.1 three.2)
+instr_after columns number line (Some op.Not) words = not_on line words
+instr_after columns number line (Some op.ByteLt) words = byte_on columns line words
     >>= λ four. Ok (ByteLt four.0 four.1 four.2 four.3)
-instr_behind columns number line (Some op.ByteEq) words = byte_on columns line words
+instr_after columns number line (Some op.ByteEq) words = byte_on columns line words
     >>= λ four. Ok (ByteEq four.0 four.1 four.2 four.3)
-instr_behind columns number line (Some op.Skip) words = skip_on number line words
-instr_behind columns number line (Some op.Result) words = Err (at_line PROGRAM_FORM line)
+instr_after columns number line (Some op.Skip) words = skip_on number line words
+instr_after columns number line (Some op.Result) words = Err (at_line PROGRAM_FORM line)
 
 -- a line's opcode, and the words after it
 abbrev pub opcode_in : List (List ℕ) → Option Opcode
@@ -107,7 +107,7 @@ opcode_in (word ∷ words) = opcode_of word
 
 -- the instruction of this number that a line says, or the first fault there
 unfoldable pub instr_on : List Column → ℕ → NumberedWords → Result Instr Fault
-instr_on columns number line = instr_behind columns number line.number (opcode_in line.words) (drop 1 line.words)
+instr_on columns number line = instr_after columns number line.number (opcode_in line.words) (drop 1 line.words)
 
 -- the line names the result
 abbrev pub names_result : Option Opcode → Bool
@@ -119,9 +119,9 @@ abbrev pub is_result_line : NumberedWords → Bool
 is_result_line line = names_result (opcode_in line.words)
 
 -- the result register of such a line
-abbrev pub result_behind : ℕ → List (List ℕ) → Result ℕ Fault
-result_behind line (r ∷ []) = register_on line r
-result_behind line words = Err (at_line PROGRAM_FORM line)
+abbrev pub result_after : ℕ → List (List ℕ) → Result ℕ Fault
+result_after line (r ∷ []) = register_on line r
+result_after line words = Err (at_line PROGRAM_FORM line)
 
 abbrev pub instrs_of : List Placed → List Instr
 instrs_of placed = map (λ p. p.instr) placed
@@ -160,7 +160,7 @@ unfoldable pub program_on : List Column → List Placed → List NumberedWords �
 program_on columns before [] end = Err (at_line NO_RESULT end)
 program_on columns before (line ∷ lines) end =
     if is_result_line line then
-    (result_behind line.number (drop 1 line.words) >>= λ result. finished before lines result)
+    (result_after line.number (drop 1 line.words) >>= λ result. finished before lines result)
     else
     (refused_if (nat_le most_instructions (length before)) (at_line PROGRAM_TOO_LONG line.number)
     (instr_on columns (length before) line >>= λ instr.

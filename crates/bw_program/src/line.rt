@@ -1,7 +1,7 @@
 //! The instruction that a line of a program text says.
 ghost use Rattle.std.specs.Prelude.{◌≡◌, ◌<◌, List, Some, ℕ, map, drop, length, IfSome, IfOk, IfErr};
 ghost use Rattle.bw_model.specs.Lines.{line_of};
-ghost use Rattle.bw_program.specs.ProgramText.{register_of, natural_on, register_on, column_on, load_on, nulls_on, fill_on, three_on, not_on, byte_on, skip_on, instr_behind, instr_on, is_result_line, result_behind, IsProgramFault};
+ghost use Rattle.bw_program.specs.ProgramText.{register_of, natural_on, register_on, column_on, load_on, nulls_on, fill_on, three_on, not_on, byte_on, skip_on, instr_after, instr_on, is_result_line, result_after, IsProgramFault};
 
 use crate::instr::{ColumnIndex, Instr, Register, SliceIndex};
 use crate::opcode::Opcode;
@@ -33,7 +33,7 @@ fn instr_after(
     opcode: Opcode,
     words: &[&[u8]],
 ) -> Result<Instr, Fault>
-    ensures said { result ≡ instr_behind schema.now.columns.items number line (Some opcode)
+    ensures said { result ≡ instr_after schema.now.columns.items number line (Some opcode)
         (map (λ word. word.now) words.now) }
     ensures fault { IfErr result IsProgramFault }
 {
@@ -254,7 +254,7 @@ pub(crate) fn is_result_line(line: &Line) -> bool
 
 /// The result register that such a line names.
 pub(crate) fn result_of(line: &Line) -> Result<Register, Fault>
-    ensures register { result ≡ result_behind line.now.number (drop 1 (line_of line.now).words) }
+    ensures register { result ≡ result_after line.now.number (drop 1 (line_of line.now).words) }
     ensures below { IfOk result (λ register. register < 64) }
     ensures fault { IfErr result IsProgramFault }
 {
