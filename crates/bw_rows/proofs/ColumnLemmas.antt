@@ -1,29 +1,23 @@
 -- The values of a column in picked rows, by its codes and its nulls.
-use Rattle.std.proofs.Common.{◌≡◌, ◌∙◌, refl, sym, ap, ap₂, ℕ, zero, suc, ℤ, pos, ◌+◌, ◌-◌, ◌^◌, ◌<◌, ◌≤◌, Bool, true, false, not, cond, ◌&&◌, List, [], ◌∷◌, ◌++◌, map, filter, count_by, length, replicate, get_or, Some, None, unwrap_or, length-append, arith}
-use Rattle.std.proofs.lemmas.List.{length-map, length-replicate}
-use Rattle.std.specs.List.{list_all, AllByRecursion, cons_option}
+use Rattle.std.proofs.Common.{◌≡◌, ◌∙◌, refl, sym, ap, ap₂, ℕ, suc, ℤ, pos, ◌-◌, ◌<◌, Bool, true, false, not, cond, ◌&&◌, List, [], ◌∷◌, ◌++◌, map, count_by, length, replicate, Some, None, unwrap_or, arith}
+use Rattle.std.proofs.lemmas.List.{length-map}
+use Rattle.std.specs.List.{list_all, cons_option}
 use Rattle.std.proofs.lemmas.List.Sums.{sum_by-cons}
-use Rattle.std.proofs.lemmas.Nat.{pow_pos}
-use Rattle.std.proofs.lemmas.Simd.{map-map}
 use lib.Lanes.{zip2}
 use Rattle.bw_lanes.specs.Lanes.{lanes_of_words}
-use Rattle.bw_lanes.proofs.WordLemmas.{length-lanes_of_words}
 use Rattle.bw_model.specs.declared.column.Column.{Column}
 use Rattle.bw_model.specs.Row.{Value, value_in}
-use Rattle.bw_model.specs.Code.{width_at, value_at, has_bit}
+use Rattle.bw_model.specs.Code.{value_at}
 use Rattle.bw_model.specs.Column.{admits_values}
 use Rattle.bw_model.specs.Groups.{group_size}
 use Rattle.bw_model.specs.Selection.{picked}
 use Rattle.bw_model.specs.Stored.{stored_at}
 use Rattle.bw_model.specs.Total.{present}
 use Rattle.bw_model.specs.Truth.{is_null}
-use Rattle.bw_model.specs.Variable.{is_nullable, first_variable, null_variable}
 use Rattle.bw_model.proofs.BitsLemmas.{both}
-use Rattle.bw_model.proofs.StoredLemmas.{stored_below}
 use Rattle.bw_segment.specs.Packing.{null_bits, value_held}
-use Rattle.bw_segment.specs.Meaning.{Meaning, IsGroup, variable_lanes, stored_codes, code_lanes}
-use Rattle.bw_segment.proofs.LaneLemmas.{nulls_in_lanes, bits_of_nulls}
-use Rattle.bw_segment.proofs.ValueLemmas.{null_admitted, held_admitted}
+use Rattle.bw_segment.specs.Meaning.{Meaning, IsGroup, stored_codes}
+use Rattle.bw_segment.proofs.ValueLemmas.{held_admitted}
 use Rattle.bw_segment.specs.Picked.{codes_in}
 use Rattle.bw_segment.proofs.PickedCodes.{codes_counted}
 use Rattle.bw_rows.specs.Picked.{IsWithin, present_lanes, values_in, picked_rows}

@@ -1,16 +1,11 @@
 -- Totals of values that codes stand for, of some rows and others, and how large they are.
-use Rattle.std.proofs.Common.{◌≡◌, ◌∙◌, refl, sym, ap, ◌⊎◌, inl, inr, ℕ, ℤ, suc, pos, ◌+◌, ◌<◌, ◌≤◌, ◌+ℤ◌, ◌*ℤ◌, min, max, List, [], ◌∷◌, ◌++◌, map, length, length-append, append-nil, Option, Some, None, sum, arith}
+use Rattle.std.proofs.Common.{◌≡◌, ◌∙◌, refl, sym, ap, ℕ, ℤ, suc, pos, ◌+◌, ◌<◌, ◌+ℤ◌, ◌*ℤ◌, min, max, List, [], ◌∷◌, map, length, Some, None, sum, arith}
 use Rattle.std.specs.Option.{option_map}
 use Rattle.std.specs.List.{fold, reduce}
 use Rattle.std.specs.Int.{int_min, int_max}
-use Rattle.std.proofs.lemmas.List.Sums.{fold-append, sum_by-cons}
-use Rattle.std.proofs.lemmas.List.Elements.{filter_map-append}
+use Rattle.std.proofs.lemmas.List.Sums.{sum_by-cons}
 use Rattle.std.proofs.lemmas.Int.{ints, clamps}
 use lib.IntN.{suc_ℤ-*ℤ, zero-*ℤ, *ℤ_comm}
-use Rattle.bw_model.specs.declared.query.Item.{Item}
-use Rattle.bw_model.specs.declared.query.Item.TheVariants.{Plain, CountAll, Count, Sum, Min, Max}
-use Rattle.bw_model.specs.Row.{Value, value_in}
-use Rattle.bw_model.specs.Total.{total, present}
 
 -- a choice among values is that of the chosen code
 fold_map : (f : ℕ → ℕ → ℕ) (g : ℤ → ℤ → ℤ) (value : ℕ → ℤ) → ((a b : ℕ) → g (value a) (value b) ≡ value (f a b)) → (a : ℕ) (codes : List ℕ) → fold g (value a) (map value codes) ≡ value (fold f a codes)

@@ -1,7 +1,6 @@
 -- The last row that is picked of those that are left.
-use Rattle.std.proofs.Common.{◌≡◌, ◌∙◌, ◌≤◌, ◌<◌, refl, sym, subst, true≢false, [], get_or, length, arith, inl, inr}
+use Rattle.std.proofs.Common.{◌≡◌, ◌∙◌, refl, sym, subst, true≢false, [], get_or, arith, inl, inr}
 use Rattle.std.proofs.lemmas.Bool.{cases_lt}
-use Rattle.bw_lanes.specs.Lanes.{lanes_of_words}
 use Rattle.bw_model.specs.Groups.{group_size}
 use Rattle.bw_answer.specs.Fetched.{HasRow}
 use Rattle.bw_answer.proofs.lanes.fetch_rows.Goals as goal
