@@ -2,7 +2,7 @@
 use crate::segments::{SCHEMA, TABLE, compared, ones, rows_of};
 use bw_model::{Fault, Schema};
 use bw_planes::{PlaneSegment, Planes};
-use bw_segment::{Segment, Placement, columns_of, is_group, values_in_lanes};
+use bw_segment::{Placement, Segment, columns_of, is_group, values_in_lanes};
 use std::alloc::Global;
 use std::test::Fail;
 
@@ -85,7 +85,10 @@ fn blocks_are_judged(rt: HostRuntime) -> Result<(), Fail> {
     assert!(rt; is_group(&schema, &rows));
     let segment = PlaneSegment::build(rt.alloc(), &schema, &rows)?;
     let placement: &Placement = &segment.placement;
-    assert_eq!(rt; PlaneSegment::segment_size(placement), segment.bytes().len());
+    assert_eq!(rt;
+        PlaneSegment::segment_size(placement),
+        segment.bytes().len()
+    );
     assert_eq!(rt;
         judged(rt.alloc(), &segment, 0, [(0, 0x02), (0, 0x02)])?,
         None

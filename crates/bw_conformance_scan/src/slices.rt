@@ -1,7 +1,7 @@
 //! The slices of a worked table, and what is read of them.
 use crate::segments::{SCHEMA, TABLE, compared, ones, rows_of};
 use bw_model::{Fault, Schema};
-use bw_segment::{Segment, Placement, columns_of, is_group, values_in_lanes};
+use bw_segment::{Placement, Segment, columns_of, is_group, values_in_lanes};
 use bw_slices::{SliceSegment, Slices};
 use std::alloc::Global;
 use std::test::Fail;
@@ -81,7 +81,10 @@ fn blocks_are_judged(rt: HostRuntime) -> Result<(), Fail> {
     assert!(rt; is_group(&schema, &rows));
     let segment = SliceSegment::build(rt.alloc(), &schema, &rows)?;
     let placement: &Placement = &segment.placement;
-    assert_eq!(rt; SliceSegment::segment_size(placement), segment.bytes().len());
+    assert_eq!(rt;
+        SliceSegment::segment_size(placement),
+        segment.bytes().len()
+    );
     assert_eq!(rt;
         judged(rt.alloc(), &segment, 0, [(0, 0x00), (1, 0xFF)])?,
         None
