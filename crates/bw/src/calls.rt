@@ -81,5 +81,5 @@ pub fn plan<K: Sink>(alloc: Global, schema: &[u8], sql: &str, out: &mut K) -> Re
 }
 
 pub fn check(alloc: Global, schema: &[u8], sql: &str, file: &[u8]) -> Result<Accepted, Fault> {
-    bw_cert_file::check_text(alloc, schema, sql.as_bytes(), file)
+    bw_cert::check_text(alloc, schema, sql.as_bytes(), file)
 }

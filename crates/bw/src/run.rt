@@ -4,7 +4,7 @@ ghost use Rattle.bw_device.specs.ReadAhead.{read_failures};
 
 use crate::calls::{answer, check, direct, dump, infer, info, load, plan};
 use crate::out_file::{OutFile, is_same_file};
-use bw_cert_file::MAX_PROGRAM_FILE_LEN;
+use bw_cert::MAX_PROGRAM_FILE_LEN;
 use bw_device::{FromRead, Input, ReadAhead, Source, ToWrite, read_limited};
 use bw_file::Layout;
 use bw_model::{Fault, MAX_SCHEMA_LEN, code};

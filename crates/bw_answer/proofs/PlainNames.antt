@@ -3,9 +3,9 @@ use Rattle.std.proofs.Common.{◌≡◌, ◌≢◌, ◌∙◌, ℕ, ◌<◌, Boo
 use Rattle.std.specs.List.{list_all, list_any}
 use Rattle.std.proofs.lemmas.List.Folds.{list_any-append}
 use Rattle.csv.specs.Writing.{needs_byte}
-use Rattle.bw_model.specs.Keyword.{is_reserved}
+use Rattle.bw_text.specs.Keyword.{is_reserved}
 use Rattle.bw_model.specs.Name.{is_name}
-use Rattle.bw_model.specs.Text.{begins_word, goes_on_in_word, is_word}
+use Rattle.bw_text.specs.Text.{begins_word, goes_on_in_word, is_word}
 use Rattle.bw_answer.specs.Answer.{call_of}
 use Rattle.bw_answer.specs.Field.{answer_writer, is_plain}
 use Rattle.bw_answer.proofs.PlainFields.{quiet, no_more, plain_by}

@@ -4,5 +4,8 @@ pub mod FirstWrongLemmas
 pub mod PartsLemmas
 pub mod SameLemmas
 pub mod SelectionLemmas
+pub mod SplitLemmas
 pub mod StatedLemmas
+pub mod TextLemmas
 pub mod ValidLemmas
+pub mod VerdictLemmas

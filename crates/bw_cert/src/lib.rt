@@ -4,19 +4,31 @@
 //! The contract that the crates above use: [`check`] answers a [`Certified`] exactly where a
 //! certificate is valid, as `specs/Valid.antt` says, and else the first line that breaks a rule;
 //! [`Certified::run_segment`] gives, for each row of a segment, whether the condition is TRUE on
-//! it.
+//! it. Of a program file, which is the text of both, [`certify`] answers the same exactly where the
+//! file spells a program and a certificate that is valid for it and the condition, and else the
+//! first fault; [`check_text`] does so from the texts of a schema and a statement, and gives the
+//! numbers of what was accepted.
 //!
-//! Read `specs/Valid.antt` first, and then `checker.rt`.
+//! Read `specs/Valid.antt` first, and then `checker.rt`; for program files `specs/ProgramFile.antt`
+//! and `specs/Judged.antt`, and then `certified_file.rt`.
 #![tactic(auto)]
 
 mod certified;
+mod certified_file;
+mod check_call;
 mod checker;
+mod file_laws;
 mod laws;
+mod program_file;
 mod stated;
 
 pub use certified::Certified;
+pub use certified_file::{CertifiedFile, certify};
+pub use check_call::check_text;
 pub use checker::check;
+pub use file_laws::one_verdict;
 pub use laws::{
     certificates_are_judged_by_what_they_say, refused_certificates_have_a_first_fault,
     refused_lines_have_a_first_fault, valid_exactly_where_checked, valid_programs_select,
 };
+pub use program_file::{MAX_PROGRAM_FILE_LEN, ProgramFile, split_file};

@@ -9,7 +9,7 @@ use Rattle.bw_model.specs.Variable.{Assignment, spelled}
 use Rattle.bw_diagram.specs.Facts.{Facts}
 use Rattle.bw_diagram.specs.Node.{node_value}
 use Rattle.bw_program.specs.Machine.{with_register}
-use Rattle.bw_program.specs.Program.{register_count}
+use Rattle.bw_text.specs.Register.{register_count}
 use Rattle.bw_program.specs.ProgramText.{found_on}
 use Rattle.bw_cert_parts.specs.Known.{Known, node_of, nothing_known, with_node}
 use Rattle.bw_cert_parts.specs.Sound.{Hold}

@@ -7,7 +7,7 @@ use Rattle.bw_diagram.specs.declared.product.Connective.TheVariants as connectiv
 use Rattle.bw_diagram.specs.Facts.{Facts}
 use Rattle.bw_diagram.specs.Cited.{cited}
 use Rattle.bw_program.specs.declared.instr.Instr.{Instr}
-use Rattle.bw_program.specs.Program.{is_register}
+use Rattle.bw_text.specs.Register.{is_register}
 use Rattle.bw_cert_lines.specs.declared.lines.BodyLine.{BodyLine}
 use Rattle.bw_cert_lines.specs.declared.lines.EdgeProducts.{EdgeProducts}
 use Rattle.bw_cert_lines.specs.declared.lines.Entry.{Entry}

@@ -3,7 +3,7 @@ use Rattle.std.specs.Prelude.{ℕ, Bool, ◌&&◌, ◌||◌, List, replicate, Op
 use Rattle.bw_model.specs.declared.fault.code.TheConstants.{INSTRUCTION_LINE, REGISTER_UNKNOWN}
 use Rattle.bw_model.specs.declared.fault.Fault.{Fault}
 use Rattle.bw_model.specs.Fault.{is_memory}
-use Rattle.bw_program.specs.Program.{register_count}
+use Rattle.bw_text.specs.Register.{register_count}
 
 abbrev pub Known : Type 0
 Known = List (Option ℕ)

@@ -4,7 +4,8 @@ ghost use Rattle.bw_model.specs.declared.fault.code.TheConstants.{INSTRUCTION_LI
 ghost use Rattle.bw_model.specs.Code.{width_at, slices_at};
 ghost use Rattle.bw_model.specs.Fault.{at_line};
 ghost use Rattle.bw_model.specs.Variable.{first_variable, bit_variable, is_nullable};
-ghost use Rattle.bw_program.specs.Program.{named_by, register_count};
+ghost use Rattle.bw_program.specs.Program.{named_by};
+ghost use Rattle.bw_text.specs.Register.{register_count};
 ghost use Rattle.bw_cert_parts.specs.Instruction.{after, put, fill, look, plane_on, read_on, joined_on, opposite_on, operation_on, byte_on, byte_node, past_node};
 ghost use Rattle.bw_cert_parts.specs.Known.{is_known_fault};
 

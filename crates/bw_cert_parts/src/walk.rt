@@ -1,7 +1,8 @@
 //! The lines of a program's instructions and joins, taken one after another.
 ghost use Rattle.std.specs.Prelude.{◌≡◌, ◌≤◌, IsTrue, IfOk, IfErr, Ok, Err};
 ghost use Rattle.bw_model.specs.Fault.{Gives};
-ghost use Rattle.bw_program.specs.Program.{named_by, register_count};
+ghost use Rattle.bw_program.specs.Program.{named_by};
+ghost use Rattle.bw_text.specs.Register.{register_count};
 ghost use Rattle.bw_cert_parts.specs.Walk.{judged, instruction_taken};
 ghost use Rattle.bw_cert_parts.specs.Known.{is_known_fault};
 

@@ -2,7 +2,6 @@ pub mod EdgeLemmas
 pub mod LineRead
 pub mod LineSpelled
 pub mod PrintLemmas
-pub mod PrintedLines
 pub mod PrintedText
 pub mod SpelledNumbers
 pub mod TextLemmas

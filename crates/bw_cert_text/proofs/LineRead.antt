@@ -4,16 +4,16 @@ use Rattle.bw_diagram.specs.declared.chain.ChainKind.{ChainKind}
 use Rattle.bw_diagram.specs.declared.chain.ChainKind.TheVariants as compared
 use Rattle.bw_diagram.specs.declared.product.Reason.{Reason}
 use Rattle.bw_diagram.specs.declared.product.Reason.TheVariants.{Shortcut, Cofactors}
-use Rattle.bw_model.specs.Number.{natural_of}
-use Rattle.bw_model.specs.Text.{same_text}
-use Rattle.bw_cert_text.specs.declared.kind.LineKind.{LineKind}
-use Rattle.bw_cert_text.specs.declared.kind.LineKind.TheVariants as kind
-use Rattle.bw_cert_text.specs.declared.kind.ConditionKind.{ConditionKind}
-use Rattle.bw_cert_text.specs.declared.kind.ConditionKind.TheVariants as condition
-use Rattle.bw_cert_text.specs.declared.kind.InstructionKind.{InstructionKind}
-use Rattle.bw_cert_text.specs.declared.kind.InstructionKind.TheVariants as instruction
-use Rattle.bw_cert_text.specs.declared.kind.Form.{Form}
-use Rattle.bw_cert_text.specs.declared.kind.Form.TheVariants as form
+use Rattle.bw_text.specs.Number.{natural_of}
+use Rattle.bw_text.specs.Text.{same_text}
+use Rattle.bw_text.specs.declared.line_kind.LineKind.{LineKind}
+use Rattle.bw_text.specs.declared.line_kind.LineKind.TheVariants as kind
+use Rattle.bw_text.specs.declared.line_kind.ConditionKind.{ConditionKind}
+use Rattle.bw_text.specs.declared.line_kind.ConditionKind.TheVariants as condition
+use Rattle.bw_text.specs.declared.line_kind.InstructionKind.{InstructionKind}
+use Rattle.bw_text.specs.declared.line_kind.InstructionKind.TheVariants as instruction
+use Rattle.bw_text.specs.declared.form.Form.{Form}
+use Rattle.bw_text.specs.declared.form.Form.TheVariants as form
 use Rattle.bw_cert_lines.specs.declared.lines.NodeLine.{NodeLine}
 use Rattle.bw_cert_lines.specs.declared.lines.ProductLine.{ProductLine}
 use Rattle.bw_cert_lines.specs.declared.lines.ConditionEntry.{ConditionEntry}
@@ -23,10 +23,14 @@ use Rattle.bw_cert_lines.specs.declared.lines.InstructionEntry.TheVariants.{Load
 use Rattle.bw_cert_lines.specs.declared.lines.EdgeProducts.{EdgeProducts}
 use Rattle.bw_cert_lines.specs.CertificateFields.{ColumnFields, One, Two, ChainFields, KeepFields, Condition, Instruction, Join, Kept}
 use Rattle.bw_cert_text.specs.LineText.{Node, Chain, Row, Body, Said, Before, End, node_in, one_column_in, two_columns_in, columns_behind, chain_in, reason_in, row_in, compare_in, compare_columns_in, is_in, condition_in, instruction_in, edges_in, keep_in, said_behind, said_by}
-use Rattle.bw_cert_text.specs.Operand.{◌>?◌, optional_of, register_of, nothing_in, number_in, two_in}
+use Rattle.bw_cert_text.specs.Operand.{◌>?◌, optional_of, nothing_in, number_in, two_in}
+use Rattle.bw_text.specs.Register.{register_of}
 use Rattle.bw_cert_text.specs.Token.{Number, IsSpelled, AreSpelled, one_key, two_key, none, next, column_tokens, reason_tokens, condition_tokens, instruction_tokens, edge_tokens, keep_tokens, end_tokens, part_tokens, part_line}
-use Rattle.bw_cert_text.specs.Word.{kind_spelling, kind_of, connective_of, form_of}
-use Rattle.bw_cert_text.proofs.WordSpelling.{opened, kind_is, connective_is, form_is, optional_read}
+use Rattle.bw_text.specs.LineKind.{kind_spelling, kind_of}
+use Rattle.bw_text.specs.Form.{form_of}
+use Rattle.bw_cert_text.specs.Connective.{connective_of}
+use Rattle.bw_cert_text.proofs.WordSpelling.{opened, connective_is, optional_read}
+use Rattle.bw_text.proofs.WordSpelling.{kind_is, form_is}
 
 -- a line says what was read, with its number
 abbrev pub IsSaid : Said → ℕ → List (List ℕ) → Type 0

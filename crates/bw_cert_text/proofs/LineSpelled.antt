@@ -3,12 +3,12 @@ use Rattle.std.proofs.Common.{◌≡◌, ◌∙◌, refl, ap, ℕ, List, [], ◌
 use Rattle.bw_diagram.specs.declared.chain.ChainKind.TheVariants as compared
 use Rattle.bw_diagram.specs.declared.product.Reason.{Reason}
 use Rattle.bw_diagram.specs.declared.product.Reason.TheVariants.{Shortcut, Cofactors}
-use Rattle.bw_model.specs.Number.{natural_of}
-use Rattle.bw_cert_text.specs.declared.kind.LineKind.TheVariants as kind
-use Rattle.bw_cert_text.specs.declared.kind.ConditionKind.TheVariants as condition
-use Rattle.bw_cert_text.specs.declared.kind.InstructionKind.TheVariants as instruction
-use Rattle.bw_cert_text.specs.declared.kind.Form.{Form}
-use Rattle.bw_cert_text.specs.declared.kind.Form.TheVariants as form
+use Rattle.bw_text.specs.Number.{natural_of}
+use Rattle.bw_text.specs.declared.line_kind.LineKind.TheVariants as kind
+use Rattle.bw_text.specs.declared.line_kind.ConditionKind.TheVariants as condition
+use Rattle.bw_text.specs.declared.line_kind.InstructionKind.TheVariants as instruction
+use Rattle.bw_text.specs.declared.form.Form.{Form}
+use Rattle.bw_text.specs.declared.form.Form.TheVariants as form
 use Rattle.bw_cert_lines.specs.declared.lines.NodeLine.{NodeLine}
 use Rattle.bw_cert_lines.specs.declared.lines.ProductLine.{ProductLine}
 use Rattle.bw_cert_lines.specs.declared.lines.ConditionEntry.{ConditionEntry}
@@ -19,8 +19,10 @@ use Rattle.bw_cert_lines.specs.declared.lines.EdgeProducts.{EdgeProducts}
 use Rattle.bw_cert_lines.specs.CertificateFields.{ColumnFields, One, Two, ChainFields, EntryFields, Condition, Instruction, Join, Kept}
 use Rattle.bw_cert_text.specs.LineText.{Node, Chain, Row, Body, Said, Before, End, columns_behind, reason_in, edges_in, said_by}
 use Rattle.bw_cert_text.specs.Token.{AreSpelled, none, next, node_tokens, column_tokens, chain_tokens, reason_tokens, row_tokens, condition_tokens, instruction_tokens, edge_tokens, end_tokens, entry_tokens}
-use Rattle.bw_cert_text.specs.Word.{kind_of, form_of}
-use Rattle.bw_cert_text.proofs.WordSpelling.{is_kind, is_connective, is_form, read_optional}
+use Rattle.bw_text.specs.LineKind.{kind_of}
+use Rattle.bw_text.specs.Form.{form_of}
+use Rattle.bw_cert_text.proofs.WordSpelling.{is_connective, read_optional}
+use Rattle.bw_text.proofs.WordSpelling.{is_kind, is_form}
 use Rattle.bw_cert_text.proofs.LineRead.{IsSaid}
 
 abbrev body : ℕ → EntryFields → Said

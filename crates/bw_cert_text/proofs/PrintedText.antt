@@ -13,9 +13,9 @@ use Rattle.bw_diagram.specs.declared.product.Reason.{Reason}
 use Rattle.bw_diagram.specs.declared.product.Reason.TheVariants.{Shortcut, Cofactors}
 use Rattle.bw_model.specs.declared.column.Column as stored
 use Rattle.bw_model.specs.Column.{names_of, column_named}
-use Rattle.bw_model.specs.Lines.{NumberedWords, begins_comment, cut_lines, numbered, numbered_from}
+use Rattle.bw_text.specs.Lines.{NumberedWords, begins_comment, cut_lines, numbered, numbered_from}
 use Rattle.bw_model.specs.Name.{is_name}
-use Rattle.bw_model.specs.Text.{same_text}
+use Rattle.bw_text.specs.Text.{same_text}
 use Rattle.bw_cert_lines.specs.declared.lines.NodeLine.{NodeLine}
 use Rattle.bw_cert_lines.specs.declared.lines.ProductLine.{ProductLine}
 use Rattle.bw_cert_lines.specs.declared.lines.EndLine.{EndLine}
@@ -28,46 +28,32 @@ use Rattle.bw_cert_lines.specs.CertificateFields.{ColumnFields, One, Two, ChainF
 use Rattle.bw_cert_lines.specs.Columns.{is_found, are_columns, has_columns}
 use Rattle.bw_cert_text.specs.CertificateText.{section_of, with_part, end_alone, SpellsFrom, before_end, at_end, IsCertificateText}
 use Rattle.bw_cert_text.specs.LineText.{Part, Node, Chain, Row, Body}
-use Rattle.bw_cert_text.specs.PrintText.{token_text, line_text, lines_text, body_tokens, schema_spelling, spelling_at, respelled_columns, respelled_chain, respelled, certificate_text, print_text}
+use Rattle.bw_cert_text.specs.PrintText.{token_text, token_line, lines_text, body_tokens, schema_spelling, spelling_at, respelled_columns, respelled_chain, respelled, certificate_text, print_text}
 use Rattle.bw_cert_text.specs.Reprint.{node_at, chain_at, row_at, body_at, numbered_on, renumbered, is_small, numbers_fit}
 use Rattle.bw_cert_text.specs.Token.{Token, Key, Number, Perhaps, Column, Register, IsSpelled, AreSpelled, none, next, node_tokens, column_tokens, chain_tokens, reason_tokens, row_tokens, condition_tokens, instruction_tokens, edge_tokens, entry_tokens, end_tokens, part_tokens, part_line}
-use Rattle.bw_cert_text.specs.Word.{connective_spelling}
+use Rattle.bw_cert_text.specs.Connective.{connective_spelling}
 use Rattle.bw_model.proofs.BitsLemmas.{both}
-use Rattle.bw_model.proofs.DecimalLemmas.{decimal_spells, natural_of-decimal, plain_digits, plain_number}
-use Rattle.bw_model.proofs.SpacedWords.{is_plain_word, plain_name}
-use Rattle.bw_cert_text.specs.Operand.{register_of}
-use Rattle.bw_cert_text.proofs.PrintedLines.{line_said}
+use Rattle.bw_text.proofs.DecimalLemmas.{natural_of-decimal, plain_number}
+use Rattle.bw_text.proofs.RegisterLemmas.{plain_register, register_of-text}
+use Rattle.bw_text.proofs.SpacedWords.{line_said}
+use Rattle.bw_text.specs.Printed.{is_plain_word}
+use Rattle.bw_model.proofs.NameLemmas.{named_column_is_there, plain_name}
 
 same_as_itself : (text : List ℕ) → same_text text text ≡ true
 unfolding same_text
 same_as_itself text = (bytes_eq-Decides (map to_ascii_lowercase text) (map to_ascii_lowercase text)).1 refl
-
-register_of-text : (r : ℕ) → r < 64 → register_of (114 ∷ decimal r) ≡ Some r
-unfolding register_of
-register_of-text r lt = rw (natural_of-decimal r (omega arith), lt-ltb r 64 lt) refl
 
 plain_column : (columns : List stored.Column) (word : List ℕ) (c : ℕ) → list_all is_name (names_of columns) ≡ true → c < length columns → is_plain_word (spelling_at columns word (Some c)) ≡ true
 plain_column [] word c names lt = absurd (omega arith)
 plain_column (column ∷ columns) word zero names lt = plain_name column.name (both (is_name column.name) (list_all is_name (names_of columns)) names).0
 plain_column (column ∷ columns) word (suc c) names lt = plain_column columns word c (both (is_name column.name) (list_all is_name (names_of columns)) names).1 (omega arith)
 
-column_below : (columns : List stored.Column) (word : List ℕ) (n : ℕ) → column_named columns word ≡ Some n → n < length columns
-unfolding column_named
-column_below columns word n e = go (nat_lt (position_or_len test columns) (length columns)) refl e
-  where
-    test : stored.Column → Bool
-    test column = same_text column.name word
-
-    go : (b : Bool) → nat_lt (position_or_len test columns) (length columns) ≡ b → cond b (Some (position_or_len test columns)) None ≡ Some n → n < length columns
-    go true is e = let same : position_or_len test columns ≡ n = cc e in rw (← same) (ltb-true _ _ is)
-    go false is e = absurd (cc e)
-
 plain_spelling : (columns : List stored.Column) (word : List ℕ) → list_all is_name (names_of columns) ≡ true → is_found (column_named columns word) ≡ true → is_plain_word (schema_spelling columns word) ≡ true
 plain_spelling columns word names there = go (column_named columns word) refl there
   where
     go : (o : Option ℕ) → column_named columns word ≡ o → is_found o ≡ true → is_plain_word (spelling_at columns word o) ≡ true
     go None is e = absurd (cc e)
-    go (Some c) is e = plain_column columns word c names (column_below columns word c is)
+    go (Some c) is e = plain_column columns word c names (ltb-true c (length columns) (named_column_is_there columns word c is))
 
 -- what spells itself in its canonical text
 abbrev is_clear : Token → Bool
@@ -92,9 +78,7 @@ token_plain (Number n) h = plain_number n (ltb-true n (2 ^ 64) h)
 token_plain (Perhaps None) h = refl
 token_plain (Perhaps (Some n)) h = plain_number n (ltb-true n (2 ^ 64) h)
 token_plain (Column word) h = h
-token_plain (Register r) h =
-    let lt : r < 64 = ltb-true r 64 h in
-    plain_digits (decimal r) (decimal_spells r (omega arith)).all
+token_plain (Register r) h = plain_register r (ltb-true r 64 h)
 
 tokens_spelled : (ts : List Token) → list_all is_clear ts ≡ true → AreSpelled ts (map token_text ts)
 tokens_spelled [] h = none
@@ -118,11 +102,11 @@ not_true true e = absurd (cc e)
 not_true false e = refl
 
 tokens_said : (number : ℕ) (ts : List Token) (rest : List ℕ) → begins_line ts ≡ true → list_all is_clear ts ≡ true →
-    numbered_from number (cut_lines (line_text ts ++ rest)) ≡ numbered number (map token_text ts) ∷ numbered_from (number + 1) (cut_lines rest)
+    numbered_from number (cut_lines (token_line ts ++ rest)) ≡ numbered number (map token_text ts) ∷ numbered_from (number + 1) (cut_lines rest)
 tokens_said number [] rest begins h = absurd (cc begins)
 tokens_said number (Key key ∷ ts) rest begins h =
     let here = both (is_plain_word key) (list_all is_clear ts) h in
-    line_said number (Key key) ts rest here.0 (not_true (begins_comment key) begins) (tokens_plain ts here.1)
+    line_said number key (map token_text ts) rest here.0 (not_true (begins_comment key) begins) (tokens_plain ts here.1)
 tokens_said number (Number n ∷ ts) rest begins h = absurd (cc begins)
 tokens_said number (Perhaps n ∷ ts) rest begins h = absurd (cc begins)
 tokens_said number (Column word ∷ ts) rest begins h = absurd (cc begins)
@@ -272,7 +256,7 @@ module _ {A : Type 0} (part : A → Part) (tokens : A → List Token) (at : ℕ 
   section_spelled first (x ∷ xs) rest c h is =
       let here = both (list_all is_clear (tokens x)) (list_all (λ x. list_all is_clear (tokens x)) xs) h in
       let said = tokens_said first (tokens x) (lines_text tokens xs ++ rest) (begins x) here.0 in
-      let all = ap (λ (t : List ℕ). numbered_from first (cut_lines t)) (append_assoc (line_text (tokens x)) (lines_text tokens xs) rest) ∙ said in
+      let all = ap (λ (t : List ℕ). numbered_from first (cut_lines t)) (append_assoc (token_line (tokens x)) (lines_text tokens xs) rest) ∙ said in
       let shift : first + length (x ∷ xs) ≡ first + 1 + length xs = omega arith in
       let others = section_spelled (first + 1) xs rest c here.1 (subst (λ (n : ℕ). SpellsFrom s (numbered_from n (cut_lines rest)) c) shift is) in
       let of_section : s ≡ section_of (part (at first x)) = sym (same_section (at first x)) in
@@ -281,12 +265,12 @@ module _ {A : Type 0} (part : A → Part) (tokens : A → List Token) (at : ℕ 
       rw all (before_end (part (at first x)) le (same_line first x, spelled)
       (subst (λ (k : ℕ). SpellsFrom k (numbered_from (first + 1) (cut_lines (lines_text tokens xs ++ rest))) (behind_section part at (first + 1) xs c)) of_section others))
 
-end_spelled : (n : ℕ) (end : EndLine) → list_all is_small (end_tokens end) ≡ true → SpellsFrom 3 (numbered_from n (cut_lines (line_text (end_tokens end)))) (end_alone (record { line = n; row = end.row }))
+end_spelled : (n : ℕ) (end : EndLine) → list_all is_small (end_tokens end) ≡ true → SpellsFrom 3 (numbered_from n (cut_lines (token_line (end_tokens end)))) (end_alone (record { line = n; row = end.row }))
 unfolding cut_lines numbered_from
 end_spelled n end h =
     let said = tokens_said n (end_tokens end) [] refl h in
-    let whole : numbered_from n (cut_lines (line_text (end_tokens end))) ≡ numbered n (map token_text (end_tokens end)) ∷ [] =
-    ap (λ (t : List ℕ). numbered_from n (cut_lines t)) (sym (append-nil (line_text (end_tokens end)))) ∙ said in
+    let whole : numbered_from n (cut_lines (token_line (end_tokens end))) ≡ numbered n (map token_text (end_tokens end)) ∷ [] =
+    ap (λ (t : List ℕ). numbered_from n (cut_lines t)) (sym (append-nil (token_line (end_tokens end)))) ∙ said in
     rw whole (at_end (record { line = n; row = end.row }) (refl, tokens_spelled (end_tokens end) h))
 
 row_all : (x : ProductLine) → list_all is_small (row_tokens x) ≡ true → list_all is_clear (row_tokens x) ≡ true
@@ -343,7 +327,7 @@ certificate_spelled first c nodes chains rows body end =
     let r : ℕ = b + length c.chains in
     let y : ℕ = r + length c.products in
     let e : ℕ = y + length c.body in
-    let t4 : List ℕ = line_text (end_tokens c.end) in
+    let t4 : List ℕ = token_line (end_tokens c.end) in
     let t3 : List ℕ = lines_text body_tokens c.body ++ t4 in
     let t2 : List ℕ = lines_text row_tokens c.products ++ t3 in
     let t1 : List ℕ = lines_text chain_tokens c.chains ++ t2 in

@@ -2,12 +2,12 @@
 use Rattle.std.proofs.Common.{◌≡◌, refl, ℕ, ◌^◌, Bool, true, false, ◌&&◌, ◌==◌, cond, List, drop, Option, Some, None, nat_lt}
 use Rattle.std.specs.List.{list_all}
 use Rattle.std.specs.Prelude.{slice_index, ◌||◌}
-use Rattle.bw_model.specs.Lines.{NumberedWords, lines_in, from_line}
-use Rattle.bw_model.specs.Number.{natural_of, are_digits, digits_value, where_64_bits_hold}
+use Rattle.bw_text.specs.Lines.{NumberedWords, lines_in, from_line}
+use Rattle.bw_text.specs.Number.{natural_of, are_digits, digits_value, where_64_bits_hold}
 use Rattle.bw_cert_lines.specs.CertificateFields.{CertificateFields}
 use Rattle.bw_cert_text.specs.CertificateText.{SpellsFrom, before_end, at_end, IsCertificateText}
 use Rattle.bw_cert_text.specs.LineText.{Node, Chain, Row, Body}
-use Rattle.bw_cert_text.specs.Operand.{register_of, register_below}
+use Rattle.bw_text.proofs.RegisterLemmas.{register_is}
 use Rattle.bw_cert_text.specs.PrintText.{body_tokens}
 use Rattle.bw_cert_text.specs.Reprint.{is_small, numbers_fit}
 use Rattle.bw_cert_text.specs.Token.{Token, Key, Number, Perhaps, Column, Register, IsSpelled, AreSpelled, none, next, node_tokens, chain_tokens, row_tokens, end_tokens}
@@ -27,22 +27,13 @@ natural_small word n e = go (are_digits word) e
     go true e = below_so (2 ^ 64) (digits_value word) n e
     go false e = absurd (cc e)
 
-register_small : (word : List ℕ) (n : ℕ) → register_of word ≡ Some n → nat_lt n 64 ≡ true
-unfolding register_of
-register_small word n e = go ((slice_index word 0 == 114) || (slice_index word 0 == 82)) (natural_of (drop 1 word)) e
-  where
-    go : (b : Bool) (o : Option ℕ) → cond b (register_below o) None ≡ Some n → nat_lt n 64 ≡ true
-    go true (Some m) e = below_so 64 m n e
-    go true None e = absurd (cc e)
-    go false o e = absurd (cc e)
-
 token_small : (t : Token) (word : List ℕ) → IsSpelled t word → is_small t ≡ true
 token_small (Key key) word is = refl
 token_small (Number n) word is = natural_small word n is
 token_small (Perhaps None) word is = refl
 token_small (Perhaps (Some n)) word is = natural_small word n is
 token_small (Column column) word is = refl
-token_small (Register r) word is = register_small word r is
+token_small (Register r) word is = register_is word r is
 
 tokens_small : (ts : List Token) (words : List (List ℕ)) → AreSpelled ts words → list_all is_small ts ≡ true
 tokens_small _ _ none = refl

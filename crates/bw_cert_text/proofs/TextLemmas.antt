@@ -2,7 +2,7 @@
 use Rattle.std.proofs.Common.{◌≡◌, ◌∙◌, refl, sym, ap, ℕ, List, [], ◌∷◌, Result, Ok, Err}
 use Rattle.bw_model.specs.declared.fault.Fault.{Fault}
 use Rattle.bw_model.specs.Fault.{◌>>=◌}
-use Rattle.bw_model.specs.Lines.{NumberedWords}
+use Rattle.bw_text.specs.Lines.{NumberedWords}
 use Rattle.bw_cert_lines.specs.declared.lines.EndLine.{EndLine}
 use Rattle.bw_cert_lines.specs.CertificateFields.{CertificateFields}
 use Rattle.bw_cert_text.specs.LineText.{Part, Said, Before, End}

@@ -4,7 +4,7 @@ use Rattle.std.specs.Prelude.{IfOk, IsTrue}
 use Rattle.std.proofs.lemmas.Bool.{ltb-false, le-ltb}
 use Rattle.bw_model.specs.declared.fault.Fault.{Fault}
 use Rattle.bw_model.specs.Fault.{Gives, ◌>>=◌, refused_if}
-use Rattle.bw_model.specs.Lines.{NumberedWords, lines_in, end_in, from_line}
+use Rattle.bw_text.specs.Lines.{NumberedWords, lines_in, end_in, from_line}
 use Rattle.bw_cert_lines.specs.declared.lines.EndLine.{EndLine}
 use Rattle.bw_cert_lines.specs.CertificateShape.{CertificateShape}
 use Rattle.bw_cert_lines.specs.CertificateFields.{CertificateFields, certificate_fields}

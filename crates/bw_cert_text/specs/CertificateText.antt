@@ -3,7 +3,7 @@ use Rattle.std.specs.Prelude.{◌≤◌, ℕ, Bool, false, ◌||◌, ◌==◌, L
 use Rattle.bw_model.specs.declared.fault.code.TheConstants.{CERTIFICATE_FORM}
 use Rattle.bw_model.specs.declared.fault.Fault.{Fault}
 use Rattle.bw_model.specs.Fault.{at_line, is_memory, ◌>>=◌, refused_if}
-use Rattle.bw_model.specs.Lines.{NumberedWords, lines_in, end_in, from_line}
+use Rattle.bw_text.specs.Lines.{NumberedWords, lines_in, end_in, from_line}
 use Rattle.bw_cert_lines.specs.declared.lines.EndLine.{EndLine}
 use Rattle.bw_cert_lines.specs.CertificateFields.{CertificateFields}
 use Rattle.bw_cert_text.specs.LineText.{Part, Node, Chain, Row, Body, Said, Before, End, said_in}
@@ -32,7 +32,13 @@ with_part (Chain chain) c = record {
   body = c.body;
   end = c.end;
 }
-with_part (Row row) c = record { nodes = c.nodes; chains = c.chains; products = row ∷ c.products; body = c.body; end = c.end }
+with_part (Row row) c = record {
+  nodes = c.nodes;
+  chains = c.chains;
+  products = row ∷ c.products;
+  body = c.body;
+  end = c.end;
+}
 with_part (Body body) c = record {
   nodes = c.nodes;
   chains = c.chains;

@@ -1,10 +1,9 @@
 pub mod CertificateText
+pub mod Connective
 pub mod LineText
 pub mod Operand
 pub mod Parts
 pub mod PrintText
-pub mod Printed
 pub mod Reprint
 pub mod SaidFields
 pub mod Token
-pub mod Word

@@ -4,17 +4,17 @@ use Rattle.bw_diagram.specs.declared.chain.ChainKind.{ChainKind}
 use Rattle.bw_diagram.specs.declared.chain.ChainKind.TheVariants as compared
 use Rattle.bw_diagram.specs.declared.product.Reason.{Reason}
 use Rattle.bw_diagram.specs.declared.product.Reason.TheVariants.{Shortcut, Cofactors}
-use Rattle.bw_model.specs.Lines.{NumberedWords}
-use Rattle.bw_model.specs.Number.{natural_of}
-use Rattle.bw_model.specs.Text.{same_text}
-use Rattle.bw_cert_text.specs.declared.kind.LineKind.{LineKind}
-use Rattle.bw_cert_text.specs.declared.kind.LineKind.TheVariants as kind
-use Rattle.bw_cert_text.specs.declared.kind.ConditionKind.{ConditionKind}
-use Rattle.bw_cert_text.specs.declared.kind.ConditionKind.TheVariants as condition
-use Rattle.bw_cert_text.specs.declared.kind.InstructionKind.{InstructionKind}
-use Rattle.bw_cert_text.specs.declared.kind.InstructionKind.TheVariants as instruction
-use Rattle.bw_cert_text.specs.declared.kind.Form.{Form}
-use Rattle.bw_cert_text.specs.declared.kind.Form.TheVariants as form
+use Rattle.bw_text.specs.Lines.{NumberedWords}
+use Rattle.bw_text.specs.Number.{natural_of}
+use Rattle.bw_text.specs.Text.{same_text}
+use Rattle.bw_text.specs.declared.line_kind.LineKind.{LineKind}
+use Rattle.bw_text.specs.declared.line_kind.LineKind.TheVariants as kind
+use Rattle.bw_text.specs.declared.line_kind.ConditionKind.{ConditionKind}
+use Rattle.bw_text.specs.declared.line_kind.ConditionKind.TheVariants as condition
+use Rattle.bw_text.specs.declared.line_kind.InstructionKind.{InstructionKind}
+use Rattle.bw_text.specs.declared.line_kind.InstructionKind.TheVariants as instruction
+use Rattle.bw_text.specs.declared.form.Form.{Form}
+use Rattle.bw_text.specs.declared.form.Form.TheVariants as form
 use Rattle.bw_cert_lines.specs.declared.lines.NodeLine.{NodeLine}
 use Rattle.bw_cert_lines.specs.declared.lines.ProductLine.{ProductLine}
 use Rattle.bw_cert_lines.specs.declared.lines.ConditionEntry.{ConditionEntry}
@@ -24,8 +24,11 @@ use Rattle.bw_cert_lines.specs.declared.lines.InstructionEntry.TheVariants.{Load
 use Rattle.bw_cert_lines.specs.declared.lines.EdgeProducts.{EdgeProducts}
 use Rattle.bw_cert_lines.specs.declared.lines.EndLine.{EndLine}
 use Rattle.bw_cert_lines.specs.CertificateFields.{ColumnFields, One, Two, ChainFields, KeepFields, EntryFields, Condition, Instruction, Join, Kept, BodyFields}
-use Rattle.bw_cert_text.specs.Operand.{◌>?◌, optional_of, register_of, nothing_in, number_in, two_in}
-use Rattle.bw_cert_text.specs.Word.{kind_of, connective_of, form_of}
+use Rattle.bw_cert_text.specs.Operand.{◌>?◌, optional_of, nothing_in, number_in, two_in}
+use Rattle.bw_text.specs.Register.{register_of}
+use Rattle.bw_text.specs.LineKind.{kind_of}
+use Rattle.bw_text.specs.Form.{form_of}
+use Rattle.bw_cert_text.specs.Connective.{connective_of}
 
 -- a line before the end, and any line
 pub data Part : Type 0 where

@@ -1,7 +1,7 @@
--- What stands after the first word of a line: numbers, numbers that may be a hyphen, and registers.
-use Rattle.std.specs.Prelude.{ℕ, Bool, true, false, ◌||◌, ◌==◌, List, [], ◌∷◌, drop, Option, Some, None, codes, if◌then◌else◌, nat_lt, slice_index}
+-- What stands after the first word of a line: numbers, and numbers that may be a hyphen.
+use Rattle.std.specs.Prelude.{ℕ, Bool, true, false, List, [], ◌∷◌, Option, Some, None, codes}
 use Rattle.std.specs.Str.{bytes_eq}
-use Rattle.bw_model.specs.Number.{natural_of}
+use Rattle.bw_text.specs.Number.{natural_of}
 
 -- what was found, and then what is found with it
 infixl 10 ◌>?◌
@@ -20,16 +20,6 @@ number_or_none false None = None
 
 unfoldable pub optional_of : List ℕ → Option (Option ℕ)
 optional_of word = number_or_none (is_hyphen word) (natural_of word)
-
--- the register that a word names: r, which is byte 114, or R, byte 82, and then a number below 64
-abbrev pub register_below : Option ℕ → Option ℕ
-register_below None = None
-register_below (Some n) = if nat_lt n 64 then Some n else None
-
-unfoldable pub register_of : List ℕ → Option ℕ
-register_of word =
-    if (slice_index word 0 == 114) || (slice_index word 0 == 82) then register_below
-    (natural_of (drop 1 word)) else None
 
 -- no word, one number, two numbers
 abbrev pub nothing_in : List (List ℕ) → Option Unit

@@ -5,31 +5,30 @@ use Rattle.std.specs.Fmt.{decimal}
 use Rattle.bw_model.specs.declared.column.Column as column
 use Rattle.bw_model.specs.Column.{names_of, column_named}
 use Rattle.bw_cert_lines.specs.CertificateFields.{ColumnFields, One, Two, ChainFields, BodyFields, CertificateFields}
+use Rattle.bw_text.specs.Printed.{line_text}
+use Rattle.bw_text.specs.Register.{register_text}
 use Rattle.bw_cert_text.specs.Token.{Token, Key, Number, Perhaps, Column, Register, node_tokens, chain_tokens, row_tokens, entry_tokens, end_tokens}
 
--- what stands at a place of a line, in its canonical spelling: r is byte 114
+-- what stands at a place of a line, in its canonical spelling
 abbrev pub token_text : Token → List ℕ
 token_text (Key key) = key
 token_text (Number n) = decimal n
 token_text (Perhaps (Some n)) = decimal n
 token_text (Perhaps None) = codes "-"
 token_text (Column column) = column
-token_text (Register r) = 114 ∷ decimal r
+token_text (Register r) = register_text r
 
--- each after a blank, which is byte 32
-unfoldable pub behind_text : List Token → List ℕ
-behind_text [] = []
-behind_text (token ∷ tokens) = 32 ∷ token_text token ++ behind_text tokens
+-- the words of a line, and the line
+abbrev pub token_words : List Token → List (List ℕ)
+token_words tokens = map token_text tokens
 
--- a line, and the line feed after it, which is byte 10
-abbrev pub line_text : List Token → List ℕ
-line_text [] = 10 ∷ []
-line_text (token ∷ tokens) = token_text token ++ (behind_text tokens ++ 10 ∷ [])
+abbrev pub token_line : List Token → List ℕ
+token_line tokens = line_text (token_words tokens)
 
 -- a line for each of a list
 unfoldable pub lines_text : {A : Type 0} → (A → List Token) → List A → List ℕ
 lines_text tokens [] = []
-lines_text tokens (x ∷ xs) = line_text (tokens x) ++ lines_text tokens xs
+lines_text tokens (x ∷ xs) = token_line (tokens x) ++ lines_text tokens xs
 
 -- all lines of a certificate
 abbrev pub body_tokens : BodyFields → List Token
@@ -38,7 +37,7 @@ body_tokens body = entry_tokens body.entry
 abbrev pub certificate_text : CertificateFields → List ℕ
 certificate_text c =
     lines_text node_tokens c.nodes ++ (lines_text chain_tokens c.chains ++ (lines_text row_tokens c.products
-    ++ (lines_text body_tokens c.body ++ line_text (end_tokens c.end))))
+    ++ (lines_text body_tokens c.body ++ token_line (end_tokens c.end))))
 
 -- a word in the spelling of the column that it names; a word that names none stands as it is
 abbrev pub spelling_at : List column.Column → List ℕ → Option ℕ → List ℕ

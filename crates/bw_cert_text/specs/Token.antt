@@ -4,9 +4,9 @@ use Rattle.bw_diagram.specs.declared.chain.ChainKind.{ChainKind}
 use Rattle.bw_diagram.specs.declared.chain.ChainKind.TheVariants as compared
 use Rattle.bw_diagram.specs.declared.product.Reason.{Reason}
 use Rattle.bw_diagram.specs.declared.product.Reason.TheVariants.{Shortcut, Cofactors}
-use Rattle.bw_model.specs.Lines.{NumberedWords}
-use Rattle.bw_model.specs.Number.{natural_of}
-use Rattle.bw_model.specs.Text.{same_text}
+use Rattle.bw_text.specs.Lines.{NumberedWords}
+use Rattle.bw_text.specs.Number.{natural_of}
+use Rattle.bw_text.specs.Text.{same_text}
 use Rattle.bw_cert_lines.specs.declared.lines.NodeLine.{NodeLine}
 use Rattle.bw_cert_lines.specs.declared.lines.ProductLine.{ProductLine}
 use Rattle.bw_cert_lines.specs.declared.lines.ConditionEntry.{ConditionEntry}
@@ -17,8 +17,8 @@ use Rattle.bw_cert_lines.specs.declared.lines.EdgeProducts.{EdgeProducts}
 use Rattle.bw_cert_lines.specs.declared.lines.EndLine.{EndLine}
 use Rattle.bw_cert_lines.specs.CertificateFields.{ColumnFields, One, Two, ChainFields, KeepFields, EntryFields, Condition, Instruction, Join, Kept}
 use Rattle.bw_cert_text.specs.LineText.{Part, Node, Chain, Row, Body}
-use Rattle.bw_cert_text.specs.Operand.{register_of}
-use Rattle.bw_cert_text.specs.Word.{connective_spelling}
+use Rattle.bw_text.specs.Register.{register_of}
+use Rattle.bw_cert_text.specs.Connective.{connective_spelling}
 
 -- what stands at a place of a line: a word of the language, a number, a number or a hyphen, a column's name, a register
 pub data Token : Type 0 where

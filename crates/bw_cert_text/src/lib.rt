@@ -9,7 +9,7 @@
 //! which order they stand: read these first.
 #![tactic(auto)]
 
-mod kind;
+mod connective;
 mod line;
 mod operand;
 mod parse;

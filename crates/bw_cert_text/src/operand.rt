@@ -1,8 +1,8 @@
-//! What stands after the first word of a line: numbers, numbers that may be `-`, and registers.
-ghost use Rattle.std.specs.Prelude.{◌≡◌, ◌<◌, map, IfSome};
-ghost use Rattle.bw_cert_text.specs.Operand.{optional_of, register_of, nothing_in, number_in, two_in};
+//! What stands after the first word of a line: numbers, and numbers that may be `-`.
+ghost use Rattle.std.specs.Prelude.{◌≡◌, map};
+ghost use Rattle.bw_cert_text.specs.Operand.{optional_of, nothing_in, number_in, two_in};
 
-use bw_model::{REGISTERS, natural_number};
+use bw_text::natural_number;
 
 /// A number, or `-` for none.
 #[tactic(auto, unfolding(crate::specs::Operand::optional_of))]
@@ -13,21 +13,6 @@ pub(crate) fn optional_of(word: &[u8]) -> Option<Option<u64>>
         Some(number) => Some(Some(number)),
         None if word == b"-".as_slice() => Some(None),
         None => None,
-    }
-}
-
-/// The register that a word names: `r` or `R`, and a number below 64.
-#[tactic(auto, unfolding(crate::specs::Operand::register_of))]
-pub(crate) fn register_of(word: &[u8]) -> Option<u8>
-    ensures register { result ≡ register_of word.now }
-    ensures below { IfSome result (λ register. register < 64) }
-{
-    let [b'r' | b'R', digits @ ..] = word else {
-        return None;
-    };
-    match natural_number(digits) {
-        Some(number) if number < REGISTERS => Some(number as u8),
-        _ => None,
     }
 }
 

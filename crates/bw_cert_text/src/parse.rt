@@ -1,7 +1,7 @@
 //! Certificate texts, read line by line: nodes, chains and product rows, the lines after them, and `END`.
 ghost use Rattle.std.specs.Prelude.{◌≡◌, ◌≤◌, ◌^◌, ℕ, List, Ok, Err, false, option_map, IfOk, IfErr, OnOk, IsTrue};
 ghost use Rattle.bw_model.specs.Fault.{Gives, is_memory};
-ghost use Rattle.bw_model.specs.Lines.{lines_in, end_in, line_of};
+ghost use Rattle.bw_text.specs.Lines.{lines_in, end_in, line_of};
 ghost use Rattle.bw_cert_lines.specs.CertificateFields.{CertificateFields, certificate_fields};
 ghost use Rattle.bw_cert_text.specs.CertificateText.{certificate_of, certificate_from, said_on, section_of, with_part, end_alone, last_line, is_before, IsCertificateText, IsCertificateFault};
 ghost use Rattle.bw_cert_text.specs.Parts.{joined};
@@ -10,7 +10,8 @@ ghost use Rattle.bw_cert_text.specs.SaidFields.{part_fields, said_fields};
 
 use crate::line::{Part, Said, said_in};
 use bw_cert_lines::{BodyLine, Certificate, ChainLine, EndLine, NodeLine, ProductLine};
-use bw_model::{Fault, Line, Lines, code};
+use bw_model::{Fault, code};
+use bw_text::{Line, Lines};
 use std::alloc::{AllocError, Global};
 
 /// Reads a certificate text, the first line of which has this number, 1 to 2^32.

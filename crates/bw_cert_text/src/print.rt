@@ -1,6 +1,5 @@
 //! Certificates, written in their canonical form.
 ghost use Rattle.std.specs.Prelude.{ℕ, List, IsTrue, ◌≡◌, ◌++◌, ◌∷◌, [], map, IfOk, OnOk, IsOkUnless};
-ghost use Rattle.std.specs.Fmt.{decimal};
 ghost use Rattle.bw_diagram.specs.declared.chain.ChainKind.TheVariants as compared;
 ghost use Rattle.std.specs.List.{list_all};
 ghost use Rattle.bw_model.specs.declared.column.Column.{Column};
@@ -11,17 +10,18 @@ ghost use Rattle.bw_cert_text.specs.CertificateText.{IsCertificateText};
 ghost use Rattle.bw_cert_lines.specs.Columns.{has_columns};
 ghost use Rattle.bw_cert_text.specs.Reprint.{numbers_fit, renumbered};
 ghost use Rattle.bw_cert_lines.specs.CertificateFields.{CertificateFields, certificate_fields, chain_fields, keep_fields, entry_fields, body_fields};
-ghost use Rattle.bw_cert_text.specs.PrintText.{token_text, behind_text, line_text, lines_text, body_tokens, schema_spelling, respelled_chain, respelled, print_text};
-ghost use Rattle.bw_cert_text.specs.Printed.{token_of};
-ghost use Rattle.bw_cert_text.specs.Token.{Key, one_key, two_key, node_tokens, chain_tokens, row_tokens, condition_tokens, instruction_tokens, edge_tokens, keep_tokens, entry_tokens, end_tokens};
+ghost use Rattle.bw_cert_text.specs.PrintText.{token_text, token_words, token_line, lines_text, body_tokens, schema_spelling, respelled_chain, respelled, print_text};
+ghost use Rattle.bw_text.specs.Printed.{piece_text, spaced};
+ghost use Rattle.bw_cert_text.specs.Token.{Key, Perhaps, one_key, two_key, node_tokens, chain_tokens, row_tokens, condition_tokens, instruction_tokens, edge_tokens, keep_tokens, entry_tokens, end_tokens};
 
-use crate::kind::connective_spelling;
+use crate::connective::connective_spelling;
 use bw_cert_lines::{
     BodyLine, Certificate, ChainLine, ConditionEntry, EdgeProducts, Entry, InstructionEntry, Keep,
     NodeLine, ProductLine,
 };
 use bw_diagram::{ChainColumns, ChainKind, Reason};
 use bw_model::{Fault, Schema};
+use bw_text::{Piece, push_line, push_spaced};
 use std::alloc::{AllocError, Global};
 
 /// A certificate's canonical text: words of the language in capitals, single blanks, columns
@@ -48,8 +48,8 @@ pub fn print_certificate(
     put_chains(alloc, schema, certificate.chain_lines(), &mut text)?;
     put_rows(alloc, certificate.product_lines(), &mut text)?;
     put_body(alloc, certificate.body(), &mut text)?;
-    let end = [Token::Number(certificate.end().row)];
-    put_line(alloc, b"END", &end, &mut text)?;
+    let end = [Piece::Word(b"END"), Piece::Number(certificate.end().row)];
+    push_line(alloc, &end, &mut text)?;
     Ok(text)
 }
 
@@ -71,28 +71,19 @@ pub fn spelled_numbers_fit()
         → IsCertificateText first text certificate → IsTrue (numbers_fit certificate) }
 {}
 
-/// What stands at a place of a line.
-#[derive(Clone, Copy)]
-pub(crate) enum Token<'a> {
-    Key(&'a [u8]),
-    Number(u64),
-    Perhaps(Option<u64>),
-    Column(&'a [u8]),
-    Register(u8),
-}
-
 /// Appends the lines of nodes.
 fn put_nodes(alloc: Global, nodes: &[NodeLine], text: &mut Vec<u8>) -> Result<(), AllocError>
     ensures { OnOk result (text.new.items ≡ text.old.items ++ lines_text node_tokens nodes.now) }
 {
     for node in nodes {
-        let operands = [
-            Token::Number(node.n),
-            Token::Number(node.v),
-            Token::Number(node.low),
-            Token::Number(node.high),
+        let pieces = [
+            Piece::Word(b"NODE"),
+            Piece::Number(node.n),
+            Piece::Number(node.v),
+            Piece::Number(node.low),
+            Piece::Number(node.high),
         ];
-        put_line(alloc, b"NODE", &operands, text)?;
+        push_line(alloc, &pieces, text)?;
     }
     Ok(())
 }
@@ -122,7 +113,7 @@ fn put_chain<'a>(
     text: &mut Vec<u8>,
 ) -> Result<(), AllocError>
     ensures { OnOk result (text.new.items ≡ text.old.items
-        ++ line_text (chain_tokens (respelled_chain schema.now.columns.items (chain_fields chain.now)))) }
+        ++ token_line (chain_tokens (respelled_chain schema.now.columns.items (chain_fields chain.now)))) }
 {
     match &chain.columns {
         ChainColumns::One {
@@ -134,17 +125,18 @@ fn put_chain<'a>(
             node,
             prev,
         } => {
-            let operands = [
-                Token::Number(chain.n),
-                Token::Key(one_key(*kind)),
-                Token::Column(name_of(schema, column)),
-                Token::Number(*start),
-                Token::Number(*len),
-                Token::Number(*bound),
-                Token::Number(*node),
-                Token::Perhaps(*prev),
+            let pieces = [
+                Piece::Word(b"CHAIN"),
+                Piece::Number(chain.n),
+                Piece::Word(one_key(*kind)),
+                Piece::Word(name_of(schema, column)),
+                Piece::Number(*start),
+                Piece::Number(*len),
+                Piece::Number(*bound),
+                Piece::Number(*node),
+                perhaps(*prev),
             ];
-            put_line(alloc, b"CHAIN", &operands, text)
+            push_line(alloc, &pieces, text)
         }
         ChainColumns::Two {
             kind,
@@ -154,16 +146,17 @@ fn put_chain<'a>(
             node,
             prev,
         } => {
-            let operands = [
-                Token::Number(chain.n),
-                Token::Key(two_key(*kind)),
-                Token::Column(name_of(schema, left)),
-                Token::Column(name_of(schema, right)),
-                Token::Number(*len),
-                Token::Number(*node),
-                Token::Perhaps(*prev),
+            let pieces = [
+                Piece::Word(b"CHAIN"),
+                Piece::Number(chain.n),
+                Piece::Word(two_key(*kind)),
+                Piece::Word(name_of(schema, left)),
+                Piece::Word(name_of(schema, right)),
+                Piece::Number(*len),
+                Piece::Number(*node),
+                perhaps(*prev),
             ];
-            put_line(alloc, b"CHAIN", &operands, text)
+            push_line(alloc, &pieces, text)
         }
     }
 }
@@ -210,34 +203,36 @@ fn put_rows(alloc: Global, rows: &[ProductLine], text: &mut Vec<u8>) -> Result<(
 
 /// Appends the line of a product row.
 fn put_row(alloc: Global, row: &ProductLine, text: &mut Vec<u8>) -> Result<(), AllocError>
-    ensures { OnOk result (text.new.items ≡ text.old.items ++ line_text (row_tokens row.now)) }
+    ensures { OnOk result (text.new.items ≡ text.old.items ++ token_line (row_tokens row.now)) }
 {
     let op = connective_spelling(row.op);
     match row.reason {
         Reason::Shortcut => {
-            let operands = [
-                Token::Number(row.n),
-                Token::Key(op),
-                Token::Number(row.a),
-                Token::Number(row.b),
-                Token::Number(row.c),
-                Token::Key(b"S"),
+            let pieces = [
+                Piece::Word(b"ROW"),
+                Piece::Number(row.n),
+                Piece::Word(op),
+                Piece::Number(row.a),
+                Piece::Number(row.b),
+                Piece::Number(row.c),
+                Piece::Word(b"S"),
             ];
-            put_line(alloc, b"ROW", &operands, text)
+            push_line(alloc, &pieces, text)
         }
         Reason::Cofactors { v, i, j } => {
-            let operands = [
-                Token::Number(row.n),
-                Token::Key(op),
-                Token::Number(row.a),
-                Token::Number(row.b),
-                Token::Number(row.c),
-                Token::Key(b"V"),
-                Token::Number(v),
-                Token::Number(i),
-                Token::Number(j),
+            let pieces = [
+                Piece::Word(b"ROW"),
+                Piece::Number(row.n),
+                Piece::Word(op),
+                Piece::Number(row.a),
+                Piece::Number(row.b),
+                Piece::Number(row.c),
+                Piece::Word(b"V"),
+                Piece::Number(v),
+                Piece::Number(i),
+                Piece::Number(j),
             ];
-            put_line(alloc, b"ROW", &operands, text)
+            push_line(alloc, &pieces, text)
         }
     }
 }
@@ -256,21 +251,25 @@ fn put_body(alloc: Global, body: &[BodyLine], text: &mut Vec<u8>) -> Result<(), 
 /// Appends such a line.
 fn put_entry(alloc: Global, entry: &Entry, text: &mut Vec<u8>) -> Result<(), AllocError>
     ensures { OnOk result (text.new.items ≡ text.old.items
-        ++ line_text (entry_tokens (entry_fields entry.now))) }
+        ++ token_line (entry_tokens (entry_fields entry.now))) }
 {
     match entry {
         Entry::Condition(entry) => put_condition(alloc, *entry, text),
         Entry::Instruction(entry) => put_instruction(alloc, *entry, text),
-        Entry::Join(target) => put_line(alloc, b"JOIN", &[Token::Number(*target)], text),
+        Entry::Join(target) => push_line(
+            alloc,
+            &[Piece::Word(b"JOIN"), Piece::Number(*target)],
+            text,
+        ),
         Entry::Keep(keep) => put_keep(alloc, keep, text),
     }
 }
 
 /// Appends the line of a condition's step.
 fn put_condition(alloc: Global, entry: ConditionEntry, text: &mut Vec<u8>) -> Result<(), AllocError>
-    ensures { OnOk result (text.new.items ≡ text.old.items ++ line_text (condition_tokens entry)) }
+    ensures { OnOk result (text.new.items ≡ text.old.items ++ token_line (condition_tokens entry)) }
 {
-    use Token::{Number, Perhaps};
+    use Piece::{Number, Word};
     match entry {
         ConditionEntry::Compare {
             chain,
@@ -278,8 +277,9 @@ fn put_condition(alloc: Global, entry: ConditionEntry, text: &mut Vec<u8>) -> Re
             yes,
             no,
         } => {
-            let operands = [Perhaps(chain), Perhaps(value), Number(yes), Number(no)];
-            put_line(alloc, b"CMP", &operands, text)
+            let (chain, value) = (perhaps(chain), perhaps(value));
+            let pieces = [Word(b"CMP"), chain, value, Number(yes), Number(no)];
+            push_line(alloc, &pieces, text)
         }
         ConditionEntry::CompareColumns {
             chain,
@@ -289,23 +289,28 @@ fn put_condition(alloc: Global, entry: ConditionEntry, text: &mut Vec<u8>) -> Re
             yes,
             no,
         } => {
-            let operands = [
-                Perhaps(chain),
-                Perhaps(left),
-                Perhaps(right),
+            let pieces = [
+                Piece::Word(b"CMP2"),
+                perhaps(chain),
+                perhaps(left),
+                perhaps(right),
                 Number(both),
                 Number(yes),
                 Number(no),
             ];
-            put_line(alloc, b"CMP2", &operands, text)
+            push_line(alloc, &pieces, text)
         }
-        ConditionEntry::Fixed => put_line(alloc, b"FIXED", &[], text),
-        ConditionEntry::NullTest(i) => put_line(alloc, b"NULLTEST", &[Number(i)], text),
-        ConditionEntry::And(i, j) => put_line(alloc, b"AND", &[Number(i), Number(j)], text),
-        ConditionEntry::Or(i, j) => put_line(alloc, b"OR", &[Number(i), Number(j)], text),
-        ConditionEntry::Not => put_line(alloc, b"NOT", &[], text),
-        ConditionEntry::Is(i) => put_line(alloc, b"IS", &[Number(i)], text),
-        ConditionEntry::IsUnknown(i, j) => put_line(alloc, b"IS", &[Number(i), Number(j)], text),
+        ConditionEntry::Fixed => push_line(alloc, &[Word(b"FIXED")], text),
+        ConditionEntry::NullTest(i) => push_line(alloc, &[Word(b"NULLTEST"), Number(i)], text),
+        ConditionEntry::And(i, j) => push_line(alloc, &[Word(b"AND"), Number(i), Number(j)], text),
+        ConditionEntry::Or(i, j) => push_line(alloc, &[Word(b"OR"), Number(i), Number(j)], text),
+        ConditionEntry::Not => push_line(alloc, &[Word(b"NOT")], text),
+        ConditionEntry::Is(i) => push_line(alloc, &[Word(b"IS"), Number(i)], text),
+        ConditionEntry::IsUnknown(i, j) => push_line(
+            alloc,
+            &[Word(b"IS"), Number(i), Number(j)],
+            text,
+        ),
     }
 }
 
@@ -315,29 +320,30 @@ fn put_instruction(
     entry: InstructionEntry,
     text: &mut Vec<u8>,
 ) -> Result<(), AllocError>
-    ensures { OnOk result (text.new.items ≡ text.old.items ++ line_text (instruction_tokens entry)) }
+    ensures { OnOk result (text.new.items ≡ text.old.items ++ token_line (instruction_tokens entry)) }
 {
+    use Piece::{Number, Word};
     match entry {
-        InstructionEntry::Load(node) => put_line(alloc, b"LOAD", &[Token::Number(node)], text),
-        InstructionEntry::Fill => put_line(alloc, b"FILL", &[], text),
-        InstructionEntry::Op(i) => put_line(alloc, b"OP", &[Token::Number(i)], text),
-        InstructionEntry::Byte(chain) => put_line(alloc, b"BYTE", &[Token::Perhaps(chain)], text),
-        InstructionEntry::Skip => put_line(alloc, b"SKIP", &[], text),
+        InstructionEntry::Load(node) => push_line(alloc, &[Word(b"LOAD"), Number(node)], text),
+        InstructionEntry::Fill => push_line(alloc, &[Word(b"FILL")], text),
+        InstructionEntry::Op(i) => push_line(alloc, &[Word(b"OP"), Number(i)], text),
+        InstructionEntry::Byte(chain) => push_line(alloc, &[Word(b"BYTE"), perhaps(chain)], text),
+        InstructionEntry::Skip => push_line(alloc, &[Word(b"SKIP")], text),
     }
 }
 
 /// Appends the line of a register that a join keeps.
 fn put_keep(alloc: Global, keep: &Keep, text: &mut Vec<u8>) -> Result<(), AllocError>
     ensures { OnOk result (text.new.items ≡ text.old.items
-        ++ line_text (keep_tokens (keep_fields keep.now))) }
+        ++ token_line (keep_tokens (keep_fields keep.now))) }
 {
-    let operands = [
-        Token::Register(keep.register),
-        Token::Number(keep.node),
-        Token::Number(keep.through),
+    let pieces = [
+        Piece::Register(keep.register),
+        Piece::Number(keep.node),
+        Piece::Number(keep.through),
     ];
     text.extend_from_slice(b"KEEP")?;
-    put_operands(alloc, &operands, text)?;
+    push_spaced(alloc, &pieces, text)?;
     put_edges(alloc, &keep.edges, text)?;
     text.push(b'\n')?;
     Ok(())
@@ -345,63 +351,21 @@ fn put_keep(alloc: Global, keep: &Keep, text: &mut Vec<u8>) -> Result<(), AllocE
 
 /// Appends pairs of numbers, each number after a blank.
 fn put_edges(alloc: Global, edges: &[EdgeProducts], text: &mut Vec<u8>) -> Result<(), AllocError>
-    ensures { OnOk result (text.new.items ≡ text.old.items ++ behind_text (edge_tokens edges.now)) }
+    ensures { OnOk result (text.new.items ≡ text.old.items ++ spaced (token_words (edge_tokens edges.now))) }
 {
     for edge in edges {
-        let operands = [Token::Number(edge.differs), Token::Number(edge.within)];
-        put_operands(alloc, &operands, text)?;
+        let pieces = [Piece::Number(edge.differs), Piece::Number(edge.within)];
+        push_spaced(alloc, &pieces, text)?;
     }
     Ok(())
 }
 
-/// Appends a line.
-fn put_line(
-    alloc: Global,
-    key: &[u8],
-    operands: &[Token<'_>],
-    text: &mut Vec<u8>,
-) -> Result<(), AllocError>
-    ensures { OnOk result (text.new.items ≡ text.old.items
-        ++ line_text (Key key.now ∷ map token_of operands.now)) }
+/// A number, or `-` for none, as a piece of a line.
+fn perhaps(number: Option<u64>) -> Piece<'static>
+    ensures { piece_text result ≡ token_text (Perhaps number) }
 {
-    text.extend_from_slice(key)?;
-    put_operands(alloc, operands, text)?;
-    text.push(b'\n')?;
-    Ok(())
-}
-
-/// Appends what stands after a line's first word, each after a blank.
-fn put_operands(alloc: Global, operands: &[Token<'_>], text: &mut Vec<u8>) -> Result<(), AllocError>
-    ensures { OnOk result (text.new.items ≡ text.old.items ++ behind_text (map token_of operands.now)) }
-{
-    for operand in operands {
-        text.push(b' ')?;
-        put_token(alloc, *operand, text)?;
+    match number {
+        Some(number) => Piece::Number(number),
+        None => Piece::Word(b"-"),
     }
-    Ok(())
-}
-
-/// Appends what stands at one place.
-fn put_token(alloc: Global, token: Token<'_>, text: &mut Vec<u8>) -> Result<(), AllocError>
-    ensures { OnOk result (text.new.items ≡ text.old.items ++ token_text (token_of token.entry)) }
-{
-    match token {
-        Token::Key(key) => text.extend_from_slice(key),
-        Token::Number(number) => put_number(alloc, number, text),
-        Token::Perhaps(Some(number)) => put_number(alloc, number, text),
-        Token::Perhaps(None) => text.extend_from_slice(b"-"),
-        Token::Column(column) => text.extend_from_slice(column),
-        Token::Register(register) => {
-            text.push(b'r')?;
-            put_number(alloc, register as u64, text)
-        }
-    }
-}
-
-/// Appends a number's decimal digits.
-fn put_number(alloc: Global, number: u64, text: &mut Vec<u8>) -> Result<(), AllocError>
-    ensures { OnOk result (text.new.items ≡ text.old.items ++ decimal number) }
-{
-    let digits = number.to_string(alloc)?;
-    text.extend_from_slice(digits.as_bytes())
 }

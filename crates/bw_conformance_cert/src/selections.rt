@@ -3,7 +3,7 @@ ghost use Rattle.std.specs.Prelude.{IsTrue, length};
 ghost use Rattle.bw_model.specs.Cond.{names_within};
 
 use crate::files::{BELOW_EIGHT, SAME_SKIP_TWICE, SCHEMA, TOP_BITS, TWO_SKIPS};
-use bw_cert_file::certify;
+use bw_cert::certify;
 use bw_lanes::Plane;
 use bw_model::{Cond, Row, Schema, Truth, admitted_rows_have_each_value};
 use bw_planes::PlaneSegment;

@@ -1,5 +1,5 @@
 //! How program files are cut.
-use bw_cert_file::split_file;
+use bw_cert::split_file;
 use std::test::Fail;
 
 #[test]

@@ -2,7 +2,7 @@
 ghost use Rattle.std.specs.Prelude.{◌<◌, ◌-◌, ◌^◌};
 
 use crate::devices::{Calls, Pieces, Taker};
-use bw_cert_file::check_text;
+use bw_cert::check_text;
 use bw_device::{FromRead, ToWrite};
 use bw_file::Layout;
 use bw_model::Fault;

@@ -1,7 +1,7 @@
 //! Texts that are as long or as deep as they may be, or longer.
 use crate::calls::{Call, LAYOUTS, Reads, SCHEMA, table_file};
 use crate::devices::{Calls, Taker};
-use bw_cert_file::check_text;
+use bw_cert::check_text;
 use bw_device::{FromRead, ToWrite};
 use bw_file::Layout;
 use bw_model::{Fault, code};

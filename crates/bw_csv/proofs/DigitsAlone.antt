@@ -8,8 +8,8 @@ use Rattle.std.proofs.Math.Dec.{eqb-suc-zero}
 use Rattle.std.proofs.lemmas.List.{take_all}
 use Rattle.std.proofs.lemmas.List.Sums.{AllPass-from_list_all, suffix_len-take_no}
 use Rattle.bw_model.specs.declared.column.Column.{Column}
-use Rattle.bw_model.specs.Number.{are_digits, number_of}
-use Rattle.bw_model.specs.Text.{same_text}
+use Rattle.bw_text.specs.Number.{are_digits, number_of}
+use Rattle.bw_text.specs.Text.{same_text}
 use Rattle.bw_csv.specs.Rows.{behind_minus, is_blank, is_minus, is_null_text, text_value, value_of_field, within_bounds, without_blanks, without_end_blanks, without_front_blanks}
 
 pub both : (a b : Bool) → (a && b) ≡ true → (a ≡ true) × (b ≡ true)

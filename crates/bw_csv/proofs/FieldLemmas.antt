@@ -8,7 +8,7 @@ use Rattle.bw_model.specs.declared.column.Column.{Column}
 use Rattle.bw_model.specs.declared.fault.Fault.{Fault}
 use Rattle.bw_model.specs.Fault.{◌>>=◌, at_record}
 use Rattle.bw_model.specs.Row.{Value}
-use Rattle.bw_model.specs.Text.{same_text}
+use Rattle.bw_text.specs.Text.{same_text}
 use Rattle.bw_csv.specs.Rows.{is_heading, without_blanks, value_of_field, values_of_fields}
 
 -- the fields from a place on

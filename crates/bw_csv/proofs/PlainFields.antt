@@ -6,7 +6,7 @@ use Rattle.std.specs.List.{list_all}
 use Rattle.std.proofs.lemmas.Bool.{eqb-true, leb-true, ltb-true}
 use Rattle.std.proofs.lemmas.Int.{ints, to_z-of_z}
 use Rattle.bw_model.specs.declared.column.Column.{Column}
-use Rattle.bw_model.specs.Number.{are_digits, digits_value, number_of}
+use Rattle.bw_text.specs.Number.{are_digits, digits_value, number_of}
 use Rattle.bw_csv.specs.Plain.{is_plain}
 use Rattle.bw_csv.specs.Rows.{behind_minus, is_minus, value_of_field}
 use Rattle.bw_csv.proofs.DigitsAlone.{both, other_than, signed_digits}

@@ -9,7 +9,7 @@ use Rattle.bw_model.specs.declared.column.Column.{Column}
 use Rattle.bw_model.specs.declared.fault.Fault.{Fault}
 use Rattle.bw_model.specs.Fault.{◌>>=◌, at_record, refused_if}
 use Rattle.bw_model.specs.Column.{admits_value, admits_values}
-use Rattle.bw_model.specs.Number.{are_digits, number_of}
+use Rattle.bw_text.specs.Number.{are_digits, number_of}
 use Rattle.bw_model.specs.Row.{Value}
 use Rattle.bw_csv.specs.Rows.{StopsBehind, is_reader_fault, stands_at, is_heading, is_minus, is_null_text, number_value, row_of_record, rows_from, rows_behind, unsigned, value_of_field, values_of_fields, with_row, within_bounds, without_blanks}
 use Rattle.bw_csv.proofs.FieldLemmas.{behind}

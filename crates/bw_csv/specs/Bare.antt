@@ -6,7 +6,7 @@ use Rattle.bw_model.specs.declared.fault.code.TheConstants.{RECORD_LENGTH, NOT_A
 use Rattle.bw_model.specs.declared.fault.Fault.{Fault}
 use Rattle.bw_model.specs.Fault.{at_record, ◌>>=◌, refused_if}
 use Rattle.bw_model.specs.Limits.{most_rows}
-use Rattle.bw_model.specs.Number.{are_digits, number_of}
+use Rattle.bw_text.specs.Number.{are_digits, number_of}
 use Rattle.bw_model.specs.Row.{Value}
 use Rattle.bw_csv.specs.Rows.{is_minus, is_null_text, unsigned, with_row, without_blanks}
 

@@ -10,9 +10,9 @@ use Rattle.bw_model.specs.declared.fault.Place.{Place}
 use Rattle.bw_model.specs.declared.fault.Place.TheVariants.{Nowhere, Byte, Line, Rec}
 use Rattle.bw_model.specs.Fault.{at_record, is_memory, ◌>>=◌, refused_if}
 use Rattle.bw_model.specs.Limits.{most_rows}
-use Rattle.bw_model.specs.Number.{are_digits, number_of}
+use Rattle.bw_text.specs.Number.{are_digits, number_of}
 use Rattle.bw_model.specs.Row.{Value}
-use Rattle.bw_model.specs.Text.{same_text}
+use Rattle.bw_text.specs.Text.{same_text}
 
 -- a space or a tab
 abbrev pub is_blank : ℕ → Bool

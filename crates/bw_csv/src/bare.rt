@@ -12,7 +12,8 @@ ghost use Rattle.bw_csv.specs.Rows.{is_aside, rows_from, GivesButAside, IsRowsFa
 
 use crate::field::{is_minus, is_null_text, unsigned, without_blanks};
 use crate::records::Records;
-use bw_model::{Fault, MAX_ROWS, Row, Value, code, number_in};
+use bw_model::{Fault, MAX_ROWS, Row, Value, code};
+use bw_text::number_in;
 use csv::ByteRecord;
 
 /// Puts the row of the next record, which has this number and is to have so many fields, into `row`, in the place of what

@@ -3,7 +3,8 @@ ghost use Rattle.std.specs.Prelude.{◌≡◌, ℕ, ◌<◌, ◌≤◌, length, 
 ghost use Rattle.bw_model.specs.Row.{Value};
 ghost use Rattle.bw_csv.specs.Rows.{is_blank, without_front_blanks, without_end_blanks, without_blanks, is_null_text, is_minus, behind_minus, unsigned, number_value, text_value, within_bounds, value_of_field, GivesButAside, IsRowsFault, stands_at};
 
-use bw_model::{Column, Fault, Value, code, is_same_text, number_in};
+use bw_model::{Column, Fault, Value, code};
+use bw_text::{is_same_text, number_in};
 
 /// The value that a field of the record of this number spells in a column, or its fault: no whole number (204), a null in a column that has
 /// none (206), or a number outside the column's bounds (205). Most fields are digits alone, or after a minus sign, which

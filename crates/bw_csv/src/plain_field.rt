@@ -4,7 +4,7 @@
 //! here answers is right; where it answers nothing, the csv reader has to say what the record is.
 ghost use Rattle.std.specs.Prelude.{◌≡◌, ◌^◌, ◌<◌, ◌≤◌, ◌&&◌, ℕ, List, Some, Ok, true, IfSome, int_le, length, take};
 ghost use Rattle.std.specs.List.{list_all};
-ghost use Rattle.bw_model.specs.Number.{are_digits, digits_value, number_of};
+ghost use Rattle.bw_text.specs.Number.{are_digits, digits_value, number_of};
 ghost use Rattle.bw_csv.specs.Plain.{IsPlainField, is_plain};
 ghost use Rattle.bw_csv.specs.Rows.{behind_minus, is_minus, value_of_field};
 

@@ -18,8 +18,8 @@ use Rattle.bw_file.specs.declared.layout.Layout.{Layout}
 use Rattle.bw_file.specs.Blocks.{segment_bytes}
 use Rattle.bw_file.specs.FileBytes.{AreRows, magic, front_bytes, header_bytes, segments_bytes, bytes_of_version, file_bytes, version_for}
 use Rattle.bw_model.specs.Name.{is_name}
-use Rattle.bw_model.specs.Keyword.{is_reserved}
-use Rattle.bw_model.specs.Text.{is_word}
+use Rattle.bw_text.specs.Keyword.{is_reserved}
+use Rattle.bw_text.specs.Text.{is_word}
 use Rattle.bw_model.proofs.SchemaLemmas.{both}
 
 -- a name has at most 63 bytes

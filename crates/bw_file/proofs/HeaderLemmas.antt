@@ -4,7 +4,7 @@ use Rattle.std.specs.List.{list_any}
 use Rattle.bw_model.specs.declared.column.Column.{Column}
 use Rattle.bw_model.specs.declared.fault.Fault.{Fault}
 use Rattle.bw_model.specs.Column.{names_of}
-use Rattle.bw_model.specs.Text.{same_text}
+use Rattle.bw_text.specs.Text.{same_text}
 use Rattle.bw_model.specs.Fault.{at_byte}
 use Rattle.bw_model.specs.SchemaText.{ColumnShape, column_shape, shape, shape_names}
 use Rattle.bw_file.specs.declared.fields.Bounds.{Bounds}

@@ -6,7 +6,7 @@ ghost use Rattle.bw_model.specs.Column.{names_of};
 ghost use Rattle.bw_model.specs.Limits.{most_rows};
 ghost use Rattle.bw_model.specs.Name.{is_name, are_apart};
 ghost use Rattle.bw_model.specs.SchemaText.{column_shape};
-ghost use Rattle.bw_model.specs.Text.{same_text};
+ghost use Rattle.bw_text.specs.Text.{same_text};
 ghost use Rattle.bw_file.specs.Header.{header_shape};
 ghost use Rattle.bw_file.specs.Reading.{Reads, state, judged};
 ghost use Rattle.bw_file.specs.TableReading.{magic_says, version_says, layout_says, count_says, rows_say, bounds_say, nullable_says, name_says, name, column, columns, front_of, front, header_of, header};

@@ -5,10 +5,10 @@ use Rattle.std.proofs.Math.Bool.{or-true}
 use Rattle.bw_model.specs.declared.fault.Fault.{Fault}
 use Rattle.bw_model.specs.declared.schema.Schema.{Schema}
 use Rattle.bw_model.specs.Fault.{Gives, is_memory, ◌>>=◌, refused_if, at_line, nowhere}
-use Rattle.bw_model.specs.Lines.{NumberedWords, lines_in, end_in, whole, is_empty}
+use Rattle.bw_text.specs.Lines.{NumberedWords, lines_in, end_in, whole, is_empty}
 use Rattle.bw_model.specs.Name.{is_name}
 use Rattle.bw_model.specs.SchemaText.{ColumnShape, SchemaShape, schema_shape, shape_names, is_range, column_words, table_words, table_on, named_table, column_on, next_column, after_room, columns_on, with_columns, schema_on, schema_of, IsSchemaFault}
-use Rattle.bw_model.specs.Text.{same_text}
+use Rattle.bw_text.specs.Text.{same_text}
 
 refused_so : {A : Type 0} (b : Bool) (fault : Fault) (next : Result A Fault) → IsSchemaFault fault → IfErr next IsSchemaFault
     → IfErr (refused_if b fault next) IsSchemaFault

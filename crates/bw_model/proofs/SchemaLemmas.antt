@@ -6,11 +6,11 @@ use Rattle.bw_model.specs.declared.fault.Fault.{Fault}
 use Rattle.bw_model.specs.declared.column.Column.{Column}
 use Rattle.bw_model.specs.Column.{names_of}
 use Rattle.bw_model.specs.Fault.{at_line, nowhere, ◌>>=◌}
-use Rattle.bw_model.specs.Lines.{NumberedWords, Unread, lines_in, end_in, whole}
+use Rattle.bw_text.specs.Lines.{NumberedWords, Unread, lines_in, end_in, whole}
 use Rattle.bw_model.specs.Name.{are_apart, is_name}
 use Rattle.std.proofs.lemmas.Bool.{lt-leb, le-ltb, lt-ltb}
 use Rattle.std.proofs.lemmas.List.{length-map}
-use Rattle.bw_model.specs.Text.{same_text}
+use Rattle.bw_text.specs.Text.{same_text}
 use Rattle.bw_model.specs.SchemaText.{ColumnShape, shape, shape_names, column_shape, schema_of, schema_on, columns_on, table_on, with_columns, column_words, column_on, after_room, is_range}
 
 -- lines of other numbers of words are no columns

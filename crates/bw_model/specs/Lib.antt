@@ -4,17 +4,13 @@ pub mod Cond
 pub mod CondTree
 pub mod Fault
 pub mod Groups
-pub mod Keyword
 pub mod Limits
-pub mod Lines
 pub mod Name
-pub mod Number
 pub mod Row
 pub mod Schema
 pub mod SchemaText
 pub mod Selection
 pub mod Stored
-pub mod Text
 pub mod Total
 pub mod Truth
 pub mod Variable

@@ -1,8 +1,8 @@
 -- What a name is, and when names are apart.
 use Rattle.std.specs.Prelude.{ℕ, Bool, true, List, [], ◌∷◌, length, ◌&&◌, not, nat_le}
 use Rattle.std.specs.List.{list_any}
-use Rattle.bw_model.specs.Text.{same_text, is_word}
-use Rattle.bw_model.specs.Keyword.{is_reserved}
+use Rattle.bw_text.specs.Text.{same_text, is_word}
+use Rattle.bw_text.specs.Keyword.{is_reserved}
 use Rattle.bw_model.specs.Limits.{longest_name}
 
 -- a name is a word of at most 63 bytes that isn't reserved

@@ -8,10 +8,10 @@ use Rattle.bw_model.specs.declared.parse.Words.{Words}
 use Rattle.bw_model.specs.declared.schema.Schema.{Schema}
 use Rattle.bw_model.specs.Fault.{nowhere, at_line, is_memory, ◌>>=◌, refused_if}
 use Rattle.bw_model.specs.Limits.{longest_schema, most_columns}
-use Rattle.bw_model.specs.Lines.{NumberedWords, is_empty, lines_in, end_in, whole}
+use Rattle.bw_text.specs.Lines.{NumberedWords, is_empty, lines_in, end_in, whole}
 use Rattle.bw_model.specs.Name.{is_name, are_apart}
-use Rattle.bw_model.specs.Number.{are_digits, number_of}
-use Rattle.bw_model.specs.Text.{same_text}
+use Rattle.bw_text.specs.Number.{are_digits, number_of}
+use Rattle.bw_text.specs.Text.{same_text}
 
 -- a column and a schema, as lists and numbers
 pub record ColumnShape : Type 0 where

@@ -15,18 +15,14 @@ mod cond;
 mod copy;
 mod fault;
 mod groups;
-mod keyword;
 mod laws;
 mod limits;
-mod lines;
 mod name;
-mod number;
 mod parse;
 mod query;
 mod row;
 mod row_taker;
 mod schema;
-mod text;
 mod total;
 mod variable;
 
@@ -37,14 +33,10 @@ pub use groups::{
     admitted_rows_have_each_value, groups_make_the_table, kept_rows_are_selected,
     lanes_are_rows_and_zeros,
 };
-pub use keyword::{KEYWORDS, Keyword};
-pub use limits::{MAX_COLUMNS, MAX_CSV_LEN, MAX_ROWS, MAX_SCHEMA_LEN, REGISTERS};
-pub use lines::{Line, Lines, only_word};
+pub use limits::{MAX_COLUMNS, MAX_CSV_LEN, MAX_ROWS, MAX_SCHEMA_LEN};
 pub use name::{Name, is_name};
-pub use number::{natural_number, number_in, whole_number};
 pub use query::{Item, Query};
 pub use row::{Row, Value};
 pub use row_taker::RowTaker;
 pub use schema::Schema;
-pub use text::{begins_word, goes_on_in_word, is_same_text, is_word};
 pub use total::totals_join;

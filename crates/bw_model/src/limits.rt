@@ -11,6 +11,3 @@ pub const MAX_CSV_LEN: u64 = 1 << 30;
 
 /// A table has at most this many rows.
 pub const MAX_ROWS: u32 = 1 << 24;
-
-/// A scan program has this many registers, numbered from 0.
-pub const REGISTERS: u64 = 64;

@@ -1,10 +1,9 @@
 //! Names of tables and columns.
 ghost use Rattle.std.specs.Prelude.{◌≡◌, IfOk, IsTrue};
 ghost use Rattle.bw_model.specs.Name.{is_name};
-ghost use Rattle.bw_model.specs.Text.{same_text};
+ghost use Rattle.bw_text.specs.Text.{same_text};
 
-use crate::keyword::Keyword;
-use crate::text::{is_same_text, is_word};
+use bw_text::{Keyword, is_same_text, is_word};
 use std::alloc::{AllocError, Global};
 use std::marker::Model;
 

@@ -4,18 +4,16 @@ ghost use Rattle.std.specs.Prelude.{◌≡◌, ◌<◌, Ok, false, map, length, 
 ghost use Rattle.std.specs.List.{list_any};
 ghost use Rattle.bw_model.specs.Column.{names_of};
 ghost use Rattle.bw_model.specs.Fault.{Gives};
-ghost use Rattle.bw_model.specs.Lines.{line_of};
+ghost use Rattle.bw_text.specs.Lines.{line_of};
 ghost use Rattle.bw_model.specs.SchemaText.{schema_of, schema_shape, SchemaShape, IsSchemaText, IsSchemaFault, column_shape, column_words, with_bounds, are_not_null, column_on, table_on, is_range, bound_of, signed_digits, words_shape};
-ghost use Rattle.bw_model.specs.Text.{same_text};
+ghost use Rattle.bw_text.specs.Text.{same_text};
 
 use crate::column::Column;
 use crate::fault::{Fault, code};
 use crate::limits::{MAX_COLUMNS, MAX_SCHEMA_LEN};
-use crate::lines::{Line, Lines};
 use crate::name::{Name, is_name};
-use crate::number::number_in;
 use crate::schema::Schema;
-use crate::text::is_same_text;
+use bw_text::{Line, Lines, is_same_text, number_in};
 use std::alloc::Global;
 
 impl Schema {

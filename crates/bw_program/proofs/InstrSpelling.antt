@@ -6,15 +6,16 @@ use Rattle.bw_model.specs.declared.fault.Fault.{Fault}
 use Rattle.bw_model.specs.Code.{width_at, slices_at}
 use Rattle.bw_model.specs.Column.{column_named}
 use Rattle.bw_model.specs.Fault.{at_line, ◌>>=◌, refused_if}
-use Rattle.bw_model.specs.Lines.{NumberedWords}
-use Rattle.bw_model.specs.Number.{natural_of}
+use Rattle.bw_text.specs.Lines.{NumberedWords}
+use Rattle.bw_text.specs.Number.{natural_of}
 use Rattle.bw_model.specs.Variable.{is_nullable}
 use Rattle.bw_program.specs.declared.instr.Instr.{Instr}
 use Rattle.bw_program.specs.declared.instr.Instr.TheVariants.{Load, Nulls, Fill, And, Or, Xor, Not, ByteLt, ByteEq, Skip}
-use Rattle.bw_program.specs.declared.opcode.Opcode.{Opcode}
-use Rattle.bw_program.specs.declared.opcode.Opcode.TheVariants as op
-use Rattle.bw_program.specs.Opcode.{opcode_of}
-use Rattle.bw_program.specs.ProgramText.{register_of, found_on, load_on, nulls_on, fill_on, three_on, not_on, byte_on, skip_on, opcode_in, instr_after, instr_on, goes_past, SpellsInstr, load, nulls, fill, conjunction, disjunction, difference, negation, below, same, skip}
+use Rattle.bw_text.specs.declared.opcode.Opcode.{Opcode}
+use Rattle.bw_text.specs.declared.opcode.Opcode.TheVariants as op
+use Rattle.bw_text.specs.Opcode.{opcode_of}
+use Rattle.bw_program.specs.ProgramText.{found_on, load_on, nulls_on, fill_on, three_on, not_on, byte_on, skip_on, opcode_in, instr_after, instr_on, goes_past, SpellsInstr, load, nulls, fill, conjunction, disjunction, difference, negation, below, same, skip}
+use Rattle.bw_text.specs.Register.{register_of}
 
 negated_not : (b : Bool) → not b ≡ false → b ≡ true
 negated_not true e = refl

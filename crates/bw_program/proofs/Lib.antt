@@ -1,7 +1,6 @@
 pub mod InstrSpelling
 pub mod MachineLaws
 pub mod PrintLemmas
-pub mod PrintedLines
 pub mod PrintedText
 pub mod ProgramLemmas
 pub mod ProgramSpelling

@@ -12,36 +12,26 @@ use Rattle.std.proofs.lemmas.Slice.Eq.{bytes_eq-Decides}
 use Rattle.bw_model.specs.declared.column.Column.{Column}
 use Rattle.bw_model.specs.Code.{width_of, span_of, width_at, slices_at}
 use Rattle.bw_model.specs.Column.{names_of, column_named}
-use Rattle.bw_model.specs.Lines.{cut_lines, numbered, numbered_from}
+use Rattle.bw_text.specs.Lines.{cut_lines, numbered, numbered_from}
 use Rattle.bw_model.specs.Name.{is_name, are_apart}
-use Rattle.bw_model.specs.Text.{same_text}
+use Rattle.bw_text.specs.Text.{same_text}
 use Rattle.bw_model.specs.Variable.{is_nullable}
 use Rattle.bw_program.specs.declared.instr.Instr.{Instr}
 use Rattle.bw_program.specs.declared.instr.Instr.TheVariants.{Load, Nulls, Fill, And, Or, Xor, Not, ByteLt, ByteEq, Skip}
-use Rattle.bw_program.specs.declared.opcode.Opcode.{Opcode}
-use Rattle.bw_program.specs.declared.opcode.Opcode.TheVariants as op
-use Rattle.bw_program.specs.Opcode.{opcode_spelling, opcode_of}
-use Rattle.bw_program.specs.PrintText.{register_text, column_text, instr_words, result_words, line_text, lines_text, print_text}
-use Rattle.bw_program.specs.Program.{ProgramShape, is_program, is_register, is_sound, are_sound, instr_fits, fits}
-use Rattle.bw_program.specs.ProgramText.{SpellsInstr, load, nulls, fill, conjunction, disjunction, difference, negation, below, same, skip, SpellsLines, result_line, instr_line, register_of, IsProgramText}
+use Rattle.bw_text.specs.declared.opcode.Opcode.{Opcode}
+use Rattle.bw_text.specs.declared.opcode.Opcode.TheVariants as op
+use Rattle.bw_text.specs.Opcode.{opcode_spelling, opcode_of}
+use Rattle.bw_program.specs.PrintText.{column_text, instr_words, result_words, lines_text, print_text}
+use Rattle.bw_program.specs.Program.{ProgramShape, is_program, is_sound, are_sound, instr_fits, fits}
+use Rattle.bw_program.specs.ProgramText.{SpellsInstr, load, nulls, fill, conjunction, disjunction, difference, negation, below, same, skip, SpellsLines, result_line, instr_line, IsProgramText}
 use Rattle.bw_model.proofs.BitsLemmas.{both}
-use Rattle.bw_model.proofs.DecimalLemmas.{decimal_spells, natural_of-decimal, plain_digits, plain_number}
-use Rattle.bw_model.proofs.SpacedWords.{is_plain_word, plain_name}
-use Rattle.bw_program.proofs.PrintedLines.{line_said}
-
-opcode_of-spelling : (o : Opcode) → opcode_of (opcode_spelling o) ≡ Some o
-unfolding opcode_of same_text
-opcode_of-spelling op.Load = refl
-opcode_of-spelling op.Nulls = refl
-opcode_of-spelling op.Fill = refl
-opcode_of-spelling op.And = refl
-opcode_of-spelling op.Or = refl
-opcode_of-spelling op.Xor = refl
-opcode_of-spelling op.Not = refl
-opcode_of-spelling op.ByteLt = refl
-opcode_of-spelling op.ByteEq = refl
-opcode_of-spelling op.Skip = refl
-opcode_of-spelling op.Result = refl
+use Rattle.bw_text.proofs.DecimalLemmas.{natural_of-decimal, plain_number}
+use Rattle.bw_text.proofs.RegisterLemmas.{plain_register, register_of-text}
+use Rattle.bw_text.proofs.SpacedWords.{line_said}
+use Rattle.bw_text.proofs.WordSpelling.{opcode_of-spelling}
+use Rattle.bw_text.specs.Printed.{is_plain_word, line_text}
+use Rattle.bw_text.specs.Register.{is_register, register_of, register_text}
+use Rattle.bw_model.proofs.NameLemmas.{plain_name}
 
 -- columns as a schema has them
 record Named (columns : List Column) : Type 0 where
@@ -92,14 +82,7 @@ column_named-text (column ∷ columns) c apart lt =
     let at = position_or_len_is (λ (x : Column). same_text x.name text) (column ∷ columns) c column (omega arith) before (λ _. here) in
     rw (at, lt-ltb c (length (column ∷ columns)) lt) refl
 
-register_of-text : (r : ℕ) → r < 64 → register_of (register_text r) ≡ Some r
-unfolding register_of
-register_of-text r lt = rw (natural_of-decimal r (omega arith), lt-ltb r 64 lt) refl
-
 -- the words of a line are plain ones
-plain_register : (r : ℕ) → r < 64 → is_plain_word (register_text r) ≡ true
-plain_register r lt = plain_digits (decimal r) (decimal_spells r (omega arith)).all
-
 plain_column : (columns : List Column) (c : ℕ) → list_all is_name (names_of columns) ≡ true → c < length columns → is_plain_word (column_text columns c) ≡ true
 plain_column [] c names lt = absurd (omega arith)
 plain_column (column ∷ columns) zero names lt = plain_name column.name (both (is_name column.name) (list_all is_name (names_of columns)) names).0

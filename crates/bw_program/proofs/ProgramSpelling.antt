@@ -8,16 +8,20 @@ use Rattle.bw_model.specs.declared.column.Column.{Column}
 use Rattle.bw_model.specs.declared.fault.Fault.{Fault}
 use Rattle.bw_model.specs.Column.{column_named}
 use Rattle.bw_model.specs.Fault.{Gives, at_line, ◌>>=◌, refused_if}
-use Rattle.bw_model.specs.Lines.{NumberedWords, lines_in, end_in, whole}
-use Rattle.bw_model.specs.Number.{natural_of}
-use Rattle.bw_model.specs.Text.{same_text}
+use Rattle.bw_text.specs.Lines.{NumberedWords, lines_in, end_in, whole}
+use Rattle.bw_text.specs.Number.{natural_of}
+use Rattle.bw_text.specs.Text.{same_text}
 use Rattle.bw_program.specs.declared.instr.Instr.{Instr}
 use Rattle.bw_program.specs.declared.parse.Placed.{Placed}
-use Rattle.bw_program.specs.declared.opcode.Opcode.{Opcode}
-use Rattle.bw_program.specs.declared.opcode.Opcode.TheVariants as op
-use Rattle.bw_program.specs.Opcode.{opcode_of}
-use Rattle.bw_program.specs.Program.{ProgramShape, most_instructions, is_register, is_sound, are_sound, is_program, instr_fits, fits}
-use Rattle.bw_program.specs.ProgramText.{register_of, register_below, found_on, names_result, opcode_in, is_result_line, result_after, last_line, within_end, goes_past, instrs_of, ended, finished, instr_on, program_on, program_of, SpellsInstr, SpellsLines, result_line, instr_line, IsProgramText}
+use Rattle.bw_text.specs.declared.opcode.Opcode.{Opcode}
+use Rattle.bw_text.specs.declared.opcode.Opcode.TheVariants as op
+use Rattle.bw_text.specs.Opcode.{opcode_of}
+use Rattle.bw_program.specs.Program.{ProgramShape, most_instructions, is_sound, are_sound, is_program, instr_fits, fits}
+use Rattle.bw_text.specs.Register.{is_register}
+use Rattle.bw_text.proofs.RegisterLemmas.{register_is}
+use Rattle.bw_model.proofs.NameLemmas.{named_column_is_there}
+use Rattle.bw_program.specs.ProgramText.{found_on, names_result, opcode_in, is_result_line, result_after, last_line, within_end, goes_past, instrs_of, ended, finished, instr_on, program_on, program_of, SpellsInstr, SpellsLines, result_line, instr_line, IsProgramText}
+use Rattle.bw_text.specs.Register.{register_of, register_below}
 use Rattle.bw_program.specs.ProgramText as text
 use Rattle.bw_program.proofs.InstrSpelling.{instr_spelled, spelled_instr}
 
@@ -208,49 +212,21 @@ pub spelled_text : (columns : List Column) (bytes : List ℕ) (program : Program
 spelled_text columns bytes program is =
     spelled_read columns (length program.instrs) 0 (lines_in (whole bytes)) program.instrs program.result [] (end_in (whole bytes)) is.1 refl (omega arith) is.0 tt
 
--- a register that a word names is one of the 64, and a column that it names is there
-register_is : (word : List ℕ) (n : ℕ) → register_of word ≡ Some n → is_register n ≡ true
-unfolding register_of
-register_is word n e = go ((slice_index word 0 == 114) || (slice_index word 0 == 82)) (natural_of (drop 1 word)) e
-  where
-    below_so : (o : Option ℕ) → register_below o ≡ Some n → is_register n ≡ true
-    below_so None e = absurd (cc e)
-    below_so (Some m) e = at (is_register m) refl e
-      where
-        at : (b : Bool) → is_register m ≡ b → cond b (Some m) None ≡ Some n → is_register n ≡ true
-        at true is e = let same : m ≡ n = cc e in rw (← same) is
-        at false is e = absurd (cc e)
-
-    go : (b : Bool) (o : Option ℕ) → cond b (register_below o) None ≡ Some n → is_register n ≡ true
-    go true o e = below_so o e
-    go false o e = absurd (cc e)
-
-column_is : (columns : List Column) (word : List ℕ) (n : ℕ) → column_named columns word ≡ Some n → nat_lt n (length columns) ≡ true
-unfolding column_named
-column_is columns word n e = go (nat_lt (position_or_len test columns) (length columns)) refl e
-  where
-    test : Column → Bool
-    test column = same_text column.name word
-
-    go : (b : Bool) → nat_lt (position_or_len test columns) (length columns) ≡ b → cond b (Some (position_or_len test columns)) None ≡ Some n → nat_lt n (length columns) ≡ true
-    go true is e = let same : position_or_len test columns ≡ n = cc e in rw (← same) is
-    go false is e = absurd (cc e)
-
 all_true : (a b : Bool) → a ≡ true → b ≡ true → (a && b) ≡ true
 all_true a b x y = rw (x, y) refl
 
 instr_sound : (columns : List Column) (end number : ℕ) (words : List (List ℕ)) (instr : Instr) → SpellsInstr columns end number words instr →
     (is_sound end number instr ≡ true) × (instr_fits columns instr ≡ true)
 instr_sound columns end number _ _ (text.load {r = r} {c = c} {register = n} {column = m} {bit = k} o rr cc' b lt) =
-    (register_is r n rr, all_true _ _ (column_is columns c m cc') (lt-ltb _ _ lt))
-instr_sound columns end number _ _ (text.nulls {r = r} {c = c} {register = n} {column = m} o rr cc' nullable) = (register_is r n rr, all_true _ _ (column_is columns c m cc') nullable)
+    (register_is r n rr, all_true _ _ (named_column_is_there columns c m cc') (lt-ltb _ _ lt))
+instr_sound columns end number _ _ (text.nulls {r = r} {c = c} {register = n} {column = m} o rr cc' nullable) = (register_is r n rr, all_true _ _ (named_column_is_there columns c m cc') nullable)
 instr_sound columns end number _ _ (text.fill {r = r} {register = n} o rr b le) = (register_is r n rr, refl)
 instr_sound columns end number _ _ (text.conjunction {r = r} {a = a} {b = b} o x y z) = (all_true _ _ (all_true _ _ (register_is r _ x) (register_is a _ y)) (register_is b _ z), refl)
 instr_sound columns end number _ _ (text.disjunction {r = r} {a = a} {b = b} o x y z) = (all_true _ _ (all_true _ _ (register_is r _ x) (register_is a _ y)) (register_is b _ z), refl)
 instr_sound columns end number _ _ (text.difference {r = r} {a = a} {b = b} o x y z) = (all_true _ _ (all_true _ _ (register_is r _ x) (register_is a _ y)) (register_is b _ z), refl)
 instr_sound columns end number _ _ (text.negation {r = r} {a = a} o x y) = (all_true _ _ (register_is r _ x) (register_is a _ y), refl)
-instr_sound columns end number _ _ (text.below {r = r} {c = c} o x y s lt b le) = (all_true _ _ (register_is r _ x) (le-leb _ _ le), all_true _ _ (column_is columns c _ y) (lt-ltb _ _ lt))
-instr_sound columns end number _ _ (text.same {r = r} {c = c} o x y s lt b le) = (all_true _ _ (register_is r _ x) (le-leb _ _ le), all_true _ _ (column_is columns c _ y) (lt-ltb _ _ lt))
+instr_sound columns end number _ _ (text.below {r = r} {c = c} o x y s lt b le) = (all_true _ _ (register_is r _ x) (le-leb _ _ le), all_true _ _ (named_column_is_there columns c _ y) (lt-ltb _ _ lt))
+instr_sound columns end number _ _ (text.same {r = r} {c = c} o x y s lt b le) = (all_true _ _ (register_is r _ x) (le-leb _ _ le), all_true _ _ (named_column_is_there columns c _ y) (lt-ltb _ _ lt))
 instr_sound columns end number _ _ (text.skip {a = a} o x l forward near) = (all_true _ _ (all_true _ _ (register_is a _ x) (lt-ltb _ _ forward)) (le-leb _ _ near), refl)
 
 lines_sound : (columns : List Column) (end number : ℕ) (lines : List NumberedWords) (instrs : List Instr) (result : ℕ) → SpellsLines columns end number lines instrs result →

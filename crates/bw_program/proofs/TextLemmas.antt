@@ -7,7 +7,7 @@ use Rattle.std.proofs.Math.Seq.{drop-cons}
 use Rattle.bw_model.specs.declared.column.Column.{Column}
 use Rattle.bw_model.specs.declared.fault.Fault.{Fault}
 use Rattle.bw_model.specs.Fault.{at_line, is_memory, ◌>>=◌}
-use Rattle.bw_model.specs.Lines.{NumberedWords}
+use Rattle.bw_text.specs.Lines.{NumberedWords}
 use Rattle.bw_program.specs.declared.instr.Instr.{Instr}
 use Rattle.bw_program.specs.declared.parse.Placed.{Placed}
 use Rattle.bw_program.specs.Program.{ProgramShape, most_instructions}

@@ -6,13 +6,11 @@ use Rattle.bw_model.specs.declared.column.Column.{Column}
 use Rattle.bw_model.specs.Column.{names_of}
 use Rattle.bw_program.specs.declared.instr.Instr.{Instr}
 use Rattle.bw_program.specs.declared.instr.Instr.TheVariants.{Load, Nulls, Fill, And, Or, Xor, Not, ByteLt, ByteEq, Skip}
-use Rattle.bw_program.specs.declared.opcode.Opcode.TheVariants as op
-use Rattle.bw_program.specs.Opcode.{opcode_spelling}
+use Rattle.bw_text.specs.declared.opcode.Opcode.TheVariants as op
+use Rattle.bw_text.specs.Opcode.{opcode_spelling}
 use Rattle.bw_program.specs.Program.{ProgramShape}
-
--- a register: r, which is byte 114, and its number
-abbrev pub register_text : ℕ → List ℕ
-register_text register = 114 ∷ decimal register
+use Rattle.bw_text.specs.Printed.{line_text}
+use Rattle.bw_text.specs.Register.{register_text}
 
 -- the name of the column of a number
 abbrev pub column_text : List Column → ℕ → List ℕ
@@ -40,16 +38,6 @@ instr_words columns (Skip x target) = opcode_spelling op.Skip ∷ register_text 
 -- and of the result's
 abbrev pub result_words : ℕ → List (List ℕ)
 result_words result = opcode_spelling op.Result ∷ register_text result ∷ []
-
--- more words of a line, each after a blank, which is byte 32, and then a line feed, which is byte 10
-unfoldable pub line_end : List (List ℕ) → List ℕ
-line_end [] = 10 ∷ []
-line_end (word ∷ words) = 32 ∷ word ++ line_end words
-
--- a line of words, of which there is at least one
-abbrev pub line_text : List (List ℕ) → List ℕ
-line_text [] = line_end []
-line_text (word ∷ words) = word ++ line_end words
 
 -- the lines of instructions, and then that of the result
 unfoldable pub lines_text : List Column → List Instr → ℕ → List ℕ

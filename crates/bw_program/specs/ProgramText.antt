@@ -6,26 +6,17 @@ use Rattle.bw_model.specs.declared.fault.Fault.{Fault}
 use Rattle.bw_model.specs.Code.{width_at, slices_at}
 use Rattle.bw_model.specs.Column.{column_named}
 use Rattle.bw_model.specs.Fault.{at_line, is_memory, ◌>>=◌, refused_if}
-use Rattle.bw_model.specs.Lines.{NumberedWords, lines_in, end_in, whole}
-use Rattle.bw_model.specs.Number.{natural_of}
+use Rattle.bw_text.specs.Lines.{NumberedWords, lines_in, end_in, whole}
+use Rattle.bw_text.specs.Number.{natural_of}
 use Rattle.bw_model.specs.Variable.{is_nullable}
 use Rattle.bw_program.specs.declared.instr.Instr.{Instr}
 use Rattle.bw_program.specs.declared.instr.Instr.TheVariants.{Load, Nulls, Fill, And, Or, Xor, Not, ByteLt, ByteEq, Skip}
-use Rattle.bw_program.specs.declared.opcode.Opcode.{Opcode}
-use Rattle.bw_program.specs.declared.opcode.Opcode.TheVariants as op
+use Rattle.bw_text.specs.declared.opcode.Opcode.{Opcode}
+use Rattle.bw_text.specs.declared.opcode.Opcode.TheVariants as op
 use Rattle.bw_program.specs.declared.parse.Placed.{Placed}
-use Rattle.bw_program.specs.Opcode.{opcode_of}
-use Rattle.bw_program.specs.Program.{ProgramShape, is_register, most_instructions}
-
--- the register that a word names: r, which is byte 114, or R, byte 82, and then a number below 64
-abbrev pub register_below : Option ℕ → Option ℕ
-register_below None = None
-register_below (Some n) = if is_register n then Some n else None
-
-unfoldable pub register_of : List ℕ → Option ℕ
-register_of word =
-    if (slice_index word 0 == 114) || (slice_index word 0 == 82) then register_below
-    (natural_of (drop 1 word)) else None
+use Rattle.bw_text.specs.Opcode.{opcode_of}
+use Rattle.bw_text.specs.Register.{register_of}
+use Rattle.bw_program.specs.Program.{ProgramShape, most_instructions}
 
 -- what was found, or a fault of the line of this number
 abbrev pub found_on : {A : Type 0} → ℕ → ℕ → Option A → Result A Fault

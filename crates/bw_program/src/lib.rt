@@ -12,7 +12,6 @@
 mod instr;
 mod laws;
 mod line;
-mod opcode;
 mod parse;
 mod print;
 mod program;
@@ -20,7 +19,6 @@ mod step;
 
 pub use instr::{BitIndex, ColumnIndex, Instr, Register, SliceIndex};
 pub use laws::{places_are_reached, programs_are_read_as_spelled, runs_go_on};
-pub use opcode::Opcode;
 pub use print::canonical_texts_spell_programs;
 pub use program::Program;
 pub use step::Step;

@@ -1,11 +1,11 @@
 //! The instruction that a line of a program text says.
 ghost use Rattle.std.specs.Prelude.{◌≡◌, ◌<◌, List, Some, ℕ, map, drop, length, IfSome, IfOk, IfErr};
-ghost use Rattle.bw_model.specs.Lines.{line_of};
-ghost use Rattle.bw_program.specs.ProgramText.{register_of, natural_on, register_on, column_on, load_on, nulls_on, fill_on, three_on, not_on, byte_on, skip_on, instr_after, instr_on, is_result_line, result_after, IsProgramFault};
+ghost use Rattle.bw_text.specs.Lines.{line_of};
+ghost use Rattle.bw_program.specs.ProgramText.{natural_on, register_on, column_on, load_on, nulls_on, fill_on, three_on, not_on, byte_on, skip_on, instr_after, instr_on, is_result_line, result_after, IsProgramFault};
 
 use crate::instr::{ColumnIndex, Instr, Register, SliceIndex};
-use crate::opcode::Opcode;
-use bw_model::{Fault, Line, REGISTERS, Schema, code, natural_number};
+use bw_model::{Fault, Schema, code};
+use bw_text::{Line, Opcode, natural_number, register_of};
 
 /// The instruction of this number that a line says, or the first fault there: its form (501), a register (502), a
 /// column, bit or slice (503), a column without nulls (507), a skip that doesn't go forward (504).
@@ -112,21 +112,6 @@ fn register_on(line: u64, word: &[u8]) -> Result<Register, Fault>
     ensures fault { IfErr result IsProgramFault }
 {
     register_of(word).ok_or(Fault::at_line(code::REGISTER, line))
-}
-
-/// The register that a word names: `r` or `R`, and a number below 64.
-#[tactic(auto, unfolding(crate::specs::ProgramText::register_of))]
-fn register_of(word: &[u8]) -> Option<Register>
-    ensures register { result ≡ register_of word.now }
-    ensures below { IfSome result (λ register. register < 64) }
-{
-    let [b'r' | b'R', digits @ ..] = word else {
-        return None;
-    };
-    match natural_number(digits) {
-        Some(number) if number < REGISTERS => Some(number as u8),
-        _ => None,
-    }
 }
 
 /// A column, or 503.

@@ -1,7 +1,7 @@
 //! Program texts, read line by line: instructions, and then `RESULT x`.
 ghost use Rattle.std.specs.Prelude.{◌≡◌, ◌<◌, ◌≤◌, ℕ, Ok, Err, [], false, length, option_map, IfOk, IfErr, OnOk, IsTrue};
 ghost use Rattle.bw_model.specs.Fault.{Gives, is_memory};
-ghost use Rattle.bw_model.specs.Lines.{lines_in, end_in};
+ghost use Rattle.bw_text.specs.Lines.{lines_in, end_in};
 ghost use Rattle.bw_program.specs.Program.{ProgramShape, fits, most_instructions};
 ghost use Rattle.bw_program.specs.ProgramText.{program_of, program_on, last_line, finished, instrs_of, within_end, goes_past, IsProgramText, IsProgramFault};
 
@@ -9,7 +9,8 @@ use crate::instr::{Instr, Register};
 use crate::line::{instr_of, is_result_line, result_of};
 use crate::program::{Program, registers_of};
 use crate::step::steps_of;
-use bw_model::{Fault, Line, Lines, Schema, code};
+use bw_model::{Fault, Schema, code};
+use bw_text::{Line, Lines};
 use std::alloc::{AllocError, Global};
 
 /// A program has at most this many instructions.

@@ -1,22 +1,22 @@
 //! Program texts, written in their canonical form.
-ghost use Rattle.std.specs.Prelude.{◌≡◌, ◌++◌, ◌∷◌, ◌<◌, ℕ, [], List, IfOk, OnOk, IsOkUnless, IsTrue, length};
+ghost use Rattle.std.specs.Prelude.{◌≡◌, ◌++◌, ◌∷◌, [], ◌<◌, List, IfOk, OnOk, IsOkUnless, IsTrue, length};
 ghost use Rattle.std.specs.Fmt.{decimal};
 ghost use Rattle.std.specs.List.{list_all};
 ghost use Rattle.bw_model.specs.declared.column.Column.{Column};
-ghost use Rattle.bw_model.specs.Fault.{no_memory};
-ghost use Rattle.bw_program.specs.declared.print.Operand.TheVariants as operand;
-ghost use Rattle.bw_program.specs.Opcode.{opcode_spelling};
-ghost use Rattle.bw_program.specs.Operand.{operand_text, operands_text, operand_fits};
-ghost use Rattle.bw_program.specs.PrintText.{print_text, instr_words, result_words, line_text};
 ghost use Rattle.bw_model.specs.Column.{names_of};
+ghost use Rattle.bw_model.specs.Fault.{no_memory};
 ghost use Rattle.bw_model.specs.Name.{is_name, are_apart};
+ghost use Rattle.bw_text.specs.Opcode.{opcode_spelling};
+ghost use Rattle.bw_text.specs.Printed.{line_text, piece_text};
+ghost use Rattle.bw_text.specs.Register.{register_text};
+ghost use Rattle.bw_program.specs.PrintText.{column_text, instr_words, print_text, result_words};
 ghost use Rattle.bw_program.specs.Program.{ProgramShape, is_program, fits, instr_fits};
 ghost use Rattle.bw_program.specs.ProgramText.{IsProgramText};
 
 use crate::instr::{ColumnIndex, Instr, Register, SliceIndex};
-use crate::opcode::Opcode;
 use crate::program::Program;
 use bw_model::{Fault, Schema};
+use bw_text::{Opcode, Piece, push_line};
 use std::alloc::{AllocError, Global};
 
 impl Program {
@@ -37,7 +37,7 @@ impl Program {
         for number in 0..self.len() {
             put_instr(alloc, schema, self.instr(number), &mut text)?;
         }
-        put_result(alloc, schema, self.result(), &mut text)?;
+        put_result(alloc, self.result(), &mut text)?;
         Ok(text)
     }
 }
@@ -51,15 +51,6 @@ pub fn canonical_texts_spell_programs()
         → IsProgramText columns (print_text columns program) program }
 {}
 
-/// What stands after an opcode.
-#[derive(Clone, Copy)]
-pub(crate) enum Operand {
-    Register(Register),
-    Column(ColumnIndex),
-    Number(u64),
-    Nothing,
-}
-
 /// Appends an instruction's line.
 fn put_instr(
     alloc: Global,
@@ -71,153 +62,121 @@ fn put_instr(
     ensures { OnOk result (text.new.items
         ≡ text.old.items ++ line_text (instr_words schema.now.columns.items instr)) }
 {
-    let (opcode, operands) = parts_of(instr);
-    put_line(alloc, schema, opcode, &operands, text)
-}
-
-/// Appends the line of the result register.
-#[tactic(auto, unfolding(crate::specs::Operand::operands_text, crate::specs::PrintText::line_end))]
-fn put_result(
-    alloc: Global,
-    schema: &Schema,
-    register: Register,
-    text: &mut Vec<u8>,
-) -> Result<(), AllocError>
-    ensures { OnOk result (text.new.items ≡ text.old.items ++ line_text (result_words register)) }
-{
-    let operands = [Operand::Register(register)];
-    put_line(alloc, schema, Opcode::Result, &operands, text)
-}
-
-/// An instruction's opcode, and what stands after it.
-#[tactic(auto, unfolding(crate::specs::Operand::operands_text, crate::specs::PrintText::line_end))]
-fn parts_of(instr: Instr) -> (Opcode, [Operand; 4])
-    ensures text { (columns : List Column) → opcode_spelling result.0
-        ++ operands_text columns result.1 ≡ line_text (instr_words columns instr) }
-    ensures fits { (columns : List Column) → IsTrue (instr_fits columns instr)
-        → IsTrue (list_all (operand_fits columns) result.1) }
-{
-    use Operand::{Column, Nothing, Number, Register};
+    use Piece::{Number, Register, Word};
     match instr {
         Instr::Load { to, column, bit } => {
-            let bit = Number(bit as u64);
-            (Opcode::Load, [Register(to), Column(column), bit, Nothing])
+            let (column, bit) = (Word(name_of(schema, column)), Number(bit as u64));
+            push_line(
+                alloc,
+                &[word(Opcode::Load), Register(to), column, bit],
+                text,
+            )
         }
         Instr::Nulls { to, column } => {
-            let column = Column(column);
-            (Opcode::Nulls, [Register(to), column, Nothing, Nothing])
+            let column = Word(name_of(schema, column));
+            push_line(alloc, &[word(Opcode::Nulls), Register(to), column], text)
         }
         Instr::Fill { to, bit } => {
             let bit = Number(bit as u64);
-            (Opcode::Fill, [Register(to), bit, Nothing, Nothing])
+            push_line(alloc, &[word(Opcode::Fill), Register(to), bit], text)
         }
-        Instr::And { to, left, right } => (Opcode::And, three_registers(to, left, right)),
-        Instr::Or { to, left, right } => (Opcode::Or, three_registers(to, left, right)),
-        Instr::Xor { to, left, right } => (Opcode::Xor, three_registers(to, left, right)),
+        Instr::And { to, left, right } => put_three(alloc, Opcode::And, (to, left, right), text),
+        Instr::Or { to, left, right } => put_three(alloc, Opcode::Or, (to, left, right), text),
+        Instr::Xor { to, left, right } => put_three(alloc, Opcode::Xor, (to, left, right), text),
         Instr::Not { to, from } => {
-            let from = Register(from);
-            (Opcode::Not, [Register(to), from, Nothing, Nothing])
+            let pieces = [word(Opcode::Not), Register(to), Register(from)];
+            push_line(alloc, &pieces, text)
         }
         Instr::ByteLt {
             to,
             column,
             slice,
             below,
-        } => (Opcode::ByteLt, byte_operands(to, column, slice, below)),
+        } => {
+            let operands = (to, column, slice, below);
+            put_byte(alloc, schema, Opcode::ByteLt, operands, text)
+        }
         Instr::ByteEq {
             to,
             column,
             slice,
             byte,
-        } => (Opcode::ByteEq, byte_operands(to, column, slice, byte)),
+        } => {
+            let operands = (to, column, slice, byte);
+            put_byte(alloc, schema, Opcode::ByteEq, operands, text)
+        }
         Instr::Skip { if_zero, target } => {
             let target = Number(target as u64);
-            (Opcode::Skip, [Register(if_zero), target, Nothing, Nothing])
+            push_line(
+                alloc,
+                &[word(Opcode::Skip), Register(if_zero), target],
+                text,
+            )
         }
     }
 }
 
-/// Three registers.
-const fn three_registers(to: Register, left: Register, right: Register) -> [Operand; 4]
-    ensures { result ≡ operand.Register to ∷ operand.Register left ∷ operand.Register right ∷ operand.Nothing ∷ [] }
+/// Appends the line of an instruction with three registers.
+fn put_three(
+    alloc: Global,
+    opcode: Opcode,
+    registers: (Register, Register, Register),
+    text: &mut Vec<u8>,
+) -> Result<(), AllocError>
+    ensures { OnOk result (text.new.items ≡ text.old.items ++ line_text (opcode_spelling opcode
+        ∷ register_text registers.0 ∷ register_text registers.1 ∷ register_text registers.2 ∷ [])) }
 {
-    [
-        Operand::Register(to),
-        Operand::Register(left),
-        Operand::Register(right),
-        Operand::Nothing,
-    ]
+    let (to, left, right) = registers;
+    let (to, left, right) = (
+        Piece::Register(to),
+        Piece::Register(left),
+        Piece::Register(right),
+    );
+    push_line(alloc, &[word(opcode), to, left, right], text)
 }
 
-/// A register, a column, a slice of its codes and a byte.
-const fn byte_operands(
-    to: Register,
-    column: ColumnIndex,
-    slice: SliceIndex,
-    byte: u8,
-) -> [Operand; 4]
-    ensures { result ≡ operand.Register to ∷ operand.Column column ∷ operand.Number slice ∷ operand.Number byte ∷ [] }
-{
-    [
-        Operand::Register(to),
-        Operand::Column(column),
-        Operand::Number(slice as u64),
-        Operand::Number(byte as u64),
-    ]
-}
-
-/// Appends a line.
-fn put_line(
+/// Appends the line of an instruction with a register, a column, a slice of its codes and a byte.
+fn put_byte(
     alloc: Global,
     schema: &Schema,
     opcode: Opcode,
-    operands: &[Operand],
+    operands: (Register, ColumnIndex, SliceIndex, u8),
     text: &mut Vec<u8>,
 ) -> Result<(), AllocError>
-    requires { IsTrue (list_all (operand_fits schema.now.columns.items) operands.now) }
-    ensures { OnOk result (text.new.items ≡ text.old.items
-        ++ (opcode_spelling opcode ++ operands_text schema.now.columns.items operands.now)) }
+    requires { operands.1 < length schema.now.columns.items }
+    ensures { OnOk result (text.new.items ≡ text.old.items ++ line_text (opcode_spelling opcode
+        ∷ register_text operands.0 ∷ column_text schema.now.columns.items operands.1
+        ∷ decimal operands.2 ∷ decimal operands.3 ∷ [])) }
 {
-    text.extend_from_slice(opcode.spelling())?;
-    for operand in operands {
-        put_operand(alloc, schema, *operand, text)?;
-    }
-    text.push(b'\n')?;
-    Ok(())
+    let (to, column, slice, byte) = operands;
+    let column = Piece::Word(name_of(schema, column));
+    let (slice, byte) = (Piece::Number(slice as u64), Piece::Number(byte as u64));
+    push_line(
+        alloc,
+        &[word(opcode), Piece::Register(to), column, slice, byte],
+        text,
+    )
 }
 
-/// Appends a blank and an operand, if there is one.
-fn put_operand(
-    alloc: Global,
-    schema: &Schema,
-    operand: Operand,
-    text: &mut Vec<u8>,
-) -> Result<(), AllocError>
-    requires { IsTrue (operand_fits schema.now.columns.items operand) }
-    ensures { OnOk result (text.new.items
-        ≡ text.old.items ++ operand_text schema.now.columns.items operand) }
+/// Appends the line of the result register.
+fn put_result(alloc: Global, register: Register, text: &mut Vec<u8>) -> Result<(), AllocError>
+    ensures { OnOk result (text.new.items ≡ text.old.items ++ line_text (result_words register)) }
 {
-    match operand {
-        Operand::Register(register) => {
-            text.extend_from_slice(b" r")?;
-            put_number(alloc, register as u64, text)
-        }
-        Operand::Column(column) => {
-            text.push(b' ')?;
-            text.extend_from_slice(schema.columns[column as usize].name.as_bytes())
-        }
-        Operand::Number(number) => {
-            text.push(b' ')?;
-            put_number(alloc, number, text)
-        }
-        Operand::Nothing => Ok(()),
-    }
+    let pieces = [word(Opcode::Result), Piece::Register(register)];
+    push_line(alloc, &pieces, text)
 }
 
-/// Appends a number's decimal digits.
-fn put_number(alloc: Global, number: u64, text: &mut Vec<u8>) -> Result<(), AllocError>
-    ensures { OnOk result (text.new.items ≡ text.old.items ++ decimal number) }
+/// An opcode, as the first piece of a line.
+fn word(opcode: Opcode) -> Piece<'static>
+    ensures { piece_text result ≡ opcode_spelling opcode }
 {
-    let digits = number.to_string(alloc)?;
-    text.extend_from_slice(digits.as_bytes())
+    Piece::Word(opcode.spelling())
+}
+
+/// The name of the column of a number.
+fn name_of(schema: &Schema, column: ColumnIndex) -> &[u8]
+    requires { column < length schema.now.columns.items }
+    ensures { result.now ≡ column_text schema.now.columns.items column }
+{
+    schema.columns[column as usize].name.as_bytes()
 }

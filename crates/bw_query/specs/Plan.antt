@@ -12,7 +12,7 @@ use Rattle.bw_program.specs.Program.{ProgramShape}
 use Rattle.bw_cert_lines.specs.CertificateFields.{CertificateFields}
 use Rattle.bw_cert_lines.specs.CertificateShape.{CertificateShape}
 use Rattle.bw_cert_text.specs.PrintText as certificate_text
-use Rattle.bw_cert_file.specs.Judged.{Certifies}
+use Rattle.bw_cert.specs.Judged.{Certifies}
 use Rattle.bw_sql.specs.Statement.{IsReadAs}
 
 -- the printed text of a program, the line CERTIFICATE, and the printed text of a certificate

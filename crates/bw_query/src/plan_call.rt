@@ -6,11 +6,11 @@ ghost use Rattle.bw_model.specs.Cond.{names_within};
 ghost use Rattle.bw_model.specs.Fault.{is_memory, nowhere};
 ghost use Rattle.bw_program.specs.Program.{ProgramShape, fits};
 ghost use Rattle.bw_cert_lines.specs.CertificateShape.{CertificateShape};
-ghost use Rattle.bw_cert_file.specs.Judged.{Certifies};
+ghost use Rattle.bw_cert.specs.Judged.{Certifies};
 ghost use Rattle.bw_device.specs.Sink.{LeavesSink, Wrote, none_aside};
 ghost use Rattle.bw_query.specs.Plan.{IsPlanned, IsPrinted};
 
-use bw_cert_file::certify;
+use bw_cert::certify;
 use bw_cert_text::print_certificate;
 use bw_device::{Sink, write_whole};
 use bw_model::{Cond, Fault, Place, Schema, code};

@@ -4,14 +4,13 @@ ghost use Rattle.bw_model.specs.declared.cond.Cond.{Cond};
 ghost use Rattle.bw_model.specs.Cond.{names_within};
 ghost use Rattle.bw_model.specs.CondTree.{tree_of};
 ghost use Rattle.bw_model.specs.Fault.{is_memory};
-ghost use Rattle.bw_cert_file.specs.Judged.{is_file_fault};
+ghost use Rattle.bw_cert.specs.Judged.{is_file_fault};
 ghost use Rattle.bw_cert.specs.declared.certified.Certified.{Certified};
 ghost use Rattle.bw_model.specs.declared.fault.Fault.{Fault};
 ghost use Rattle.bw_query.specs.declared.scan.Scan.TheVariants.{Program};
 ghost use Rattle.bw_query.specs.Scan.{IsFor, IsChosen, IsScanFault, IsUsable, given_file, scan_by};
 
-use bw_cert::{Certified, check};
-use bw_cert_file::certify;
+use bw_cert::{Certified, certify, check};
 use bw_model::{Cond, Fault, Place, Schema, code};
 use bw_plan::propose;
 use std::alloc::Global;

@@ -16,7 +16,7 @@ use Rattle.bw_model.specs.Column.{admits_value, admits_values, names_of}
 use Rattle.bw_model.specs.Fault.{at_record, ◌>>=◌}
 use Rattle.bw_model.specs.Row.{Value, value_in}
 use Rattle.bw_model.specs.SchemaText.{ColumnShape, SchemaShape, column_shape, schema_shape, shape, is_range}
-use Rattle.bw_model.specs.Text.{same_text}
+use Rattle.bw_text.specs.Text.{same_text}
 use Rattle.bw_model.specs.Total.{joined, total}
 use Rattle.bw_model.specs.Truth.{is_null}
 use Rattle.bw_model.proofs.TotalLemmas.{total_append}

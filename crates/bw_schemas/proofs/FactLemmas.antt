@@ -5,7 +5,7 @@ use Rattle.std.specs.List.{list_all}
 use Rattle.std.proofs.lemmas.List.{append-nil}
 use Rattle.std.proofs.Math.Nat.{mul-le-mul_left}
 use Rattle.bw_model.specs.declared.schema.Schema.{Schema}
-use Rattle.bw_model.specs.Lines.{cut_lines, numbered_from}
+use Rattle.bw_text.specs.Lines.{cut_lines, numbered_from}
 use Rattle.bw_model.specs.SchemaText.{IsSchemaText, schema_shape}
 use Rattle.bw_file.specs.declared.layout.Layout.{Layout}
 use Rattle.bw_file.specs.declared.layout.Layout.TheVariants.{Planes, Slices}
@@ -13,8 +13,8 @@ use Rattle.bw_file.specs.Blocks.{segment_size}
 use Rattle.bw_file.specs.FileBytes.{header_bytes}
 use Rattle.bw_schemas.specs.Printed.{AreComments, schema_text}
 use Rattle.bw_schemas.proofs.PrintedBounds.{natural_plain, natural_short}
-use Rattle.bw_model.proofs.SpacedWords.{is_plain_word}
-use Rattle.bw_schemas.proofs.PrintedLines.{line_skipped}
+use Rattle.bw_text.specs.Printed.{is_plain_word}
+use Rattle.bw_text.proofs.SpacedWords.{line_skipped}
 use Rattle.bw_schemas.proofs.PrintedText.{no_comments}
 use Rattle.bw_schemas.specs.Info.{comment, facts_text, file_size, info_text, layout_word, segment_count}
 
@@ -74,15 +74,14 @@ whole_text version layout schema rows text e = e
 
 -- so the text is what a header says, by its numbers
 pub told_by : (version : ℕ) (layout : Layout) (schema : Schema) (rows : ℕ) (s w one two three four five : List ℕ) (r g v z : ℕ)
-    → one ≡ s ++ (codes "# rows " ++ (decimal r ++ 10 ∷ [])) → two ≡ one ++ (codes "# segments " ++ (decimal g ++ 10 ∷ []))
-    → three ≡ two ++ (codes "# layout " ++ (w ++ 10 ∷ [])) → four ≡ three ++ (codes "# version " ++ (decimal v ++ 10 ∷ []))
-    → five ≡ four ++ (codes "# bytes " ++ (decimal z ++ 10 ∷ [])) → s ≡ schema_text (schema_shape schema) → w ≡ layout_word layout
+    → one ≡ s ++ comment (codes "rows") (decimal r) → two ≡ one ++ comment (codes "segments") (decimal g)
+    → three ≡ two ++ comment (codes "layout") w → four ≡ three ++ comment (codes "version") (decimal v)
+    → five ≡ four ++ comment (codes "bytes") (decimal z) → s ≡ schema_text (schema_shape schema) → w ≡ layout_word layout
     → r ≡ rows → g ≡ segment_count rows → v ≡ version → z ≡ file_size version layout schema rows
     → five ≡ info_text version layout schema rows
 told_by version layout schema rows s w one two three four five r g v z p q t u x is word a b c d =
     whole_text version layout schema rows five
-    (joined s (codes "# rows " ++ (decimal r ++ 10 ∷ [])) (codes "# segments " ++ (decimal g ++ 10 ∷ [])) (codes "# layout " ++ (w ++ 10 ∷ []))
-    (codes "# version " ++ (decimal v ++ 10 ∷ [])) (codes "# bytes " ++ (decimal z ++ 10 ∷ [])) one two three four five p q t u x ∙ rw (is, word, a, b, c, d) refl)
+    (joined s _ _ _ _ _ one two three four five p q t u x ∙ rw (is, word, a, b, c, d) refl)
 
 -- the size of a file, by that of its header and of a segment
 pub size_by : (version : ℕ) (layout : Layout) (schema : Schema) (rows head count size : ℕ) → head ≡ length (header_bytes version layout schema.name schema.columns.items rows) → count ≡ rows

@@ -7,9 +7,9 @@ use Rattle.std.proofs.lemmas.List.{append-nil, drop_all}
 use Rattle.std.proofs.Math.Seq.{drop-cons}
 use Rattle.bw_model.specs.declared.fault.Fault.{Fault}
 use Rattle.bw_model.specs.Fault.{at_record, ◌>>=◌, refused_if}
-use Rattle.bw_model.specs.Lines.{is_empty}
+use Rattle.bw_text.specs.Lines.{is_empty}
 use Rattle.bw_model.specs.Name.{is_name, are_apart}
-use Rattle.bw_model.specs.Text.{same_text}
+use Rattle.bw_text.specs.Text.{same_text}
 use Rattle.bw_csv.specs.Rows.{without_blanks}
 use Rattle.bw_schemas.specs.Heading.{heading_names, names_from, some_names}
 

@@ -1,4 +1,3 @@
-pub mod PrintedLines
 pub mod PrintedBounds
 pub mod PrintedText
 pub mod ColumnLemmas

@@ -6,11 +6,11 @@ use Rattle.std.specs.List.{list_all}
 use Rattle.std.proofs.lemmas.Bool.{lt-ltb, le-leb, leb-true, ne_eqb}
 use Rattle.std.proofs.lemmas.Fmt.{length-decimal-le}
 use Rattle.std.proofs.lemmas.Int.{ints}
-use Rattle.bw_model.specs.Number as number
+use Rattle.bw_text.specs.Number as number
 use Rattle.bw_model.specs.SchemaText.{bound_of}
 use Rattle.bw_model.proofs.BitsLemmas.{both}
-use Rattle.bw_model.proofs.DecimalLemmas.{Spells, decimal_spells, plain_digits, plain_number}
-use Rattle.bw_model.proofs.SpacedWords.{is_plain_word}
+use Rattle.bw_text.proofs.DecimalLemmas.{Spells, decimal_spells, plain_digits, plain_number}
+use Rattle.bw_text.specs.Printed.{is_plain_word}
 
 -- a bound without a sign begins with a digit, and with one it doesn't
 positive_spells : (n : ℕ) (digits : List ℕ) → n < 2 ^ 63 → Spells n digits → bound_of digits ≡ Some (pos n)

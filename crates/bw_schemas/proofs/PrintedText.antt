@@ -9,16 +9,16 @@ use Rattle.std.proofs.Math.Seq.{drop-cons}
 use Rattle.bw_model.specs.declared.column.Column.{Column}
 use Rattle.bw_model.specs.declared.schema.Schema.{Schema}
 use Rattle.bw_model.specs.Column.{names_of}
-use Rattle.bw_model.specs.Keyword.{is_reserved}
+use Rattle.bw_text.specs.Keyword.{is_reserved}
 use Rattle.bw_model.specs.Limits.{longest_name}
-use Rattle.bw_model.specs.Lines.{NumberedWords, cut_lines, numbered, numbered_from}
+use Rattle.bw_text.specs.Lines.{NumberedWords, cut_lines, numbered, numbered_from}
 use Rattle.bw_model.specs.Name.{is_name, are_apart}
 use Rattle.bw_model.specs.SchemaText.{shape, shape_names, column_shape, schema_shape, column_words, table_words, is_range, SpellsColumn, SpellsSchema, IsSchemaText}
-use Rattle.bw_model.specs.Text.{same_text, is_word}
-use Rattle.bw_schemas.specs.Printed.{AreComments, IsColumn, column_line, columns_text, line_text, schema_text, table_line}
+use Rattle.bw_text.specs.Text.{same_text, is_word}
+use Rattle.bw_schemas.specs.Printed.{AreComments, IsColumn, column_line, columns_text, schema_text, table_line}
+use Rattle.bw_text.specs.Printed.{is_plain_word, line_text}
 use Rattle.bw_model.proofs.BitsLemmas.{both}
-use Rattle.bw_model.proofs.SpacedWords.{is_plain_word, plain_word}
-use Rattle.bw_schemas.proofs.PrintedLines.{line_said}
+use Rattle.bw_text.proofs.SpacedWords.{line_said, plain_word}
 use Rattle.bw_schemas.proofs.PrintedBounds.{bound_spelled, bound_plain, bound_length}
 
 -- a name is a plain word of at most 63 bytes
@@ -157,19 +157,7 @@ pub columns_text-end : (columns : List Column) (i : ℕ) → length columns ≤ 
 unfolding columns_text
 columns_text-end columns i le = rw (drop_all i columns le) refl
 
--- a piece that is written and what is left after it
-pub written : (now piece left rest start new : List ℕ) → new ≡ now ++ piece → left ≡ piece ++ rest → now ++ left ≡ start → new ++ rest ≡ start
-written now piece left rest start new is parts e = rw is (append_assoc now piece rest ∙ ap (λ (t : List ℕ). now ++ t) (sym parts) ∙ e)
-
 pub all_written : (schema : Schema) (text : List ℕ) → text ++ [] ≡ line_text (table_line schema.name) ++ columns_text (map column_shape schema.columns.items)
     → text ≡ schema_text (schema_shape schema)
 unfolding schema_text
 all_written schema text e = sym (append-nil text) ∙ e
-
--- a column's line, put together piece by piece
-pub column_put : (old name lo hi end a b c d e : List ℕ) → a ≡ old ++ codes "COLUMN " → b ≡ a ++ name → c ≡ b ++ 32 ∷ lo → d ≡ c ++ 32 ∷ hi → e ≡ d ++ end
-    → e ≡ old ++ (codes "COLUMN" ++ 32 ∷ name ++ (32 ∷ lo ++ (32 ∷ hi ++ end)))
-column_put old name lo hi end a b c d e p q r s t =
-    t ∙ ap (λ (l : List ℕ). l ++ end) s ∙ append_assoc c (32 ∷ hi) end ∙ ap (λ (l : List ℕ). l ++ (32 ∷ hi ++ end)) r ∙ append_assoc b (32 ∷ lo) (32 ∷ hi ++ end)
-    ∙ ap (λ (l : List ℕ). l ++ (32 ∷ lo ++ (32 ∷ hi ++ end))) q ∙ append_assoc a name (32 ∷ lo ++ (32 ∷ hi ++ end))
-    ∙ ap (λ (l : List ℕ). l ++ (name ++ (32 ∷ lo ++ (32 ∷ hi ++ end)))) p ∙ append_assoc old (codes "COLUMN ") (name ++ (32 ∷ lo ++ (32 ∷ hi ++ end)))

@@ -5,9 +5,9 @@ use Rattle.bw_model.specs.declared.fault.code.TheConstants.{SCHEMA_NAME, NAME_TW
 use Rattle.bw_model.specs.declared.fault.Fault.{Fault}
 use Rattle.bw_model.specs.Fault.{at_record, ◌>>=◌, refused_if}
 use Rattle.bw_model.specs.Limits.{most_columns}
-use Rattle.bw_model.specs.Lines.{is_empty}
+use Rattle.bw_text.specs.Lines.{is_empty}
 use Rattle.bw_model.specs.Name.{is_name}
-use Rattle.bw_model.specs.Text.{same_text}
+use Rattle.bw_text.specs.Text.{same_text}
 use Rattle.bw_csv.specs.Rows.{without_blanks}
 
 -- The names, after those before them, or the first fault from the left, which stands at the heading, record 0: the 65th

@@ -15,7 +15,8 @@ use Rattle.bw_file.specs.FileBytes.{header_bytes}
 use Rattle.bw_file.specs.Reading.{State, GoesOn, Fails, give}
 use Rattle.bw_file.specs.TableReader.{failed_by}
 use Rattle.bw_file.specs.TableReading.{HeaderShape, header}
-use Rattle.bw_schemas.specs.Printed.{line_text, schema_text}
+use Rattle.bw_text.specs.Printed.{line_text}
+use Rattle.bw_schemas.specs.Printed.{schema_text}
 
 -- in how many segments so many rows stand
 abbrev pub segment_count : ℕ → ℕ

@@ -3,9 +3,10 @@
 use Rattle.std.specs.Prelude.{◌≡◌, ℕ, Bool, true, false, FitsSigned, List, [], ◌∷◌, ◌++◌, codes}
 use Rattle.std.specs.Fmt.{signed_decimal}
 use Rattle.std.specs.Int.{w64}
-use Rattle.bw_model.specs.Lines.{cut_lines, numbered_from}
+use Rattle.bw_text.specs.Lines.{cut_lines, numbered_from}
 use Rattle.bw_model.specs.Name.{is_name}
 use Rattle.bw_model.specs.SchemaText.{ColumnShape, SchemaShape}
+use Rattle.bw_text.specs.Printed.{line_text}
 
 -- the words of a table's line and of a column's
 abbrev pub table_line : List ℕ → List (List ℕ)
@@ -18,16 +19,6 @@ not_null_words false = codes "NOT" ∷ codes "NULL" ∷ []
 abbrev pub column_line : ColumnShape → List (List ℕ)
 column_line column =
     codes "COLUMN" ∷ column.name ∷ signed_decimal column.lo ∷ signed_decimal column.hi ∷ not_null_words column.nullable
-
--- more words of a line, each after a blank, which is byte 32, and then a line feed, which is byte 10
-abbrev pub line_end : List (List ℕ) → List ℕ
-line_end [] = 10 ∷ []
-line_end (word ∷ words) = 32 ∷ word ++ line_end words
-
--- a line of words, of which there is at least one
-abbrev pub line_text : List (List ℕ) → List ℕ
-line_text [] = line_end []
-line_text (word ∷ words) = word ++ line_end words
 
 unfoldable pub columns_text : List ColumnShape → List ℕ
 columns_text [] = []

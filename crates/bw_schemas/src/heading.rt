@@ -3,7 +3,7 @@ ghost use Rattle.std.specs.Prelude.{◌≡◌, ◌≤◌, IfOk, IfErr, length, t
 ghost use Rattle.std.specs.List.{list_any};
 ghost use Rattle.bw_model.specs.Limits.{most_columns};
 ghost use Rattle.bw_model.specs.Name.{are_apart};
-ghost use Rattle.bw_model.specs.Text.{same_text};
+ghost use Rattle.bw_text.specs.Text.{same_text};
 ghost use Rattle.bw_csv.specs.Records.{fields_in};
 ghost use Rattle.bw_csv.specs.Rows.{GivesButAside, is_reader_fault};
 ghost use Rattle.bw_schemas.specs.Heading.{heading_names};

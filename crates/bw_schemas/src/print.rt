@@ -1,17 +1,18 @@
 //! A schema's text.
-ghost use Rattle.std.specs.Prelude.{◌≡◌, ◌++◌, ◌∷◌, ◌≤◌, ℕ, List, true, IfOk, IsOkUnless, OnOk, length};
-ghost use Rattle.std.specs.Fmt.{signed_decimal};
+ghost use Rattle.std.specs.Prelude.{◌≡◌, ◌++◌, ◌≤◌, ℕ, List, true, IfOk, IsOkUnless, OnOk, length};
 ghost use Rattle.bw_model.specs.Fault.{no_memory};
 ghost use Rattle.bw_model.specs.Name.{is_name};
 ghost use Rattle.bw_model.specs.SchemaText.{column_shape, schema_shape, IsSchemaText};
-ghost use Rattle.bw_schemas.specs.Printed.{AreComments, IsColumn, column_line, line_end, line_text, most_comments, not_null_words, schema_text, table_line};
+ghost use Rattle.bw_schemas.specs.Printed.{AreComments, IsColumn, column_line, most_comments, schema_text, table_line};
+ghost use Rattle.bw_text.specs.Printed.{line_text};
 
 use bw_model::{Column, Fault, Name, Schema};
+use bw_text::{Piece, push_line};
 use std::alloc::{AllocError, Global};
 
 /// The text of a schema: `TABLE` and its name, and then for each column a line of `COLUMN`, its name and its bounds, with
 /// `NOT NULL` where it takes no null. Words stand one blank apart, names are spelled as in the schema, and each line ends
-/// with a line feed. The text spells the schema, and so does the text with comment lines after it. Refused is want of
+/// with a line feed. The text spells the schema, and so does the text with comment lines after it. Refused is out of
 /// memory alone (801).
 pub fn print_schema(alloc: Global, schema: &Schema) -> Result<Vec<u8>, Fault>
     ensures text { IfOk result (λ text. text.items ≡ schema_text (schema_shape schema.now)) }
@@ -22,7 +23,7 @@ pub fn print_schema(alloc: Global, schema: &Schema) -> Result<Vec<u8>, Fault>
     ensures only_memory { IsOkUnless result no_memory }
 {
     let mut text = Vec::new(alloc);
-    put_table(&schema.name, &mut text)?;
+    put_table(alloc, &schema.name, &mut text)?;
     for column in &schema.columns {
         put_column(alloc, column, &mut text)?;
     }
@@ -30,14 +31,12 @@ pub fn print_schema(alloc: Global, schema: &Schema) -> Result<Vec<u8>, Fault>
 }
 
 /// Appends the line of a table.
-fn put_table(name: &Name, text: &mut Vec<u8>) -> Result<(), AllocError>
+fn put_table(alloc: Global, name: &Name, text: &mut Vec<u8>) -> Result<(), AllocError>
     ensures text { OnOk result (text.new.items ≡ text.old.items ++ line_text (table_line name.now)) }
     ensures name { OnOk result (is_name name.now ≡ true) }
 {
-    text.extend_from_slice(b"TABLE ")?;
-    text.extend_from_slice(name.as_bytes())?;
-    text.push(b'\n')?;
-    Ok(())
+    let pieces = [Piece::Word(b"TABLE"), Piece::Word(name.as_bytes())];
+    push_line(alloc, &pieces, text)
 }
 
 /// Appends the line of a column.
@@ -45,26 +44,20 @@ fn put_column(alloc: Global, column: &Column, text: &mut Vec<u8>) -> Result<(), 
     ensures text { OnOk result (text.new.items ≡ text.old.items ++ line_text (column_line (column_shape column.now))) }
     ensures sound { OnOk result (IsColumn (column_shape column.now)) }
 {
-    text.extend_from_slice(b"COLUMN ")?;
-    text.extend_from_slice(column.name.as_bytes())?;
-    put_bound(alloc, column.lo, text)?;
-    put_bound(alloc, column.hi, text)?;
-    text.extend_from_slice(end_of(column.nullable))?;
-    Ok(())
-}
-
-/// What stands after the bounds of a column.
-fn end_of(nullable: bool) -> &'static [u8]
-    ensures { result.now ≡ line_end (not_null_words nullable) }
-{
-    if nullable { b"\n" } else { b" NOT NULL\n" }
-}
-
-/// Appends a blank and a bound.
-fn put_bound(alloc: Global, bound: i64, text: &mut Vec<u8>) -> Result<(), AllocError>
-    ensures { OnOk result (text.new.items ≡ text.old.items ++ 32 ∷ signed_decimal bound) }
-{
-    text.push(b' ')?;
-    let digits = bound.to_string(alloc)?;
-    text.extend_from_slice(digits.as_bytes())
+    use Piece::{Signed, Word};
+    let (name, lo, hi) = (column.name.as_bytes(), Signed(column.lo), Signed(column.hi));
+    if column.nullable {
+        let pieces = [Word(b"COLUMN"), Word(name), lo, hi];
+        push_line(alloc, &pieces, text)
+    } else {
+        let pieces = [
+            Word(b"COLUMN"),
+            Word(name),
+            lo,
+            hi,
+            Word(b"NOT"),
+            Word(b"NULL"),
+        ];
+        push_line(alloc, &pieces, text)
+    }
 }

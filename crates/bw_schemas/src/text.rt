@@ -1,15 +1,16 @@
 //! The text of what a header says.
-ghost use Rattle.std.specs.Prelude.{◌≡◌, ◌++◌, ◌∷◌, ◌≤◌, [], IfOk, IsOkUnless, OnOk, length};
-ghost use Rattle.std.specs.Fmt.{decimal};
+ghost use Rattle.std.specs.Prelude.{◌≡◌, ◌++◌, ◌≤◌, IfOk, IsOkUnless, OnOk, length};
 ghost use Rattle.bw_model.specs.Fault.{no_memory};
 ghost use Rattle.bw_model.specs.SchemaText.{IsSchemaText, schema_shape};
 ghost use Rattle.bw_file.specs.FileBytes.{header_bytes};
 ghost use Rattle.bw_file.specs.TableReader.{bytes_taken, layout_in, rows_told, schema_in, version_in};
-ghost use Rattle.bw_schemas.specs.Info.{info_text, layout_word};
+ghost use Rattle.bw_schemas.specs.Info.{comment, info_text, layout_word};
+ghost use Rattle.bw_text.specs.Printed.{piece_text};
 
 use crate::print::print_schema;
 use bw_file::{Layout, TableReader};
 use bw_model::Fault;
+use bw_text::{Piece, push_line};
 use std::alloc::{AllocError, Global};
 
 /// The text of what a reader's header says. That it took the header's bytes, and no other, is the caller's condition.
@@ -22,15 +23,26 @@ pub(crate) fn info_text(alloc: Global, reader: &TableReader) -> Result<Vec<u8>, 
     ensures spelled { IfOk result (λ text. IsSchemaText text.items (schema_shape (schema_in reader.now))) }
     ensures only_memory { IsOkUnless result no_memory }
 {
+    use Piece::{Number, Word};
     let rows = u64::from(reader.rows());
     let segments = (rows + 511) / 512;
     let size = reader.offset() + segments * reader.segment_size() as u64;
     let mut text = print_schema(alloc, reader.schema())?;
-    put_number(alloc, b"# rows ", rows, &mut text)?;
-    put_number(alloc, b"# segments ", segments, &mut text)?;
-    put_word(b"# layout ", layout_word(reader.layout()), &mut text)?;
-    put_number(alloc, b"# version ", u64::from(reader.version()), &mut text)?;
-    put_number(alloc, b"# bytes ", size, &mut text)?;
+    put_fact(alloc, b"rows", Number(rows), &mut text)?;
+    put_fact(alloc, b"segments", Number(segments), &mut text)?;
+    put_fact(
+        alloc,
+        b"layout",
+        Word(layout_word(reader.layout())),
+        &mut text,
+    )?;
+    put_fact(
+        alloc,
+        b"version",
+        Number(u64::from(reader.version())),
+        &mut text,
+    )?;
+    put_fact(alloc, b"bytes", Number(size), &mut text)?;
     Ok(text)
 }
 
@@ -43,25 +55,14 @@ fn layout_word(layout: Layout) -> &'static [u8]
     }
 }
 
-/// Appends a line that ends with a number.
-fn put_number(
+/// Appends a comment line of a word and a value.
+fn put_fact(
     alloc: Global,
-    front: &[u8],
-    number: u64,
+    word: &[u8],
+    value: Piece<'_>,
     text: &mut Vec<u8>,
 ) -> Result<(), AllocError>
-    ensures { OnOk result (text.new.items ≡ text.old.items ++ (front.now ++ (decimal number ++ 10 ∷ []))) }
+    ensures { OnOk result (text.new.items ≡ text.old.items ++ comment word.now (piece_text value.entry)) }
 {
-    let digits = number.to_string(alloc)?;
-    put_word(front, digits.as_bytes(), text)
-}
-
-/// Appends a line that ends with a word.
-fn put_word(front: &[u8], word: &[u8], text: &mut Vec<u8>) -> Result<(), AllocError>
-    ensures { OnOk result (text.new.items ≡ text.old.items ++ (front.now ++ (word.now ++ 10 ∷ []))) }
-{
-    text.extend_from_slice(front)?;
-    text.extend_from_slice(word)?;
-    text.push(b'\n')?;
-    Ok(())
+    push_line(alloc, &[Piece::Word(b"#"), Piece::Word(word), value], text)
 }

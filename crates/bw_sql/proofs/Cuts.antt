@@ -6,15 +6,15 @@ use Rattle.std.proofs.lemmas.Bool.{both_ways, and_parts, and_from, eqb-true}
 use Rattle.std.proofs.lemmas.Bool.Decides.{nat_tests}
 use Rattle.std.proofs.lemmas.List.{take-append-drop, length-append, map-append}
 use Rattle.std.proofs.lemmas.List.Sums.{take_while-cons}
-use Rattle.bw_model.specs.Keyword.{keyword_of}
-use Rattle.bw_model.specs.Text.{begins_word, goes_on_in_word, is_word}
+use Rattle.bw_text.specs.Keyword.{keyword_of}
+use Rattle.bw_text.specs.Text.{begins_word, goes_on_in_word, is_word}
 use Rattle.bw_sql.specs.Piece.{Piece, Gap, Token, IsPiece, IsDelimiter, IsLongest, IsLongestDelimiter, BeginsNoPiece, BeginsNoDelimiter, is_blank, is_in_comment, begins_comment, BeginsNone, IsLongestOf}
 use Rattle.bw_sql.specs.Token.{Lexeme, Name, Digits, Reserved, Compare, Punct, word_lexeme}
 use Rattle.bw_sql.proofs.Cases.{bool_cases, option_cases}
 use Rattle.bw_sql.proofs.Spellings.{follows, is_run, known, NoLong, delimiter_of, found, is_gap, no_long_at_end, long_longest, short_longest, none_begins}
 use Rattle.std.proofs.Math.Seq.{take-append_seam, drop-append_seam}
 use Rattle.std.specs.Option.{option_map}
-use Rattle.bw_model.specs.Number.{are_digits}
+use Rattle.bw_text.specs.Number.{are_digits}
 use Rattle.bw_sql.specs.declared.token.Placed.{Placed}
 use Rattle.bw_sql.specs.Cut.{IsCut, Spot, spot, spots, ended, stopped, gap, token}
 

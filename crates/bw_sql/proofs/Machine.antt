@@ -1,8 +1,8 @@
 -- A machine of symbols of the grammar. A stack of symbols says what is to come; the uppermost symbol decides on
 -- one token: it takes the token and gives way to other symbols, passes it on, or stops.
 use Rattle.std.proofs.Common.{ℕ, suc, Bool, true, false, if◌then◌else◌, ◌&&◌, List, [], ◌∷◌, ◌++◌, length, Option, Some, None, Result, Ok, Err}
-use Rattle.bw_model.specs.declared.keyword.Keyword.{Keyword}
-use Rattle.bw_model.specs.declared.keyword.Keyword.TheVariants as word
+use Rattle.bw_text.specs.declared.keyword.Keyword.{Keyword}
+use Rattle.bw_text.specs.declared.keyword.Keyword.TheVariants as word
 use Rattle.bw_model.specs.declared.schema.Schema.{Schema}
 use Rattle.bw_sql.specs.declared.reader.Refusal.{Refusal}
 use Rattle.bw_sql.specs.declared.reader.Refusal.TheVariants.{Syntax, Literal}

@@ -8,16 +8,16 @@ use Rattle.std.proofs.lemmas.Bool.{and_parts}
 use Rattle.std.proofs.lemmas.Slice.Eq.{bytes_eq-Decides}
 use Rattle.bw_model.specs.declared.cond.Op.{Op}
 use Rattle.bw_model.specs.declared.cond.Op.TheVariants.{Eq, Ne, Lt, Gt, Le, Ge}
-use Rattle.bw_model.specs.Number.{are_digits}
-use Rattle.bw_model.specs.Text.{begins_word, goes_on_in_word, is_word, same_text}
+use Rattle.bw_text.specs.Number.{are_digits}
+use Rattle.bw_text.specs.Text.{begins_word, goes_on_in_word, is_word, same_text}
 use Rattle.bw_sql.specs.declared.token.Mark.{Mark}
 use Rattle.bw_sql.specs.declared.token.Mark.TheVariants.{Open, Close, Comma, Star, Semicolon, Plus, Minus}
 use Rattle.bw_sql.specs.Piece.{IsDelimiter, IsLongestDelimiter, BeginsNoDelimiter, begins_comment, comparison_spelling, is_blank, is_in_comment, is_short_delimiter, is_long_delimiter, mark_spelling}
 use Rattle.bw_sql.specs.Token.{Lexeme, Compare, Punct, Reserved}
 use Rattle.bw_sql.proofs.Cases.{bool_cases}
-use Rattle.bw_model.specs.declared.keyword.Keyword.{Keyword}
-use Rattle.bw_model.specs.declared.keyword.Keyword.TheVariants as word
-use Rattle.bw_model.specs.Keyword.{keyword_of, spelling}
+use Rattle.bw_text.specs.declared.keyword.Keyword.{Keyword}
+use Rattle.bw_text.specs.declared.keyword.Keyword.TheVariants as word
+use Rattle.bw_text.specs.Keyword.{keyword_of, spelling}
 use Rattle.bw_sql.specs.Reading.{same_keyword, same_mark, after_keyword, after_mark}
 
 abbrev delimiters : List Lexeme

@@ -14,7 +14,7 @@ use Rattle.bw_model.specs.declared.schema.Schema.{Schema}
 use Rattle.bw_model.specs.Column.{column_named}
 use Rattle.bw_model.specs.Cond.{is_within}
 use Rattle.bw_model.specs.CondTree.{CondTree, And, trees_of, tree_within, trees_within, is_whole_tree, are_whole_trees, count_of}
-use Rattle.bw_model.specs.Text.{same_text}
+use Rattle.bw_text.specs.Text.{same_text}
 use Rattle.bw_model.specs.Total.{item_within}
 use Rattle.bw_sql.specs.declared.condition.Connective.{Connective}
 use Rattle.bw_sql.specs.declared.condition.Connective.TheVariants as connective

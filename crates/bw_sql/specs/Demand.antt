@@ -6,8 +6,8 @@ use Rattle.bw_model.specs.declared.query.Item.{Item}
 use Rattle.bw_model.specs.declared.query.Item.TheVariants.{Plain}
 use Rattle.bw_model.specs.declared.schema.Schema.{Schema}
 use Rattle.bw_model.specs.Column.{column_named}
-use Rattle.bw_model.specs.Number.{digits_value, number_of}
-use Rattle.bw_model.specs.Text.{same_text}
+use Rattle.bw_text.specs.Number.{digits_value, number_of}
+use Rattle.bw_text.specs.Text.{same_text}
 use Rattle.bw_sql.specs.declared.reader.Refusal.{Refusal}
 use Rattle.bw_sql.specs.declared.reader.Refusal.TheVariants.{UnknownTable, UnknownColumn, Literal, MixedItems, Nesting}
 use Rattle.bw_sql.specs.Limits.{deepest_nesting}

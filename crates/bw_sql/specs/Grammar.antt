@@ -8,7 +8,7 @@ use Rattle.bw_model.specs.declared.cond.Operand.TheVariants.{Col, Lit, Null}
 use Rattle.bw_model.specs.declared.cond.Op.{Op}
 use Rattle.bw_model.specs.declared.cond.Truth.{Truth}
 use Rattle.bw_model.specs.declared.cond.Truth.TheVariants.{False, Unknown, True}
-use Rattle.bw_model.specs.declared.keyword.Keyword.TheVariants as word
+use Rattle.bw_text.specs.declared.keyword.Keyword.TheVariants as word
 use Rattle.bw_model.specs.declared.query.Item.{Item}
 use Rattle.bw_model.specs.declared.query.Item.TheVariants.{Plain, CountAll}
 use Rattle.bw_model.specs.declared.schema.Schema.{Schema}

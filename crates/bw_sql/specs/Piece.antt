@@ -3,9 +3,9 @@ use Rattle.std.specs.Prelude.{◌≡◌, ◌≤◌, ℕ, Bool, false, List, [], 
 use Rattle.std.specs.List.{list_all}
 use Rattle.bw_model.specs.declared.cond.Op.{Op}
 use Rattle.bw_model.specs.declared.cond.Op.TheVariants as op
-use Rattle.bw_model.specs.Keyword.{keyword_of}
-use Rattle.bw_model.specs.Number.{are_digits}
-use Rattle.bw_model.specs.Text.{is_word}
+use Rattle.bw_text.specs.Keyword.{keyword_of}
+use Rattle.bw_text.specs.Number.{are_digits}
+use Rattle.bw_text.specs.Text.{is_word}
 use Rattle.bw_sql.specs.declared.token.Mark.{Mark}
 use Rattle.bw_sql.specs.declared.token.Mark.TheVariants as mark
 use Rattle.bw_sql.specs.Token.{Lexeme, Name, Digits, Reserved, Compare, Punct}

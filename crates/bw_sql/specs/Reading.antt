@@ -7,14 +7,14 @@ use Rattle.bw_model.specs.declared.cond.Operand.{Operand}
 use Rattle.bw_model.specs.declared.cond.Operand.TheVariants.{Col, Lit, Null}
 use Rattle.bw_model.specs.declared.cond.Truth.{Truth}
 use Rattle.bw_model.specs.declared.cond.Truth.TheVariants.{False, Unknown, True}
-use Rattle.bw_model.specs.declared.keyword.Keyword.{Keyword}
-use Rattle.bw_model.specs.declared.keyword.Keyword.TheVariants as word
+use Rattle.bw_text.specs.declared.keyword.Keyword.{Keyword}
+use Rattle.bw_text.specs.declared.keyword.Keyword.TheVariants as word
 use Rattle.bw_model.specs.declared.query.Item.{Item}
 use Rattle.bw_model.specs.declared.query.Item.TheVariants.{Plain, CountAll}
 use Rattle.bw_model.specs.declared.schema.Schema.{Schema}
-use Rattle.bw_model.specs.Keyword.{spelling}
-use Rattle.bw_model.specs.Number.{number_of}
-use Rattle.bw_model.specs.Text.{same_text}
+use Rattle.bw_text.specs.Keyword.{spelling}
+use Rattle.bw_text.specs.Number.{number_of}
+use Rattle.bw_text.specs.Text.{same_text}
 use Rattle.bw_sql.specs.Asked.{Asked}
 use Rattle.bw_model.specs.CondTree.{CondTree, CondTrees, Always, Cmp, Between, Among, IsNull, And, Or, Not, Test, trees_of}
 use Rattle.bw_sql.specs.declared.condition.Connective.{Connective}

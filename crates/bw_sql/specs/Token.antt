@@ -1,8 +1,8 @@
 -- Tokens as the grammar sees them.
 use Rattle.std.specs.Prelude.{ℕ, List, map, Option, Some, None}
 use Rattle.bw_model.specs.declared.cond.Op.{Op}
-use Rattle.bw_model.specs.declared.keyword.Keyword.{Keyword}
-use Rattle.bw_model.specs.Keyword.{keyword_of}
+use Rattle.bw_text.specs.declared.keyword.Keyword.{Keyword}
+use Rattle.bw_text.specs.Keyword.{keyword_of}
 use Rattle.bw_sql.specs.declared.token.Mark.{Mark}
 use Rattle.bw_sql.specs.declared.token.Token.{Token}
 use Rattle.bw_sql.specs.declared.token.Token.TheVariants as token

@@ -1,7 +1,7 @@
 -- The words of connectives and of aggregates, and what they make.
 use Rattle.std.specs.Prelude.{ℕ}
-use Rattle.bw_model.specs.declared.keyword.Keyword.{Keyword}
-use Rattle.bw_model.specs.declared.keyword.Keyword.TheVariants as word
+use Rattle.bw_text.specs.declared.keyword.Keyword.{Keyword}
+use Rattle.bw_text.specs.declared.keyword.Keyword.TheVariants as word
 use Rattle.bw_model.specs.declared.query.Item.{Item}
 use Rattle.bw_model.specs.declared.query.Item.TheVariants.{Count, Sum, Min, Max}
 use Rattle.bw_model.specs.CondTree.{CondTree, CondTrees, And, Or}

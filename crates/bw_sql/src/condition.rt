@@ -19,7 +19,8 @@ ghost use Rattle.bw_sql.specs.Words.{join_of, word_of};
 use crate::predicate::{negation, predicate};
 use crate::reader::{Left, Read, Refusal, Stop, after_keyword, after_mark, mark};
 use crate::token::{Mark, Placed};
-use bw_model::{Cond, Keyword, Schema, Truth};
+use bw_model::{Cond, Schema, Truth};
+use bw_text::Keyword;
 use std::alloc::{AllocError, Global};
 
 /// What joins the parts of a condition.

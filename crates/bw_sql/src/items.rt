@@ -17,7 +17,8 @@ ghost use Rattle.bw_sql.specs.Words.{of_column};
 use crate::operand::{begins_with_name, column};
 use crate::reader::{Left, Read, Refusal, Stop, after_keyword, after_mark, mark};
 use crate::token::{Mark, Placed};
-use bw_model::{Item, Keyword, Schema};
+use bw_model::{Item, Schema};
+use bw_text::Keyword;
 use std::alloc::{AllocError, Global};
 
 /// The list of items that has to come.

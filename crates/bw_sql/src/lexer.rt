@@ -2,14 +2,15 @@
 ghost use Rattle.std.specs.Prelude.{◌≡◌, ◌≤◌, length, [], ◌∷◌, false, IfOk, IfSome, IfNone, MatchOption};
 ghost use Rattle.std.specs.List.{prefix_len};
 ghost use Rattle.std.specs.Char.{is_ascii_digit};
-ghost use Rattle.bw_model.specs.Text.{goes_on_in_word};
+ghost use Rattle.bw_text.specs.Text.{goes_on_in_word};
 ghost use Rattle.bw_sql.specs.Cut.{IsCut, spots};
 ghost use Rattle.bw_sql.specs.Lexer.{piece};
 ghost use Rattle.bw_sql.specs.Piece.{IsDelimiter, IsLongestDelimiter, BeginsNoDelimiter, IsLongest, BeginsNoPiece, is_short_delimiter, is_long_delimiter, is_blank, is_in_comment, begins_comment};
 ghost use Rattle.bw_sql.specs.Token.{Compare, lexeme, word_lexeme};
 
 use crate::token::{Mark, Placed, Token};
-use bw_model::{Keyword, Op, begins_word, goes_on_in_word};
+use bw_model::Op;
+use bw_text::{Keyword, begins_word, goes_on_in_word};
 use std::alloc::{AllocError, Global};
 
 /// The tokens of a statement, up to its end or to the byte at which cutting stopped, since it begins no

@@ -6,7 +6,7 @@ ghost use Rattle.bw_sql.specs.Token.{lexemes};
 
 use crate::reader::{Read, Refusal, Stop, after_mark};
 use crate::token::{Mark, Placed, Token};
-use bw_model::whole_number;
+use bw_text::whole_number;
 
 /// The number that a literal spells, and the tokens after it.
 #[tactic(auto, unfolding(crate::specs::Reading::literal_at))]

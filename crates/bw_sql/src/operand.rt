@@ -7,7 +7,8 @@ ghost use Rattle.bw_sql.specs.Token.{lexemes};
 use crate::literal::literal;
 use crate::reader::{Read, Refusal, Stop, after_keyword, name};
 use crate::token::{Placed, Token};
-use bw_model::{Keyword, Operand, Schema};
+use bw_model::{Operand, Schema};
+use bw_text::Keyword;
 
 /// The operand that has to come: a column, a literal or NULL.
 #[tactic(auto, unfolding(crate::specs::Reading::operand_at))]

@@ -20,7 +20,8 @@ ghost use Rattle.bw_sql.specs.Token.{lexemes};
 use crate::operand::operand;
 use crate::reader::{Left, Read, after_keyword, after_mark, keyword, mark};
 use crate::token::{Mark, Placed, Token};
-use bw_model::{Cond, Keyword, Op, Operand, Schema};
+use bw_model::{Cond, Op, Operand, Schema};
+use bw_text::Keyword;
 use std::alloc::{AllocError, Global};
 
 /// The predicate that has to come.

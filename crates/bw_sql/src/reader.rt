@@ -9,7 +9,8 @@ ghost use Rattle.bw_sql.specs.Refusal.{code_of};
 ghost use Rattle.bw_sql.specs.Token.{lexemes};
 
 use crate::token::{Mark, Placed, Token};
-use bw_model::{Keyword, code};
+use bw_model::code;
+use bw_text::Keyword;
 use std::alloc::{AllocError, AllocFailed};
 
 /// Why a statement is refused at a token.

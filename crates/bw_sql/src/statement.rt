@@ -14,7 +14,8 @@ use crate::condition::condition;
 use crate::items::items;
 use crate::reader::{Read, Refusal, Stop, after_keyword, after_mark, keyword, name};
 use crate::token::{Mark, Placed};
-use bw_model::{Cond, Keyword, Query, Schema};
+use bw_model::{Cond, Query, Schema};
+use bw_text::Keyword;
 use std::alloc::Global;
 
 /// How deep brackets and NOT may nest.

@@ -1,5 +1,6 @@
 //! Tokens of the query language, and where they stand in a statement.
-use bw_model::{Keyword, Op};
+use bw_model::Op;
+use bw_text::Keyword;
 
 /// A mark that is no comparison.
 #[derive(Clone, Copy, PartialEq, Eq)]

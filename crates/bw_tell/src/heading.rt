@@ -2,7 +2,8 @@
 use crate::record::{Found, Named, put_open_quote};
 use crate::shown::Shown;
 use bw_csv::without_blanks;
-use bw_model::{Fault, MAX_COLUMNS, Schema, code, is_name, is_word};
+use bw_model::{Fault, MAX_COLUMNS, Schema, code, is_name};
+use bw_text::is_word;
 use csv::ByteRecord;
 use std::alloc::{AllocError, Global};
 use std::fmt;

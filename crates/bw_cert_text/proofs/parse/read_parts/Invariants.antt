@@ -1,6 +1,6 @@
 use Rattle.std.proofs.Common.{◌≡◌, Ok, length}
 use Rattle.bw_model.specs.Fault.{◌>>=◌}
-use Rattle.bw_model.specs.Lines.{lines_in, end_in}
+use Rattle.bw_text.specs.Lines.{lines_in, end_in}
 use Rattle.bw_cert_text.specs.CertificateText.{certificate_from}
 use Rattle.bw_cert_text.specs.Parts.{joined}
 use Rattle.bw_cert_text.proofs.parse.read_parts.Given as goal

@@ -17,8 +17,8 @@ returns-clause-text c =
     let chains = rw c.chain_lines.ensures at c.in_ok-put_chains.ensures in
     let products = rw c.product_lines.ensures at c.in_ok-put_rows.ensures in
     let body = rw c.body.ensures at c.in_ok-put_body.ensures in
-    let last = rw c.end.ensures at c.in_ok-put_line.ensures in
-    text_written _ _ _ _ _ c.put_line.new.text.items _ _ _ _ _ c.new-text.ensures.items nodes chains products body last
+    let last = rw c.end.ensures at c.in_ok-push_line.ensures in
+    text_written _ _ _ _ _ c.push_line.new.text.items _ _ _ _ _ c.new-text.ensures.items nodes chains products body last
     ∙ sym (shape_text columns shape)
 
 pub returns-clause-spelled : goal.returns-clause-spelled

@@ -1,7 +1,8 @@
 -- Each line that is written goes over from what is left.
 use Rattle.bw_cert_lines.specs.CertificateFields.{body_fields}
 use Rattle.bw_cert_text.specs.PrintText.{body_tokens}
-use Rattle.bw_cert_text.proofs.PrintLemmas.{lines-found, lines-end, written, all_written}
+use Rattle.bw_cert_text.proofs.PrintLemmas.{lines-found, lines-end}
+use Rattle.bw_text.proofs.PieceLemmas.{written, all_written}
 use Rattle.bw_cert_text.proofs.print.put_body.Goals as goal
 
 pub loop-line-preserved : goal.loop-line-preserved

@@ -2,7 +2,8 @@
 use Rattle.bw_cert_lines.specs.CertificateFields.{chain_fields}
 use Rattle.bw_cert_text.specs.PrintText.{respelled_chain}
 use Rattle.bw_cert_text.specs.Token.{chain_tokens}
-use Rattle.bw_cert_text.proofs.PrintLemmas.{lines-found, lines-end, written, all_written}
+use Rattle.bw_cert_text.proofs.PrintLemmas.{lines-found, lines-end}
+use Rattle.bw_text.proofs.PieceLemmas.{written, all_written}
 use Rattle.bw_cert_text.proofs.print.put_chains.Goals as goal
 
 pub loop-chain-preserved : goal.loop-chain-preserved

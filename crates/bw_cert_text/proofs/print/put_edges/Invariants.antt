@@ -1,8 +1,9 @@
 use Rattle.std.proofs.Common.{◌≡◌, ◌++◌, drop}
-use Rattle.bw_cert_text.specs.PrintText.{behind_text}
+use Rattle.bw_cert_text.specs.PrintText.{token_words}
+use Rattle.bw_text.specs.Printed.{spaced}
 use Rattle.bw_cert_text.specs.Token.{edge_tokens}
 use Rattle.bw_cert_text.proofs.print.put_edges.Given as goal
 
 -- what is written so far, and then what is left, are all after the text
 abbrev pub invariant-loop-edge : goal.invariant-loop-edge
-invariant-loop-edge l = l.text.items ++ behind_text (edge_tokens (drop l.edge-index l.edges)) ≡ l.fn.text.items ++ behind_text (edge_tokens l.edges)
+invariant-loop-edge l = l.text.items ++ spaced (token_words (edge_tokens (drop l.edge-index l.edges))) ≡ l.fn.text.items ++ spaced (token_words (edge_tokens l.edges))

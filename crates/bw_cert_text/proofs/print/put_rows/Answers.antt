@@ -1,6 +1,7 @@
 -- Each line that is written goes over from what is left.
 use Rattle.std.proofs.Common.{arith}
-use Rattle.bw_cert_text.proofs.PrintLemmas.{lines-next, lines-end, written, all_written}
+use Rattle.bw_cert_text.proofs.PrintLemmas.{lines-next, lines-end}
+use Rattle.bw_text.proofs.PieceLemmas.{written, all_written}
 use Rattle.bw_cert_text.proofs.print.put_rows.Goals as goal
 
 pub loop-row-preserved : goal.loop-row-preserved

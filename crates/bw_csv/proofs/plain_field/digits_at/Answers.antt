@@ -2,8 +2,8 @@
 use Rattle.std.proofs.Common.{◌≡◌, ◌-◌, ◌<◌, ◌≤◌, get_or, length, refl, sym, ◌∙◌, arith}
 use Rattle.std.specs.Char.{is_ascii_digit}
 use Rattle.std.proofs.lemmas.List.Folds.{list_all_more}
-use Rattle.bw_model.specs.Number.{digits_value}
-use Rattle.bw_model.proofs.Numbers.{decimal_more, few_zeros, one_zero_more, zeros_before_last}
+use Rattle.bw_text.specs.Number.{digits_value}
+use Rattle.bw_text.proofs.Numbers.{decimal_more, few_zeros, one_zero_more, zeros_before_last}
 use Rattle.bw_csv.proofs.plain_field.digits_at.Goals as goal
 
 pub loop-i-init : goal.loop-i-init

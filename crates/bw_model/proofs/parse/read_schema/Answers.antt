@@ -4,7 +4,7 @@ use Rattle.std.proofs.lemmas.Bool.{eqb-true, eqb-false}
 use Rattle.std.proofs.lemmas.Result.{err_from_is_err_and}
 use Rattle.bw_model.specs.Column.{names_of}
 use Rattle.bw_model.specs.Fault.{at_line, ◌>>=◌}
-use Rattle.bw_model.specs.Lines.{lines_in, end_in, line_of}
+use Rattle.bw_text.specs.Lines.{lines_in, end_in, line_of}
 use Rattle.bw_model.specs.Name.{are_apart}
 use Rattle.bw_model.specs.SchemaText.{column_shape, column_on, schema_on, columns_on, with_columns}
 use Rattle.bw_model.proofs.SchemaLemmas.{are_apart-push, names_of-push, schema_of-lines, schema_of-long, schema_of-first, schema_on-nothing, columns_on-next, columns_on-nothing, shapes-push, with_columns-none, with_columns-some}

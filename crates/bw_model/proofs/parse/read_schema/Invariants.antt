@@ -1,5 +1,5 @@
 use Rattle.std.proofs.Common.{◌≡◌, ◌≤◌, [], length, map, IsTrue}
-use Rattle.bw_model.specs.Lines.{lines_in, end_in}
+use Rattle.bw_text.specs.Lines.{lines_in, end_in}
 use Rattle.bw_model.specs.Name.{are_apart}
 use Rattle.bw_model.specs.Column.{names_of}
 use Rattle.bw_model.specs.SchemaText.{columns_on, column_shape}

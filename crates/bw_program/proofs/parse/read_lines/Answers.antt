@@ -3,7 +3,7 @@ use Rattle.std.proofs.Common.{◌≡◌, ◌∙◌, ◌∷◌, [], ◌<◌, ◌�
 use Rattle.std.proofs.lemmas.Bool.{le-leb}
 use Rattle.std.proofs.lemmas.Result.{err_from_is_err_and}
 use Rattle.bw_model.specs.Fault.{at_line}
-use Rattle.bw_model.specs.Lines.{line_of}
+use Rattle.bw_text.specs.Lines.{line_of}
 use Rattle.bw_program.specs.Program.{most_instructions}
 use Rattle.bw_program.specs.ProgramText.{instr_on}
 use Rattle.bw_program.proofs.TextLemmas.{program_on-end, program_on-long, result_read, result_refused, instr_read}

@@ -1,5 +1,5 @@
 use Rattle.std.proofs.Common.{◌≡◌, ◌≤◌, [], length}
-use Rattle.bw_model.specs.Lines.{lines_in, end_in}
+use Rattle.bw_text.specs.Lines.{lines_in, end_in}
 use Rattle.bw_program.specs.Program.{most_instructions}
 use Rattle.bw_program.specs.ProgramText.{program_on}
 use Rattle.bw_program.proofs.parse.read_lines.Given as goal

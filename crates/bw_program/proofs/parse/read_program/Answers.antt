@@ -2,7 +2,7 @@
 use Rattle.std.proofs.Common.{◌≡◌, ◌∙◌, sym, ap, subst, ℕ, List, [], Ok, Result, length}
 use Rattle.bw_model.specs.declared.fault.Fault.{Fault}
 use Rattle.bw_model.specs.Fault.{◌>>=◌}
-use Rattle.bw_model.specs.Lines.{Unread, lines_in, end_in}
+use Rattle.bw_text.specs.Lines.{Unread, lines_in, end_in}
 use Rattle.bw_program.specs.declared.instr.Instr.{Instr}
 use Rattle.bw_program.specs.declared.parse.Placed.{Placed}
 use Rattle.bw_program.specs.Program.{ProgramShape, registers_of}

@@ -1,7 +1,7 @@
 -- Each exit, by what its calls' contracts say.
 use Rattle.std.proofs.Common.{List, ap, inl, inr, refl, subst, sym}
 use Rattle.std.proofs.lemmas.Result.{err_from_is_err_and}
-use Rattle.bw_cert_file.specs.Judged.{is_file_fault}
+use Rattle.bw_cert.specs.Judged.{is_file_fault}
 use Rattle.bw_model.specs.declared.column.Column.{Column}
 use Rattle.bw_sql.specs.Asked.{Asked, asked}
 use Rattle.bw_sql.specs.Refusal.{is_statement_fault}

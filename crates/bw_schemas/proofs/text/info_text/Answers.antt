@@ -11,7 +11,7 @@ returns-clause-text c =
     let schema = rw c.schema.ensures at c.in_ok-text.ensures.text in
     let rows : c.from-rows.result ≡ rows_told reader = omega (arith, c.from-rows.ensures, c.rows.ensures) in
     told_by (version_in reader) (layout_in reader) (schema_in reader) (rows_told reader) _ _ _ _ _ _ _ _ _ _ _
-    c.in_ok-put_number.ensures c.in_ok-put_number-2.ensures c.in_ok-put_word.ensures c.in_ok-put_number-3.ensures c.in_ok-put_number-4.ensures schema
+    c.in_ok-put_fact.ensures c.in_ok-put_fact-2.ensures c.in_ok-put_fact-3.ensures c.in_ok-put_fact-4.ensures c.in_ok-put_fact-5.ensures schema
     (c.layout_word.ensures ∙ ap layout_word c.layout.ensures) rows (ap (λ (n : ℕ). (n + 511) / 512) rows) (omega (arith, c.from.ensures, c.version.ensures))
     (size_by (version_in reader) (layout_in reader) (schema_in reader) (rows_told reader) _ _ _ (c.offset.ensures ∙ c.requires.head) rows c.segment_size.ensures.size)
 

@@ -1,10 +1,12 @@
 -- Each line that is written goes over from what is left.
 use Rattle.std.proofs.Common.{◌≡◌, true, subst, ℕ, List, ◌≤◌, ◌∙◌, sym, ap, ◌++◌, length, arith}
-use Rattle.bw_program.specs.PrintText.{line_text, result_words}
+use Rattle.bw_program.specs.PrintText.{result_words}
 use Rattle.bw_program.specs.Program.{is_program}
 use Rattle.bw_program.specs.ProgramText.{IsProgramText}
 use Rattle.bw_program.proofs.PrintedText.{text_spells}
-use Rattle.bw_program.proofs.PrintLemmas.{lines_text-next, lines_text-end, written}
+use Rattle.bw_program.proofs.PrintLemmas.{lines_text-next, lines_text-end}
+use Rattle.bw_text.proofs.PieceLemmas.{written}
+use Rattle.bw_text.specs.Printed.{line_text}
 use Rattle.bw_program.proofs.program.Program.print.Goals as goal
 
 pub loop-number-preserved : goal.loop-number-preserved

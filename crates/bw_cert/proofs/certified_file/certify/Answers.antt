@@ -1,0 +1,13 @@
+-- What is certified has no fault, and is certified in one way.
+use Rattle.bw_cert.proofs.VerdictLemmas.{accepted_from}
+use Rattle.bw_cert.proofs.certified_file.certify.Goals as goal
+
+pub returns-clause-accepted : goal.returns-clause-accepted
+returns-clause-accepted c = λ same program certificate trees is.
+    let columns = c.args.schema.now.columns.items in
+    let condition = c.args.condition.now in
+    let file = c.args.file.now in
+    accepted_from columns file condition same program certificate
+    (λ next other as_well. c.one_verdict.ensures.certified columns same condition file program next certificate other is as_well)
+    (λ fault refused. c.one_verdict.ensures.none_certified columns same condition file program certificate fault trees is refused)
+    c.judge_file.result c.judge_file.ensures.valid c.judge_file.ensures.fault

@@ -1,0 +1,32 @@
+-- What a check of a program file is to answer, by the texts of a schema, of a statement and of the file.
+use Rattle.std.specs.Prelude.{◌≡◌, ℕ, List, Ok, Err}
+use Rattle.bw_model.specs.declared.fault.Fault.{Fault}
+use Rattle.bw_model.specs.declared.query.Query.{Query}
+use Rattle.bw_model.specs.declared.schema.Schema.{Schema}
+use Rattle.bw_model.specs.SchemaText.{schema_of, schema_shape, IsSchemaText}
+use Rattle.bw_program.specs.Program.{ProgramShape}
+use Rattle.bw_cert_lines.specs.CertificateShape.{CertificateShape}
+use Rattle.bw_sql.specs.Statement.{IsReadAs}
+use Rattle.bw_report.specs.declared.accepted.Accepted.{Accepted}
+use Rattle.bw_cert.specs.Judged.{Certifies, IsFileFault, counted}
+
+-- A text spells a schema, a statement a query under it, and a file a program and a certificate that is valid for it and
+-- the query's condition; these are their numbers.
+pub record IsAccepted (text sql file : List ℕ) (accepted : Accepted) : Type 0 where
+  pub schema : Schema
+  pub query : Query
+  pub program : ProgramShape
+  pub certificate : CertificateShape
+  pub spelled : IsSchemaText text (schema_shape schema)
+  pub asked : IsReadAs schema sql (Ok query)
+  pub certifies : Certifies schema.columns.items query.cond file program certificate
+  pub numbers : accepted ≡ counted program certificate
+
+-- The fault of these three: the schema text's; else the statement's under the schema; else the file's.
+pub data IsCheckFault (text sql file : List ℕ) : Fault → Type 0 where
+  schema_refused : {fault : Fault} → schema_of text ≡ Err fault → IsCheckFault text sql file fault
+  statement_refused : {schema : Schema} {fault : Fault} → IsSchemaText text (schema_shape schema) →
+      IsReadAs schema sql (Err fault) → IsCheckFault text sql file fault
+  file_refused : {schema : Schema} (query : Query) {fault : Fault} → IsSchemaText text (schema_shape schema) →
+      IsReadAs schema sql (Ok query) → IsFileFault schema.columns.items query.cond file fault
+      → IsCheckFault text sql file fault

@@ -1,0 +1,37 @@
+-- Program files: a program text, a line that divides, and a certificate text.
+use Rattle.std.specs.Prelude.{◌≡◌, ℕ, ◌+◌, Bool, false, List, [], ◌∷◌, codes, Option, Some, None, if◌then◌else◌}
+use Rattle.bw_text.specs.Lines.{cut_lines, only_of, words_of}
+use Rattle.bw_text.specs.Text.{same_text}
+
+-- bytes of a program file: 2^26
+abbrev pub longest_program_file : ℕ
+longest_program_file = 67108864
+
+-- the line's only word is CERTIFICATE, ignoring case
+abbrev pub is_divider_word : Option (List ℕ) → Bool
+is_divider_word None = false
+is_divider_word (Some word) = same_text word (codes "CERTIFICATE")
+
+abbrev pub divides : List ℕ → Bool
+divides line = is_divider_word (only_of (words_of line))
+
+-- the lines before the first that divides: all of them, where none does
+unfoldable pub before_divider : List (List ℕ) → List (List ℕ)
+before_divider [] = []
+before_divider (line ∷ lines) = if divides line then [] else line ∷ before_divider lines
+
+-- the lines after it: none, where none divides
+unfoldable pub behind_divider : List (List ℕ) → List (List ℕ)
+behind_divider [] = []
+behind_divider (line ∷ lines) = if divides line then lines else behind_divider lines
+
+-- the number of the line after it, or else of a line after the last one, where the first of these lines has a number
+unfoldable pub number_behind : ℕ → List (List ℕ) → ℕ
+number_behind number [] = number
+number_behind number (line ∷ lines) = if divides line then number + 1 else number_behind (number + 1) lines
+
+-- a file is cut into a program text and a certificate text, whose first line has a number in the file
+pub record IsCut (file program certificate : List ℕ) (first : ℕ) : Type 0 where
+  pub before : cut_lines program ≡ before_divider (cut_lines file)
+  pub behind : cut_lines certificate ≡ behind_divider (cut_lines file)
+  pub number : first ≡ number_behind 1 (cut_lines file)

@@ -1,0 +1,105 @@
+//! The program of a program file, certified for a condition.
+ghost use Rattle.std.specs.Prelude.{◌≡◌, false, Ok, IfOk, IfErr, IsTrue, length};
+ghost use Rattle.bw_model.specs.Cond.{names_within};
+ghost use Rattle.bw_model.specs.CondTree.{tree_of};
+ghost use Rattle.bw_model.specs.Fault.{Gives, is_memory};
+ghost use Rattle.bw_program.specs.Program.{ProgramShape};
+ghost use Rattle.bw_cert_lines.specs.CertificateShape.{CertificateShape};
+ghost use Rattle.bw_cert.specs.Judged.{Certifies, IsFileFault, counted, is_file_fault, told, told_of};
+
+use crate::certified::Certified;
+use crate::checker::check;
+use crate::file_laws::one_verdict;
+use crate::program_file::{MAX_PROGRAM_FILE_LEN, split_file};
+use bw_cert_text::parse_certificate;
+use bw_model::{Cond, Fault, Schema, code};
+use bw_program::Program;
+use bw_report::Accepted;
+use std::alloc::Global;
+
+/// A certified program, and the numbers of the file that it came from.
+#[derive(Drop)]
+pub struct CertifiedFile {
+    pub certified: Certified,
+    pub accepted: Accepted,
+}
+
+/// The program of a program file, certified for a condition, whose columns are the schema's.
+///
+/// Refuses in this order: a file of more than 67,108,864 bytes (508), its program text (501 to 507), its certificate
+/// text (605), and the first line that breaks a rule (601 to 604, 606 to 610); out of memory (801) wherever it comes.
+pub fn certify(
+    alloc: Global,
+    schema: &Schema,
+    condition: &Cond,
+    file: &[u8],
+) -> Result<CertifiedFile, Fault>
+    requires { IsTrue (names_within (length schema.now.columns.items) condition.now) }
+    // What is accepted is spelled and valid, and what is spelled and valid is accepted, be it so for another condition of
+    // the same tree.
+    ensures valid { IfOk result (λ found. (certificate : CertificateShape)
+        × Certifies schema.now.columns.items condition.now file.now found.certified.program certificate
+        × (found.accepted ≡ counted found.certified.program certificate)) }
+    ensures accepted { (same : Cond) (program : ProgramShape) (certificate : CertificateShape)
+        → tree_of same ≡ tree_of condition.now
+        → Certifies schema.now.columns.items same file.now program certificate
+        → Gives told result (Ok (told_of program certificate)) }
+
+    // What is refused has this fault.
+    ensures fault { IfErr result (λ fault. is_memory fault ≡ false
+        → IsFileFault schema.now.columns.items condition.now file.now fault) }
+    ensures code { IfErr result (λ fault. IsTrue (is_file_fault fault)) }
+
+    // What it is certified for.
+    ensures schema { IfOk result (λ found. (found.certified.schema.name ≡ schema.now.name)
+        × (found.certified.schema.columns.items ≡ schema.now.columns.items)) }
+    ensures condition { IfOk result (λ found.
+        tree_of found.certified.condition ≡ tree_of condition.now) }
+{
+    one_verdict();
+    judge_file(alloc, schema, condition, file)
+}
+
+/// The same, without the law that what is certified is never refused.
+#[tactic(auto, using(crate::specs::Judged::too_long, crate::specs::Judged::program_refused, crate::specs::Judged::certificate_refused, crate::specs::Judged::line_refused))]
+fn judge_file(
+    alloc: Global,
+    schema: &Schema,
+    condition: &Cond,
+    file: &[u8],
+) -> Result<CertifiedFile, Fault>
+    requires { IsTrue (names_within (length schema.now.columns.items) condition.now) }
+    ensures valid { IfOk result (λ found. (certificate : CertificateShape)
+        × Certifies schema.now.columns.items condition.now file.now found.certified.program certificate
+        × (found.accepted ≡ counted found.certified.program certificate)) }
+    ensures fault { IfErr result (λ fault. is_memory fault ≡ false
+        → IsFileFault schema.now.columns.items condition.now file.now fault) }
+    ensures code { IfErr result (λ fault. IsTrue (is_file_fault fault)) }
+    ensures schema { IfOk result (λ found. (found.certified.schema.name ≡ schema.now.name)
+        × (found.certified.schema.columns.items ≡ schema.now.columns.items)) }
+    ensures condition { IfOk result (λ found.
+        tree_of found.certified.condition ≡ tree_of condition.now) }
+{
+    if file.len() > MAX_PROGRAM_FILE_LEN {
+        return Err(Fault::new(code::PROGRAM_FILE_TOO_LONG));
+    }
+    let parts = split_file(file);
+    let program = Program::parse(alloc, schema, parts.program)?;
+    let certificate = parse_certificate(alloc, parts.first_line, parts.certificate)?;
+    match check(alloc, schema, condition, program, &certificate) {
+        Ok(certified) => {
+            let accepted = Accepted {
+                instructions: certified.program().len(),
+                skips: certified.program().skips(),
+                nodes: certificate.nodes(),
+                chains: certificate.chains(),
+                rows: certificate.products(),
+            };
+            Ok(CertifiedFile {
+                certified,
+                accepted,
+            })
+        }
+        Err((_, fault)) => Err(fault),
+    }
+}

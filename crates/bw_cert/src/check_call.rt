@@ -1,0 +1,53 @@
+//! A program file checked for the condition of a statement.
+ghost use Rattle.std.specs.Prelude.{◌≡◌, false, Ok, IfOk, IfErr, IsTrue, length};
+ghost use Rattle.bw_model.specs.Cond.{names_within};
+ghost use Rattle.bw_model.specs.CondTree.{tree_of};
+ghost use Rattle.bw_model.specs.Fault.{Gives, is_memory};
+ghost use Rattle.bw_program.specs.Program.{ProgramShape};
+ghost use Rattle.bw_cert_lines.specs.CertificateShape.{CertificateShape};
+ghost use Rattle.bw_cert.specs.CheckText.{IsAccepted, IsCheckFault};
+ghost use Rattle.bw_report.specs.declared.accepted.Accepted.{Accepted as Numbers};
+ghost use Rattle.bw_cert.specs.Judged.{Certifies, IsFileFault, counted};
+
+use crate::certified_file::certify;
+use bw_model::{Cond, Fault, Schema};
+use bw_report::Accepted;
+use bw_sql::{one_query_of_a_text, parse, schemas_of_one_shape};
+use std::alloc::Global;
+
+/// Checks a program file for the condition of a statement, under the schema of a schema text. Gives the numbers of the
+/// program and of its certificate.
+///
+/// Refuses in this order: the schema text (106, 101 to 105), the statement (401 to 408), and the file, as [`certify`]
+/// does; out of memory (801) wherever it comes.
+#[tactic(auto, using(crate::specs::CheckText::schema_refused, crate::specs::CheckText::statement_refused, crate::specs::CheckText::file_refused))]
+pub fn check_text(alloc: Global, schema: &[u8], sql: &[u8], file: &[u8]) -> Result<Accepted, Fault>
+    ensures accepted { IfOk result (λ accepted. IsAccepted schema.now sql.now file.now accepted) }
+    ensures accepts { (accepted : Numbers) → IsAccepted schema.now sql.now file.now accepted
+        → Gives (λ numbers. numbers) result (Ok accepted) }
+    ensures fault { IfErr result (λ fault. is_memory fault ≡ false
+        → IsCheckFault schema.now sql.now file.now fault) }
+{
+    schemas_of_one_shape();
+    one_query_of_a_text();
+    let schema = Schema::parse(alloc, schema)?;
+    let query = parse(alloc, &schema, sql)?;
+    numbers(alloc, &schema, &query.cond, file)
+}
+
+/// The numbers of a program file that is certified for a condition.
+fn numbers(alloc: Global, schema: &Schema, condition: &Cond, file: &[u8]) -> Result<Accepted, Fault>
+    requires { IsTrue (names_within (length schema.now.columns.items) condition.now) }
+    ensures valid { IfOk result (λ numbers. (program : ProgramShape) × (certificate : CertificateShape)
+        × Certifies schema.now.columns.items condition.now file.now program certificate
+        × (numbers ≡ counted program certificate)) }
+    ensures accepted { (same : Cond) (program : ProgramShape) (certificate : CertificateShape)
+        → tree_of same ≡ tree_of condition.now
+        → Certifies schema.now.columns.items same file.now program certificate
+        → Gives (λ numbers. numbers) result (Ok (counted program certificate)) }
+    ensures fault { IfErr result (λ fault. is_memory fault ≡ false
+        → IsFileFault schema.now.columns.items condition.now file.now fault) }
+{
+    let found = certify(alloc, schema, condition, file)?;
+    Ok(found.accepted)
+}

@@ -1,0 +1,34 @@
+//! Laws: a program file is certified or refused, and in one way.
+ghost use Rattle.std.specs.Prelude.{◌≡◌, ℕ, List};
+ghost use Rattle.bw_model.specs.declared.column.Column.{Column};
+ghost use Rattle.bw_model.specs.declared.cond.Cond.{Cond};
+ghost use Rattle.bw_model.specs.declared.fault.Fault.{Fault};
+ghost use Rattle.bw_model.specs.CondTree.{tree_of};
+ghost use Rattle.bw_program.specs.Program.{ProgramShape};
+ghost use Rattle.bw_cert_lines.specs.CertificateFields.{certificate_fields};
+ghost use Rattle.bw_cert_lines.specs.CertificateShape.{CertificateShape};
+ghost use Rattle.bw_cert.specs.Judged.{Certifies, IsFileFault};
+
+use crate::laws::{certificates_are_judged_by_what_they_say, valid_exactly_where_checked};
+use bw_cert_text::certificates_are_read_as_spelled;
+use bw_program::programs_are_read_as_spelled;
+
+/// A law: a file holds at most one program, and certificates for it that say the same. It has at most one fault, and none
+/// where it is certified, be it so for another condition of the same tree.
+pub fn one_verdict()
+    ensures certified { (columns : List Column) (cond same : Cond) (file : List ℕ) (program other : ProgramShape)
+        (certificate another : CertificateShape)
+        → Certifies columns cond file program certificate → Certifies columns same file other another
+        → (program ≡ other) × (certificate_fields certificate ≡ certificate_fields another) }
+    ensures none_certified { (columns : List Column) (cond same : Cond) (file : List ℕ) (program : ProgramShape)
+        (certificate : CertificateShape) (fault : Fault) → tree_of cond ≡ tree_of same
+        → Certifies columns cond file program certificate → IsFileFault columns same file fault → ⊥ }
+    ensures fault { (columns : List Column) (cond same : Cond) (file : List ℕ) (fault other : Fault)
+        → tree_of cond ≡ tree_of same
+        → IsFileFault columns cond file fault → IsFileFault columns same file other → fault ≡ other }
+{
+    programs_are_read_as_spelled();
+    certificates_are_read_as_spelled();
+    certificates_are_judged_by_what_they_say();
+    valid_exactly_where_checked();
+}

@@ -1,3 +1,0 @@
-pub mod SplitLemmas
-pub mod TextLemmas
-pub mod VerdictLemmas

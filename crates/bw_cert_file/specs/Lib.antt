@@ -1,3 +1,0 @@
-pub mod CheckText
-pub mod Judged
-pub mod ProgramFile

@@ -1,0 +1,8 @@
+pub mod DecimalLemmas
+pub mod LineLemmas
+pub mod Numbers
+pub mod PieceLemmas
+pub mod RegisterLemmas
+pub mod SpacedWords
+pub mod WordLemmas
+pub mod WordSpelling

@@ -1,0 +1,9 @@
+pub mod Form
+pub mod Keyword
+pub mod LineKind
+pub mod Lines
+pub mod Number
+pub mod Opcode
+pub mod Printed
+pub mod Register
+pub mod Text

@@ -1,0 +1,32 @@
+-- Lines of words as they are written: one blank between two words, and a line feed after the last.
+use Rattle.std.specs.Prelude.{ℕ, Bool, List, [], ◌∷◌, ◌++◌, ◌&&◌, not, nat_lt}
+use Rattle.std.specs.Fmt.{decimal, signed_decimal}
+use Rattle.std.specs.List.{list_all}
+use Rattle.bw_text.specs.declared.piece.Piece.{Piece}
+use Rattle.bw_text.specs.declared.piece.Piece.TheVariants.{Word, Number, Signed, Register}
+use Rattle.bw_text.specs.Lines.{is_empty}
+use Rattle.bw_text.specs.Register.{register_text}
+
+-- the word that a piece of a line is written as: a number in decimal without leading zeros
+abbrev pub piece_text : Piece → List ℕ
+piece_text (Word word) = word.now
+piece_text (Number number) = decimal number
+piece_text (Signed number) = signed_decimal number
+piece_text (Register register) = register_text register
+
+-- more words of a line, each after a blank, which is byte 32
+unfoldable pub spaced : List (List ℕ) → List ℕ
+spaced [] = []
+spaced (word ∷ words) = 32 ∷ word ++ spaced words
+
+-- a line of words, of which there is at least one, and the line feed after it, which is byte 10
+abbrev pub line_text : List (List ℕ) → List ℕ
+line_text [] = 10 ∷ []
+line_text (word ∷ words) = word ++ (spaced words ++ 10 ∷ [])
+
+-- a word that can be read again: its bytes are above the blank's, so none is a blank or an end of a line
+abbrev pub is_plain : ℕ → Bool
+is_plain c = nat_lt 32 c
+
+abbrev pub is_plain_word : List ℕ → Bool
+is_plain_word word = not (is_empty word) && list_all is_plain word

@@ -1,0 +1,32 @@
+//! What texts are made of: words, numbers and lines, read and written.
+//!
+//! Schemas, programs and certificates are texts of lines of words; statements and CSV fields have the same words and numbers.
+//! The contract that the crates above use: a text is cut into the lines that say something ([`Lines`]), with their numbers; a
+//! word of a table ([`Keyword`], [`Opcode`], [`LineKind`], [`Form`]) is found by its spelling, ignoring case; digits are read
+//! to the number that they spell, or refused; and a line that is written ([`push_line`]) is cut into its words again
+//! ([`written_lines_are_read`]).
+//!
+//! Read `specs/Lines.antt` first, and then `specs/Printed.antt`.
+#![tactic(auto)]
+
+mod form;
+mod keyword;
+mod laws;
+mod line_kind;
+mod lines;
+mod number;
+mod opcode;
+mod piece;
+mod register;
+mod text;
+
+pub use form::Form;
+pub use keyword::Keyword;
+pub use laws::{written_lines_are_read, written_numbers_are_read};
+pub use line_kind::{ConditionKind, InstructionKind, LineKind};
+pub use lines::{Line, Lines, only_word};
+pub use number::{natural_number, number_in, whole_number};
+pub use opcode::Opcode;
+pub use piece::{Piece, push_line, push_spaced};
+pub use register::{REGISTERS, register_of};
+pub use text::{begins_word, goes_on_in_word, is_same_text, is_word};

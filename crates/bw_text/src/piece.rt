@@ -1,0 +1,69 @@
+//! Lines of words, written.
+ghost use Rattle.std.specs.Prelude.{◌≡◌, ◌++◌, OnOk, map};
+ghost use Rattle.std.specs.Fmt.{decimal};
+ghost use Rattle.bw_text.specs.Printed.{line_text, piece_text, spaced};
+
+use std::alloc::{AllocError, Global};
+
+/// What is written as one word of a line: a text as it stands, a number in decimal, or a register, as `r7`.
+#[derive(Clone, Copy)]
+pub enum Piece<'a> {
+    Word(&'a [u8]),
+    Number(u64),
+    Signed(i64),
+    Register(u8),
+}
+
+/// Appends a line to a text: its pieces, one blank apart, and a line feed. Refused is out of memory alone, and then a part of
+/// the line may be there.
+pub fn push_line(alloc: Global, pieces: &[Piece<'_>], text: &mut Vec<u8>) -> Result<(), AllocError>
+    ensures { OnOk result (text.new.items ≡ text.old.items ++ line_text (map piece_text pieces.now)) }
+{
+    if let Some((first, more)) = pieces.split_first() {
+        push_piece(alloc, *first, text)?;
+        push_spaced(alloc, more, text)?;
+    }
+    text.push(b'\n')?;
+    Ok(())
+}
+
+/// Appends more pieces of a line, each after a blank. Refused is out of memory alone, and then a part of them may be there.
+pub fn push_spaced(
+    alloc: Global,
+    pieces: &[Piece<'_>],
+    text: &mut Vec<u8>,
+) -> Result<(), AllocError>
+    ensures { OnOk result (text.new.items ≡ text.old.items ++ spaced (map piece_text pieces.now)) }
+{
+    for piece in pieces {
+        text.push(b' ')?;
+        push_piece(alloc, *piece, text)?;
+    }
+    Ok(())
+}
+
+/// Appends a piece.
+fn push_piece(alloc: Global, piece: Piece<'_>, text: &mut Vec<u8>) -> Result<(), AllocError>
+    ensures { OnOk result (text.new.items ≡ text.old.items ++ piece_text piece.entry) }
+{
+    match piece {
+        Piece::Word(word) => text.extend_from_slice(word),
+        Piece::Number(number) => push_number(alloc, number, text),
+        Piece::Signed(number) => {
+            let digits = number.to_string(alloc)?;
+            text.extend_from_slice(digits.as_bytes())
+        }
+        Piece::Register(register) => {
+            text.push(b'r')?;
+            push_number(alloc, register as u64, text)
+        }
+    }
+}
+
+/// Appends a number's decimal digits.
+fn push_number(alloc: Global, number: u64, text: &mut Vec<u8>) -> Result<(), AllocError>
+    ensures { OnOk result (text.new.items ≡ text.old.items ++ decimal number) }
+{
+    let digits = number.to_string(alloc)?;
+    text.extend_from_slice(digits.as_bytes())
+}

@@ -1,0 +1,24 @@
+//! Registers, as programs and certificates name them.
+ghost use Rattle.std.specs.Prelude.{◌≡◌, ◌<◌, IfSome};
+ghost use Rattle.bw_text.specs.Register.{register_of};
+
+use crate::number::natural_number;
+
+/// A scan program has this many registers, numbered from 0.
+pub const REGISTERS: u64 = 64;
+
+/// The register that a word names: `r` or `R`, and a number below 64, with any number of leading zeros; none where the word
+/// is another one.
+#[tactic(auto, unfolding(crate::specs::Register::register_of))]
+pub fn register_of(word: &[u8]) -> Option<u8>
+    ensures register { result ≡ register_of word.now }
+    ensures below { IfSome result (λ register. register < 64) }
+{
+    let [b'r' | b'R', digits @ ..] = word else {
+        return None;
+    };
+    match natural_number(digits) {
+        Some(number) if number < REGISTERS => Some(number as u8),
+        _ => None,
+    }
+}
