@@ -11,6 +11,7 @@ ghost use Rattle.bw_csv.specs.Rows.{behind_minus, is_minus, value_of_field};
 use crate::field::{behind_minus, is_minus, value_of};
 use crate::marks::{behind, is_field_end, is_plain};
 use bw_model::{Column, Value};
+use bw_text::with_sign;
 
 /// Digits at the front of a text: what they spell, and how many they are.
 #[derive(Clone, Copy)]
@@ -128,17 +129,6 @@ fn digits_at(text: &[u8]) -> Option<Digits>
         magnitude = 10 * magnitude + units;
     }
     None
-}
-
-/// The number of a sign and digits of this magnitude, without a branch.
-#[inline(always)]
-#[tactic(auto, unfolding(bw_model::specs::Number::number_of))]
-fn with_sign(is_negative: bool, magnitude: u64) -> i64
-    requires { magnitude < 2 ^ 63 }
-    ensures { (digits : List ℕ) → magnitude ≡ digits_value digits → number_of is_negative digits ≡ Some result }
-{
-    let number = magnitude as i64;
-    if is_negative { -number } else { number }
 }
 
 /// Whether a number is within the bounds of a column.

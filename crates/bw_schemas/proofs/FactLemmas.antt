@@ -13,7 +13,7 @@ use Rattle.bw_file.specs.Blocks.{segment_size}
 use Rattle.bw_file.specs.FileBytes.{header_bytes}
 use Rattle.bw_schemas.specs.Printed.{AreComments, schema_text}
 use Rattle.bw_schemas.proofs.PrintedBounds.{natural_plain, natural_short}
-use Rattle.bw_text.specs.Printed.{is_plain_word}
+use Rattle.bw_text.specs.Printed.{is_plain_word, spaced}
 use Rattle.bw_text.proofs.SpacedWords.{line_skipped}
 use Rattle.bw_schemas.proofs.PrintedText.{no_comments}
 use Rattle.bw_schemas.specs.Info.{comment, facts_text, file_size, info_text, layout_word, segment_count}
@@ -51,6 +51,7 @@ facts_are_comments version layout schema rows small =
     (comment_last (codes "bytes") (decimal (file_size version layout schema rows)) refl (natural_plain (file_size version layout schema rows) small.size)))))
 
 pub facts_short : (version : ℕ) (layout : Layout) (schema : Schema) (rows : ℕ) → AreSmall version layout schema rows → length (facts_text version layout schema rows) ≤ 4096
+unfolding spaced
 facts_short version layout schema rows small =
     let a = natural_short rows (omega (arith, small.few)) in
     let b = natural_short (segment_count rows) (omega (arith, small.few)) in

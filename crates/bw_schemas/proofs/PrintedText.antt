@@ -16,7 +16,7 @@ use Rattle.bw_model.specs.Name.{is_name, are_apart}
 use Rattle.bw_model.specs.SchemaText.{shape, shape_names, column_shape, schema_shape, column_words, table_words, is_range, SpellsColumn, SpellsSchema, IsSchemaText}
 use Rattle.bw_text.specs.Text.{same_text, is_word}
 use Rattle.bw_schemas.specs.Printed.{AreComments, IsColumn, column_line, columns_text, schema_text, table_line}
-use Rattle.bw_text.specs.Printed.{is_plain_word, line_text}
+use Rattle.bw_text.specs.Printed.{is_plain_word, line_text, spaced}
 use Rattle.bw_model.proofs.BitsLemmas.{both}
 use Rattle.bw_text.proofs.SpacedWords.{line_said, plain_word}
 use Rattle.bw_schemas.proofs.PrintedBounds.{bound_spelled, bound_plain, bound_length}
@@ -62,6 +62,7 @@ column_spelled name lo hi true is = rw (bound_spelled lo is.lo, bound_spelled hi
 column_spelled name lo hi false is = rw (bound_spelled lo is.lo, bound_spelled hi is.hi) refl
 
 column_short : (name : List ℕ) (lo hi : ℤ) (nullable : Bool) → IsColumn (shape name lo hi nullable) → length (line_text (column_line (shape name lo hi nullable))) ≤ 122
+unfolding spaced
 column_short name lo hi true is =
     let n = (short_word name is.name).short in
     let l = bound_length lo is.lo in
@@ -116,6 +117,7 @@ names_same [] = refl
 names_same (c ∷ columns) = ap (λ (names : List (List ℕ)). c.name ∷ names) (names_same columns)
 
 table_short : (name : List ℕ) → is_name name ≡ true → length (line_text (table_line name)) ≤ 70
+unfolding spaced
 table_short name is = let n = (short_word name is).short in simp length-append (omega arith)
 
 -- the text of a schema with comments after it spells the schema

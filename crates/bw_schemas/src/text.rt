@@ -56,10 +56,10 @@ fn layout_word(layout: Layout) -> &'static [u8]
 }
 
 /// Appends a comment line of a word and a value.
-fn put_fact(
+fn put_fact<'a>(
     alloc: Global,
-    word: &[u8],
-    value: Piece<'_>,
+    word: &'a [u8],
+    value: Piece<'a>,
     text: &mut Vec<u8>,
 ) -> Result<(), AllocError>
     ensures { OnOk result (text.new.items ≡ text.old.items ++ comment word.now (piece_text value.entry)) }

@@ -25,7 +25,7 @@ pub use keyword::Keyword;
 pub use laws::{written_lines_are_read, written_numbers_are_read};
 pub use line_kind::{ConditionKind, InstructionKind, LineKind};
 pub use lines::{Line, Lines, only_word};
-pub use number::{natural_number, number_in, whole_number};
+pub use number::{natural_number, number_in, whole_number, with_sign};
 pub use opcode::Opcode;
 pub use piece::{Piece, push_line, push_spaced};
 pub use register::{REGISTERS, register_of};
