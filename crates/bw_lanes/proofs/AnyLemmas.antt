@@ -60,4 +60,4 @@ unfolding any_to all_rows
 any_whole f word words eight le =
     ap₂ (λ w r. list_any (λ lane. lane) (zip2 f (lanes_of_words w) r)) (take_all word words (omega arith)) (take_all (64 * word) all_rows (omega (arith, length-all_rows)))
 
-pub ruleset any_steps = (any_none, any_more)
+pub ruleset any_steps = (any_none, any_more, any_whole)

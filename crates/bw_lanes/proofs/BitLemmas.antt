@@ -1,5 +1,5 @@
 -- The bits of a number, and of two numbers that are joined bit by bit.
-use Rattle.std.proofs.Common.{◌≡◌, ◌∙◌, refl, sym, ap, ap₂, ℕ, zero, suc, ◌+◌, ◌-◌, ◌*◌, ◌/◌, ◌%◌, ◌^◌, ◌<◌, ◌≤◌, Bool, true, false, not, cond, ◌==◌, ◌&&◌, List, [], ◌∷◌, ◌++◌, map, length, length-append, take, get_or, arith, w64, min, zero-add, bit_and, flat_map, length-take, pow_pos}
+use Rattle.std.proofs.Common.{◌≡◌, ◌∙◌, refl, sym, ap, ap₂, ℕ, zero, suc, ◌+◌, ◌-◌, ◌*◌, ◌/◌, ◌%◌, ◌^◌, ◌<◌, ◌≤◌, Bool, true, false, not, ◌==◌, ◌&&◌, List, [], ◌∷◌, ◌++◌, map, length, length-append, take, get_or, arith, w64, min, zero-add, bit_and, flat_map, length-take, pow_pos}
 use Rattle.std.proofs.lemmas.List.Concat.{get_or-flat_map}
 use Rattle.std.specs.Int.{bit_at, bit_not}
 use Rattle.std.proofs.lemmas.Bool.Decides.{nat_tests}
@@ -60,44 +60,42 @@ bits_from_least_more count n =
     ap₂ ◌∷◌ (ap (λ k. k % 2 == 1) (omega arith)) (range_after (λ i. bit_at n i == 1) 0 count ∙ same_on_range (λ i. bit_at n (suc i) == 1) (λ i. bit_at (n / 2) i == 1) 0 count (λ i _ _. ap (λ k. k == 1) (bit_at-suc n i)))
 
 -- the bits that a bit mask is made of
-shown : (b : Bool) → (cond b 1 0 == 1) ≡ b
-shown b = grind (arith, nat_tests)
-
 pub bits_of_mask : (flags : List Bool) → bits_from_least (length flags) (mask_l flags) ≡ flags
 unfolding bits_from_least
 bits_of_mask flags =
-    same_on_range (λ i. bit_at (mask_l flags) i == 1) (λ i. get_or flags i false) 0 (length flags) (λ i _ _. ap (λ k. k == 1) (bit_mask_l flags i) ∙ shown (get_or flags i false))
+    same_on_range (λ i. bit_at (mask_l flags) i == 1) (λ i. get_or flags i false) 0 (length flags) (λ i _ _. grind (arith, nat_tests, bit_mask_l flags i))
     ∙ pick_l_whole false flags (length flags) refl
 
--- a word that is the bit mask of 64 flags
-pub bits_of_flags : (flags : List Bool) (word : ℕ) → length flags ≡ 64 → word ≡ mask_l flags → bits_from_least 64 word ≡ flags
-bits_of_flags flags word long same = ap₂ bits_from_least (sym long) same ∙ bits_of_mask flags
+-- a number that is the bit mask of so many flags
+pub bits_of_flags : (count : ℕ) (flags : List Bool) (word : ℕ) → length flags ≡ count → word ≡ mask_l flags → bits_from_least count word ≡ flags
+bits_of_flags count flags word long same = ap₂ bits_from_least (sym long) same ∙ bits_of_mask flags
 
 -- the bits of a number are those of its low part and then those of its high part
 pub bits_from_least_split : (low high n : ℕ) → bits_from_least (low + high) n ≡ bits_from_least low n ++ bits_from_least high (n / 2 ^ low)
 unfolding bits_from_least
 bits_from_least_split zero high n = ap₂ bits_from_least (zero-add high) (sym (div-one n))
 bits_from_least_split (suc low) high n =
-    let count : suc low + high ≡ suc (low + high) = omega arith in
     let shifted : n / 2 / 2 ^ low ≡ n / 2 ^ suc low = div-div-eq-div-mul n 2 (2 ^ low) ∙ ap (λ k. n / k) (mul_comm 2 (2 ^ low) ∙ sym (pow-suc 2 low)) in
-    ap (λ k. bits_from_least k n) count ∙ bits_from_least_more (low + high) n
+    ap (λ k. bits_from_least k n) {y = suc (low + high)} (omega arith) ∙ bits_from_least_more (low + high) n
     ∙ ap (λ l. (n % 2 == 1) ∷ l) (bits_from_least_split low high (n / 2) ∙ ap (λ k. bits_from_least low (n / 2) ++ bits_from_least high k) shifted)
     ∙ sym (ap (λ l. l ++ bits_from_least high (n / 2 ^ suc low)) (bits_from_least_more low n))
 
 -- the low part has the same low bits
+pub bit_of_low : (count n i : ℕ) → i < count → bit_at (n % 2 ^ count) i ≡ bit_at n i
+bit_of_low count n i lt =
+    sym (bit_at_cat_low (n / 2 ^ count) count (n % 2 ^ count) i lt) ∙ ap (λ k. bit_at k i) {y = n} (omega (arith, mul_comm (n / 2 ^ count) (2 ^ count), pow_pos count))
+
 pub bits_of_low : (count n : ℕ) → bits_from_least count (n % 2 ^ count) ≡ bits_from_least count n
 unfolding bits_from_least
-bits_of_low count n =
-    let whole : n / 2 ^ count * 2 ^ count + n % 2 ^ count ≡ n = omega (arith, mul_comm (n / 2 ^ count) (2 ^ count), pow_pos count) in
-    same_on_range (λ i. bit_at (n % 2 ^ count) i == 1) (λ i. bit_at n i == 1) 0 count (λ i _ lt. ap (λ k. k == 1) (sym (bit_at_cat_low (n / 2 ^ count) count (n % 2 ^ count) i (omega arith)) ∙ ap (λ k. bit_at k i) whole))
+bits_of_low count n = same_on_range (λ i. bit_at (n % 2 ^ count) i == 1) (λ i. bit_at n i == 1) 0 count (λ i _ lt. ap (λ k. k == 1) (bit_of_low count n i (omega arith)))
 
 -- the digits of a number in base 2 ^ width have its bits
 pub bits_of_digits : (width count n : ℕ) → flat_map (bits_from_least width) (digits_l (2 ^ width) count n) ≡ bits_from_least (count * width) n
 unfolding bits_from_least
 bits_of_digits width zero n = sym (ap (λ k. bits_from_least k n) (zero-mul width))
 bits_of_digits width (suc count) n =
-    let more : width + count * width ≡ suc count * width = omega (arith, suc-mul count width) in
-    ap₂ ◌++◌ (bits_of_low width n) (bits_of_digits width count (n / 2 ^ width)) ∙ sym (bits_from_least_split width (count * width) n) ∙ ap (λ k. bits_from_least k n) more
+    ap₂ ◌++◌ (bits_of_low width n) (bits_of_digits width count (n / 2 ^ width)) ∙ sym (bits_from_least_split width (count * width) n)
+    ∙ ap (λ k. bits_from_least k n) (omega (arith, suc-mul count width))
 
 -- a number has the bits of its digits in base 2 ^ width
 pub bits_of_number : (width : ℕ) (digits : List ℕ) → Each1 (λ digit. digit < 2 ^ width) digits → bits_from_least (length digits * width) (number_l (2 ^ width) digits) ≡ flat_map (bits_from_least width) digits
@@ -106,13 +104,9 @@ bits_of_number width [] small = ap (λ k. bits_from_least k 0) (zero-mul width)
 bits_of_number width (digit ∷ digits) small =
     let rest = number_l (2 ^ width) digits in
     let n = digit + 2 ^ width * rest in
-    let lt = small.0 in
-    let some : 0 < 2 ^ width = omega arith in
-    let low : n % 2 ^ width ≡ digit = add-mul-mod_self_left digit (2 ^ width) rest ∙ mod-eq_of_lt lt in
-    let high : n / 2 ^ width ≡ rest = omega (arith, add-mul-div_left digit rest {y = 2 ^ width} some, div-eq_of_lt lt) in
-    let count : length (digit ∷ digits) * width ≡ width + length digits * width = omega (arith, suc-mul (length digits) width) in
-    ap (λ k. bits_from_least k n) count ∙ bits_from_least_split width (length digits * width) n
-    ∙ ap₂ ◌++◌ (sym (bits_of_low width n) ∙ ap (bits_from_least width) low) (ap (bits_from_least (length digits * width)) high ∙ bits_of_number width digits small.1)
+    ap (λ k. bits_from_least k n) (omega (arith, suc-mul (length digits) width)) ∙ bits_from_least_split width (length digits * width) n
+    ∙ ap₂ ◌++◌ (sym (bits_of_low width n) ∙ ap (bits_from_least width) (add-mul-mod_self_left digit (2 ^ width) rest ∙ mod-eq_of_lt small.0))
+    (ap (bits_from_least (length digits * width)) {y = rest} (omega (arith, add-mul-div_left digit rest {y = 2 ^ width} (pow_pos width), div-eq_of_lt small.0)) ∙ bits_of_number width digits small.1)
 
 pub length-bits_of_numbers : (width : ℕ) (numbers : List ℕ) → length (flat_map (bits_from_least width) numbers) ≡ width * length numbers
 length-bits_of_numbers width [] = omega (arith, mul-zero width)
@@ -120,17 +114,16 @@ length-bits_of_numbers width (n ∷ numbers) =
     omega (arith, length-append (bits_from_least width n) (flat_map (bits_from_least width) numbers), length-bits_from_least width n, length-bits_of_numbers width numbers, mul-suc width (length numbers))
 
 -- a bit of a list of numbers, each in so many bits
-pub bit_in_numbers : (width : ℕ) (numbers : List ℕ) (at bit : ℕ) → at < length numbers → bit < width → get_or (flat_map (bits_from_least width) numbers) (width * at + bit) false ≡ (bit_at (get_or numbers at 0) bit == 1)
+pub bit_in_numbers : (width : ℕ) (numbers : List ℕ) (row at bit : ℕ) → at < length numbers → bit < width → row ≡ width * at + bit
+    → get_or (flat_map (bits_from_least width) numbers) row false ≡ (bit_at (get_or numbers at 0) bit == 1)
 unfolding bits_from_least
-bit_in_numbers width numbers at bit lt below =
-    let front : length (take at numbers) ≡ at = omega (arith, length-take at numbers) in
+bit_in_numbers width numbers row at bit lt below is =
     let n = get_or numbers at 0 in
-    ap (λ i. get_or (flat_map (bits_from_least width) numbers) (i + bit) false) (sym (length-bits_of_numbers width (take at numbers) ∙ ap (λ k. width * k) front))
+    let before = length-bits_of_numbers width (take at numbers) ∙ ap (λ k. width * k) {y = at} (omega (arith, length-take at numbers)) in
+    ap (λ i. get_or (flat_map (bits_from_least width) numbers) i false) (is ∙ ap (λ k. k + bit) (sym before))
     ∙ get_or-flat_map (bits_from_least width) numbers at bit 0 false lt (omega (arith, length-bits_from_least width n)) ∙ get_or-map-range_with_len (λ i. bit_at n i == 1) 0 width bit bit false below (omega arith)
 
 -- the lane of a row in a plane that is kept as bytes
 pub lane_of_bytes : (bytes : List ℕ) (row : ℕ) → row < 8 * length bytes → get_or (lanes_of_bytes bytes) row false ≡ (bit_at (get_or bytes (row / 8) 0) (row % 8) == 1)
 unfolding lanes_of_bytes
-lane_of_bytes bytes row lt =
-    let place : row ≡ 8 * (row / 8) + row % 8 = omega arith in
-    ap (λ i. get_or (flat_map (bits_from_least 8) bytes) i false) place ∙ bit_in_numbers 8 bytes (row / 8) (row % 8) (omega arith) (omega arith)
+lane_of_bytes bytes row lt = bit_in_numbers 8 bytes row (row / 8) (row % 8) (omega arith) (omega arith) (omega arith)

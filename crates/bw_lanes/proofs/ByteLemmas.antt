@@ -1,5 +1,5 @@
 -- Words made of bytes, 64 at a time.
-use Rattle.std.proofs.Common.{◌≡◌, ◌∙◌, sym, ap, ap₂, refl, add-one, get_or, bit_or, ◌&&◌, ℕ, zero, suc, ◌+◌, ◌*◌, ◌%◌, ◌^◌, ◌<◌, ◌≤◌, Bool, cond, eqb, ◌==◌, List, [], ◌∷◌, map, length, take, drop, replicate, bit_and, arith, w8, eq-eqb, ne_eqb, drop-cons}
+use Rattle.std.proofs.Common.{◌≡◌, ◌∙◌, sym, ap, ap₂, refl, add-one, get_or, bit_or, ◌&&◌, ℕ, zero, suc, ◌+◌, ◌*◌, ◌%◌, ◌^◌, ◌<◌, ◌≤◌, Bool, cond, eqb, ◌==◌, List, [], ◌∷◌, ◌++◌, map, length, take, drop, replicate, bit_and, arith, w8, eq-eqb, ne_eqb, drop-cons}
 use Rattle.std.specs.Int.{bit_at}
 use Rattle.std.specs.List.{range_with_len}
 use Rattle.std.proofs.lemmas.List.{map-id, length-map}
@@ -10,7 +10,7 @@ use Rattle.std.proofs.lemmas.Simd.{bitmask_splat, zip2_splat, map-map, splat_is_
 use lib.Lanes.{zip2, mask_l, top}
 use Rattle.bw_lanes.specs.Lanes.{bits_from_least, are_zero}
 use Rattle.bw_lanes.proofs.BitLemmas.{bits_of_flags, of_bit, same_on_range}
-use Rattle.bw_lanes.proofs.WordLemmas.{part, part_is, either_is_zero}
+use Rattle.bw_lanes.proofs.WordLemmas.{part, part_is, either_is_zero, tests_to, tests_more, tests_all}
 
 -- a bit that is taken by a mask of that bit alone
 pub bit_by_mask : (bit n : ℕ) → eqb (bit_and n (2 ^ bit)) (2 ^ bit) ≡ (bit_at n bit == 1)
@@ -21,7 +21,7 @@ bit_by_mask bit n =
 -- a word made of a comparison of each of 64 bytes with one
 pub compared : (t : ℕ → ℕ → Bool) (bytes : List ℕ) (c : ℕ) → length bytes ≡ 64
     → bits_from_least 64 (mask_l (map (top 7) (zip2 (λ a b. cond (t a b) 255 0) bytes (replicate 64 c))) % 2 ^ 64) ≡ map (λ byte. t byte c) bytes
-compared t bytes c long = bits_of_flags (map (λ byte. t byte c) bytes) _ (length-map bytes (λ byte. t byte c) ∙ long) (bitmask_splat w8 t bytes 64 c long (omega arith))
+compared t bytes c long = bits_of_flags 64 (map (λ byte. t byte c) bytes) _ (length-map bytes (λ byte. t byte c) ∙ long) (bitmask_splat w8 t bytes 64 c long (omega arith))
 
 pub bit_compared : (bytes : List ℕ) (bit : ℕ) → bit < 8 → length bytes ≡ 64
     → bits_from_least 64 (mask_l (map (top 7) (zip2 (λ a b. cond (eqb a b) 255 0) (zip2 bit_and bytes (replicate 64 (1 * 2 ^ bit % 2 ^ 8))) (replicate 64 (1 * 2 ^ bit % 2 ^ 8)))) % 2 ^ 64)
@@ -72,5 +72,12 @@ joined_more slices bytes count place first long lt within so_far =
     ∙ zip2_of_maps (λ a b. a && b) (λ row. are_zero slices row place) (λ row. get_or slices (512 * place + row) 0 == 0) rows so_far
     (ap (map (λ byte. byte == 0)) (part_by_rows slices (512 * place) (512 * place + first) first 64 refl (omega (arith, long))) ∙ map-map (λ byte. byte == 0) (λ row. get_or slices (512 * place + row) 0) rows)
     ∙ ap (λ k. map (λ row. are_zero slices row k) rows) (sym (add-one place))
+
+pub none_more : (test : ℕ → Bool) (word : ℕ) → word < 8 → tests_to test (word + 1) all_rows ≡ tests_to test word all_rows ++ map test (range_with_len (64 * word) 64)
+none_more test word lt = tests_more test word all_rows lt ∙ ap (λ l. tests_to test word all_rows ++ map test l) (rows_of_word word lt)
+
+pub none_whole : (test : ℕ → Bool) (word : ℕ) → 8 ≤ word → tests_to test word all_rows ≡ map test (range_with_len 0 512)
+unfolding all_rows
+none_whole test word le = tests_all test word all_rows length-all_rows le
 
 pub ruleset joined_so_far = (none_joined, joined_more)

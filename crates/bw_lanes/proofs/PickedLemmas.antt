@@ -10,12 +10,11 @@ use Rattle.bw_lanes.proofs.WordLemmas.{part, zipped_more, length-part, zipped_al
 use Rattle.std.specs.Int.{bit_at, bit_not}
 use Rattle.std.specs.Int.Bits.{or_zero_r, or_add_and}
 use Rattle.std.proofs.lemmas.Nat.{and_mask, pow-add, shr-shr}
-use Rattle.std.proofs.lemmas.Nat.Bits.{bit_at_cat_low}
 use Rattle.std.proofs.lemmas.List.FromFn.{length-map-range_with_len}
 use Rattle.bw_lanes.specs.Lanes.{bits_from_least}
 use Rattle.bw_lanes.specs.Picked.{as_byte, bytes_picked}
 use Rattle.bw_lanes.specs.Shifted.{with_bit}
-use Rattle.bw_lanes.proofs.BitLemmas.{same_on_range}
+use Rattle.bw_lanes.proofs.BitLemmas.{bit_of_low, same_on_range}
 use Rattle.bw_lanes.proofs.ByteLemmas.{bit_by_mask}
 
 -- A choice between two numbers that asks for no order.
@@ -30,19 +29,19 @@ pub greatest_is_choice : IsChoice max
 greatest_is_choice = record { grouped = λ a b c. omega arith; turned = λ a b c. omega arith }
 
 -- the lesser and the greater in each lane, as they are computed
-lesser_or_greater : (x y : ℕ) → (cond (ltb x y) x y ≡ min x y) × (cond (ltb x y) y x ≡ max x y)
-lesser_or_greater x y = (grind (arith, nat_tests), grind (arith, nat_tests))
-
 selected : (xs ys : List ℕ) → (sel_l (zip2 ltb xs ys) xs ys ≡ zip2 min xs ys) × (sel_l (zip2 ltb xs ys) ys xs ≡ zip2 max xs ys)
 selected [] ys = (refl, refl)
 selected (x ∷ xs) [] = (refl, refl)
-selected (x ∷ xs) (y ∷ ys) = let one = lesser_or_greater x y in let more = selected xs ys in (ap₂ ◌∷◌ one.0 more.0, ap₂ ◌∷◌ one.1 more.1)
+selected (x ∷ xs) (y ∷ ys) = let more = selected xs ys in (ap₂ ◌∷◌ (grind (arith, nat_tests)) more.0, ap₂ ◌∷◌ (grind (arith, nat_tests)) more.1)
 
-pub lesser_computed : (xs ys : List ℕ) → sel_l (map (top 7) (zip2 (λ a b. cond (ltb a b) 255 0) xs ys)) xs ys ≡ zip2 min xs ys
-lesser_computed xs ys = ap (λ tests. sel_l tests xs ys) (tops_compared w8 ltb xs ys) ∙ (selected xs ys).0
+pub lesser_is : (xs ys : List ℕ) → zip2 min xs ys ≡ sel_l (map (top 7) (zip2 (λ a b. cond (ltb a b) 255 0) xs ys)) xs ys
+lesser_is xs ys = sym (ap (λ tests. sel_l tests xs ys) (tops_compared w8 ltb xs ys) ∙ (selected xs ys).0)
 
 pub greater_computed : (xs ys : List ℕ) → sel_l (map (top 7) (zip2 (λ a b. cond (ltb a b) 255 0) xs ys)) ys xs ≡ zip2 max xs ys
 greater_computed xs ys = ap (λ tests. sel_l tests ys xs) (tops_compared w8 ltb xs ys) ∙ (selected xs ys).1
+
+pub greater_is : (xs ys : List ℕ) → zip2 max xs ys ≡ sel_l (map (top 7) (zip2 (λ a b. cond (ltb a b) 255 0) xs ys)) ys xs
+greater_is xs ys = sym (greater_computed xs ys)
 
 module _ (f : ℕ → ℕ → ℕ) (choice : IsChoice f) where
   moved : (a y : ℕ) (xs ys : List ℕ) → fold f a (xs ++ (y ∷ ys)) ≡ fold f (f a y) (xs ++ ys)
@@ -68,33 +67,28 @@ module _ (f : ℕ → ℕ → ℕ) (choice : IsChoice f) where
       ∙ sym (ap (fold f e) (zipped_more pick word bytes rows long size lt) ∙ fold-append f e (zip2 pick (take (64 * word) bytes) (take (64 * word) rows)) (zip2 pick (part word bytes) (part word rows)))
 
   -- both halves, lane by lane
-  pub halved : (e k : ℕ) (xs ys : List ℕ) → length xs ≡ k + k → ys ≡ zip2 f (pick_l 0 (xs ++ xs) (range_with_len 0 k)) (pick_l 0 (xs ++ xs) (range_with_len k k))
-      → (length ys ≡ k) × (fold f e ys ≡ fold f e xs)
-  halved e k xs ys long is =
-      let both = length-append xs xs in
-      let low : pick_l 0 (xs ++ xs) (range_with_len 0 k) ≡ take k xs = pick_l-range_with_len 0 (xs ++ xs) 0 k (omega arith) ∙ take-append-le k xs xs (omega arith) in
+  pub halved : (e : ℕ) (all : List ℕ) (k : ℕ) (xs ys : List ℕ) → (length xs ≡ k + k) × (fold f e xs ≡ fold f e all)
+      → ys ≡ zip2 f (pick_l 0 (xs ++ xs) (range_with_len 0 k)) (pick_l 0 (xs ++ xs) (range_with_len k k))
+      → (length ys ≡ k) × (fold f e ys ≡ fold f e all)
+  halved e all k xs ys long is =
       let rest = length-drop k xs in
-      let high : pick_l 0 (xs ++ xs) (range_with_len k k) ≡ drop k xs =
-      pick_l-range_with_len 0 (xs ++ xs) k k (omega arith) ∙ ap (take k) (drop-append-le k xs xs (omega arith)) ∙ take-append-le k (drop k xs) xs (omega arith) ∙ take_all k (drop k xs) (omega arith) in
       let front = length-take k xs in
-      let pairs = is ∙ ap₂ (zip2 f) low high in (
+      let half = λ (at : ℕ) (le : at + k ≤ length xs). pick_l-range_with_len 0 (xs ++ xs) at k (omega (arith, length-append xs xs)) ∙ ap (take k) (drop-append-le at xs xs (omega arith))
+      ∙ take-append-le k (drop at xs) xs (omega (arith, length-drop at xs)) in
+      let pairs = is ∙ ap₂ (zip2 f) (half 0 (omega arith)) (half k (omega arith) ∙ take_all k (drop k xs) (omega arith)) in (
         omega (arith, ap length pairs, length-zip2 f (take k xs) (drop k xs) (omega arith)),
-        ap (fold f e) pairs ∙ fold_pairs e (take k xs) (drop k xs) (omega arith) ∙ ap (fold f e) (take-append-drop k xs),
+        ap (fold f e) pairs ∙ fold_pairs e (take k xs) (drop k xs) (omega arith) ∙ ap (fold f e) (take-append-drop k xs) ∙ long.1,
       )
 
 pow_of_bytes : (bytes : ℕ) → 2 ^ (8 * bytes) ≡ 256 ^ bytes
 pow_of_bytes zero = refl
-pow_of_bytes (suc bytes) =
-    let more : 8 * suc bytes ≡ 8 + 8 * bytes = omega arith in
-    ap (λ k. 2 ^ k) more ∙ pow-add 2 8 (8 * bytes) ∙ omega (arith, pow_of_bytes bytes, pow-suc 256 bytes)
+pow_of_bytes (suc bytes) = grind (arith, pow-add 2 8 (8 * bytes), pow_of_bytes bytes, pow-suc 256 bytes)
 
 bit_of_byte : (n i : ℕ) → bit_at (n / 256 ^ (i / 8) % 256) (i % 8) ≡ bit_at n i
 bit_of_byte n i =
     let byte = n / 256 ^ (i / 8) in
-    let whole : byte / 256 * 2 ^ 8 + byte % 256 ≡ byte = omega arith in
-    let place : 8 * (i / 8) + i % 8 ≡ i = omega arith in
-    sym (bit_at_cat_low (byte / 256) 8 (byte % 256) (i % 8) (omega arith)) ∙ ap (λ k. bit_at k (i % 8)) whole ∙ ap (λ k. n / k / 2 ^ (i % 8) % 2) (sym (pow_of_bytes (i / 8)))
-    ∙ ap (λ k. k % 2) (shr-shr n (8 * (i / 8)) (i % 8) ∙ ap (λ k. n / 2 ^ k) place)
+    bit_of_low 8 byte (i % 8) (omega arith) ∙ ap (λ k. n / k / 2 ^ (i % 8) % 2) (sym (pow_of_bytes (i / 8)))
+    ∙ ap (λ k. k % 2) (shr-shr n (8 * (i / 8)) (i % 8) ∙ ap (λ k. n / 2 ^ k) (omega arith))
 
 -- a choice between two values, lane by lane
 chosen : {A B : Type 0} (test : A → Bool) (f g : A → B) (xs : List A) → sel_l (map test xs) (map f xs) (map g xs) ≡ map (λ x. cond (test x) (f x) (g x)) xs
@@ -108,14 +102,12 @@ rows = range_with_len 0 64
 abbrev repeated : ℕ → List ℕ
 repeated word = digits_l (2 ^ 8) 64 (number_l (2 ^ 64) (replicate 8 word))
 
-abbrev byte_of_row : List ℕ
-byte_of_row = map (λ i. i / 8) rows
-
 abbrev bit_of_row : List ℕ
 bit_of_row = map (λ i. 2 ^ (i % 8)) rows
 
 pub bytes_computed : (word : ℕ) → word < 2 ^ 64
-    → sel_l (map (top 7) (zip2 (λ a b. cond (eqb a b) 255 0) (zip2 bit_and (pick_l 0 (repeated word ++ repeated word) byte_of_row) bit_of_row) bit_of_row)) (replicate 64 255) (replicate 64 0)
+    → sel_l (map (top 7) (zip2 (λ a b. cond (eqb a b) 255 0) (zip2 bit_and (pick_l 0 (repeated word ++ repeated word) (map (λ i. i / 8) rows)) bit_of_row) bit_of_row))
+    (replicate 64 255) (replicate 64 0)
     ≡ map as_byte (bits_from_least 64 word)
 unfolding bits_from_least
 bytes_computed word small =
@@ -123,15 +115,16 @@ bytes_computed word small =
     let own = λ (i : ℕ). get_or bytes (i / 8) 0 in
     let place = λ (i : ℕ). 2 ^ (i % 8) in
     let all = length-map-range_with_len (λ i. i) 0 64 in
-    let picks : pick_l 0 (bytes ++ bytes) byte_of_row ≡ map own rows = pick_l_left 0 bytes bytes 64 byte_of_row refl tt ∙ map-map (λ k. get_or bytes k 0) (λ i. i / 8) rows in
+    let picks : pick_l 0 (bytes ++ bytes) (map (λ i. i / 8) rows) ≡ map own rows = pick_l_left 0 bytes bytes 64 (map (λ i. i / 8) rows) refl tt ∙ map-map (λ k. get_or bytes k 0) (λ i. i / 8) rows in
     let masked = zip2_of_maps bit_and own place rows picks refl in
-    let tests = tops_compared w8 eqb (zip2 bit_and (pick_l 0 (bytes ++ bytes) byte_of_row) bit_of_row) bit_of_row ∙ zip2_of_maps eqb (λ i. bit_and (own i) (place i)) place rows masked refl in
+    let tests = tops_compared w8 eqb (zip2 bit_and (pick_l 0 (bytes ++ bytes) (map (λ i. i / 8) rows)) bit_of_row) bit_of_row
+    ∙ zip2_of_maps eqb (λ i. bit_and (own i) (place i)) place rows masked refl in
     (λ j. sel_l (tests j) (splat_is_map rows 64 255 all j) (splat_is_map rows 64 0 all j)) ∙ chosen (λ i. eqb (bit_and (own i) (place i)) (place i)) (λ _. 255) (λ _. 0) rows
     ∙ same_on_range (λ i. as_byte (eqb (bit_and (own i) (place i)) (place i))) (λ i. as_byte (bit_at word i == 1)) 0 64
     (λ i _ lt.
     let lane = get_or_narrower (2 ^ 64) 8 (2 ^ 8) 64 (replicate 8 word) 0 (i / 8) refl (Each1-replicate (λ x. x < 2 ^ 64) 8 word small) (omega arith) (omega arith) in
-    let same : i / 8 ≡ 8 * 0 + i / 8 = omega arith in
-    ap as_byte (bit_by_mask (i % 8) (own i) ∙ ap (λ k. bit_at (get_or bytes k 0) (i % 8) == 1) same ∙ ap (λ n. bit_at n (i % 8) == 1) lane ∙ ap (λ n. n == 1) (bit_of_byte word i)))
+    ap as_byte (bit_by_mask (i % 8) (own i) ∙ ap (λ k. bit_at (get_or bytes k 0) (i % 8) == 1) {x = i / 8} {y = 8 * 0 + i / 8} (omega arith)
+    ∙ ap (λ n. bit_at n (i % 8) == 1) lane ∙ ap (λ n. n == 1) (bit_of_byte word i)))
     ∙ sym (map-map as_byte (λ i. bit_at word i == 1) rows)
 
 -- what is written at a part of the bytes
@@ -139,7 +132,7 @@ pub put_is : (at : ℕ) (bytes some : List ℕ) → length bytes ≡ 512 → len
     → take at bytes ++ (put_chunk 0 (take (512 - at) (drop at bytes)) some ++ drop (512 - at) (drop at bytes)) ≡ put_chunk at bytes some
 put_is at bytes some all long le =
     let rest = drop at bytes in
-    let left : length rest ≡ 512 - at = omega (arith, length-drop at bytes, all) in
+    let left = length-drop at bytes in
     (λ i. take at bytes ++ (put_chunk 0 (take_all (512 - at) rest (omega (arith, left)) i) some ++ drop_all (512 - at) rest (omega (arith, left)) i))
     ∙ ap (λ l. take at bytes ++ l) (append-nil (put_chunk 0 rest some) ∙ put_chunk_is 0 rest some (omega (arith, left, long))) ∙ sym (put_chunk_is at bytes some (omega (arith, all, long)))
 
@@ -155,20 +148,13 @@ pub kept_computed : (rows bytes : List ℕ) (c : ℕ) → length bytes ≡ 64
 kept_computed rows bytes c size =
     ap₂ (λ tests l. sel_l tests rows l) (tops_compared w8 eqb bytes (replicate 64 c) ∙ zip2_splat eqb bytes 64 c size) (splat_is_map bytes 64 0 size) ∙ kept_where (λ byte. eqb byte c) rows bytes
 
-both_lanes : (lane test : Bool) → cond test (as_byte lane) 0 ≡ as_byte (lane && test)
-both_lanes lane test = grind (arith, nat_tests)
-
 pub kept_lanes : (c : ℕ) (lanes : List Bool) (bytes : List ℕ) → zip2 (λ row byte. cond (byte == c) row 0) (map as_byte lanes) bytes ≡ map as_byte (zip2 (λ lane byte. lane && (byte == c)) lanes bytes)
 kept_lanes c [] bytes = refl
 kept_lanes c (lane ∷ lanes) [] = refl
-kept_lanes c (lane ∷ lanes) (byte ∷ bytes) = ap₂ ◌∷◌ (both_lanes lane (byte == c)) (kept_lanes c lanes bytes)
-
-pub kept_rows : (c : ℕ) (lanes : List Bool) (rows bytes : List ℕ) → rows ≡ map as_byte lanes
-    → zip2 (λ row byte. cond (byte == c) row 0) rows bytes ≡ map as_byte (zip2 (λ lane byte. lane && (byte == c)) lanes bytes)
-kept_rows c lanes rows bytes are = ap (λ l. zip2 (λ (row byte : ℕ). cond (byte == c) row 0) l bytes) are ∙ kept_lanes c lanes bytes
+kept_lanes c (lane ∷ lanes) (byte ∷ bytes) = ap₂ ◌∷◌ (grind (arith, nat_tests)) (kept_lanes c lanes bytes)
 
 -- a byte that is added to itself, with 255 taken from that where the bit is 1
-pub shifted_computed : (bytes : List ℕ) (lanes : List Bool) → zip2 (λ a b. (a + (256 - b)) % 256) (zip2 (λ a b. (a + b) % 256) bytes bytes) (map as_byte lanes) ≡ zip2 with_bit bytes lanes
+pub shifted_computed : (bytes : List ℕ) (lanes : List Bool) → zip2 with_bit bytes lanes ≡ zip2 (λ a b. (a + (256 - b)) % 256) (zip2 (λ a b. (a + b) % 256) bytes bytes) (map as_byte lanes)
 shifted_computed [] lanes = refl
 shifted_computed (byte ∷ bytes) [] = refl
 shifted_computed (byte ∷ bytes) (true ∷ lanes) = ap₂ ◌∷◌ (omega arith) (shifted_computed bytes lanes)
@@ -185,21 +171,16 @@ picked_by f other one (lane ∷ lanes) (byte ∷ bytes) small = ap₂ ◌∷◌ 
 abbrev pub or_others : ℕ → ℕ → ℕ
 or_others byte row = bit_or byte (bit_not w8 row)
 
-and_lane : (lane : Bool) (byte : ℕ) → byte < 256 → bit_and byte (as_byte lane) ≡ cond lane byte 0
-and_lane lane byte small = grind (arith, nat_tests, and_mask byte 8, or_add_and byte 0, or_zero_r byte)
-
-or_lane : (lane : Bool) (byte : ℕ) → byte < 256 → or_others byte (as_byte lane) ≡ cond lane byte 255
-or_lane lane byte small = grind (arith, nat_tests, and_mask byte 8, or_add_and byte 255, or_zero_r byte)
-
 module _ (word : ℕ) (lanes : List Bool) (bytes rows : List ℕ) (long : length bytes ≡ 512) (size : length rows ≡ 512) (le : 8 ≤ word) (small : (at : ℕ) → get_or bytes at 0 < 256) (is : rows ≡ map as_byte lanes) where
-  picked_all : (f : ℕ → ℕ → ℕ) (other : ℕ) → ((lane : Bool) (byte : ℕ) → byte < 256 → f byte (as_byte lane) ≡ cond lane byte other) → zip2 f (take (64 * word) bytes) (take (64 * word) rows) ≡ bytes_picked other lanes bytes
-  picked_all f other one = zipped_all f word bytes rows long size le ∙ ap (zip2 f bytes) is ∙ picked_by f other one lanes bytes small
-
   pub bytes_or_0 : zip2 bit_and (take (64 * word) bytes) (take (64 * word) rows) ≡ bytes_picked 0 lanes bytes
-  bytes_or_0 = picked_all bit_and 0 and_lane
+  bytes_or_0 =
+      zipped_all bit_and word bytes rows long size le ∙ ap (zip2 bit_and bytes) is
+      ∙ picked_by bit_and 0 (λ lane byte fits. grind (arith, nat_tests, and_mask byte 8, or_add_and byte 0, or_zero_r byte)) lanes bytes small
 
   pub bytes_or_255 : zip2 or_others (take (64 * word) bytes) (take (64 * word) rows) ≡ bytes_picked 255 lanes bytes
-  bytes_or_255 = picked_all or_others 255 or_lane
+  bytes_or_255 =
+      zipped_all or_others word bytes rows long size le ∙ ap (zip2 or_others bytes) is
+      ∙ picked_by or_others 255 (λ lane byte fits. grind (arith, nat_tests, and_mask byte 8, or_add_and byte 255, or_zero_r byte)) lanes bytes small
 
 -- one step of a sum
 pub sum_is : (xs : List ℕ) → sum_l xs ≡ sum xs

@@ -6,14 +6,11 @@ use Rattle.std.proofs.lemmas.List.{take-append-drop, length-take, length-drop, n
 use Rattle.std.proofs.lemmas.Simd.{below_from_Fits}
 use lib.Lanes.{Each1, mask_l, number_l, digits_l}
 use Rattle.bw_lanes.specs.Lanes.{bits_from_least, lanes_of_bytes, lanes_of_words, number_of_bits, bytes_from, bytes_of_lanes}
-use Rattle.bw_lanes.proofs.BitLemmas.{length-bits_from_least, bits_from_least_more, bits_of_mask, bits_of_digits, bits_of_number, of_bit}
+use Rattle.bw_lanes.proofs.BitLemmas.{length-bits_from_least, bits_from_least_more, bits_of_flags, bits_of_digits, bits_of_number, of_bit}
 
 number_of_bits-mask : (bits : List Bool) → number_of_bits bits ≡ mask_l bits
 number_of_bits-mask [] = refl
 number_of_bits-mask (bit ∷ bits) = ap (λ n. cond bit 1 0 + 2 * n) (number_of_bits-mask bits)
-
-bits_of_number_of_bits : (bits : List Bool) → length bits ≡ 8 → bits_from_least 8 (number_of_bits bits) ≡ bits
-bits_of_number_of_bits bits eight = ap (λ k. bits_from_least k (number_of_bits bits)) (sym eight) ∙ ap (bits_from_least (length bits)) (number_of_bits-mask bits) ∙ bits_of_mask bits
 
 number_of_bits_from_least : (count n : ℕ) → n < 2 ^ count → number_of_bits (bits_from_least count n) ≡ n
 unfolding bits_from_least
@@ -26,7 +23,8 @@ lanes_of_bytes_from : (count : ℕ) (lanes : List Bool) → length lanes ≡ 8 *
 unfolding lanes_of_bytes
 lanes_of_bytes_from zero lanes long = sym (nil_from_length lanes (omega (arith, long)))
 lanes_of_bytes_from (suc count) lanes long =
-    ap₂ ◌++◌ (bits_of_number_of_bits (take 8 lanes) (omega (arith, length-take 8 lanes, long))) (lanes_of_bytes_from count (drop 8 lanes) (omega (arith, length-drop 8 lanes, long)))
+    ap₂ ◌++◌ (bits_of_flags 8 (take 8 lanes) _ (omega (arith, length-take 8 lanes, long)) (number_of_bits-mask (take 8 lanes)))
+    (lanes_of_bytes_from count (drop 8 lanes) (omega (arith, length-drop 8 lanes, long)))
     ∙ take-append-drop 8 lanes
 
 bytes_from_lanes : (bytes : List ℕ) → Each1 (λ byte. byte < 2 ^ 8) bytes → bytes_from (length bytes) (lanes_of_bytes bytes) ≡ bytes
@@ -42,21 +40,17 @@ pub lanes_of_bytes_of_lanes : (lanes : List Bool) → length lanes ≡ 512 → l
 unfolding bytes_of_lanes
 lanes_of_bytes_of_lanes lanes long = lanes_of_bytes_from 64 lanes long
 
-length-bytes_from : (count : ℕ) (lanes : List Bool) → length (bytes_from count lanes) ≡ count
-length-bytes_from zero lanes = refl
-length-bytes_from (suc count) lanes = ap suc (length-bytes_from count (drop 8 lanes))
-
 pub length-bytes_of_lanes : (lanes : List Bool) → length (bytes_of_lanes lanes) ≡ 64
 unfolding bytes_of_lanes
-length-bytes_of_lanes lanes = length-bytes_from 64 lanes
+length-bytes_of_lanes lanes = refl
 
 pub bytes_of_lanes_of_bytes : (bytes : List ℕ) → length bytes ≡ 64 → Each1 (λ byte. byte < 2 ^ 8) bytes → bytes_of_lanes (lanes_of_bytes bytes) ≡ bytes
 unfolding bytes_of_lanes
 bytes_of_lanes_of_bytes bytes long small = ap (λ k. bytes_from k (lanes_of_bytes bytes)) (sym long) ∙ bytes_from_lanes bytes small
 
-digits_fit : (p count n : ℕ) → 0 < p → (length (digits_l p count n) ≡ count) × Each1 (λ digit. digit < p) (digits_l p count n)
-digits_fit p zero n some = (refl, tt)
-digits_fit p (suc count) n some = let more = digits_fit p count (n / p) some in (ap suc more.0, (mod-lt n some, more.1))
+digits_fit : (p count n : ℕ) → 0 < p → Each1 (λ digit. digit < p) (digits_l p count n)
+digits_fit p zero n some = tt
+digits_fit p (suc count) n some = (mod-lt n some, digits_fit p count (n / p) some)
 
 -- numbers of so many bits, recoded as numbers of other many bits
 recoded : (width other count : ℕ) (numbers : List ℕ) → Each1 (λ n. n < 2 ^ other) numbers → count * width ≡ length numbers * other
@@ -73,6 +67,5 @@ pub bytes_recoded : (words : List ℕ) → length words ≡ 8 → Each1 (Fits w6
 unfolding lanes_of_words lanes_of_bytes
 bytes_recoded words long small =
     let n = number_l (2 ^ 64) words in
-    let fit = digits_fit 256 64 n (omega arith) in
-    sym (bytes_of_lanes_of_bytes (digits_l 256 64 n) fit.0 fit.1)
+    sym (bytes_of_lanes_of_bytes (digits_l 256 64 n) refl (digits_fit 256 64 n (omega arith)))
     ∙ ap bytes_of_lanes (recoded 8 64 64 words (below_from_Fits w64 words small) (omega (arith, long)))

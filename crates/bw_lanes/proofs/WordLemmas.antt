@@ -64,10 +64,7 @@ pub zero_bits : (count n : ℕ) → n < 2 ^ count → (n == 0) ≡ list_all not 
 unfolding bits_from_least
 zero_bits zero n small = eq-eqb n 0 (omega arith)
 zero_bits (suc count) n small =
-    least_and_rest n ∙ ap (λ b. not (n % 2 == 1) && b) (zero_bits count (n / 2) (omega (arith, two-pow-succ count))) ∙ sym (ap (list_all not) (bits_from_least_more count n))
-  where
-    least_and_rest : (n : ℕ) → (n == 0) ≡ (not (n % 2 == 1) && (n / 2 == 0))
-    least_and_rest n = grind (arith, nat_tests)
+    grind (arith, nat_tests) ∙ ap (λ b. not (n % 2 == 1) && b) (zero_bits count (n / 2) (omega (arith, two-pow-succ count))) ∙ sym (ap (list_all not) (bits_from_least_more count n))
 
 pub either_is_zero : (a b : ℕ) → (bit_or a b == 0) ≡ ((a == 0) && (b == 0))
 either_is_zero a b = grind (arith, nat_tests, le_or_l a b, or_zero_l b)
@@ -107,9 +104,7 @@ lanes_of_xor = lanes_joined differ bit_xor (bits_joined (λ x y. (x + y) % 2) di
 -- the lane of a row in a plane that is kept as words
 pub lane_at : (words : List ℕ) (row : ℕ) → row < 64 * length words → get_or (lanes_of_words words) row false ≡ (bit_at (get_or words (row / 64) 0) (row % 64) == 1)
 unfolding lanes_of_words
-lane_at words row lt =
-    let place : row ≡ 64 * (row / 64) + row % 64 = omega arith in
-    ap (λ i. get_or (flat_map (bits_from_least 64) words) i false) place ∙ bit_in_numbers 64 words (row / 64) (row % 64) (omega arith) (omega arith)
+lane_at words row lt = bit_in_numbers 64 words row (row / 64) (row % 64) (omega arith) (omega arith) (omega arith)
 
 pub lane_of_words : (words : List ℕ) (row : ℕ) → row < 64 * length words → get_or (lanes_of_words words) row false ≡ (bit_and (get_or words (row / 64) 0 / 2 ^ (row % 64)) 1 == 1)
 lane_of_words words row lt = lane_at words row lt ∙ ap (λ b. b == 1) (sym (shr_and_one (get_or words (row / 64) 0) (row % 64)))
@@ -144,15 +139,9 @@ few_ones n = omega (arith, count_by-le-length (λ lane. lane) (bits_from_least 6
 pub word_of_both : (a b : List ℕ) (word : ℕ) → length a ≡ 8 → length b ≡ 8 → word < 8 → get_or (zip2 bit_and a b) word 0 ≡ bit_and (get_or a word 0) (get_or b word 0)
 word_of_both a b word here there lt = get_or-zip2 bit_and a b word 0 0 0 (omega arith) (omega arith)
 
-pub length-both : (a b : List ℕ) → length a ≡ 8 → length b ≡ 8 → length (zip2 bit_and a b) ≡ 8
-length-both a b here there = length-zip2 bit_and a b (here ∙ sym there) ∙ here
-
-pub both_whole : (word : ℕ) (a b : List ℕ) → length a ≡ 8 → length b ≡ 8 → 8 ≤ word → take word (zip2 bit_and a b) ≡ zip2 bit_and a b
-both_whole word a b here there le = take_all word (zip2 bit_and a b) (omega (arith, length-both a b))
-
 pub ruleset ones_so_far = (no_lanes, ones_more, few_ones)
 
-pub ruleset ones_of_both = (no_lanes, ones_more, few_ones, word_of_both, length-both, both_whole, lanes_of_and)
+pub ruleset ones_of_both = (no_lanes, ones_more, few_ones, word_of_both, length-zip2, take_all, lanes_of_and)
 
 pub length-first : (word : ℕ) (words : List ℕ) → length words ≡ 8 → word ≤ 8 → length (lanes_of_words (take word words)) ≡ 64 * word
 length-first word words eight le = omega (arith, length-lanes_of_words (take word words), length-take word words)
@@ -172,29 +161,22 @@ mask_of_run zero (suc zeros) = omega (arith, mask_of_run zero zeros)
 mask_of_run (suc ones) zeros = omega (arith, mask_of_run ones zeros, two-pow-succ ones)
 
 bits_of_run : (n ones zeros : ℕ) → n + 1 ≡ 2 ^ ones → ones + zeros ≡ 64 → bits_from_least 64 n ≡ run ones zeros
-bits_of_run n ones zeros is all = bits_of_flags (run ones zeros) n (omega (arith, length-append {A = Bool}, length-replicate {A = Bool})) (omega (arith, mask_of_run ones zeros))
+bits_of_run n ones zeros is all = bits_of_flags 64 (run ones zeros) n (omega (arith, length-append {A = Bool}, length-replicate {A = Bool})) (omega (arith, mask_of_run ones zeros))
 
 pub first_run : (n : ℕ) → n < 64 → bits_from_least 64 (1 * 2 ^ n % 2 ^ 64 - 1) ≡ run (min n 64) (64 - n)
-first_run n lt =
-    let least : n ≡ min n 64 = omega arith in
-    bits_of_run _ _ _ (omega (arith, one_shl n 64 lt, pow_pos n, ap (λ k. 2 ^ k) least)) (omega arith)
+first_run n lt = bits_of_run _ _ _ (grind (arith, one_shl n 64 lt, pow_pos n)) (omega arith)
 
 pub whole_run : (n : ℕ) → 64 ≤ n → bits_from_least 64 (2 ^ 64 - 1) ≡ run (min n 64) (64 - n)
-whole_run n le = let least : 64 ≡ min n 64 = omega arith in bits_of_run _ _ _ (ap (λ k. 2 ^ k) least) (omega arith)
+whole_run n le = bits_of_run _ _ _ (ap (λ k. 2 ^ k) {x = 64} (omega arith)) (omega arith)
 
 pub ruleset runs = (first_run, whole_run)
 
-joined : (a b c d : ℕ) → min b c ≡ 0 → run a b ++ run c d ≡ run (a + c) (b + d)
+pub joined : (a b c d : ℕ) → min b c ≡ 0 → run a b ++ run c d ≡ run (a + c) (b + d)
 joined a zero c d none = simp (append-nil, zero-add, ← append_assoc, replicate-append-replicate)
 joined a (suc b) zero d none = simp (append_assoc, replicate-append-replicate, add-zero)
 joined a (suc b) (suc c) d none = absurd (omega arith)
 
-pub mask_more : (word rows count made : ℕ) (words : List ℕ) → length words ≡ 8 → word < 8
-    → lanes_of_words (take word words) ≡ run (min rows (64 * word)) (64 * word - rows)
-    → count ≡ rows - 64 * word → bits_from_least 64 made ≡ run (min count 64) (64 - count)
-    → lanes_of_words (take (word + 1) (set words word made)) ≡ run (min rows (64 * (word + 1))) (64 * (word + 1) - rows)
-mask_more word rows count made words eight lt before left is =
-    lanes_set word words made eight lt ∙ ap₂ ◌++◌ before is ∙ joined _ _ _ _ (omega arith) ∙ ap₂ run (omega arith) (omega arith)
+pub ruleset masked = (no_lanes, lanes_set, length-set, joined)
 
 -- the part of a word
 abbrev pub part : {A : Type 0} → ℕ → List A → List A
@@ -208,8 +190,7 @@ length-part word xs all lt = ap length (part_is word xs lt) ∙ omega (arith, le
 
 pub before_and_part : {A : Type 0} (word : ℕ) (xs : List A) → word < 8 → take (64 * (word + 1)) xs ≡ take (64 * word) xs ++ part word xs
 before_and_part word xs lt =
-    let next : 64 * (word + 1) ≡ 64 * word + 64 = omega arith in
-    ap (λ n. take n xs) next ∙ take-add (64 * word) 64 xs ∙ ap (λ l. take (64 * word) xs ++ l) (sym (part_is word xs lt))
+    ap (λ n. take n xs) (omega arith) ∙ take-add (64 * word) 64 xs ∙ ap (λ l. take (64 * word) xs ++ l) (sym (part_is word xs lt))
 
 pub zipped_more : {A B C : Type 0} (f : A → B → C) (word : ℕ) (xs : List A) (ys : List B) → length xs ≡ 512 → length ys ≡ 512 → word < 8
     → zip2 f (take (64 * (word + 1)) xs) (take (64 * (word + 1)) ys) ≡ zip2 f (take (64 * word) xs) (take (64 * word) ys) ++ zip2 f (part word xs) (part word ys)
@@ -262,10 +243,9 @@ written_more f word old ys long size lt =
     let made_of : some ≡ zip2 f (part word old) (part word ys) = ap (λ l. zip2 f (take 64 (take (512 - at) l)) (part word ys)) behind in
     let all = length-part word old long lt in
     let count : length some ≡ 64 = ap length made_of ∙ length-zip2 f (part word old) (part word ys) (all ∙ sym (length-part word ys size lt)) ∙ all in
-    let next : at + 64 ≡ 64 * (word + 1) = omega arith in
     sym (put_chunk_is at rows some (omega (arith, ap length behind, length-drop at rows, length-drop at old)) ∙ ap₂ ◌++◌ first (ap₂ (λ k l. some ++ drop k l) count behind)
     ∙ sym (append_assoc front some (drop 64 (drop at old)))
-    ∙ ap₂ ◌++◌ (ap (λ l. front ++ l) made_of ∙ sym (zipped_more f word old ys long size lt)) (drop-drop 64 at old ∙ ap (λ n. drop n old) next))
+    ∙ ap₂ ◌++◌ (ap (λ l. front ++ l) made_of ∙ sym (zipped_more f word old ys long size lt)) (drop-drop 64 at old ∙ ap (λ n. drop n old) {y = 64 * (word + 1)} (omega arith)))
 
 pub written_all : {B : Type 0} (f : ℕ → B → ℕ) (word : ℕ) (old : List ℕ) (ys : List B) → length old ≡ 512 → length ys ≡ 512 → 8 ≤ word → written f word old ys ≡ zip2 f old ys
 unfolding written

@@ -129,6 +129,7 @@ fn kept(rows: u8x64, bytes: u8x64, c: u8) -> u8x64
 }
 
 /// The lesser byte in each lane.
+#[tactic(auto, using(crate::proofs::PickedLemmas::lesser_is))]
 fn lesser<const N: usize>(a: Simd<u8, N>, b: Simd<u8, N>) -> Simd<u8, N>
     ensures { result ≡ zip2 min a.entry b.entry }
 {
@@ -136,6 +137,7 @@ fn lesser<const N: usize>(a: Simd<u8, N>, b: Simd<u8, N>) -> Simd<u8, N>
 }
 
 /// The greater byte in each lane.
+#[tactic(auto, using(crate::proofs::PickedLemmas::greater_is))]
 fn greater<const N: usize>(a: Simd<u8, N>, b: Simd<u8, N>) -> Simd<u8, N>
     ensures { result ≡ zip2 max a.entry b.entry }
 {

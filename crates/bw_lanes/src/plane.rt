@@ -97,7 +97,7 @@ fn ones_of(word: u64) -> u32
 }
 
 /// The plane in which the first rows, so many, are 1, and the others 0.
-#[tactic(auto, using(crate::proofs::WordLemmas::no_lanes))]
+#[tactic(auto, using(crate::proofs::WordLemmas::masked))]
 pub fn mask(rows: u32) -> Plane
     requires { rows ≤ 512 }
     ensures { lanes_of_words result ≡ replicate rows true ++ replicate (512 - rows) false }

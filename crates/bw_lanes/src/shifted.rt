@@ -23,6 +23,7 @@ pub fn push_bit(bytes: &mut [u8; LANES], plane: &Plane)
 }
 
 /// The same of the bytes of 64 rows and their word.
+#[tactic(auto, using(crate::proofs::PickedLemmas::shifted_computed))]
 fn with_bits(bytes: u8x64, word: u64) -> u8x64
     ensures { result ≡ zip2 with_bit bytes (bits_from_least 64 word) }
 {

@@ -1,12 +1,13 @@
 -- The bytes of a group: its blocks, which are without fault, and the rows that they spell.
-use Rattle.std.proofs.Common.{◌≡◌, ◌∙◌, refl, sym, ap, ap₂, ℕ, zero, suc, ◌+◌, ◌-◌, ◌<◌, ◌≤◌, ◌^◌, Bool, true, false, cond, List, [], ◌∷◌, ◌++◌, map, length, take, drop, get_or, replicate, length-append, None, inl, inr, arith, pow_pos}
+use Rattle.std.proofs.Common.{◌≡◌, ◌∙◌, refl, sym, ap, ap₂, ℕ, zero, suc, ◌+◌, ◌-◌, ◌<◌, ◌≤◌, ◌^◌, Bool, true, false, cond, List, [], ◌∷◌, ◌++◌, map, length, take, drop, get_or, replicate, length-append, None, inl, inr, arith, ext_get_or}
 use Rattle.std.specs.List.{range_with_len, list_all, All}
 use Rattle.std.proofs.Math.Seq.{drop-append_seam, take-append_seam}
 use Rattle.std.proofs.Math.ListN.{get_or-append}
 use Rattle.std.proofs.lemmas.Bool.{cases_lt}
-use Rattle.std.proofs.lemmas.List.{get_or_default, take-append-drop, length-map, length-take, length-drop, length-replicate, get_or-map, get_or-take, get_or-drop, replicate-append-replicate}
-use Rattle.std.proofs.lemmas.List.FromFn.{fill_by_all, length-map-range_with_len}
-use Rattle.std.proofs.lemmas.Simd.{map-map}
+use Rattle.std.proofs.lemmas.List.{length-map, length-replicate, get_or-map, replicate-append-replicate}
+use Rattle.std.proofs.lemmas.List.Elements.{All-append, All-get_or, All-map, All-replicate}
+use Rattle.std.proofs.lemmas.List.Sums.{AllPass-from_list_all}
+use Rattle.std.proofs.lemmas.List.FromFn.{fill_by_all, length-map-range_with_len, get_or-map-range_with_len}
 use Rattle.bw_lanes.specs.Lanes.{bytes_of_lanes, lanes_of_bytes}
 use Rattle.bw_lanes.proofs.StoredLemmas.{lanes_of_bytes_of_lanes, length-bytes_of_lanes}
 use Rattle.bw_model.specs.declared.column.Column.{Column}
@@ -17,14 +18,13 @@ use Rattle.bw_model.specs.Groups.{group_size}
 use Rattle.bw_model.specs.Stored.{stored_at}
 use Rattle.bw_model.specs.Truth.{is_null}
 use Rattle.bw_model.specs.Variable.{is_nullable}
-use Rattle.bw_model.proofs.StoredLemmas.{stored_below}
 use Rattle.bw_model.proofs.BitsLemmas.{both}
 use Rattle.bw_segment.specs.Packing.{Packing, IsPacking, null_bits, null_size, block_size, segment_size, block_bytes, segment_bytes, block_at, block_nulls, block_codes, value_held, value_in_block, rows_spelled}
 use Rattle.bw_segment.specs.BlockFault.{padding_fault, row_fault, lanes_fault, block_fault, IsSound}
 use Rattle.bw_segment.specs.Meaning.{Meaning, IsGroup, stored_codes}
 use Rattle.bw_segment.proofs.FaultLemmas.{first_none, row_clear, lanes_none, of_rows}
 use Rattle.bw_segment.proofs.CodeLemmas.{length_admitted}
-use Rattle.bw_segment.proofs.SpanLemmas.{all_at}
+use Rattle.bw_segment.proofs.PlacementLemmas.{span_fits}
 use Rattle.bw_segment.proofs.ValueLemmas.{null_admitted, stored_within, stored_null, held_admitted}
 use Rattle.bw_segment.proofs.LayoutLemmas.{length-blocks, block_of_joined}
 
@@ -47,21 +47,20 @@ length_padded of_row rows z few =
     let padding = length-replicate (512 - length rows) z in
     omega (arith, length-append (map of_row rows) (replicate (512 - length rows) z), length-map rows of_row, padding)
 
-all_same : {A : Type 0} (xs : List A) (z : A) → ((at : ℕ) → at < length xs → get_or xs at z ≡ z) → xs ≡ replicate (length xs) z
-all_same [] z each = refl
-all_same (x ∷ xs) z each = ap₂ ◌∷◌ (each 0 (omega arith)) (all_same xs z (λ at lt. each (suc at) (omega arith)))
-
 -- lanes that are those of rows, and then the same in the padding
 pub padded_is : {A : Type 0} (row_of : ℕ → List Value) (of_row : List Value → A) (xs : List A) (count : ℕ) (z : A) → length xs ≡ 512 → count ≤ 512
     → ((row : ℕ) → row < count → get_or xs row z ≡ of_row (row_of row)) → ((row : ℕ) → count ≤ row → row < 512 → get_or xs row z ≡ z)
     → map of_row (map row_of (range_with_len 0 count)) ++ replicate (512 - length (map row_of (range_with_len 0 count))) z ≡ xs
 padded_is row_of of_row xs count z long few rows padding =
+    let given = map row_of (range_with_len 0 count) in
     let all = length-map-range_with_len row_of 0 count in
-    let front = fill_by_all (λ row. of_row (row_of row)) (take count xs) count z (omega (arith, length-take count xs, long)) (λ row lt. get_or-take count xs row z lt ∙ rows row lt) in
-    let rest : length (drop count xs) ≡ 512 - count = omega (arith, length-drop count xs, long) in
-    let back = all_same (drop count xs) z (λ at lt. get_or-drop count xs at z ∙ padding (count + at) (omega arith) (omega (arith, rest))) in
-    ap₂ (λ l n. l ++ replicate (512 - n) z) (map-map of_row row_of (range_with_len 0 count) ∙ sym front) all
-    ∙ ap (λ l. take count xs ++ l) (ap (λ n. replicate n z) (sym rest) ∙ sym back) ∙ take-append-drop count xs
+    let size = length_padded of_row given z (omega (arith, all)) in
+    ext_get_or z (map of_row given ++ replicate (512 - length given) z) xs (size ∙ sym long) (λ row lt. elim (cases_lt row count) [
+      | inl before ↦
+          lane_of_row of_row given (replicate (512 - length given) z) row z (omega (arith, all))
+          ∙ ap of_row (get_or-map-range_with_len row_of 0 count row row [] before (omega arith)) ∙ sym (rows row before)
+      | inr past ↦ lane_of_padding of_row given (512 - length given) row z (omega (arith, all)) ∙ sym (padding row past (omega (arith, lt, size)))
+    ])
 
 no_nulls : (columns : List Column) (rows : List (List Value)) (col : ℕ) → list_all (admits_values columns) rows ≡ true → col < length columns → is_nullable columns col ≡ false
     → map (λ row. is_null (value_in row col)) rows ≡ replicate (length rows) false
@@ -69,6 +68,15 @@ no_nulls columns [] col all lt never = refl
 no_nulls columns (row ∷ rows) col all lt never =
     let each = both (admits_values columns row) (list_all (admits_values columns) rows) all in
     ap₂ ◌∷◌ (null_admitted columns row col each.0 lt never) (no_nulls columns rows col each.1 lt never)
+
+-- each code of rows is one of the column's
+pub stored_in_span : (columns : List Column) (rows : List (List Value)) (col : ℕ) → col < length columns → All (λ code. code ≤ span_at columns col) (stored_codes columns rows col)
+unfolding stored_codes
+stored_in_span columns rows col there =
+    let within = λ (code : ℕ). code ≤ span_at columns col in
+    let stored = λ (row : List Value). stored_at columns col (value_in row col) in
+    All-append within (map stored rows) (replicate (group_size - length rows) 0)
+    (All-map within stored rows (λ k d lt. stored_within columns col (value_in (get_or rows k d) col) there)) (All-replicate within (group_size - length rows) 0 (omega arith))
 
 -- the bytes of a group
 module _ (packing : Packing) (law : IsPacking packing) (meaning : Meaning) (group : IsGroup meaning) where
@@ -83,7 +91,7 @@ module _ (packing : Packing) (law : IsPacking packing) (meaning : Meaning) (grou
   few_rows = group.few
 
   pub row_admitted : (row : ℕ) → row < length rows → admits_values columns (get_or rows row []) ≡ true
-  row_admitted row lt = all_at (admits_values columns) rows row [] group.admitted lt
+  row_admitted row lt = All-get_or (λ values. admits_values columns values ≡ true) rows row [] lt (AllPass-from_list_all (admits_values columns) rows group.admitted)
 
   length-null_bits : (col : ℕ) → length (null_bits rows col) ≡ 512
   unfolding null_bits group_size
@@ -97,27 +105,12 @@ module _ (packing : Packing) (law : IsPacking packing) (meaning : Meaning) (grou
   unfolding null_bits
   null_of_row col row lt = lane_of_row (λ row. is_null (value_in row col)) rows (replicate (group_size - length rows) false) row false lt
 
-  null_of_padding : (col row : ℕ) → length rows ≤ row → get_or (null_bits rows col) row false ≡ false
-  unfolding null_bits
-  null_of_padding col row le = lane_of_padding (λ row. is_null (value_in row col)) rows (group_size - length rows) row false le
-
   pub code_of_row : (col row : ℕ) → row < length rows → get_or (stored_codes columns rows col) row 0 ≡ stored_at columns col (value_in (get_or rows row []) col)
   unfolding stored_codes
   code_of_row col row lt = lane_of_row (λ row. stored_at columns col (value_in row col)) rows (replicate (group_size - length rows) 0) row 0 lt
 
-  code_of_padding : (col row : ℕ) → length rows ≤ row → get_or (stored_codes columns rows col) row 0 ≡ 0
-  unfolding stored_codes
-  code_of_padding col row le = lane_of_padding (λ row. stored_at columns col (value_in row col)) rows (group_size - length rows) row 0 le
-
   pub small_codes : (col : ℕ) → col < length columns → All (λ code. code < 2 ^ width_at columns col) (stored_codes columns rows col)
-  small_codes col there = λ row d lt.
-      let here = get_or_default (stored_codes columns rows col) row d 0 lt in
-      elim (cases_lt row (length rows)) [
-        | inl before ↦
-            let below = stored_below columns (get_or rows row []) col (row_admitted row before) there in
-            omega (arith, here, code_of_row col row before, below)
-        | inr past ↦ omega (arith, here, code_of_padding col row past, pow_pos (width_at columns col))
-      ]
+  small_codes col there = λ row d lt. omega (arith, stored_in_span columns rows col there row d lt, span_fits columns col there)
 
   -- the block of a column
   abbrev pub block : ℕ → List ℕ
@@ -127,11 +120,7 @@ module _ (packing : Packing) (law : IsPacking packing) (meaning : Meaning) (grou
   null_bytes col = cond (is_nullable columns col) (bytes_of_lanes (null_bits rows col)) []
 
   length-null_bytes : (col : ℕ) → length (null_bytes col) ≡ null_size columns col
-  length-null_bytes col = go (is_nullable columns col)
-    where
-      go : (b : Bool) → length (cond b (bytes_of_lanes (null_bits rows col)) []) ≡ cond b 64 0
-      go true = length-bytes_of_lanes (null_bits rows col)
-      go false = refl
+  length-null_bytes col = grind (arith, length-bytes_of_lanes (null_bits rows col))
 
   pub length-block : (col : ℕ) → length (block col) ≡ block_size packing columns col
   unfolding block_bytes
@@ -163,13 +152,15 @@ module _ (packing : Packing) (law : IsPacking packing) (meaning : Meaning) (grou
       ∙ law.text_spells width (stored_codes columns rows col) (length-stored_codes col) (small_codes col there)
 
   pub block_is_fine : (col : ℕ) → col < length columns → block_fault packing columns col (length rows) (block col) ≡ None
-  unfolding block_fault
+  unfolding block_fault null_bits stored_codes
   block_is_fine col there =
       let span = span_at columns col in
       let nulls = null_bits rows col in
       let codes = stored_codes columns rows col in
       ap₂ (lanes_fault span (length rows)) (nulls_of_block col there) (codes_of_block col there)
-      ∙ lanes_none span (length rows) nulls codes (λ row from to. ap₂ padding_fault (null_of_padding col row from) (code_of_padding col row from))
+      ∙ lanes_none span (length rows) nulls codes (λ row from to.
+      ap₂ padding_fault (lane_of_padding (λ row. is_null (value_in row col)) rows (group_size - length rows) row false from)
+      (lane_of_padding (λ row. stored_at columns col (value_in row col)) rows (group_size - length rows) row 0 from))
       ∙ first_none (of_rows span (length rows) nulls codes) (length rows) (λ row lt.
       let value = value_in (get_or rows row []) col in
       ap₂ (row_fault span) (null_of_row col row lt) (code_of_row col row lt)

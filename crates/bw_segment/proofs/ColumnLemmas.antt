@@ -1,5 +1,5 @@
 -- Rows that are kept column by column.
-use Rattle.std.proofs.Common.{◌≡◌, ◌∙◌, sym, ap, ap₂, subst, ℕ, suc, ◌+◌, ◌-◌, ◌<◌, ◌≢◌, refl, cond, Bool, true, false, not, None, Some, is_some, List, [], ◌∷◌, ◌++◌, map, length, take, drop, set, replicate, append_assoc, length-append, get_or, get_or-set_same, get_or-set_other, below_more, arith}
+use Rattle.std.proofs.Common.{◌≡◌, ◌∙◌, sym, ap, ap₂, subst, ℕ, suc, ◌+◌, ◌-◌, ◌<◌, refl, cond, Bool, true, false, not, None, Some, is_some, List, [], ◌∷◌, ◌++◌, map, length, take, drop, set, replicate, append_assoc, length-append, get_or, get_or-set_same, get_or-set_other, below_more, arith}
 use Rattle.std.proofs.lemmas.List.{set-append_right, length-map, map-append, take-append-le, take_all}
 use Rattle.bw_model.specs.declared.column.Column.{Column}
 use Rattle.bw_model.specs.Row.{Value, value_in}
@@ -22,7 +22,7 @@ empty_kept columns kept all each = record { all = all; codes = λ col lt. (each 
 pub each_more : {A : Type 0} (P : ℕ → A → Type 0) (d : A) (xs : List A) (i : ℕ) (x : A) → i < length xs → ((k : ℕ) → k < i → P k (get_or xs k d)) → P i x → (k : ℕ) → k < i + 1 → P k (get_or (set xs i x) k d)
 each_more P d xs i x lt before here =
     below_more (λ k. P k (get_or (set xs i x) k d)) i
-    (λ k below. let other : k ≢ i = omega arith in subst (P k) (sym (get_or-set_other xs i k x d other)) (before k below))
+    (λ k below. subst (P k) (sym (get_or-set_other xs i k x d (omega arith))) (before k below))
     (subst (P i) (sym (get_or-set_same xs i x d lt)) here)
 
 -- a column keeps a row more, in a lane
@@ -51,12 +51,10 @@ lane_put f rows row lane lt long =
     let rest : List ℕ = replicate (512 - (lane + 1)) 0 in
     let more : 512 - length rows ≡ suc (512 - (lane + 1)) = omega arith in
     let size : length before ≡ lane = length-map rows f ∙ long in
-    let here : lane - lane ≡ 0 = omega arith in
     let put : set (before ++ 0 ∷ rest) lane (f row) ≡ before ++ f row ∷ rest =
-    set-append_right before (0 ∷ rest) lane lane (f row) size (omega arith) ∙ ap (λ k. before ++ set (0 ∷ rest) k (f row)) here in
-    let all : 512 - (lane + 1) ≡ 512 - length (rows ++ row ∷ []) = omega (arith, length-append rows (row ∷ [])) in
+    set-append_right before (0 ∷ rest) lane lane (f row) size (omega arith) ∙ ap (λ k. before ++ set (0 ∷ rest) k (f row)) {x = lane - lane} {y = 0} (omega arith) in
     ap (λ n. set (before ++ replicate n 0) lane (f row)) more ∙ put ∙ sym (append_assoc before (f row ∷ []) rest)
-    ∙ ap₂ (λ l n. l ++ replicate n 0) (sym (map-append f rows (row ∷ []))) all
+    ∙ ap₂ (λ l n. l ++ replicate n 0) (sym (map-append f rows (row ∷ []))) (omega (arith, length-append rows (row ∷ [])))
 
 pub row_kept : (columns : List Column) (rows : List (List Value)) (row : List Value) (lane : ℕ) (old new : List ColumnCodes) → lane < 512 → length rows ≡ lane → length new ≡ length old
     → ((col : ℕ) → col < length columns → HasPut columns row lane col (kept_at old col) (kept_at new col)) → KeepRows columns rows old → KeepRows columns (rows ++ row ∷ []) new

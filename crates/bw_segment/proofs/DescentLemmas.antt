@@ -76,8 +76,7 @@ fold_same g n a (x ∷ xs) all = fold_same g n (choice g a x) xs (of_both (λ k.
 -- a number from a bit on
 pub high_more : (n bit : ℕ) → n / 2 ^ bit ≡ 2 * (n / 2 ^ suc bit) + cond (has_bit n bit) 1 0
 high_more n bit =
-    let half : n / 2 ^ bit / 2 ≡ n / 2 ^ suc bit = shr-shr n bit 1 ∙ ap (λ k. n / 2 ^ k) (add-one bit) in
-    omega (arith, half, bit_worth (bit_at n bit) 1 (bit_at-lt n bit))
+    omega (arith, shr-shr n bit 1 ∙ ap (λ k. n / 2 ^ k) (add-one bit), bit_worth (bit_at n bit) 1 (bit_at-lt n bit))
 
 -- the smaller of two heads is of the smaller number
 pub below : (a b k : ℕ) → 0 < k → a / k < b / k → a < b

@@ -1,12 +1,12 @@
 -- The first fault of lanes, from planes that tell of them.
 use Rattle.std.proofs.Common.{◌≡◌, ◌∙◌, refl, sym, ap, ap₂, ℕ, zero, suc, ◌+◌, ◌-◌, ◌<◌, ◌≤◌, Bool, true, false, not, cond, ltb, ◌==◌, ◌&&◌, ◌||◌, List, [], ◌∷◌, ◌++◌, map, length, get_or, replicate, length-append, Option, Some, None, ◌⊎◌, inl, inr, arith}
 use Rattle.std.specs.List.{list_all, list_any}
-use Rattle.std.proofs.lemmas.Bool.{cases_lt, le-ltb, lt-ltb}
+use Rattle.std.proofs.lemmas.Bool.{cases_lt, le-ltb, lt-ltb, or_parts}
 use Rattle.std.proofs.lemmas.Bool.Decides.{nat_tests}
 use Rattle.std.proofs.lemmas.List.{get_or-map, length-map, length-replicate}
 use Rattle.std.proofs.lemmas.List.Folds.{list_any_at}
 use Rattle.std.proofs.lemmas.Simd.{get_or-zip2, length-zip2}
-use Rattle.std.proofs.Math.Bool.{and-true, and-false}
+use Rattle.std.proofs.Math.Bool.{and-true}
 use Rattle.bw_model.proofs.BitsLemmas.{both}
 use lib.Lanes.{zip2}
 use Rattle.bw_model.specs.Groups.{group_size}
@@ -25,19 +25,14 @@ pub first_none_at : (fault : ℕ → Option ℕ) (n row : ℕ) → first_fault f
 first_none_at fault zero row none lt = absurd (omega arith)
 first_none_at fault (suc n) row none lt =
     let parts = none_of_first (first_fault fault n) (fault n) none in
-    elim (cases_lt row n) [
-      | inl before ↦ first_none_at fault n row parts.0 before
-      | inr not_before ↦ let here : row ≡ n = omega arith in ap fault here ∙ parts.1
-    ]
+    elim (cases_lt row n) [ inl before ↦ first_none_at fault n row parts.0 before | inr not_before ↦ ap fault {x = row} {y = n} (omega arith) ∙ parts.1 ]
 
 -- a row's fault, where none before it has one
 first_stays : (fault : ℕ → Option ℕ) (n row x : ℕ) → first_fault fault row ≡ None → fault row ≡ Some x → row < n → first_fault fault n ≡ Some x
 first_stays fault zero row x none here lt = absurd (omega arith)
 first_stays fault (suc n) row x none here lt = elim (cases_lt row n) [
   | inl before ↦ ap (λ f. or_else f (fault n)) (first_stays fault n row x none here before)
-  | inr not_before ↦
-      let last : n ≡ row = omega arith in
-      ap (λ f. or_else f (fault n)) (ap (first_fault fault) last ∙ none) ∙ ap fault last ∙ here
+  | inr not_before ↦ ap (λ f. or_else f (fault n)) (ap (first_fault fault) {x = n} {y = row} (omega arith) ∙ none) ∙ ap fault {x = n} {y = row} (omega arith) ∙ here
 ]
 
 -- where each fault is the same
@@ -53,9 +48,6 @@ first_same fault x n row each here lt = elim (first_is fault x n each) [
   | inl none ↦ let not_here = sym here ∙ first_none_at fault n row none lt in cc
   | inr some ↦ some
 ]
-
-padding_or : (null : Bool) (code : ℕ) → (padding_fault null code ≡ None) ⊎ (padding_fault null code ≡ Some 308)
-padding_or null code = grind (arith, nat_tests)
 
 -- what stands in a lane that is without fault
 pub padding_none : (null : Bool) (code : ℕ) → padding_fault null code ≡ None → (null ≡ false) × (code ≡ 0)
@@ -82,9 +74,8 @@ module _ (span count : ℕ) (nulls : List Bool) (codes : List ℕ) where
   pub lanes_padding : (row : ℕ) → count ≤ row → row < 512 → padding_fault (get_or nulls row false) (get_or codes row 0) ≡ Some 308 → lanes_fault span count nulls codes ≡ Some 308
   unfolding lanes_fault group_size
   lanes_padding row from to here =
-      let place : count + (row - count) ≡ row = omega arith in
-      let there : paddings (row - count) ≡ Some 308 = ap (λ k. padding_fault (get_or nulls k false) (get_or codes k 0)) place ∙ here in
-      ap (λ f. or_else f (first_fault of_rows count)) (first_same paddings 308 (512 - count) (row - count) (λ row. padding_or (get_or nulls (count + row) false) (get_or codes (count + row) 0)) there (omega arith))
+      ap (λ f. or_else f (first_fault of_rows count)) (first_same paddings 308 (512 - count) (row - count) (λ row. grind (arith, nat_tests))
+      (ap (λ k. padding_fault (get_or nulls k false) (get_or codes k 0)) {x = count + (row - count)} {y = row} (omega arith) ∙ here) (omega arith))
 
   -- lanes that are without fault
   pub lanes_none_at : lanes_fault span count nulls codes ≡ None
@@ -93,8 +84,8 @@ module _ (span count : ℕ) (nulls : List Bool) (codes : List ℕ) where
   lanes_none_at none =
       let parts = none_of_first (first_fault paddings (512 - count)) (first_fault of_rows count) none in (
         λ row from to.
-            let place : count + (row - count) ≡ row = omega arith in
-            sym (ap (λ k. padding_fault (get_or nulls k false) (get_or codes k 0)) place) ∙ first_none_at paddings (512 - count) (row - count) parts.0 (omega arith),
+            ap (λ k. padding_fault (get_or nulls k false) (get_or codes k 0)) {x = row} {y = count + (row - count)} (omega arith)
+            ∙ first_none_at paddings (512 - count) (row - count) parts.0 (omega arith),
         λ row lt. first_none_at of_rows count row parts.1 lt,
       )
 
@@ -115,19 +106,14 @@ abbrev pub outside : ℕ → List Bool
 outside rows = map not (replicate rows true ++ replicate (512 - rows) false)
 
 length-outside : (rows : ℕ) → rows ≤ 512 → length (outside rows) ≡ 512
-length-outside rows le =
-    length-map (replicate rows true ++ replicate (512 - rows) false) not
-    ∙ omega (arith, length-append (replicate rows true) (replicate (512 - rows) false), length-replicate rows true, length-replicate (512 - rows) false)
-
-next_less : (row count : ℕ) → not (ltb row count) ≡ not (ltb (suc row) (suc count))
-next_less row count = grind (arith, nat_tests)
+length-outside rows le = simp (length-map, length-append, length-replicate) (omega arith)
 
 outside_at : (count rest row : ℕ) → row < count + rest → get_or (map not (replicate count true ++ replicate rest false)) row false ≡ not (ltb row count)
 outside_at zero zero row lt = absurd (omega arith)
 outside_at zero (suc rest) zero lt = refl
-outside_at zero (suc rest) (suc row) lt = outside_at zero rest row (omega arith) ∙ ap not (le-ltb row 0 (omega arith) ∙ sym (le-ltb (suc row) 0 (omega arith)))
-outside_at (suc count) rest zero lt = sym (ap not (lt-ltb 0 (suc count) (omega arith)))
-outside_at (suc count) rest (suc row) lt = outside_at count rest row (omega arith) ∙ next_less row count
+outside_at zero (suc rest) (suc row) lt = outside_at zero rest row (omega arith) ∙ grind (arith, nat_tests)
+outside_at (suc count) rest zero lt = grind (arith, nat_tests)
+outside_at (suc count) rest (suc row) lt = outside_at count rest row (omega arith) ∙ grind (arith, nat_tests)
 
 module _ (rows : ℕ) (nulls used : List Bool) (few : rows ≤ 512) (long_nulls : length nulls ≡ 512) (long_used : length used ≡ 512) where
   abbrev pub either : List Bool
@@ -155,16 +141,9 @@ module _ (rows : ℕ) (nulls used : List Bool) (few : rows ≤ 512) (long_nulls 
       let row = found.0 in
       let long : length kept ≡ 512 = length-zip2 (λ x y. x && y) either (outside rows) (long_either ∙ sym (length-outside rows few)) ∙ long_either in
       let below : row < 512 = omega (arith, found.1, long) in
-      let is = sym (kept_at row below) ∙ found.2 in
-      elim (cases_lt row rows) [
-        | inl before ↦
-            let none = sym is ∙ ap (λ b. (get_or nulls row false || get_or used row false) && b) (outside_at rows (512 - rows) row (omega arith) ∙ ap not (lt-ltb row rows before)) ∙ and-false (get_or nulls row false || get_or used row false) in
-            cc
-        | inr past ↦ (row, past, below, (both (get_or nulls row false || get_or used row false) (get_or (outside rows) row false) is).0)
-      ]
-
-neither : (a b : Bool) → (a || b) ≡ false → (a ≡ false) × (b ≡ false)
-neither a b is = (grind arith, grind arith)
+      let parts = both (get_or nulls row false || get_or used row false) (get_or (outside rows) row false) (sym (kept_at row below) ∙ found.2) in
+      let past : not (ltb row rows) ≡ true = sym (outside_at rows (512 - rows) row (omega arith)) ∙ parts.1 in
+      (row, grind (arith, nat_tests), below, parts.0)
 
 told : (null used : Bool) (code : ℕ) → used ≡ not (code == 0) → padding_fault null code ≡ cond (null || used) (Some 308) None
 told null used code tells = ap (λ b. cond (null || b) (Some 308) None) (sym tells)
@@ -179,13 +158,15 @@ module _ (span count : ℕ) (nulls used above : List Bool) (codes : List ℕ) (f
   abbrev pub with_code : List Bool
   with_code = zip2 (λ x y. x && y) nulls used
 
-  row_is : (row : ℕ) → row < 512 → of_rows span count nulls codes row ≡ cond (get_or with_code row false) (Some 307) (cond (get_or above row false) (Some 306) None)
+  -- a row's fault, by its bits in two planes
+  pub row_is : (row : ℕ) → row < 512 → (coded over : Bool) → get_or with_code row false ≡ coded → get_or above row false ≡ over
+      → of_rows span count nulls codes row ≡ cond coded (Some 307) (cond over (Some 306) None)
   unfolding group_size
-  row_is row lt =
+  row_is row lt coded over has is_over =
       let both_set = get_or-zip2 (λ x y. x && y) nulls used row false false false (omega (arith, long_nulls)) (omega (arith, long_used)) in
       let is = ap (λ l. get_or l row false) is_above ∙ get_or-map (ltb span) codes row 0 false (omega (arith, long)) in
       row_told span (get_or codes row 0) (get_or nulls row false) (get_or used row false) (λ null. tells.null row lt null)
-      ∙ sym (ap₂ (λ b a. cond b (Some 307) (cond a (Some 306) None)) both_set is)
+      ∙ ap₂ (λ b a. cond b (Some 307) (cond a (Some 306) None)) (sym both_set ∙ has) (sym is ∙ is_over)
 
   pub fault_in_padding : (row : ℕ) → count ≤ row → row < 512 → (get_or nulls row false || get_or used row false) ≡ true → lanes_fault span count nulls codes ≡ Some 308
   unfolding group_size
@@ -197,18 +178,11 @@ module _ (span count : ℕ) (nulls used above : List Bool) (codes : List ℕ) (f
   fault_in_rows clear =
       lanes_none span count nulls codes (λ row from to. told (get_or nulls row false) (get_or used row false) (get_or codes row 0) (tells.padding row from to) ∙ ap (λ b. cond b (Some 308) None) (clear row from to))
 
-  pub fault_at : (x row : ℕ) → ((row : ℕ) → count ≤ row → row < 512 → (get_or nulls row false || get_or used row false) ≡ false)
-      → first_fault (of_rows span count nulls codes) row ≡ None → of_rows span count nulls codes row ≡ Some x → row < count → lanes_fault span count nulls codes ≡ Some x
-  fault_at x row clear before here lt = fault_in_rows clear ∙ first_stays (of_rows span count nulls codes) count row x before here lt
-
-  pub row_with_code : (row : ℕ) → row < 512 → get_or with_code row false ≡ true → of_rows span count nulls codes row ≡ Some 307
-  row_with_code row lt set = row_is row lt ∙ ap (λ b. cond b (Some 307) (cond (get_or above row false) (Some 306) None)) set
-
-  pub row_above : (row : ℕ) → row < 512 → get_or with_code row false ≡ false → get_or above row false ≡ true → of_rows span count nulls codes row ≡ Some 306
-  row_above row lt clear set = row_is row lt ∙ ap₂ (λ b a. cond b (Some 307) (cond a (Some 306) None)) clear set
-
-  pub row_fine : (row : ℕ) → row < 512 → get_or with_code row false ≡ false → get_or above row false ≡ false → of_rows span count nulls codes row ≡ None
-  row_fine row lt clear within = row_is row lt ∙ ap₂ (λ b a. cond b (Some 307) (cond a (Some 306) None)) clear within
+  pub fault_at : (x row : ℕ) (coded over : Bool) → ((row : ℕ) → count ≤ row → row < 512 → (get_or nulls row false || get_or used row false) ≡ false)
+      → first_fault (of_rows span count nulls codes) row ≡ None → get_or with_code row false ≡ coded → get_or above row false ≡ over → cond coded (Some 307) (cond over (Some 306) None) ≡ Some x
+      → row < count → lanes_fault span count nulls codes ≡ Some x
+  fault_at x row coded over clear before has is_over is lt =
+      fault_in_rows clear ∙ first_stays (of_rows span count nulls codes) count row x before (row_is row (omega arith) coded over has is_over ∙ is) lt
 
   pub rows_fine : list_all not (zip2 (λ x y. x || y) with_code above) ≡ true → first_fault (of_rows span count nulls codes) count ≡ None
   unfolding group_size
@@ -216,20 +190,10 @@ module _ (span count : ℕ) (nulls used above : List Bool) (codes : List ℕ) (f
       let long_with : length with_code ≡ 512 = length-zip2 (λ x y. x && y) nulls used (long_nulls ∙ sym long_used) ∙ long_nulls in
       let long_above : length above ≡ 512 = ap length is_above ∙ length-map codes (ltb span) ∙ long in
       let none = sym (get_or-zip2 (λ x y. x || y) with_code above row false false false (omega (arith, long_with)) (omega (arith, long_above))) ∙ zero_everywhere (zip2 (λ x y. x || y) with_code above) row all in
-      let parts = neither (get_or with_code row false) (get_or above row false) none in
-      row_fine row (omega arith) parts.0 parts.1)
+      let parts = or_parts (get_or with_code row false) (get_or above row false) none in
+      row_is row (omega arith) false false parts.0 parts.1)
 
 -- planes that tell which codes aren't 0, where that is asked
-pub tells_all : (count : ℕ) (nulls used : List Bool) (codes : List ℕ) → length codes ≡ group_size → used ≡ map (λ code. not (code == 0)) codes → TellsCodes count nulls codes used
-unfolding group_size
-tells_all count nulls used codes long is = record {
-  padding = λ row from to. at row (omega (arith, to));
-  null = λ row lt set. at row (omega (arith, lt));
-}
-  where
-    at : (row : ℕ) → row < 512 → get_or used row false ≡ not (get_or codes row 0 == 0)
-    at row lt = ap (λ l. get_or l row false) is ∙ get_or-map (λ code. not (code == 0)) codes row 0 false (omega (arith, long))
-
 pub tells_nothing : (count : ℕ) (nulls used : List Bool) (codes : List ℕ) → count ≡ 512 → list_all not nulls ≡ true → TellsCodes count nulls codes used
 unfolding group_size
 tells_nothing count nulls used codes whole none = record {
@@ -244,15 +208,12 @@ none_used test (lane ∷ lanes) [] none = refl
 none_used test (true ∷ lanes) (code ∷ codes) none = cc
 none_used test (false ∷ lanes) (code ∷ codes) none = none_used test lanes codes none
 
-no_code : (code : ℕ) → not (code == 0) ≡ false → code ≡ 0
-no_code code is = grind (arith, nat_tests)
-
 unused_at : (lanes : List Bool) (codes : List ℕ) (row : ℕ) → list_any (λ code. not (code == 0)) (picked lanes codes) ≡ false → row < length codes → get_or lanes row false ≡ true → get_or codes row 0 ≡ 0
 unused_at [] codes row none lt set = cc
 unused_at (lane ∷ lanes) [] row none lt set = absurd (omega arith)
-unused_at (true ∷ lanes) (code ∷ codes) zero none lt set = no_code code (neither (not (code == 0)) _ none).0
+unused_at (true ∷ lanes) (code ∷ codes) zero none lt set = grind (arith, nat_tests, or_parts (not (code == 0)) _ none)
 unused_at (false ∷ lanes) (code ∷ codes) zero none lt set = cc
-unused_at (true ∷ lanes) (code ∷ codes) (suc row) none lt set = unused_at lanes codes row (neither (not (code == 0)) _ none).1 (omega arith) set
+unused_at (true ∷ lanes) (code ∷ codes) (suc row) none lt set = unused_at lanes codes row (or_parts (not (code == 0)) _ none).1 (omega arith) set
 unused_at (false ∷ lanes) (code ∷ codes) (suc row) none lt set = unused_at lanes codes row none (omega arith) set
 
 -- 512 rows of which none that is null has a code, and none a code above the greatest
@@ -261,8 +222,8 @@ pub all_good : (span : ℕ) (nulls : List Bool) (codes : List ℕ) → length co
 unfolding group_size
 all_good span nulls codes long unused within =
     lanes_none span 512 nulls codes (λ row from to. absurd (omega arith))
-    ∙ first_none (of_rows span 512 nulls codes) 512 (λ row lt. row_clear span (get_or nulls row false) (get_or codes row 0) (unused_at nulls codes row unused (omega (arith, long))) (below row lt (cases_lt span (get_or codes row 0))))
-  where
-    below : (row : ℕ) → row < 512 → (span < get_or codes row 0) ⊎ (get_or codes row 0 ≤ span) → get_or codes row 0 ≤ span
-    below row lt (inl above) = let found = list_any_at (ltb span) codes row 0 (omega (arith, long)) (lt-ltb span (get_or codes row 0) above) in cc
-    below row lt (inr le) = le
+    ∙ first_none (of_rows span 512 nulls codes) 512 (λ row lt.
+    row_clear span (get_or nulls row false) (get_or codes row 0) (unused_at nulls codes row unused (omega (arith, long))) (elim (cases_lt span (get_or codes row 0)) [
+      | inl above ↦ let found = list_any_at (ltb span) codes row 0 (omega (arith, long)) (lt-ltb span (get_or codes row 0) above) in cc
+      | inr le ↦ le
+    ]))

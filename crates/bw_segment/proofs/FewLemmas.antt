@@ -1,9 +1,11 @@
 -- What is chosen of the codes in the lanes that are picked, from the last lane down.
-use Rattle.std.proofs.Common.{◌≡◌, ◌∙◌, refl, sym, ap, ap₂, subst, ℕ, zero, suc, ◌+◌, ◌-◌, ◌<◌, ◌≤◌, Bool, true, false, List, [], ◌∷◌, length, drop, get_or, arith, Option, Some, None}
+use Rattle.std.proofs.Common.{◌≡◌, ◌∙◌, refl, sym, ap, ap₂, ℕ, zero, suc, ◌+◌, ◌-◌, ◌<◌, ◌≤◌, Bool, true, false, List, [], ◌∷◌, length, drop, get_or, arith, ◌^◌, All, IfSome, Option, Some, None}
 use Rattle.std.specs.List.{fold, reduce}
+use Rattle.std.proofs.Math.Pow.{pow_mono}
 use Rattle.std.proofs.lemmas.List.{drop_all}
 use Rattle.bw_lanes.specs.Last.{AreClear, IsLast}
 use Rattle.bw_model.specs.Selection.{picked}
+use Rattle.bw_segment.proofs.DescentLemmas.{choice, of_both}
 
 none_of : (lanes : List Bool) → picked {A = ℕ} lanes [] ≡ []
 none_of [] = refl
@@ -19,17 +21,13 @@ passed zero (false ∷ lanes) (code ∷ codes) e = refl
 passed (suc k) (lane ∷ lanes) [] e = none_of (drop k lanes) ∙ sym (none_of (drop (suc k) lanes))
 passed (suc k) (lane ∷ lanes) (code ∷ codes) e = passed k lanes codes e
 
-clear_by : (k here : ℕ) (lanes : List Bool) (codes : List ℕ) → AreClear lanes here (here + k) → picked (drop here lanes) (drop here codes) ≡ picked (drop (here + k) lanes) (drop (here + k) codes)
-clear_by zero here lanes codes clear = let same : here ≡ here + 0 = omega arith in ap (λ n. picked (drop n lanes) (drop n codes)) same
-clear_by (suc k) here lanes codes clear =
-    let next : suc here + k ≡ here + suc k = omega arith in
-    passed here lanes codes (clear here (omega arith) (omega arith)) ∙ clear_by k (suc here) lanes codes (λ lane from to. clear lane (omega (arith, from)) (omega (arith, to)))
-    ∙ ap (λ n. picked (drop n lanes) (drop n codes)) next
+clear_by : (k here end : ℕ) (lanes : List Bool) (codes : List ℕ) → here + k ≡ end → AreClear lanes here end → picked (drop here lanes) (drop here codes) ≡ picked (drop end lanes) (drop end codes)
+clear_by zero here end lanes codes is clear = ap (λ n. picked (drop n lanes) (drop n codes)) {x = here} {y = end} (omega arith)
+clear_by (suc k) here end lanes codes is clear =
+    passed here lanes codes (clear here (omega arith) (omega arith)) ∙ clear_by k (suc here) end lanes codes (omega arith) (λ lane from to. clear lane (omega (arith, from)) to)
 
 pub clear_passed : (here end : ℕ) (lanes : List Bool) (codes : List ℕ) → here ≤ end → AreClear lanes here end → picked (drop here lanes) (drop here codes) ≡ picked (drop end lanes) (drop end codes)
-clear_passed here end lanes codes le clear =
-    let all : here + (end - here) ≡ end = omega (arith, le) in
-    clear_by (end - here) here lanes codes (subst (AreClear lanes here) (sym all) clear) ∙ ap (λ n. picked (drop n lanes) (drop n codes)) all
+clear_passed here end lanes codes le clear = clear_by (end - here) here end lanes codes (omega (arith, le)) clear
 
 found : (k : ℕ) (lanes : List Bool) (codes : List ℕ) → get_or lanes k false ≡ true → k < length codes → picked (drop k lanes) (drop k codes) ≡ get_or codes k 0 ∷ picked (drop (suc k) lanes) (drop (suc k) codes)
 found k [] codes e lt = absurd (cc e)
@@ -43,21 +41,45 @@ abbrev pub with_code : (ℕ → ℕ → ℕ) → ℕ → Option ℕ → ℕ
 with_code f code None = code
 with_code f code (Some other) = f code other
 
-chosen_first : (f : ℕ → ℕ → ℕ) → ((a b c : ℕ) → f (f a b) c ≡ f a (f b c)) → (code : ℕ) (codes : List ℕ) → reduce f (code ∷ codes) ≡ Some (with_code f code (reduce f codes))
-chosen_first f assoc code [] = refl
-chosen_first f assoc code (c ∷ codes) = ap Some (shift code c codes)
+grouped : (greatest : Bool) (a b c : ℕ) → choice greatest (choice greatest a b) c ≡ choice greatest a (choice greatest b c)
+grouped true a b c = omega arith
+grouped false a b c = omega arith
+
+chosen_first : (greatest : Bool) (code : ℕ) (codes : List ℕ) → reduce (choice greatest) (code ∷ codes) ≡ Some (with_code (choice greatest) code (reduce (choice greatest) codes))
+chosen_first greatest code [] = refl
+chosen_first greatest code (c ∷ codes) = ap Some (shift code c codes)
   where
-    shift : (a b : ℕ) (cs : List ℕ) → fold f (f a b) cs ≡ f a (fold f b cs)
+    shift : (a b : ℕ) (cs : List ℕ) → fold (choice greatest) (choice greatest a b) cs ≡ choice greatest a (fold (choice greatest) b cs)
     shift a b [] = refl
-    shift a b (c ∷ cs) = ap (λ k. fold f k cs) (assoc a b c) ∙ shift a (f b c) cs
+    shift a b (c ∷ cs) = ap (λ k. fold (choice greatest) k cs) (grouped greatest a b c) ∙ shift a (choice greatest b c) cs
 
--- the last lane of those before an end that is picked, with those from the end on
-pub chosen_last : (f : ℕ → ℕ → ℕ) → ((a b c : ℕ) → f (f a b) c ≡ f a (f b c)) → (lanes : List Bool) (codes : List ℕ) (end lane code : ℕ) (so_far : Option ℕ) → lane < length codes → code ≡ get_or codes lane 0
-    → IsLast lanes 0 end lane → so_far ≡ reduce f (picked (drop end lanes) (drop end codes)) → Some (with_code f code so_far) ≡ reduce f (picked (drop lane lanes) (drop lane codes))
-chosen_last f assoc lanes codes end lane code so_far lt is last so =
-    ap₂ (λ c o. Some (with_code f c o)) is (so ∙ ap (reduce f) (sym (clear_passed (suc lane) end lanes codes last.to last.clear)))
-    ∙ sym (chosen_first f assoc (get_or codes lane 0) (picked (drop (suc lane) lanes) (drop (suc lane) codes))) ∙ sym (ap (reduce f) (found lane lanes codes last.set lt))
+-- What is chosen of the codes in the lanes from an end on, the greatest or the least, and that it has at most 63 digits.
+pub record IsChosen (greatest : Bool) (lanes : List Bool) (codes : List ℕ) (end : ℕ) (so_far : Option ℕ) : Type 0 where
+  pub within : end ≤ 512
+  pub chosen : so_far ≡ reduce (choice greatest) (picked (drop end lanes) (drop end codes))
+  pub bound : IfSome so_far (λ code. code < 2 ^ 63)
 
--- past the last lane none is picked
-pub none_from_end : (lanes : List Bool) (codes : List ℕ) → length lanes ≤ 512 → picked (drop 512 lanes) (drop 512 codes) ≡ []
-none_from_end lanes codes few = ap (λ l. picked l (drop 512 codes)) (drop_all 512 lanes few)
+module _ (greatest : Bool) (lanes : List Bool) (codes : List ℕ) where
+  -- past the last lane none is picked
+  pub none_chosen : length lanes ≤ 512 → IsChosen greatest lanes codes 512 None
+  none_chosen few = record { within = omega arith; chosen = sym (ap (λ l. reduce (choice greatest) (picked l (drop 512 codes))) (drop_all 512 lanes few)); bound = tt }
+
+  with_small : (code : ℕ) (so_far : Option ℕ) → code < 2 ^ 63 → IfSome so_far (λ other. other < 2 ^ 63) → with_code (choice greatest) code so_far < 2 ^ 63
+  with_small code None lt bound = lt
+  with_small code (Some other) lt bound = of_both (λ n. n < 2 ^ 63) greatest code other lt bound
+
+  -- the last lane of those before an end that is picked, with those from the end on
+  pub chosen_more : (width end lane code : ℕ) (so_far : Option ℕ) → width ≤ 63 → length codes ≡ 512 → All (λ n. n < 2 ^ width) codes → code ≡ get_or codes lane 0 → IsLast lanes 0 end lane
+      → IsChosen greatest lanes codes end so_far → IsChosen greatest lanes codes lane (Some (with_code (choice greatest) code so_far))
+  chosen_more width end lane code so_far narrow long below is last before =
+      let there : lane < length codes = omega (arith, last.to, before.within, long) in
+      record {
+        within = omega (arith, last.to, before.within);
+        chosen = ap₂ (λ n o. Some (with_code (choice greatest) n o)) is (before.chosen ∙ ap (reduce (choice greatest)) (sym (clear_passed (suc lane) end lanes codes last.to last.clear)))
+            ∙ sym (ap (reduce (choice greatest)) (found lane lanes codes last.set there) ∙ chosen_first greatest (get_or codes lane 0) (picked (drop (suc lane) lanes) (drop (suc lane) codes)));
+        bound = with_small code so_far (omega (arith, is, below lane 0 there, pow_mono {i = width} {j = 63} narrow)) before.bound;
+      }
+
+  -- no lane is left
+  pub all_chosen : (end : ℕ) (so_far : Option ℕ) → IsChosen greatest lanes codes end so_far → AreClear lanes 0 end → so_far ≡ reduce (choice greatest) (picked lanes codes)
+  all_chosen end so_far before clear = before.chosen ∙ sym (ap (reduce (choice greatest)) (clear_passed 0 end lanes codes (omega arith) clear))

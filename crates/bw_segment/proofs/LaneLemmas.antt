@@ -1,15 +1,13 @@
 -- The lanes of a group: those of its rows and then those of zeros.
-use Rattle.std.proofs.Common.{◌≡◌, ◌∙◌, refl, sym, ap, ap₂, ℕ, zero, suc, ◌+◌, ◌-◌, ◌*◌, ◌%◌, ◌^◌, ◌<◌, Bool, true, false, cond, ◌==◌, List, [], ◌∷◌, ◌++◌, map, length, replicate, Some, ◌/◌, get_or, None, arith, pow-add}
+use Rattle.std.proofs.Common.{◌≡◌, ◌∙◌, refl, sym, ap, ap₂, ℕ, zero, suc, ◌+◌, ◌-◌, ◌*◌, ◌%◌, ◌^◌, ◌<◌, Bool, true, false, cond, ◌==◌, List, [], ◌∷◌, ◌++◌, map, length, replicate, Some, ◌/◌, arith}
 use Rattle.std.specs.List.{list_all}
 use Rattle.std.proofs.Math.Nat.{zero-div}
 use Rattle.std.specs.Int.{bit_at}
-use Rattle.std.proofs.Math.Nat.{div-div-eq-div-mul}
 use Rattle.std.proofs.lemmas.List.{map-append}
-use Rattle.std.proofs.lemmas.List.FromFn.{get_or-map-range_with_len}
 use Rattle.std.proofs.lemmas.Simd.{map-map}
-use Rattle.bw_lanes.specs.Lanes.{bits_from_least}
-use Rattle.bw_lanes.proofs.BitLemmas.{bits_of_low}
 use Rattle.std.proofs.lemmas.Nat.Bits.{bit_at-zero}
+use Rattle.std.proofs.lemmas.Nat.{shr-shr}
+use Rattle.bw_lanes.proofs.BitLemmas.{bit_of_low}
 use Rattle.bw_model.specs.declared.column.Column.{Column}
 use Rattle.bw_model.specs.Row.{Value, value_in}
 use Rattle.bw_model.specs.Column.{admits_values}
@@ -17,7 +15,7 @@ use Rattle.bw_model.specs.Code.{width_at, slices_at, has_bit}
 use Rattle.bw_model.specs.Groups.{group_size, lanes_of}
 use Rattle.bw_model.specs.Stored.{stored_at, byte_of, byte_spelled, bits_in_slice, no_bits}
 use Rattle.bw_model.specs.Truth.{is_null}
-use Rattle.bw_model.specs.Variable.{Assignment, first_variable, null_variable, bit_variable, assignment_of, bits_of, is_nullable}
+use Rattle.bw_model.specs.Variable.{Assignment, first_variable, null_variable, bit_variable, assignment_of, bits_of}
 use Rattle.bw_model.proofs.BitsLemmas.{both}
 use Rattle.bw_model.proofs.PlaceLemmas.{code_bit_at, null_bit_at_variable}
 use Rattle.bw_model.proofs.StoredLemmas.{byte_of_bits, spelled_zero}
@@ -88,26 +86,11 @@ bytes_in_lanes meaning col slice group lt there =
     none : byte_of slice 0 ≡ byte_spelled meaning.columns col slice no_bits
     none = ap (λ k. k % 256) (zero-div (2 ^ (8 * slice))) ∙ sym (spelled_zero (first_variable meaning.columns (suc col) - (8 * slice + bits_in_slice meaning.columns col slice)) (bits_in_slice meaning.columns col slice))
 
--- the null plane
-pub null_plane : (meaning : Meaning) (col : ℕ) → IsGroup meaning → col < length meaning.columns → is_nullable meaning.columns col ≡ true
-    → map (λ byte. bit_at byte 0 == 1) (null_lanes meaning col) ≡ variable_lanes meaning (first_variable meaning.columns col)
-null_plane meaning col group lt nullable =
-    nulls_in_lanes meaning col (first_variable meaning.columns col) group lt (ap (λ b. cond b (Some (first_variable meaning.columns col)) None) nullable)
-
-read_bit : (count n i : ℕ) → i < count → get_or (bits_from_least count n) i false ≡ (bit_at n i == 1)
-unfolding bits_from_least
-read_bit count n i lt = get_or-map-range_with_len (λ i. bit_at n i == 1) 0 count i i false lt (omega arith)
-
 -- a bit of a code stands in one of its bytes
 bit_of_byte : (code bit : ℕ) → (bit_at (byte_of (bit / 8) code) (bit % 8) == 1) ≡ has_bit code bit
 bit_of_byte code bit =
     let part = code / 2 ^ (8 * (bit / 8)) in
-    let place : bit ≡ 8 * (bit / 8) + bit % 8 = omega arith in
-    let low = read_bit 8 (part % 2 ^ 8) (bit % 8) (omega arith) in
-    let high = read_bit 8 part (bit % 8) (omega arith) in
-    let above : bit_at code bit ≡ bit_at part (bit % 8) =
-    ap (bit_at code) place ∙ ap (λ k. code / k % 2) (pow-add 2 (8 * (bit / 8)) (bit % 8)) ∙ ap (λ k. k % 2) (sym (div-div-eq-div-mul code (2 ^ (8 * (bit / 8))) (2 ^ (bit % 8)))) in
-    sym low ∙ ap (λ l. get_or l (bit % 8) false) (bits_of_low 8 part) ∙ high ∙ ap (λ k. k == 1) (sym above)
+    ap (λ k. k == 1) (bit_of_low 8 part (bit % 8) (omega arith) ∙ ap (λ k. k % 2) (shr-shr code (8 * (bit / 8)) (bit % 8) ∙ ap (λ k. code / 2 ^ k) {y = bit} (omega arith)))
 
 -- a bit of codes, in the bytes where it stands
 pub bits_of_bytes : (codes : List ℕ) (bit : ℕ) → map (λ byte. bit_at byte (bit % 8) == 1) (map (byte_of (bit / 8)) codes) ≡ map (λ code. has_bit code bit) codes

@@ -2,12 +2,11 @@
 use Rattle.std.proofs.Common.{◌≡◌, ◌∙◌, refl, sym, ap, ap₂, ℕ, zero, suc, ℤ, ◌+◌, ◌-◌, ◌<◌, ◌≤◌, pos, Bool, true, false, not, cond, ◌==◌, ◌||◌, List, [], ◌∷◌, ◌++◌, map, length, replicate, get_or, Some, None, All, arith}
 use Rattle.std.specs.List.{list_all}
 use Rattle.std.proofs.lemmas.List.{get_or-map, get_or-replicate}
-use Rattle.std.proofs.lemmas.List.Elements.{All-append, All-map, All-replicate}
 use lib.Lanes.{zip2}
 use Rattle.bw_lanes.specs.Picked.{as_byte}
 use Rattle.bw_model.specs.declared.column.Column.{Column}
 use Rattle.bw_model.specs.Row.{Value, value_in}
-use Rattle.bw_model.specs.Code.{span_of, span_at, value_of_code, value_at, has_bit}
+use Rattle.bw_model.specs.Code.{span_of, value_of_code, value_at, has_bit}
 use Rattle.bw_model.specs.Column.{admits_values}
 use Rattle.bw_model.specs.Groups.{group_size}
 use Rattle.bw_model.specs.Stored.{stored_at}
@@ -15,9 +14,10 @@ use Rattle.bw_model.specs.Truth.{is_null}
 use Rattle.bw_model.proofs.BitsLemmas.{both}
 use Rattle.bw_segment.specs.Packing.{null_bits, value_held}
 use Rattle.bw_segment.specs.Meaning.{Meaning, IsGroup, stored_codes, code_lanes, null_lanes}
+use Rattle.bw_segment.proofs.BytesLemmas.{stored_in_span}
 use Rattle.bw_segment.proofs.FaultLemmas.{zero_everywhere}
 use Rattle.bw_segment.proofs.LaneLemmas.{bits_of_nulls}
-use Rattle.bw_segment.proofs.ValueLemmas.{held_admitted, stored_within}
+use Rattle.bw_segment.proofs.ValueLemmas.{held_admitted}
 
 -- the lanes past the last row, and those in which there is no value
 abbrev pub past_lanes : ℕ → List Bool
@@ -40,15 +40,8 @@ empty_is meaning col past plane is plane_is =
 
 -- each code is one of the column's
 pub codes_within : (meaning : Meaning) (col : ℕ) (column : Column) → col < length meaning.columns → column ≡ get_or meaning.columns col column → All (λ code. code ≤ span_of column) (code_lanes meaning col)
-unfolding stored_codes
-codes_within meaning col column lt is =
-    let within = λ (code : ℕ). code ≤ span_of column in
-    let stored = λ (row : List Value). stored_at meaning.columns col (value_in row col) in
-    let span : span_at meaning.columns col ≡ span_of column = get_or-map span_of meaning.columns col column 0 lt ∙ ap span_of (sym is) in
-    let padding = group_size - length meaning.rows in
-    All-append within (map stored meaning.rows) (replicate padding 0)
-    (All-map within stored meaning.rows (λ k d there. omega (arith, stored_within meaning.columns col (value_in (get_or meaning.rows k d) col) lt, span)))
-    (All-replicate within padding 0 (omega arith))
+codes_within meaning col column lt is = λ k d there.
+    omega (arith, stored_in_span meaning.columns meaning.rows col lt k d there, get_or-map span_of meaning.columns col column 0 lt ∙ ap span_of (sym is))
 
 -- the values that the nulls and the codes are
 held_in_lanes : (columns : List Column) (col m : ℕ) (rows : List (List Value)) (lane : ℕ) → list_all (admits_values columns) rows ≡ true → col < length columns → lane < length rows + m

@@ -13,6 +13,5 @@ pub mod PickedCodes
 pub mod PickedLemmas
 pub mod PlacementLemmas
 pub mod SoundLemmas
-pub mod SpanLemmas
 pub mod BytesLemmas
 pub mod ValueLemmas

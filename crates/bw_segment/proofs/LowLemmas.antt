@@ -10,8 +10,7 @@ use Rattle.bw_segment.proofs.DescentLemmas.{below}
 ones_below : (n low : ℕ) → ((i : ℕ) → i < low → bit_at n i ≡ 1) → (k : ℕ) → k ≤ low → n % 2 ^ k + 1 ≡ 2 ^ k
 ones_below n low set zero le = omega arith
 ones_below n low set (suc k) le =
-    let next : suc k ≡ 1 + k = omega arith in
-    let cut = ap (λ j. n % 2 ^ j) next ∙ mod-pow-add n 1 k ∙ ap (λ b. b * 2 ^ k + n % 2 ^ k) (set k (omega arith)) in
+    let cut = ap (λ j. n % 2 ^ j) {x = suc k} {y = 1 + k} (omega arith) ∙ mod-pow-add n 1 k ∙ ap (λ b. b * 2 ^ k + n % 2 ^ k) (set k (omega arith)) in
     omega (arith, cut, ones_below n low set k (omega arith), two-pow-succ k)
 
 -- they are no more than the number's digits

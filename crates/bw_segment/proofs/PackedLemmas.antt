@@ -32,16 +32,11 @@ module _ {packing : Packing} {placement : Placement} {count : ℕ} {bytes : List
   pub few : count ≤ group_size
   few = omega (arith, packed.group.few, length-rows_spelled packing columns count bytes)
 
+  pub ruleset counted = (few, length-rows_spelled)
+
   -- a block ends within the bytes
   pub block_within : (col : ℕ) → col < length columns → bytes_before packing columns (col + 1) ≤ length bytes
   block_within col there = omega (arith, before_in_order packing columns (col + 1) (length columns) (omega arith), packed.sound.size)
-
-  -- what stands between the begin and the end of a block
-  pub block_cut : (col first end : ℕ) → col < length columns → first ≡ bytes_before packing columns col → end ≡ bytes_before packing columns (col + 1)
-      → take (end - first) (drop first bytes) ≡ block col
-  block_cut col first end there is_first is_end =
-      let size : end - first ≡ block_size packing columns col = omega (arith, is_first, is_end, ap (bytes_before packing columns) (add-one col)) in
-      ap₂ (λ n k. take n (drop k bytes)) size is_first
 
   pub nulls_held : (col : ℕ) → col < length columns → block_nulls columns col (block col) ≡ map (λ null. has_bit null 0) (null_lanes meaning col)
   nulls_held col there = sym (nulls_again packing packed.law columns count bytes few packed.sound col there) ∙ sym (bits_of_nulls meaning.rows col)
@@ -51,19 +46,14 @@ module _ {packing : Packing} {placement : Placement} {count : ℕ} {bytes : List
     abbrev cut : List ℕ
     cut = take (end - (end - size)) (drop (end - size) bytes)
 
-    pub codes_fit : size ≤ end
-    codes_fit = omega (arith, long, ap packing.size wide, is_end, ap (bytes_before packing columns) (add-one col))
-
     cut_is : cut ≡ drop (null_size columns col) (block col)
     cut_is =
         let first = bytes_before packing columns col in
         let nulls = null_size columns col in
         let sized : size ≡ packing.size (width_at columns col) = long ∙ ap packing.size wide in
         let ends : end ≡ first + block_size packing columns col = is_end ∙ ap (bytes_before packing columns) (add-one col) in
-        let from : end - size ≡ first + nulls = omega (arith, sized, ends) in
-        let all : end - (end - size) ≡ size = omega (arith, sized, ends) in
-        let whole : length (drop nulls (block col)) ≤ size = omega (arith, length-drop nulls (block col), length-cut packing packed.law columns count bytes few packed.sound col there, sized) in
-        ap₂ (λ n k. take n (drop k bytes)) all from ∙ sym (piece_within size first nulls (block_size packing columns col) bytes (omega (arith, sized))) ∙ take_all size (drop nulls (block col)) whole
+        ap₂ (λ n k. take n (drop k bytes)) (omega (arith, sized, ends)) (omega (arith, sized, ends)) ∙ sym (piece_within size first nulls (block_size packing columns col) bytes (omega (arith, sized)))
+        ∙ take_all size (drop nulls (block col)) (omega (arith, length-drop nulls (block col), length-cut packing packed.law columns count bytes few packed.sound col there, sized))
 
     pub codes_are : packing.codes width cut ≡ block_codes packing columns col (block col)
     unfolding block_codes

@@ -4,23 +4,16 @@ use mir.Val.{bool_byte}
 use Rattle.std.specs.List.{range_with_len}
 use Rattle.std.proofs.lemmas.List.{get_or-map}
 use Rattle.std.proofs.lemmas.List.FromFn.{length-map-range_with_len, get_or-map-range_with_len}
-use Rattle.std.proofs.lemmas.List.Sums.{sum_by_more, sum_by-cons}
+use Rattle.std.proofs.lemmas.List.Sums.{sum_by-cons}
 use Rattle.bw_model.specs.declared.column.Column.{Column}
-use Rattle.bw_model.specs.Code.{span_of, span_at, width_of, width_at}
-use Rattle.bw_model.specs.Variable.{null_count, variable_count, first_variable, is_nullable}
+use Rattle.bw_model.specs.Code.{span_of, span_at, width_at}
+use Rattle.bw_model.specs.Variable.{variable_count, first_variable, is_nullable}
 use Rattle.bw_model.proofs.DigitLemmas.{below_width}
 use Rattle.bw_segment.specs.Packing.{Packing, bytes_before}
 
 -- what is read of a column
 pub nullable_read : (columns : List Column) (col : ℕ) (column : Column) → col < length columns → column ≡ get_or columns col column → is_nullable columns col ≡ column.nullable
 nullable_read columns col column lt is = get_or-map (λ (c : Column). c.nullable) columns col column false lt ∙ ap (λ (c : Column). c.nullable) (sym is)
-
--- a column's variables stand before the next column's
-pub first_variable_more : (columns : List Column) (col : ℕ) (column : Column) → col < length columns → column ≡ get_or columns col column
-    → first_variable columns (col + 1) ≡ first_variable columns col + (null_count column + width_at columns col)
-first_variable_more columns col column lt is =
-    let width : width_at columns col ≡ width_of column = get_or-map width_of columns col column 0 lt ∙ ap width_of (sym is) in
-    sum_by_more variable_count columns col column lt ∙ ap (λ c. first_variable columns col + variable_count c) (sym is) ∙ ap (λ w. first_variable columns col + (null_count column + w)) (sym width)
 
 pub starts_count : (start : ℕ → ℕ) (columns : List Column) (starts : List ℕ) → starts ≡ map start (range_with_len 0 (length columns + 1)) → length starts ≡ length columns + 1
 starts_count start columns starts found = ap length found ∙ length-map-range_with_len start 0 (length columns + 1)

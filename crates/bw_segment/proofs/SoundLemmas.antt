@@ -1,8 +1,10 @@
 -- Bytes whose blocks are without fault are the bytes of the rows that they spell.
-use Rattle.std.proofs.Common.{◌≡◌, ◌∙◌, refl, sym, ap, ap₂, ℕ, zero, suc, ◌+◌, ◌<◌, ◌≤◌, ◌^◌, Bool, true, false, cond, ◌&&◌, List, [], ◌∷◌, ◌++◌, map, flat_map, length, take, drop, get_or, replicate, None, arith}
-use Rattle.std.specs.List.{range_with_len, list_all, All}
+use Rattle.std.proofs.Common.{◌≡◌, ◌∙◌, refl, sym, ap, ap₂, ℕ, zero, suc, ◌+◌, ◌<◌, ◌≤◌, ◌^◌, Bool, true, false, cond, List, [], ◌∷◌, ◌++◌, map, flat_map, length, take, drop, get_or, replicate, None, inl, inr, arith}
+use Rattle.std.specs.List.{range_with_len, All}
 use Rattle.std.proofs.lemmas.List.{take-append-drop, length-take, length-drop, length-replicate}
 use Rattle.std.proofs.lemmas.List.Elements.{All-take, All-drop}
+use Rattle.std.proofs.lemmas.List.Sums.{list_all-from_AllPass}
+use Rattle.std.proofs.lemmas.Bool.{cases_Bool}
 use Rattle.std.proofs.lemmas.List.FromFn.{length-map-range_with_len, get_or-map-range_with_len}
 use lib.Lanes.{Each1}
 use Rattle.bw_lanes.specs.Lanes.{bytes_of_lanes, lanes_of_bytes}
@@ -23,12 +25,6 @@ use Rattle.bw_segment.proofs.FaultLemmas.{padding_none, row_none, lanes_none_at,
 use Rattle.bw_segment.proofs.ValueLemmas.{admits_at, is_null_held, stored_held, held_is_admitted, admitted_by_column}
 use Rattle.bw_segment.proofs.LayoutLemmas.{before_in_order, cuts_are_all}
 use Rattle.bw_segment.proofs.BytesLemmas.{get_or-same, padded_is}
-
--- what a test says of each item
-all_in_range : {A : Type 0} (test : A → Bool) (item : ℕ → A) (a k : ℕ) → ((at : ℕ) → a ≤ at → at < a + k → test (item at) ≡ true) → list_all test (map item (range_with_len a k)) ≡ true
-all_in_range test item a zero each = refl
-all_in_range test item a (suc k) each =
-    ap (λ b. b && list_all test (map item (range_with_len (a + 1) k))) (each a (omega arith) (omega arith)) ∙ all_in_range test item (a + 1) k (λ at from to. each at (omega arith) (omega arith))
 
 same_in_range : (f g : ℕ → List ℕ) (a k : ℕ) → ((at : ℕ) → a ≤ at → at < a + k → f at ≡ g at) → flat_map f (range_with_len a k) ≡ flat_map g (range_with_len a k)
 same_in_range f g a zero each = refl
@@ -75,13 +71,10 @@ module _ (packing : Packing) (law : IsPacking packing) (columns : List Column) (
 
   null_is_nullable : (col row : ℕ) → null col row ≡ true → is_nullable columns col ≡ true
   unfolding block_nulls
-  null_is_nullable col row set = go (is_nullable columns col) refl
-    where
-      go : (b : Bool) → is_nullable columns col ≡ b → is_nullable columns col ≡ true
-      go true nullable = nullable
-      go false never =
-          let unset = sym set ∙ ap (λ b. get_or (cond b (lanes_of_bytes (take 64 (block col))) (replicate group_size false)) row false) never ∙ get_or-same group_size row false in
-          cc
+  null_is_nullable col row set = elim (cases_Bool (is_nullable columns col)) [
+    | inl nullable ↦ nullable
+    | inr never ↦ let unset = sym set ∙ ap (λ b. get_or (cond b (lanes_of_bytes (take 64 (block col))) (replicate group_size false)) row false) never ∙ get_or-same group_size row false in cc
+  ]
 
   value_in_row : (col row : ℕ) → col < length columns → value_in (values row) col ≡ value_held columns col (null col row) (code col row)
   value_in_row col row there = get_or-map-range_with_len (λ column. value_in_block packing columns column (block column) row) 0 (length columns) col col None there (omega arith)
@@ -98,7 +91,9 @@ module _ (packing : Packing) (law : IsPacking packing) (columns : List Column) (
       record {
         some = omega (arith, some, long);
         few = omega (arith, few, long);
-        admitted = all_in_range (admits_values columns) values 0 count (λ row from to. row_is_admitted row (omega (arith, to)));
+        admitted = list_all-from_AllPass (admits_values columns) (map values (range_with_len 0 count)) (λ row d lt.
+            let there : row < count = omega (arith, lt, length-map-range_with_len values 0 count) in
+            ap (admits_values columns) (get_or-map-range_with_len values 0 count row row d there (omega arith)) ∙ row_is_admitted row there);
       }
 
   length-nulls : (col : ℕ) → col < length columns → length (block_nulls columns col (block col)) ≡ 512

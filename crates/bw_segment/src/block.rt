@@ -67,6 +67,7 @@ impl Placement {
     }
 
     /// The null plane of a column's block; zeros where the column isn't nullable.
+    #[tactic(auto, using(crate::proofs::PlacementLemmas::nullable_read), unfolding(crate::specs::Packing::block_nulls))]
     pub fn nulls_in(&self, col: usize, block: &[u8]) -> Plane
         requires column { col < length self.now.schema.columns.items }
         requires size { null_size self.now.schema.columns.items col ≤ length block.now }

@@ -15,6 +15,7 @@ impl<L: CodeLayout> PackedSegment<L> {
     /// The first fault of a column's block of a segment of so many rows, by its number: 308 where a bit of a
     /// padding row is 1, else that of the first row which is null with a code that isn't 0 (307) or has a code
     /// above the column's greatest (306). A code is what the layout reads of all bits of the bytes that keep it.
+    #[tactic(auto, using(crate::proofs::PlacementLemmas::span_fits))]
     pub fn judge(placement: &Placement, col: usize, rows: u32, block: &[u8]) -> Option<u16>
         requires column { col < length placement.now.schema.columns.items }
         requires rows { rows ≤ group_size }

@@ -35,10 +35,12 @@ impl<L: CodeLayout> Segment for PackedSegment<L> {
         &self.placement.schema
     }
 
+    #[tactic(auto, using(crate::proofs::PackedLemmas::counted))]
     fn rows_in(&self) -> u32 {
         self.rows
     }
 
+    #[tactic(auto, unfolding(crate::specs::Picked::bit_lanes))]
     #[inline(always)]
     fn bit(&self, col: usize, bit: u32) -> Plane {
         let (width, codes) = self.kept(col);
@@ -62,16 +64,19 @@ impl<L: CodeLayout> Segment for PackedSegment<L> {
         L::byte_eq(width, codes, slice, c)
     }
 
+    #[tactic(auto, unfolding(crate::specs::Picked::codes_in))]
     fn sum_of_codes(&self, col: usize, rows: &Selection) -> u128 {
         let (width, codes) = self.kept(col);
         L::sum(width, codes, rows)
     }
 
+    #[tactic(auto, unfolding(crate::specs::Picked::codes_in))]
     fn least_code(&self, col: usize, rows: &Selection) -> Option<u64> {
         let (width, codes) = self.kept(col);
         least_in::<L>(width, codes, rows)
     }
 
+    #[tactic(auto, unfolding(crate::specs::Picked::codes_in))]
     fn greatest_code(&self, col: usize, rows: &Selection) -> Option<u64> {
         let (width, codes) = self.kept(col);
         greatest_in::<L>(width, codes, rows)
@@ -82,6 +87,7 @@ impl<L: CodeLayout> Segment for PackedSegment<L> {
         L::unpack(width, kept, codes);
     }
 
+    #[tactic(auto, using(crate::proofs::PackedLemmas::row_below))]
     fn value(&self, col: usize, row: usize) -> Value {
         if lane(&self.nulls(col), row) {
             return None;

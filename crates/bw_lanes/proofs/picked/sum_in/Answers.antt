@@ -13,9 +13,10 @@ loop-word-preserved c =
       small = omega (arith, sum-zip2 sums more same);
     }
 
-pub returns-clause-sum : goal.returns-clause-sum
-returns-clause-sum c = λ lanes is.
-    omega (arith, fold-sum 0 c.loop-word.sums, c.loop-word.invariant.sums, ap sum (bytes_or_0 c.loop-word.word lanes c.args.bytes.now c.args.rows.now c.told-bytes c.told-rows (omega arith) c.fits-bytes is))
-
-pub returns-clause-bound : goal.returns-clause-bound
-returns-clause-bound c = omega (arith, fold-sum 0 c.loop-word.sums)
+pub returns : goal.returns
+returns c = record {
+  sum = λ lanes is.
+      let all = ap sum (bytes_or_0 c.loop-word.word lanes c.args.bytes.now c.args.rows.now c.told-bytes c.told-rows (omega arith) c.fits-bytes is) in
+      omega (arith, fold-sum 0 c.loop-word.sums, c.loop-word.invariant.sums, all);
+  bound = omega (arith, fold-sum 0 c.loop-word.sums);
+}

@@ -6,16 +6,14 @@ use Rattle.bw_lanes.proofs.WordLemmas.{length-lanes_of_words}
 use Rattle.bw_segment.proofs.FaultLemmas.{padding_is_clear, padding_is_set}
 use Rattle.bw_segment.proofs.block.is_padding_clear.Goals as goal
 
-pub returns-clause-clear : goal.returns-clause-clear
-returns-clause-clear c = λ is row from to.
+pub returns : goal.returns
+returns c =
     let nulls = lanes_of_words c.args.nulls.now in
     let used = lanes_of_words c.args.used.now in
+    let long_nulls = length-lanes_of_words c.args.nulls.now ∙ ap (λ k. 64 * k) c.told-nulls in
+    let long_used = length-lanes_of_words c.args.used.now ∙ ap (λ k. 64 * k) c.told-used in
     let shown = c.is_zero.ensures ∙ ap (list_all not) (c.and.ensures ∙ ap₂ (zip2 (λ x y. x && y)) c.or.ensures (c.not.ensures ∙ ap (map not) c.mask.ensures)) in
-    padding_is_clear c.args.rows nulls used c.requires (length-lanes_of_words c.args.nulls.now ∙ ap (λ k. 64 * k) c.told-nulls) (length-lanes_of_words c.args.used.now ∙ ap (λ k. 64 * k) c.told-used) (sym shown ∙ is) row from to
-
-pub returns-clause-set : goal.returns-clause-set
-returns-clause-set c = λ is.
-    let nulls = lanes_of_words c.args.nulls.now in
-    let used = lanes_of_words c.args.used.now in
-    let shown = c.is_zero.ensures ∙ ap (list_all not) (c.and.ensures ∙ ap₂ (zip2 (λ x y. x && y)) c.or.ensures (c.not.ensures ∙ ap (map not) c.mask.ensures)) in
-    padding_is_set c.args.rows nulls used c.requires (length-lanes_of_words c.args.nulls.now ∙ ap (λ k. 64 * k) c.told-nulls) (length-lanes_of_words c.args.used.now ∙ ap (λ k. 64 * k) c.told-used) (sym shown ∙ is)
+    record {
+      clear = λ is row from to. padding_is_clear c.args.rows nulls used c.requires long_nulls long_used (sym shown ∙ is) row from to;
+      set = λ is. padding_is_set c.args.rows nulls used c.requires long_nulls long_used (sym shown ∙ is);
+    }

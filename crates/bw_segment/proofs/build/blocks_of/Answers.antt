@@ -13,8 +13,7 @@ unfolding segment_bytes
 loop-col-init g c = λ rows keep.
     let columns = c.args.placement.now.schema.columns.items in
     let blocks = λ (column : ℕ). block_bytes g.L.CodeLayout.packing columns column rows in
-    let all : length columns - 0 ≡ length columns = omega arith in
-    ap₂ (λ l n. l ++ flat_map blocks (range_with_len 0 n)) c.in_ok-bytes.ensures.items all
+    ap₂ (λ l n. l ++ flat_map blocks (range_with_len 0 n)) c.in_ok-bytes.ensures.items (omega arith)
 
 pub loop-col-preserved : goal.loop-col-preserved
 unfolding block_bytes

@@ -1,4 +1,4 @@
-use Rattle.std.proofs.Common.{◌≡◌, ◌≢◌, ◌∙◌, ap, ◌<◌, [], set, cond, length, arith, unwrap_or, get_or-set_other}
+use Rattle.std.proofs.Common.{◌≡◌, ◌∙◌, ap, ◌<◌, [], set, cond, length, arith, unwrap_or, get_or-set_other}
 use Rattle.bw_model.specs.Row.{values_of}
 use Rattle.bw_segment.specs.Columns.{kept_at}
 use Rattle.bw_segment.specs.declared.columns.ColumnCodes.{ColumnCodes}
@@ -24,9 +24,7 @@ loop-col-preserved c =
     (c.put.ensures.nulls ∙ ap (λ (column : ColumnCodes). set column.nulls c.args.lane (cond c.is_none.result 1 0)) is) in
     record {
       put = each_more (λ k new. HasPut columns row c.args.lane k (kept_at c.args.kept.now k) new) (kept_at [] 0) c.loop-col.kept col c.put.new.self (omega arith) c.loop-col.invariant.put put;
-      rest = λ k above.
-          let other : k ≢ col = omega arith in
-          get_or-set_other c.loop-col.kept col k c.put.new.self (kept_at [] 0) other ∙ c.loop-col.invariant.rest k (omega arith);
+      rest = λ k above. get_or-set_other c.loop-col.kept col k c.put.new.self (kept_at [] 0) (omega arith) ∙ c.loop-col.invariant.rest k (omega arith);
     }
 
 pub returns : goal.returns

@@ -1,21 +1,14 @@
-use Rattle.std.proofs.Common.{◌≡◌, ◌∙◌, sym, ap, ◌^◌, length, length-drop, arith}
+use Rattle.std.proofs.Common.{◌≡◌, ◌∙◌, sym, ap, length, length-drop, arith}
 use Rattle.bw_model.specs.Groups.{group_size}
 use Rattle.bw_segment.specs.BlockFault.{lanes_fault, block_fault}
 use Rattle.bw_segment.specs.Packing.{block_codes, null_size}
-use Rattle.bw_segment.proofs.PlacementLemmas.{span_fits}
 use Rattle.bw_segment.proofs.packed.PackedSegment.judge.Goals as goal
-
-pub are_good-requires-clause-span : goal.are_good-requires-clause-span
-are_good-requires-clause-span g c = let columns = c.args.placement.now.schema.columns.items in omega (arith, c.span-span.ensures.span, ap (λ w. 2 ^ w) c.width-width.ensures.width, span_fits columns c.args.col c.requires.column)
 
 pub returns-then-are_good : goal.returns-then-are_good
 unfolding block_fault block_codes
 returns-then-are_good g c =
     sym (c.are_good.ensures c.if-are_good.true)
     ∙ (λ i. lanes_fault (c.span-span.ensures.span i) (sym c.if-rows-eq-LANES.true i) (c.nulls_in-nulls.ensures i) (g.L.CodeLayout.packing.codes (c.width-width.ensures.width i) (c.codes_in-codes.ensures i)))
-
-pub above-above-requires-clause-most : goal.above-above-requires-clause-most
-above-above-requires-clause-most g c = let columns = c.args.placement.now.schema.columns.items in omega (arith, c.span-span.ensures.span, ap (λ w. 2 ^ w) c.width-width.ensures.width, span_fits columns c.args.col c.requires.column)
 
 pub fault_of_lanes-requires : goal.fault_of_lanes-requires
 unfolding group_size

@@ -5,14 +5,8 @@ use Rattle.bw_model.specs.Code.{span_at, value_at}
 use Rattle.bw_segment.specs.Meaning.{code_lanes}
 use Rattle.bw_segment.specs.Packing.{meaning_spelled, value_held}
 use Rattle.bw_segment.specs.declared.placement.Placement.{Placement}
-use Rattle.bw_segment.proofs.PackedLemmas.{row_below, code_within, row_held}
+use Rattle.bw_segment.proofs.PackedLemmas.{code_within, row_held}
 use Rattle.bw_segment.proofs.packed.PackedSegmentSegment.value.Goals as goal
-
-pub lane-requires : goal.lane-requires
-lane-requires g c = omega (arith, row_below c.args.self.now.packed c.args.col c.args.row c.requires.column c.requires.row)
-
-pub code-requires-clause-lane : goal.code-requires-clause-lane
-code-requires-clause-lane g c = omega (arith, row_below c.args.self.now.packed c.args.col c.args.row c.requires.column c.requires.row)
 
 pub value-requires-clause-code : goal.value-requires-clause-code
 value-requires-clause-code g c =

@@ -1,4 +1,4 @@
-use Rattle.std.proofs.Common.{All, ◌≡◌, ◌∙◌, sym, ap, ap₂, subst, ◌≤◌, ◌+◌, ◌*◌, ◌++◌, ◌∷◌, [], ◌<◌, map, length, arith}
+use Rattle.std.proofs.Common.{All, ◌∙◌, sym, ap, ap₂, subst, ◌≤◌, ◌+◌, ◌*◌, ◌++◌, ◌∷◌, [], map, length, arith}
 use Rattle.std.specs.List.{range_with_len}
 use Rattle.std.proofs.lemmas.List.Elements.{All-push}
 use Rattle.std.proofs.lemmas.List.FromFn.{map-range_with_len_more}
@@ -13,8 +13,8 @@ loop-col-preserved g c =
     let col = c.loop-col.col in
     let column = c.index.result.now in
     let so_far = c.loop-col.invariant in
-    let there : col < length columns = omega arith in
-    let next = before_next g.L.CodeLayout.packing columns col c.width-width.result c.size.result column.nullable (nullable_read columns col column there c.index.ensures) c.width-width.ensures.width c.size.ensures.size in
+    let null = nullable_read columns col column (omega arith) c.index.ensures in
+    let next = before_next g.L.CodeLayout.packing columns col c.width-width.result c.size.result column.nullable null c.width-width.ensures.width c.size.ensures.size in
     record {
       starts = c.in_ok-push.ensures.items ∙ ap₂ (λ l x. l ++ x ∷ []) so_far.starts so_far.end ∙ sym (map-range_with_len_more (bytes_before g.L.CodeLayout.packing columns) 0 col col (omega arith));
       end = ap₂ (λ n null. n + (64 * null + c.size.result)) so_far.end c.from.ensures ∙ sym next;
@@ -28,5 +28,7 @@ returns-clause-placed g c =
     let columns = c.in_ok-copied.copied.columns.items in
     let so_far = c.loop-col.invariant in
     let before = bytes_before g.L.CodeLayout.packing columns in
-    let all : c.loop-col.col ≡ length columns = omega arith in
-    record { starts = c.in_ok-push-3.ensures.items ∙ ap₂ (λ l x. l ++ x ∷ []) so_far.starts so_far.end ∙ sym (map-range_with_len_more before 0 c.loop-col.col c.loop-col.col (omega arith)) ∙ ap (λ n. map before (range_with_len 0 (n + 1))) all }
+    record {
+      starts = c.in_ok-push-3.ensures.items ∙ ap₂ (λ l x. l ++ x ∷ []) so_far.starts so_far.end ∙ sym (map-range_with_len_more before 0 c.loop-col.col c.loop-col.col (omega arith))
+          ∙ ap (λ n. map before (range_with_len 0 (n + 1))) {x = c.loop-col.col} {y = length columns} (omega arith);
+    }
