@@ -363,7 +363,7 @@ static int slices_are_good(const struct column *c, const unsigned char *block, i
     return !over;
 }
 
-// The questions. Each is asked of a segment's good blocks, and told at the end.
+// The questions. Each is asked of a segment's good blocks, and reported at the end.
 
 static uint64_t count, total, least = UINT64_MAX, greatest;
 static int summed, some_least, some_greatest;
@@ -390,10 +390,10 @@ static void append(const char *form, ...) {
     va_end(words);
 }
 
-static void append_value(int which, const unsigned char *const *block, int row, char behind) {
+static void append_value(int which, const unsigned char *const *block, int row, char after) {
     const struct column *c = &column[which];
-    if (c->nullable && block[which][row / 8] >> row % 8 & 1) append("NULL%c", behind);
-    else append("%lld%c", (long long)((uint64_t)c->lo + code(c, block[which], row)), behind);
+    if (c->nullable && block[which][row / 8] >> row % 8 & 1) append("NULL%c", after);
+    else append("%lld%c", (long long)((uint64_t)c->lo + code(c, block[which], row)), after);
 }
 
 static void count_rows(rows_t rows) {

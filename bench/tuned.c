@@ -26,7 +26,7 @@ struct column {
     int width, slices;
     // whether no code that has room in the block is above the greatest one
     int full;
-    // bytes of the null plane, which the codes stand behind, and of the whole block
+    // bytes of the null plane, after which the codes stand, and of the whole block
     size_t nulls, size;
 };
 
@@ -99,7 +99,7 @@ static int is_name(const char *text, size_t size) {
     return 1;
 }
 
-// a name behind its length, which is none of the names of the first so many columns
+// a name after its length, which is none of the names of the first so many columns
 static void take_name(char *text, int earlier) {
     uint64_t byte = passed + at;
     size_t size = *take(1);
@@ -489,14 +489,14 @@ static void put_number(int64_t value) {
     filled_to += (size_t)(20 - first);
 }
 
-static void put_field(int which, uint32_t row, char behind) {
+static void put_field(int which, uint32_t row, char after) {
     if (has_number(which, row)) {
         put_number(number_in(which, row));
     } else {
         memcpy(text + filled_to, "NULL", 4);
         filled_to += 4;
     }
-    text[filled_to++] = behind;
+    text[filled_to++] = after;
 }
 
 INLINED void take_record(uint32_t row) {

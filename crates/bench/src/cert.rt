@@ -1,5 +1,5 @@
-//! A certificate of 1,048,576 product rows, each of which but two follows from two earlier ones, read and checked. Standard
-//! output says what was accepted, and standard error how long each part took, in microseconds.
+//! A certificate of 1,048,576 product rows, each of which but two follows from two earlier ones, read and checked.
+//! Standard output says what was accepted, and standard error how long each part took, in microseconds.
 use crate::failure::Failure;
 use bw_cert::check;
 use bw_cert_lines::Certificate;

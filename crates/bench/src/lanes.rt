@@ -1,5 +1,5 @@
-//! The kernels over bytes, and the building and judging of segments, in nanoseconds a call. Standard output has for each a
-//! number to which each call added.
+//! The kernels over bytes, and the building and judging of segments, in nanoseconds a call. Standard output has for
+//! each a number to which each call added.
 ghost use Rattle.std.specs.Prelude.{◌≤◌};
 ghost use Rattle.bw_model.specs.Groups.{group_size};
 ghost use Rattle.bw_segment.specs.Meaning.{meaning_of, IsGroup};

@@ -7,8 +7,8 @@
 //! - `cert`: a certificate of a million product rows, read and checked;
 //! - `reader=FILE`: the records of a file, counted by the `csv` crate alone.
 //!
-//! Standard output says what came of it, which is the same each time, and standard error how long it took. The scripts of
-//! `bench/` run it, beside plain C where there is the same in C.
+//! Standard output says what came of it, which is the same each time, and standard error how long it took. The scripts
+//! of `bench/` run it, beside plain C where there is the same in C.
 #![tactic(auto)]
 
 mod case;

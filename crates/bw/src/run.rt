@@ -59,7 +59,8 @@ fn input_as_output<'a>(rt: &HostRuntime, words: &Words<'a>) -> Option<&'a str> {
         .find(|input| is_same_file(rt, input, out))
 }
 
-/// Writes the line of what ended a command, and what is to be said of it where that is to be reported, and gives the status.
+/// Writes the line of what ended a command, and what is to be said of it where that is to be reported, and gives the
+/// status.
 fn tell_fault(rt: &HostRuntime, words: &Words<'_>, ended: &Ended<'_>, told: bool) -> u8 {
     let status = report(&ended.fault, &mut ToWrite::new(rt.stderr()));
     if told {
@@ -68,7 +69,7 @@ fn tell_fault(rt: &HostRuntime, words: &Words<'_>, ended: &Ended<'_>, told: bool
     status
 }
 
-/// Runs a command, and tells what is to be told of how it was done where that is wanted.
+/// Runs a command, and reports how it was done where that is wanted.
 fn run_words<'a>(rt: &HostRuntime, words: Words<'a>, told: bool) -> Result<(), Ended<'a>> {
     match words {
         Words::Direct { schema, csv, sql } => run_direct(rt, schema, csv, sql),
@@ -139,8 +140,8 @@ fn run_load<'a>(
     or_ended(done, &files)
 }
 
-/// Runs `bw query`: the files are opened before any is read, and the program file is read first. Tells how the query was
-/// served.
+/// Runs `bw query`: the files are opened before any is read, and the program file is read first. Tells how the query
+/// was served.
 fn run_query<'a>(
     rt: &HostRuntime,
     program: Option<&'a str>,
@@ -274,8 +275,8 @@ fn open<'a>(rt: &HostRuntime, path: &'a str) -> Result<File, Ended<'a>> {
     }
 }
 
-/// A table file, which the system is asked for in large pieces, or at once where it's smaller: memory that isn't needed needn't be
-/// cleared.
+/// A table file, which the system is asked for in large pieces, or at once where it's smaller: memory that isn't needed
+/// needn't be cleared.
 fn ahead<'a>(rt: &HostRuntime, file: File) -> Result<ReadAhead<File>, Ended<'a>>
     ensures { IfOk result (λ source. read_failures source ≡ 0) }
 {

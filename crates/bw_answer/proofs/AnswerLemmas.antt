@@ -26,15 +26,15 @@ unfolding csv_text meaning
 meaning_with_rows names query rows e = rw e refl
 
 -- the heading's record and then that of the totals
-totals_behind : (names : List (List ℕ)) (query : Query) (rows : List (List Value)) → lists_rows query.items.items ≡ false
+totals_after : (names : List (List ℕ)) (query : Query) (rows : List (List Value)) → lists_rows query.items.items ≡ false
     → csv_text (meaning names query rows) ≡ record_text (map (heading_of names) query.items.items) ++ csv_text (totalled query rows ∷ [])
 unfolding csv_text meaning
-totals_behind names query rows e = rw e refl
+totals_after names query rows e = rw e refl
 
 pub meaning_with_totals : (names : List (List ℕ)) (query : Query) (rows : List (List Value)) → lists_rows query.items.items ≡ false
     → csv_text (meaning names query rows) ≡ text_over names query rows ++ record_text (totalled query rows)
 meaning_with_totals names query rows e =
-    totals_behind names query rows e
+    totals_after names query rows e
     ∙ ap (λ (l : List ℕ). record_text (map (heading_of names) query.items.items) ++ l) (one_record (totalled query rows))
     ∙ ap (λ (l : List ℕ). l ++ record_text (totalled query rows)) (sym (heading_alone names query rows e))
   where

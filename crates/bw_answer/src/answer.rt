@@ -7,7 +7,7 @@ ghost use Rattle.bw_lanes.specs.Lanes.{lanes_of_words};
 ghost use Rattle.bw_model.specs.Groups.{group_size};
 ghost use Rattle.bw_model.specs.Limits.{most_rows};
 ghost use Rattle.bw_model.specs.Row.{Value, values_of};
-ghost use Rattle.bw_model.specs.Selection.{selection};
+ghost use Rattle.bw_model.specs.Selection.{selection as selected_by};
 ghost use Rattle.bw_model.specs.Total.{is_aggregate, item_within};
 ghost use Rattle.bw_model.specs.declared.query.Item.{Item};
 ghost use Rattle.bw_rows.specs.Prepared.{IsPreparedFrom};
@@ -119,12 +119,16 @@ impl<'a> Answer<'a> {
         self.rows += count;
     }
 
-    /// Takes the rows of a segment, of which a plane picks those that the query keeps. Only the columns that the query
-    /// names are fetched. That there is room for the segment's rows, and that it is of the answer's table, is the caller's
-    /// condition. Refuses as 801 alone.
-    pub fn take_picked<S: Segment>(&mut self, segment: &S, plane: &Selection) -> Result<(), Fault>
-        requires picks { lanes_of_words plane.now
-            ≡ selection (asked_by self.old).cond (S.meaning segment.now).rows
+    /// Takes the rows of a segment, of which a selection picks those that the query keeps. Only the columns that the
+    /// query names are fetched. That there is room for the segment's rows, and that it is of the answer's table, is the
+    /// caller's condition. Refuses as 801 alone.
+    pub fn take_picked<S: Segment>(
+        &mut self,
+        segment: &S,
+        selection: &Selection,
+    ) -> Result<(), Fault>
+        requires picks { lanes_of_words selection.now
+            ≡ selected_by (asked_by self.old).cond (S.meaning segment.now).rows
             ++ replicate (group_size - length (S.meaning segment.now).rows) false }
         requires wide { length (S.meaning segment.now).columns ≡ self.old.width }
         requires room { self.old.rows + length (S.meaning segment.now).rows ≤ most_rows }
@@ -142,14 +146,15 @@ impl<'a> Answer<'a> {
             self.query,
             self.lists,
             segment,
-            plane,
+            selection,
         )?;
         self.rows += segment.rows_in();
         Ok(())
     }
 
     /// Takes the rows of a segment, each of which is looked at, in so far as the query names its columns. That there is
-    /// room for the segment's rows, and that it is of the answer's table, is the caller's condition. Refuses as 801 alone.
+    /// room for the segment's rows, and that it is of the answer's table, is the caller's condition. Refuses as 801
+    /// alone.
     pub fn take_segment<S: Segment>(&mut self, segment: &S) -> Result<(), Fault>
         requires wide { length (S.meaning segment.now).columns ≡ self.old.width }
         requires room { self.old.rows + length (S.meaning segment.now).rows ≤ most_rows }
@@ -261,7 +266,7 @@ fn put_row(
     Ok(())
 }
 
-/// Adds the rows of a segment that are kept, and that a plane picks, to the text or to the totals.
+/// Adds the rows of a segment that are kept, and that a selection picks, to the text or to the totals.
 fn put_picked<S: Segment>(
     text: &mut Vec<u8>,
     totals: &mut [Accumulator],
@@ -269,9 +274,9 @@ fn put_picked<S: Segment>(
     query: &Query,
     lists: bool,
     segment: &S,
-    plane: &Selection,
+    selection: &Selection,
 ) -> Result<(), Fault>
-    requires picks { lanes_of_words plane.now ≡ selection query.now.cond (S.meaning segment.now).rows
+    requires picks { lanes_of_words selection.now ≡ selected_by query.now.cond (S.meaning segment.now).rows
         ++ replicate (group_size - length (S.meaning segment.now).rows) false }
     requires items { IsTrue (list_all (item_within (length (S.meaning segment.now).columns)) query.now.items.items) }
     requires lists { lists ≡ lists_rows query.now.items.items }
@@ -292,9 +297,9 @@ fn put_picked<S: Segment>(
 {
     totals_join();
     if lists {
-        records.push_picked(text, segment, plane)?;
+        records.push_picked(text, segment, selection)?;
     } else {
-        total_picked(totals, segment, plane);
+        total_picked(totals, segment, selection);
     }
     Ok(())
 }

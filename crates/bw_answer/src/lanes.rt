@@ -1,4 +1,4 @@
-//! The values of columns in the lanes of a segment, fetched for the rows that a plane picks.
+//! The values of columns in the lanes of a segment, fetched for the rows that a selection picks.
 ghost use Rattle.std.specs.Prelude.{◌≡◌, ◌≢◌, ◌<◌, ℕ, [], None, All, IfErr, IfOk, length, slice_index_or, vec_len};
 ghost use Rattle.bw_lanes.specs.Lanes.{lanes_of_words};
 ghost use Rattle.bw_model.specs.Fault.{no_memory};
@@ -81,22 +81,22 @@ pub(crate) fn put_row(lanes: &mut [ColumnValues], columns: &[usize], row: &Row)
     }
 }
 
-/// Fetches the values that columns have in the rows of a segment that a plane picks: all of a column at once where they are
-/// many, and else row by row.
+/// Fetches the values that columns have in the rows of a segment that a selection picks: all of a column at once where
+/// they are many, and else row by row.
 pub(crate) fn fetch_picked<S: Segment>(
     lanes: &mut [ColumnValues],
     columns: &[usize],
     segment: &S,
-    plane: &Selection,
+    selection: &Selection,
 )
     requires lanes { length lanes.old ≡ length (S.meaning segment.now).columns }
     requires columns { All (λ column. column < length lanes.old) columns.now }
-    ensures { HasPicked (S.meaning segment.now).rows (lanes_of_words plane.now) columns.now lanes.new }
+    ensures { HasPicked (S.meaning segment.now).rows (lanes_of_words selection.now) columns.now lanes.new }
 {
-    if count(plane) >= MANY {
+    if count(selection) >= MANY {
         fetch_columns(lanes, columns, segment);
     } else {
-        fetch_rows(lanes, columns, segment, plane);
+        fetch_rows(lanes, columns, segment, selection);
     }
 }
 
@@ -112,19 +112,20 @@ fn fetch_columns<S: Segment>(lanes: &mut [ColumnValues], columns: &[usize], segm
     }
 }
 
-/// Fetches the values that columns have in the rows of a segment that a plane picks, row by row from the last one down.
+/// Fetches the values that columns have in the rows of a segment that a selection picks, row by row from the last one
+/// down.
 fn fetch_rows<S: Segment>(
     lanes: &mut [ColumnValues],
     columns: &[usize],
     segment: &S,
-    plane: &Selection,
+    selection: &Selection,
 )
     requires lanes { length lanes.old ≡ length (S.meaning segment.now).columns }
     requires columns { All (λ column. column < length lanes.old) columns.now }
-    ensures { HasPicked (S.meaning segment.now).rows (lanes_of_words plane.now) columns.now lanes.new }
+    ensures { HasPicked (S.meaning segment.now).rows (lanes_of_words selection.now) columns.now lanes.new }
 {
     let mut number = segment.rows_in() as usize;
-    while let Some(last) = last_between(plane, 0, number) {
+    while let Some(last) = last_between(selection, 0, number) {
         fetch_row(lanes, columns, segment, last);
         number = last;
     }

@@ -4,8 +4,8 @@
 //! gives them, and then gives the text of the query's meaning over them. What a query means, and the text of that, is
 //! said once, in `specs/Answer.antt`.
 //!
-//! Read `specs/Answer.antt` first, and then `answer.rt`; how rows are listed is in `listing.rt`, which fetches values into
-//! `lanes.rt` and has them written by `records.rt`.
+//! Read `specs/Answer.antt` first, and then `answer.rt`; how rows are listed is in `listing.rt`, which fetches values
+//! into `lanes.rt` and has them written by `records.rt`.
 #![tactic(auto)]
 
 mod answer;

@@ -68,33 +68,34 @@ impl Listing {
         push_record(text, &mut self.draft, &self.lanes, &self.columns)
     }
 
-    /// Adds the records of the rows of a segment that a plane picks to a text. Where it picks none, no row is looked at.
+    /// Adds the records of the rows of a segment that a selection picks to a text. Where it picks none, no row is
+    /// looked at.
     pub(crate) fn push_picked<S: Segment>(
         &mut self,
         text: &mut Vec<u8>,
         segment: &S,
-        plane: &Selection,
+        selection: &Selection,
     ) -> Result<(), Fault>
         requires some { 1 ≤ vec_len self.old.columns }
         requires wide { vec_len self.old.lanes ≡ length (S.meaning segment.now).columns }
-        requires plane { IsWithin (length (S.meaning segment.now).rows) (lanes_of_words plane.now) }
+        requires selection { IsWithin (length (S.meaning segment.now).rows) (lanes_of_words selection.now) }
         ensures records { OnOk result (text.new.items ≡ text.old.items
             ++ csv_text (map (fields_of self.old.columns.items)
-            (picked_rows (S.meaning segment.now) (lanes_of_words plane.now)))) }
+            (picked_rows (S.meaning segment.now) (lanes_of_words selection.now)))) }
         ensures columns { self.new.columns.items ≡ self.old.columns.items }
         ensures lanes { vec_len self.new.lanes ≡ vec_len self.old.lanes }
         ensures only_memory { IfErr result (λ fault. fault ≡ no_memory) }
     {
-        if is_zero(plane) {
+        if is_zero(selection) {
             return Ok(());
         }
-        fetch_picked(&mut self.lanes, &self.columns, segment, plane);
+        fetch_picked(&mut self.lanes, &self.columns, segment, selection);
         push_records(
             text,
             &mut self.draft,
             &self.lanes,
             &self.columns,
-            plane,
+            selection,
             self.at_once,
         )
     }

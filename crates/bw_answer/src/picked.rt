@@ -1,4 +1,4 @@
-//! The rows of a segment that a plane picks, in an answer's totals.
+//! The rows of a segment that a selection picks, in an answer's totals.
 ghost use Rattle.std.specs.Prelude.{◌≡◌, ◌+◌, ◌≤◌, IsTrue, All, length, map};
 ghost use Rattle.bw_lanes.specs.Lanes.{lanes_of_words};
 ghost use Rattle.bw_model.specs.Limits.{most_rows};
@@ -9,16 +9,20 @@ use bw_lanes::Selection;
 use bw_rows::{Accumulator, add_picked};
 use bw_segment::Segment;
 
-/// Adds the rows of a segment that a plane picks to each total.
-pub(crate) fn total_picked<S: Segment>(totals: &mut [Accumulator], segment: &S, plane: &Selection)
+/// Adds the rows of a segment that a selection picks to each total.
+pub(crate) fn total_picked<S: Segment>(
+    totals: &mut [Accumulator],
+    segment: &S,
+    selection: &Selection,
+)
     requires columns { All (λ tally. IsTrue (item_within (length (S.meaning segment.now).columns) tally.item))
         totals.old }
     requires room { All (λ tally. tally.count + length (S.meaning segment.now).rows ≤ most_rows) totals.old }
-    requires plane { IsWithin (length (S.meaning segment.now).rows) (lanes_of_words plane.now) }
+    requires selection { IsWithin (length (S.meaning segment.now).rows) (lanes_of_words selection.now) }
     ensures { totals.new ≡ map (λ tally. with_picked tally
-        (picked_rows (S.meaning segment.now) (lanes_of_words plane.now))) totals.old }
+        (picked_rows (S.meaning segment.now) (lanes_of_words selection.now))) totals.old }
 {
     for total in totals.iter_mut() {
-        add_picked(total, segment, plane);
+        add_picked(total, segment, selection);
     }
 }

@@ -12,8 +12,8 @@ use itoa::write_digits;
 /// How many bytes a field takes at most: a sign, 19 digits, and the comma or the line feed after it.
 pub(crate) const FIELD: usize = 21;
 
-/// Adds the record of the values that columns have in the first lane to a text. It is written into a draft first, which has
-/// room for it.
+/// Adds the record of the values that columns have in the first lane to a text. It is written into a draft first, which
+/// has room for it.
 pub(crate) fn push_record(
     text: &mut Vec<u8>,
     draft: &mut [u8],

@@ -1,4 +1,4 @@
-//! The records of the rows that a plane picks.
+//! The records of the rows that a selection picks.
 ghost use Rattle.std.specs.Prelude.{◌≡◌, ◌-◌, ◌*◌, ◌<◌, ◌≤◌, ◌++◌, All, IfErr, OnOk, drop, length, map};
 ghost use Rattle.bw_lanes.specs.Lanes.{lanes_of_words};
 ghost use Rattle.bw_model.specs.Fault.{no_memory};
@@ -11,14 +11,14 @@ use crate::record::put_record;
 use bw_lanes::{LANES, Selection, last_between};
 use bw_model::Fault;
 
-/// Adds the records of the rows that a plane picks to a text. They are written into a draft first, so many rows at once,
-/// for which it has room.
+/// Adds the records of the rows that a selection picks to a text. They are written into a draft first, so many rows at
+/// once, for which it has room.
 pub(crate) fn push_records(
     text: &mut Vec<u8>,
     draft: &mut [u8],
     lanes: &[ColumnValues],
     columns: &[usize],
-    plane: &Selection,
+    selection: &Selection,
     rows: usize,
 ) -> Result<(), Fault>
     requires some { 1 ≤ length columns.now }
@@ -26,26 +26,26 @@ pub(crate) fn push_records(
     requires rows { (1 ≤ rows) × (rows ≤ 512) }
     requires room { 21 * length columns.now * rows ≤ length draft.old }
     ensures records { OnOk result (text.new.items ≡ text.old.items
-        ++ csv_text (map (fields_in_lane lanes.now columns.now) (positions_of (lanes_of_words plane.now)))) }
+        ++ csv_text (map (fields_in_lane lanes.now columns.now) (positions_of (lanes_of_words selection.now)))) }
     ensures only_memory { IfErr result (λ fault. fault ≡ no_memory) }
 {
     let mut first = 0;
     while first < LANES {
         let past = (first + rows).min(LANES);
-        let start = put_records(draft, lanes, columns, plane, first, past);
+        let start = put_records(draft, lanes, columns, selection, first, past);
         text.extend_from_slice(&draft[start..])?;
         first = past;
     }
     Ok(())
 }
 
-/// Writes the records of the rows from `first` up to `past` that a plane picks so that they end with the draft, and gives
-/// where they start.
+/// Writes the records of the rows from `first` up to `past` that a selection picks so that they end with the draft, and
+/// gives where they start.
 fn put_records(
     draft: &mut [u8],
     lanes: &[ColumnValues],
     columns: &[usize],
-    plane: &Selection,
+    selection: &Selection,
     first: usize,
     past: usize,
 ) -> usize
@@ -55,11 +55,11 @@ fn put_records(
     requires room { 21 * length columns.now * (past - first) ≤ length draft.old }
     ensures within { result ≤ length draft.new }
     ensures written { drop result draft.new ≡ csv_text (map (fields_in_lane lanes.now columns.now)
-        (positions_between first past (lanes_of_words plane.now))) }
+        (positions_between first past (lanes_of_words selection.now))) }
 {
     let mut start = draft.len();
     let mut number = past;
-    while let Some(last) = last_between(plane, first, number) {
+    while let Some(last) = last_between(selection, first, number) {
         start = put_record(draft, start, lanes, columns, last);
         number = last;
     }

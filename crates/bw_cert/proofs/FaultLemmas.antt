@@ -135,15 +135,15 @@ module _ (facts : Facts) (through : Known) (edges : List Edge) where
 
 -- the join of a place
 module _ (facts : Facts) (end place : ℕ) (through : Known) where
-  abbrev pub behind_join : List Edge → List BodyLine → Result Taken Fault
-  behind_join edges lines = keeps_taken facts through edges 0 nothing_known lines
+  abbrev pub after_join : List Edge → List BodyLine → Result Taken Fault
+  after_join edges lines = keeps_taken facts through edges 0 nothing_known lines
 
   pub join_wrong : (edges : List Edge) (lines : List BodyLine) (fault : Fault) → joined facts end place edges (taken_of lines through) ≡ Err fault → (0 < length edges) × WrongJoin facts end place through edges lines fault
   join_wrong [] lines fault is = cc
   join_wrong (edge ∷ edges) [] fault is = (omega arith, sym (err_same Taken (at_line 608 end) fault is))
   join_wrong (edge ∷ edges) (line ∷ lines) fault is = (omega arith, at (is_join place line.entry) refl is)
     where
-      at : (joins : Bool) → is_join place line.entry ≡ joins → (refused_if (not joins) (at_line 608 line.line) (Ok lines) >>= behind_join (edge ∷ edges)) ≡ Err fault → WrongJoin facts end place through (edge ∷ edges) (line ∷ lines) fault
+      at : (joins : Bool) → is_join place line.entry ≡ joins → (refused_if (not joins) (at_line 608 line.line) (Ok lines) >>= after_join (edge ∷ edges)) ≡ Err fault → WrongJoin facts end place through (edge ∷ edges) (line ∷ lines) fault
       at false joins is = inl (joins, sym (err_same Taken (at_line 608 line.line) fault is))
       at true joins is = inr (joins, keep_wrong facts through (edge ∷ edges) 0 nothing_known lines fault is)
 
@@ -151,10 +151,10 @@ module _ (facts : Facts) (end place : ℕ) (through : Known) where
   wrong_join [] lines fault some wrong = absurd (omega (arith, some))
   wrong_join (edge ∷ edges) [] fault some wrong = ap (λ (fault : Fault). Err fault) (sym wrong)
   wrong_join (edge ∷ edges) (line ∷ lines) fault some (inl (other, stands)) =
-      ap (λ b. refused_if (not b) (at_line 608 line.line) (Ok lines) >>= behind_join (edge ∷ edges)) other ∙ ap (λ (fault : Fault). Err fault) (sym stands)
+      ap (λ b. refused_if (not b) (at_line 608 line.line) (Ok lines) >>= after_join (edge ∷ edges)) other ∙ ap (λ (fault : Fault). Err fault) (sym stands)
   wrong_join (edge ∷ edges) (line ∷ lines) fault some (inr (joins, keep)) =
-      ap (λ b. refused_if (not b) (at_line 608 line.line) (Ok lines) >>= behind_join (edge ∷ edges)) joins
-      ∙ ap (behind_join (edge ∷ edges)) keep.spelled
+      ap (λ b. refused_if (not b) (at_line 608 line.line) (Ok lines) >>= after_join (edge ∷ edges)) joins
+      ∙ ap (after_join (edge ∷ edges)) keep.spelled
       ∙ wrong_keep facts through (edge ∷ edges) 0 nothing_known keep.keeps keep.wrong keep.others keep.kept keep.broken
       ∙ ap (λ (fault : Fault). Err fault) (sym keep.stands)
 
@@ -162,7 +162,7 @@ module _ (facts : Facts) (end place : ℕ) (through : Known) where
   pub join_stops : (edges : List Edge) (lines : List BodyLine) (taken : Taken) → 0 < length edges → joined facts end place edges (taken_of lines through) ≡ Ok taken → NoKeep taken.rest
   join_stops [] lines taken some is = absurd (omega (arith, some))
   join_stops (edge ∷ edges) lines taken some is =
-      let after = bind_ok (join_taken end place lines) (behind_join (edge ∷ edges)) taken is in
+      let after = bind_ok (join_taken end place lines) (after_join (edge ∷ edges)) taken is in
       keeps_stop facts through (edge ∷ edges) 0 nothing_known after.0 taken after.2
 
 -- where there is a fault, it stands on this line
@@ -211,23 +211,23 @@ byte_stands facts line kind there column slice k given =
     then_stands (Option ℕ) ℕ line (found_on 607 line (byte_chain given)) _ (found_stands (Option ℕ) 607 line (byte_chain given))
     (λ chain. refused_stands ℕ (not there) 607 line _ (found_stands ℕ 607 line (byte_node facts kind column slice k chain)))
 
-behind_stands : (facts : Facts) (known : Known) (line : ℕ) (i : Instr) (given : InstructionEntry) → OnLine Known line (after facts known line i given)
+after_stands : (facts : Facts) (known : Known) (line : ℕ) (i : Instr) (given : InstructionEntry) → OnLine Known line (after facts known line i given)
 unfolding after
-behind_stands facts known line (does.Load r column bit) given = put_stands known line r _ (plane_stands facts line _ _ given)
-behind_stands facts known line (does.Nulls r column) given = put_stands known line r _ (plane_stands facts line _ _ given)
-behind_stands facts known line (does.Fill r bit) given = refused_stands Known (not (is_fill given)) 607 line _ (ok_stands Known line (with_node known r (terminal bit)))
-behind_stands facts known line (does.And r x y) given = put_stands known line r _ (joined_stands facts known line connective.And x y given)
-behind_stands facts known line (does.Or r x y) given = put_stands known line r _ (joined_stands facts known line connective.Or x y given)
-behind_stands facts known line (does.Xor r x y) given = put_stands known line r _ (joined_stands facts known line connective.Xor x y given)
-behind_stands facts known line (does.Not r x) given = put_stands known line r _ (opposite_stands facts known line x given)
-behind_stands facts known line (does.ByteLt r column slice k) given = put_stands known line r _ (byte_stands facts line Less _ column slice k given)
-behind_stands facts known line (does.ByteEq r column slice k) given = put_stands known line r _ (byte_stands facts line Equal _ column slice k given)
-behind_stands facts known line (does.Skip x target) given =
+after_stands facts known line (does.Load r column bit) given = put_stands known line r _ (plane_stands facts line _ _ given)
+after_stands facts known line (does.Nulls r column) given = put_stands known line r _ (plane_stands facts line _ _ given)
+after_stands facts known line (does.Fill r bit) given = refused_stands Known (not (is_fill given)) 607 line _ (ok_stands Known line (with_node known r (terminal bit)))
+after_stands facts known line (does.And r x y) given = put_stands known line r _ (joined_stands facts known line connective.And x y given)
+after_stands facts known line (does.Or r x y) given = put_stands known line r _ (joined_stands facts known line connective.Or x y given)
+after_stands facts known line (does.Xor r x y) given = put_stands known line r _ (joined_stands facts known line connective.Xor x y given)
+after_stands facts known line (does.Not r x) given = put_stands known line r _ (opposite_stands facts known line x given)
+after_stands facts known line (does.ByteLt r column slice k) given = put_stands known line r _ (byte_stands facts line Less _ column slice k given)
+after_stands facts known line (does.ByteEq r column slice k) given = put_stands known line r _ (byte_stands facts line Equal _ column slice k given)
+after_stands facts known line (does.Skip x target) given =
     refused_stands Known (not (is_skip_line given)) 607 line _ (then_stands ℕ Known line (read_on known line x) _ (found_stands ℕ 609 line (node_of known x)) (λ node. ok_stands Known line known))
 
 -- a line that is refused where an instruction's is wanted is so on that line
 pub line_stands : (facts : Facts) (known : Known) (instr : Instr) (line : BodyLine) (entry : Entry) (fault : Fault) → instruction_on facts known instr line entry ≡ Err fault → fault ≡ at_line fault.code line.line
-line_stands facts known instr line (line_of.Instruction given) fault is = (behind_stands facts known line.line instr given).told fault is
+line_stands facts known instr line (line_of.Instruction given) fault is = (after_stands facts known line.line instr given).told fault is
 line_stands facts known instr line (line_of.Condition given) fault is = (err_stands Known 607 line.line).told fault is
 line_stands facts known instr line (line_of.Join place) fault is = (err_stands Known 607 line.line).told fault is
 line_stands facts known instr line (line_of.Keep keep) fault is = (err_stands Known 607 line.line).told fault is

@@ -17,9 +17,9 @@ use Rattle.bw_cert_parts.specs.Known.{Known, nothing_known, with_node}
 use Rattle.bw_cert_parts.specs.Walk.{Taken, by_keep, keeps_taken, instruction_taken, joined, walked, judged}
 use Rattle.bw_cert_parts.proofs.AcceptLemmas.{Line, Joined, line_read, join_read, drop_stands}
 use Rattle.bw_cert_parts.proofs.JoinLemmas.{keep_on}
-use Rattle.bw_cert.specs.FirstFault.{NoKeep, KeepsAreAll, WrongLine, WrongJoin, WrongPlace, known_behind, edges_behind, FirstFault, StandsOn}
+use Rattle.bw_cert.specs.FirstFault.{NoKeep, KeepsAreAll, WrongLine, WrongJoin, WrongPlace, known_after, edges_after, FirstFault, StandsOn}
 use Rattle.bw_cert.proofs.PartsLemmas.{with_one, stands_last, edges_here, known_here, obeys_more, lines_more}
-use Rattle.bw_cert.proofs.FaultLemmas.{bind_err, taken_of, line_wrong, wrong_line, next_keep, behind_join, join_wrong, wrong_join, join_stops, line_stands}
+use Rattle.bw_cert.proofs.FaultLemmas.{bind_err, taken_of, line_wrong, wrong_line, next_keep, after_join, join_wrong, wrong_join, join_stops, line_stands}
 
 -- how far a walk has come: after some first instructions, whose lines are those of parts that obey
 record Come (facts : Facts) (lines : List BodyLine) (first : List Instr) (edges : List Edge) (taken : Taken) : Type 0 where
@@ -27,7 +27,7 @@ record Come (facts : Facts) (lines : List BodyLine) (first : List Instr) (edges 
   obeys : Obeys facts first parts
   spelled : lines ≡ lines_of 0 parts ++ taken.rest
   whole : KeepsAreAll parts taken.rest
-  known : taken.known ≡ known_behind facts first parts
+  known : taken.known ≡ known_after facts first parts
   edges_are : edges ≡ edges_before facts first parts (length first)
 
 some_same : {A : Type 0} {x y : A} → Some x ≡ Some y → x ≡ y
@@ -77,10 +77,10 @@ come_further facts end lines first instr edges taken through gone come line took
     one_more : suc (length first) ≡ length (with_one first instr)
     one_more = omega (arith, length-append first (instr ∷ []))
 
-    says : after facts (known_behind facts first come.parts) line.line instr line.entry ≡ Ok through.known
+    says : after facts (known_after facts first come.parts) line.line instr line.entry ≡ Ok through.known
     says = ap (λ (known : Known). after facts known line.line instr line.entry) (sym come.known) ∙ line.says
 
-    edges_same : with_edge edges (edge_of taken.known instr) ≡ with_edge (edges_before facts first come.parts (length first)) (edge_of (known_behind facts first come.parts) instr)
+    edges_same : with_edge edges (edge_of taken.known instr) ≡ with_edge (edges_before facts first come.parts (length first)) (edge_of (known_after facts first come.parts) instr)
     edges_same = ap₂ (λ (edges : List Edge) (known : Known). with_edge edges (edge_of known instr)) come.edges_are come.known
 
     whole : KeepsAreAll (with_one come.parts part) gone.rest
@@ -104,15 +104,15 @@ stands_from facts end lines fault instrs (instr ∷ others) first edges taken pr
     into : List Edge
     into = edges_into (suc (length first)) further
 
-    into_are : into ≡ edges_behind facts first come.parts instr
+    into_are : into ≡ edges_after facts first come.parts instr
     into_are = ap₂ (λ (edges : List Edge) (known : Known). edges_into (suc (length first)) (with_edge edges (edge_of known instr))) come.edges_are come.known
 
     Goes : Type 0
     Goes = (first : List Instr) (edges : List Edge) (taken : Taken) → instrs ≡ first ++ others → Come facts lines first edges taken →
         walked facts end (length first) edges others taken ≡ Err fault → FirstFault facts instrs end lines fault
 
-    fault_of : WrongLine facts end (known_behind facts first come.parts) instr taken.rest fault
-        ⊎ WrongPlace facts end (suc (length first)) (known_behind facts first come.parts) (edges_behind facts first come.parts instr) instr taken.rest fault →
+    fault_of : WrongLine facts end (known_after facts first come.parts) instr taken.rest fault
+        ⊎ WrongPlace facts end (suc (length first)) (known_after facts first come.parts) (edges_after facts first come.parts instr) instr taken.rest fault →
         FirstFault facts instrs end lines fault
     fault_of wrong = record {
       first = first;
@@ -131,7 +131,7 @@ stands_from facts end lines fault instrs (instr ∷ others) first edges taken pr
         (joined facts end (suc (length first)) into through ≡ Err fault) ⊎ ((gone : Taken) × (joined facts end (suc (length first)) into through ≡ Ok gone) × (walked facts end (suc (length first)) further others gone ≡ Err fault)) →
         Goes → FirstFault facts instrs end lines fault
     past_line through line (inl refused) goes =
-        let wrong = join_wrong facts end (suc (length first)) through.known (edges_behind facts first come.parts instr) through.rest fault
+        let wrong = join_wrong facts end (suc (length first)) through.known (edges_after facts first come.parts instr) through.rest fault
         (ap (λ (edges : List Edge). joined facts end (suc (length first)) edges through) (sym into_are) ∙ refused) in
         fault_of (inr (record {
           line = line.line;
@@ -198,14 +198,14 @@ join_over facts end place [] through (Some join) lines none obeys = cc
 join_over facts end place (edge ∷ edges) through None lines none obeys = cc
 join_over facts end place (edge ∷ edges) through (Some join) lines none obeys =
     let further : List BodyLine = map keep_line join.keeps ++ lines in
-    ap (λ b. refused_if (not b) (at_line 608 join.line) (Ok further) >>= behind_join facts end place through (edge ∷ edges)) (eq-eqb place place refl)
+    ap (λ b. refused_if (not b) (at_line 608 join.line) (Ok further) >>= after_join facts end place through (edge ∷ edges)) (eq-eqb place place refl)
     ∙ keeps_over facts through (edge ∷ edges) 0 nothing_known join.keeps lines (none join refl) obeys
 
 -- after a part come the lines of the next one, which begin with no line KEEP, or the others
-behind_part : (place : ℕ) (parts : List Part) (rest : List BodyLine) → (length parts ≡ 0 → NoKeep rest) → NoKeep (lines_of place parts ++ rest)
+no_keep_after : (place : ℕ) (parts : List Part) (rest : List BodyLine) → (length parts ≡ 0 → NoKeep rest) → NoKeep (lines_of place parts ++ rest)
 unfolding lines_of
-behind_part place [] rest none = none refl
-behind_part place (part ∷ parts) rest none = refl
+no_keep_after place [] rest none = none refl
+no_keep_after place (part ∷ parts) rest none = refl
 
 -- the walk over the lines of parts that obey, from a place on, goes on after them
 walk_over : (facts : Facts) (all : List Instr) (every : List Part) (end place : ℕ) (instrs : List Instr) (parts : List Part) (others : List Instr) (rest : List BodyLine) → Obeys facts all every → KeepsAreAll every rest →
@@ -229,7 +229,7 @@ walk_over facts all every end place (instr ∷ instrs) (part ∷ parts) others r
     let next : before facts all every (suc place) ≡ past through part.join = ap₂ (known_past facts known) instr_there.0 part_there.0 in
     let left : length (drop (suc place) every) ≡ length parts = ap (λ (parts : List Part). length parts) part_there.1 in
     let inside = slice_get_within every place part part_there.0 in
-    let none : (given : JoinLines) → part.join ≡ Some given → NoKeep more = λ given some. behind_part (suc place) parts rest
+    let none : (given : JoinLines) → part.join ≡ Some given → NoKeep more = λ given some. no_keep_after (suc place) parts rest
     (λ empty. whole place part given (omega (arith, empty, left, length-drop (suc place) every, inside)) part_there.0 some) in
     let says : instruction_taken facts end known instr (lines_of place (part ∷ parts) ++ rest) ≡ Ok (taken_of own through) =
     ap (λ r. r >>= λ k. Ok (taken_of own k)) (obeys.instruction place instr part instr_there.0 part_there.0) in
@@ -255,7 +255,7 @@ refused_with_first facts instrs end lines fault f =
     ∙ at f.wrong
   where
     known : Known
-    known = known_behind facts f.first f.parts
+    known = known_after facts f.first f.parts
 
     edges : List Edge
     edges = edges_before facts f.first f.parts (length f.first)
@@ -269,26 +269,26 @@ refused_with_first facts instrs end lines fault f =
     past_line : Taken → Result Taken Fault
     past_line through = joined facts end (suc (length f.first)) (edges_into (suc (length f.first)) further) through >>= past_join
 
-    at : WrongLine facts end known f.instr f.rest fault ⊎ WrongPlace facts end (suc (length f.first)) known (edges_behind facts f.first f.parts f.instr) f.instr f.rest fault →
+    at : WrongLine facts end known f.instr f.rest fault ⊎ WrongPlace facts end (suc (length f.first)) known (edges_after facts f.first f.parts f.instr) f.instr f.rest fault →
         walked facts end (length f.first) edges (f.instr ∷ f.others) (taken_of f.rest known) ≡ Err fault
     at (inl line) = ap (λ t. t >>= past_line) (wrong_line facts end known f.instr f.rest fault line)
     at (inr place) =
         ap (λ (rest : List BodyLine). instruction_taken facts end known f.instr rest >>= past_line) place.spelled
         ∙ ap (λ (r : Result Known Fault). (r >>= λ through. Ok (taken_of place.rest through)) >>= past_line) place.says
-        ∙ ap (λ t. t >>= past_join) (wrong_join facts end (suc (length f.first)) place.through (edges_behind facts f.first f.parts f.instr) place.rest fault place.skips place.wrong)
+        ∙ ap (λ t. t >>= past_join) (wrong_join facts end (suc (length f.first)) place.through (edges_after facts f.first f.parts f.instr) place.rest fault place.skips place.wrong)
 
 -- and the fault is the same whatever lines come after the one on which it stands
 at_end : (code end : ℕ) (fault : Fault) → fault ≡ at_line code end → fault ≡ at_line fault.code end
 at_end code end fault is = is ∙ ap (λ (fault : Fault). at_line fault.code end) (sym is)
 
-pub lines_behind : (facts : Facts) (instrs : List Instr) (end : ℕ) (lines : List BodyLine) (fault : Fault) → FirstFault facts instrs end lines fault → StandsOn facts instrs end lines fault ⊎ (fault ≡ at_line fault.code end)
-lines_behind facts instrs end lines fault f = at f.wrong
+pub lines_after : (facts : Facts) (instrs : List Instr) (end : ℕ) (lines : List BodyLine) (fault : Fault) → FirstFault facts instrs end lines fault → StandsOn facts instrs end lines fault ⊎ (fault ≡ at_line fault.code end)
+lines_after facts instrs end lines fault f = at f.wrong
   where
     known : Known
-    known = known_behind facts f.first f.parts
+    known = known_after facts f.first f.parts
 
     edges : List Edge
-    edges = edges_behind facts f.first f.parts f.instr
+    edges = edges_after facts f.first f.parts f.instr
 
     front : List BodyLine
     front = lines_of 0 f.parts

@@ -4,7 +4,7 @@ use Rattle.std.specs.List.{list_all}
 use Rattle.std.proofs.lemmas.List.{append_assoc, append-nil, length-append}
 use Rattle.std.proofs.Math.Seq.{take-append_seam}
 use Rattle.bw_text.specs.Lines.{cut_lines, is_line_feed, with_first, IsFirstLine}
-use Rattle.bw_cert.specs.ProgramFile.{IsCut, before_divider, behind_divider, number_behind, divides}
+use Rattle.bw_cert.specs.ProgramFile.{IsCut, before_divider, after_divider, number_after, divides}
 
 -- a line in front of a line feed and a rest
 feed_by : (b : Bool) (c : ℕ) (line : List ℕ) (rest : List ℕ) (lines : List (List ℕ)) → is_line_feed c ≡ b → (not b && list_all (λ x. not (is_line_feed x)) line) ≡ true
@@ -37,8 +37,8 @@ pub record CutSoFar (file : List ℕ) (read : ℕ) (rest : List ℕ) (next : ℕ
   pub whole : file ≡ front ++ rest
   pub count : read ≡ length front
   pub before : before_divider (cut_lines file) ≡ cut_lines front ++ before_divider (cut_lines rest)
-  pub behind : behind_divider (cut_lines file) ≡ behind_divider (cut_lines rest)
-  pub number : number_behind 1 (cut_lines file) ≡ number_behind next (cut_lines rest)
+  pub after : after_divider (cut_lines file) ≡ after_divider (cut_lines rest)
+  pub number : number_after 1 (cut_lines file) ≡ number_after next (cut_lines rest)
   pub first : (1 ≤ next) × (next ≤ read + 1)
   pub more : (rest ≡ []) ⊎ ((tail : List ℕ) → cut_lines (front ++ tail) ≡ cut_lines front ++ cut_lines tail)
 
@@ -49,7 +49,7 @@ cut_none file = record {
   whole = refl;
   count = refl;
   before = refl;
-  behind = refl;
+  after = refl;
   number = refl;
   first = (omega arith, omega arith);
   more = inr (λ tail. refl);
@@ -59,12 +59,12 @@ passed_before : (line : List ℕ) (lines : List (List ℕ)) → divides line ≡
 unfolding before_divider
 passed_before line lines e = rw e refl
 
-passed_behind : (line : List ℕ) (lines : List (List ℕ)) → divides line ≡ false → behind_divider (line ∷ lines) ≡ behind_divider lines
-unfolding behind_divider
-passed_behind line lines e = rw e refl
+passed_after : (line : List ℕ) (lines : List (List ℕ)) → divides line ≡ false → after_divider (line ∷ lines) ≡ after_divider lines
+unfolding after_divider
+passed_after line lines e = rw e refl
 
-passed_number : (n : ℕ) (line : List ℕ) (lines : List (List ℕ)) → divides line ≡ false → number_behind n (line ∷ lines) ≡ number_behind (n + 1) lines
-unfolding number_behind
+passed_number : (n : ℕ) (line : List ℕ) (lines : List (List ℕ)) → divides line ≡ false → number_after n (line ∷ lines) ≡ number_after (n + 1) lines
+unfolding number_after
 passed_number n line lines e = rw e refl
 
 nothing_fed : (line rest : List ℕ) → line ++ (10 ∷ rest) ≡ [] → ⊥
@@ -103,8 +103,8 @@ fed file read text number line rest s none is cut other =
       count = omega (arith, total);
       before = s.before ∙ ap (λ xs. cut_lines s.front ++ before_divider xs) cut ∙ ap (λ xs. cut_lines s.front ++ xs) (passed_before line (cut_lines rest) other)
           ∙ sym (append_assoc (cut_lines s.front) (line ∷ []) (before_divider (cut_lines rest))) ∙ ap (λ xs. xs ++ before_divider (cut_lines rest)) (sym one);
-      behind = s.behind ∙ ap behind_divider cut ∙ passed_behind line (cut_lines rest) other;
-      number = s.number ∙ ap (number_behind number) cut ∙ passed_number number line (cut_lines rest) other;
+      after = s.after ∙ ap after_divider cut ∙ passed_after line (cut_lines rest) other;
+      number = s.number ∙ ap (number_after number) cut ∙ passed_number number line (cut_lines rest) other;
       first = (omega (arith, s.first.0), omega (arith, s.first.1, total, longer, s.count));
       more = inr (λ tail. ap cut_lines (append_assoc s.front piece tail) ∙ goes (piece ++ tail)
           ∙ ap (λ xs. cut_lines s.front ++ xs) (ap cut_lines (append_assoc line (10 ∷ []) tail) ∙ feed line tail none)
@@ -130,8 +130,8 @@ last file read text number line rest s is none cut other =
       before = s.before ∙ ap (λ xs. cut_lines s.front ++ before_divider xs) (cut ∙ ap (λ xs. line ∷ xs) ended)
           ∙ ap (λ xs. cut_lines s.front ++ xs) (passed_before line [] other) ∙ sym all ∙ sym (append-nil (cut_lines file))
           ∙ ap (λ xs. cut_lines file ++ before_divider xs) (sym ended);
-      behind = s.behind ∙ ap behind_divider cut ∙ passed_behind line (cut_lines rest) other;
-      number = s.number ∙ ap (number_behind number) cut ∙ passed_number number line (cut_lines rest) other;
+      after = s.after ∙ ap after_divider cut ∙ passed_after line (cut_lines rest) other;
+      number = s.number ∙ ap (number_after number) cut ∙ passed_number number line (cut_lines rest) other;
       first = (omega (arith, s.first.0), omega (arith, s.first.1, total, short, some, s.count));
       more = inl none;
     }
@@ -144,27 +144,27 @@ passed file read text number line rest s (none, inr is) cut other = last file re
 -- at a line that divides
 pub cut_there : (file : List ℕ) (read : ℕ) (text : List ℕ) (number : ℕ) (line rest : List ℕ) → CutSoFar file read text number
     → cut_lines text ≡ line ∷ cut_lines rest → divides line ≡ true → IsCut file (take read file) rest (number + 1)
-unfolding before_divider behind_divider number_behind
+unfolding before_divider after_divider number_after
 cut_there file read text number line rest s cut divider =
     let front : take read file ≡ s.front = ap (λ n. take n file) s.count ∙ ap (take (length s.front)) s.whole ∙ take-append_seam s.front text in
     let here : before_divider (line ∷ cut_lines rest) ≡ [] = rw divider refl in
-    let behind : behind_divider (line ∷ cut_lines rest) ≡ cut_lines rest = rw divider refl in
-    let there : number_behind number (line ∷ cut_lines rest) ≡ number + 1 = rw divider refl in
+    let after : after_divider (line ∷ cut_lines rest) ≡ cut_lines rest = rw divider refl in
+    let there : number_after number (line ∷ cut_lines rest) ≡ number + 1 = rw divider refl in
     record {
       before = ap cut_lines front ∙ sym (append-nil (cut_lines s.front)) ∙ ap (λ xs. cut_lines s.front ++ xs) (sym here) ∙ ap (λ xs. cut_lines s.front ++ before_divider xs) (sym cut) ∙ sym s.before;
-      behind = sym (s.behind ∙ ap behind_divider cut ∙ behind);
-      number = sym (s.number ∙ ap (number_behind number) cut ∙ there);
+      after = sym (s.after ∙ ap after_divider cut ∙ after);
+      number = sym (s.number ∙ ap (number_after number) cut ∙ there);
     }
 
 -- at the end, where no line did
 pub cut_nowhere : (file : List ℕ) (read : ℕ) (text : List ℕ) (number : ℕ) → CutSoFar file read text number → cut_lines text ≡ [] → IsCut file file [] number
-unfolding before_divider behind_divider number_behind
+unfolding before_divider after_divider number_after
 cut_nowhere file read text number s cut =
     let front : file ≡ s.front = s.whole ∙ ap (λ xs. s.front ++ xs) (no_lines text cut) ∙ append-nil s.front in
     record {
       before = ap cut_lines front ∙ sym (append-nil (cut_lines s.front)) ∙ ap (λ xs. cut_lines s.front ++ before_divider xs) (sym cut) ∙ sym s.before;
-      behind = nothing_cut ∙ ap behind_divider (sym cut) ∙ sym s.behind;
-      number = ap (number_behind number) (sym cut) ∙ sym s.number;
+      after = nothing_cut ∙ ap after_divider (sym cut) ∙ sym s.after;
+      number = ap (number_after number) (sym cut) ∙ sym s.number;
     }
 
 -- what was read and what is left make the file, and each line takes some

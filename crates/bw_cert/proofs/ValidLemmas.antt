@@ -121,30 +121,30 @@ stated_true columns certificate facts start node chain row is =
     start nodes.1) chains.1) chains.2
 
 -- an instruction whose line is right names what the columns have
-pub behind_fits : (facts : Facts) (known past : Known) (line : ℕ) (i : Instr) (given : InstructionEntry) → after facts known line i given ≡ Ok past → instr_fits facts.columns i ≡ true
+pub after_fits : (facts : Facts) (known past : Known) (line : ℕ) (i : Instr) (given : InstructionEntry) → after facts known line i given ≡ Ok past → instr_fits facts.columns i ≡ true
 unfolding after
-behind_fits facts known past line (instr.Load r column bit) given is =
+after_fits facts known past line (instr.Load r column bit) given is =
     let node = bind_ok (plane_on facts line (instr_fits facts.columns (instr.Load r column bit)) (bit_variable facts.columns column bit) given) _ past is in
     let named = bind_ok (found_on 607 line (loaded_node given)) _ node.0 node.1 in
     negated _ (not_refused (not (instr_fits facts.columns (instr.Load r column bit))) _ _ node.0 named.2).0
-behind_fits facts known past line (instr.Nulls r column) given is =
+after_fits facts known past line (instr.Nulls r column) given is =
     let node = bind_ok (plane_on facts line (instr_fits facts.columns (instr.Nulls r column)) (first_variable facts.columns column) given) _ past is in
     let named = bind_ok (found_on 607 line (loaded_node given)) _ node.0 node.1 in
     negated _ (not_refused (not (instr_fits facts.columns (instr.Nulls r column))) _ _ node.0 named.2).0
-behind_fits facts known past line (instr.Fill r bit) given is = refl
-behind_fits facts known past line (instr.And r x y) given is = refl
-behind_fits facts known past line (instr.Or r x y) given is = refl
-behind_fits facts known past line (instr.Xor r x y) given is = refl
-behind_fits facts known past line (instr.Not r x) given is = refl
-behind_fits facts known past line (instr.ByteLt r column slice k) given is =
+after_fits facts known past line (instr.Fill r bit) given is = refl
+after_fits facts known past line (instr.And r x y) given is = refl
+after_fits facts known past line (instr.Or r x y) given is = refl
+after_fits facts known past line (instr.Xor r x y) given is = refl
+after_fits facts known past line (instr.Not r x) given is = refl
+after_fits facts known past line (instr.ByteLt r column slice k) given is =
     let node = bind_ok (byte_on facts line Less (instr_fits facts.columns (instr.ByteLt r column slice k)) column slice k given) _ past is in
     let named = bind_ok (found_on 607 line (byte_chain given)) _ node.0 node.1 in
     negated _ (not_refused (not (instr_fits facts.columns (instr.ByteLt r column slice k))) _ _ node.0 named.2).0
-behind_fits facts known past line (instr.ByteEq r column slice k) given is =
+after_fits facts known past line (instr.ByteEq r column slice k) given is =
     let node = bind_ok (byte_on facts line Equal (instr_fits facts.columns (instr.ByteEq r column slice k)) column slice k given) _ past is in
     let named = bind_ok (found_on 607 line (byte_chain given)) _ node.0 node.1 in
     negated _ (not_refused (not (instr_fits facts.columns (instr.ByteEq r column slice k))) _ _ node.0 named.2).0
-behind_fits facts known past line (instr.Skip x target) given is = refl
+after_fits facts known past line (instr.Skip x target) given is = refl
 
 -- what is so of each item of a list
 pub all_so : {A : Type 0} (p : A → Bool) (xs : List A) → ((k : ℕ) (x : A) → slice_get xs k ≡ Some x → p x ≡ true) → list_all p xs ≡ true

@@ -31,7 +31,7 @@ programs_same columns file text other stated another first second a b =
 
 certificates_same : (file text other stated another : List ℕ) (first second : ℕ) → IsCut file text stated first → IsCut file other another second → certificate_of first stated ≡ certificate_of second another
 certificates_same file text other stated another first second a b =
-    ap₂ (λ n lines. certificate_from 0 (numbered_from n lines) (n + length lines)) (a.number ∙ sym b.number) (a.behind ∙ sym b.behind)
+    ap₂ (λ n lines. certificate_from 0 (numbered_from n lines) (n + length lines)) (a.number ∙ sym b.number) (a.after ∙ sym b.after)
 
 -- what is read of program texts and of certificate texts, and that certificates are judged by what they say
 pub record Laws : Type 0 where

@@ -27,13 +27,14 @@ KeepsAreAll parts rest =
     (place : ℕ) (part : Part) (join : JoinLines)
     → suc place ≡ length parts → slice_get parts place ≡ Some part → part.join ≡ Some join → NoKeep rest
 
--- Where the line of an instruction is wanted, the next one is another, or breaks its rule, whatever comes after it. Where
--- there is none, that is so at END (607).
+-- Where the line of an instruction is wanted, the next one is another, or breaks its rule, whatever comes after it.
+-- Where there is none, that is so at END (607).
 abbrev pub WrongLine : Facts → ℕ → Known → Instr → List BodyLine → Fault → Type 0
 WrongLine facts end known instr [] fault = fault ≡ at_line INSTRUCTION_LINE end
 WrongLine facts end known instr (line ∷ lines) fault = instruction_on facts known instr line line.entry ≡ Err fault
 
--- After lines KEEP that hold, of registers that ascend from the least, comes one that doesn't, whatever comes after it (608).
+-- After lines KEEP that hold, of registers that ascend from the least, comes one that doesn't, whatever comes after it
+-- (608).
 pub record WrongKeep (facts : Facts) (through : Known) (edges : List Edge) (least : ℕ) (lines : List BodyLine)
     (fault : Fault) : Type 0 where
   pub keeps : List KeepLine
@@ -44,16 +45,16 @@ pub record WrongKeep (facts : Facts) (through : Known) (edges : List Edge) (leas
   pub broken : are_kept facts through edges least (keeps ++ wrong ∷ []) ≡ false
   pub stands : fault ≡ at_line JOIN wrong.line
 
--- Where the line JOIN of a place is wanted, the next one is another (608); where there is none, that is so at END. Or it is
--- that line, and a line KEEP after it doesn't hold.
+-- Where the line JOIN of a place is wanted, the next one is another (608); where there is none, that is so at END. Or
+-- it is that line, and a line KEEP after it doesn't hold.
 abbrev pub WrongJoin : Facts → ℕ → ℕ → Known → List Edge → List BodyLine → Fault → Type 0
 WrongJoin facts end place through edges [] fault = fault ≡ at_line JOIN end
 WrongJoin facts end place through edges (line ∷ lines) fault =
     ((is_join place line.entry ≡ false) × (fault ≡ at_line JOIN line.line))
     ⊎ (IsTrue (is_join place line.entry) × WrongKeep facts through edges 0 lines fault)
 
--- The next line is the instruction's and obeys its rule, but skips come to the place after it, and the next lines aren't
--- that place's join.
+-- The next line is the instruction's and obeys its rule, but skips come to the place after it, and the next lines
+-- aren't that place's join.
 pub record WrongPlace (facts : Facts) (end place : ℕ) (known : Known) (edges : List Edge) (instr : Instr)
     (lines : List BodyLine) (fault : Fault) : Type 0 where
   pub line : ℕ
@@ -66,14 +67,14 @@ pub record WrongPlace (facts : Facts) (end place : ℕ) (known : Known) (edges :
   pub wrong : WrongJoin facts end place through edges rest fault
 
 -- what is known after some first instructions
-abbrev pub known_behind : Facts → List Instr → List Part → Known
-known_behind facts first parts = before facts first parts (length first)
+abbrev pub known_after : Facts → List Instr → List Part → Known
+known_after facts first parts = before facts first parts (length first)
 
 -- the edges of the skips, among these and one more instruction, to the place after them
-abbrev pub edges_behind : Facts → List Instr → List Part → Instr → List Edge
-edges_behind facts first parts instr =
+abbrev pub edges_after : Facts → List Instr → List Part → Instr → List Edge
+edges_after facts first parts instr =
     edges_into (suc (length first)) (with_edge (edges_before facts first parts (length first))
-    (edge_of (known_behind facts first parts) instr))
+    (edge_of (known_after facts first parts) instr))
 
 -- The first fault in lines, of which END is this one's number.
 pub record FirstFault (facts : Facts) (instrs : List Instr) (end : ℕ) (lines : List BodyLine)
@@ -90,9 +91,9 @@ pub record FirstFault (facts : Facts) (instrs : List Instr) (end : ℕ) (lines :
   pub spelled : lines ≡ lines_of 0 parts ++ rest
   pub whole : KeepsAreAll parts rest
   -- and of the rest, the line of this one, or of the join after it, is the first that breaks its rule
-  pub wrong : WrongLine facts end (known_behind facts first parts) instr rest fault
-      ⊎ WrongPlace facts end (suc (length first)) (known_behind facts first parts)
-      (edges_behind facts first parts instr) instr rest fault
+  pub wrong : WrongLine facts end (known_after facts first parts) instr rest fault
+      ⊎ WrongPlace facts end (suc (length first)) (known_after facts first parts)
+      (edges_after facts first parts instr) instr rest fault
 
 -- The fault stands on one of the lines, and is the same whatever lines come after that one.
 pub record StandsOn (facts : Facts) (instrs : List Instr) (end : ℕ) (lines : List BodyLine)

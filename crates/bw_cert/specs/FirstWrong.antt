@@ -1,4 +1,5 @@
--- Why a certificate is refused, section by section: what stands before the first line that breaks a rule, and that line.
+-- Why a certificate is refused, section by section: what stands before the first line that breaks a rule, and that
+-- line.
 use Rattle.std.specs.Prelude.{◌≡◌, ◌⊎◌, List, ◌∷◌, ◌++◌, Result, Ok, Err}
 use Rattle.bw_model.specs.declared.column.Column.{Column}
 use Rattle.bw_model.specs.declared.cond.Cond.{Cond}
@@ -18,7 +19,8 @@ use Rattle.bw_cert.specs.FirstFault.{FirstFault}
 use Rattle.bw_cert.specs.Stated.{facts_stated, with_lines, with_node_line, with_chain_line, with_product_line}
 use Rattle.bw_cert.specs.Valid.{end_on}
 
--- Of lines that state something, one after the other, this is the first that breaks its rule: those before it obey theirs.
+-- Of lines that state something, one after the other, this is the first that breaks its rule: those before it obey
+-- theirs.
 pub record WrongStated (Line : Type 0) (add : Facts → Line → Result Facts Fault) (facts : Facts) (lines : List Line)
     (fault : Fault) : Type 0 where
   pub upto : List Line

@@ -21,17 +21,17 @@ before_divider [] = []
 before_divider (line ∷ lines) = if divides line then [] else line ∷ before_divider lines
 
 -- the lines after it: none, where none divides
-unfoldable pub behind_divider : List (List ℕ) → List (List ℕ)
-behind_divider [] = []
-behind_divider (line ∷ lines) = if divides line then lines else behind_divider lines
+unfoldable pub after_divider : List (List ℕ) → List (List ℕ)
+after_divider [] = []
+after_divider (line ∷ lines) = if divides line then lines else after_divider lines
 
 -- the number of the line after it, or else of a line after the last one, where the first of these lines has a number
-unfoldable pub number_behind : ℕ → List (List ℕ) → ℕ
-number_behind number [] = number
-number_behind number (line ∷ lines) = if divides line then number + 1 else number_behind (number + 1) lines
+unfoldable pub number_after : ℕ → List (List ℕ) → ℕ
+number_after number [] = number
+number_after number (line ∷ lines) = if divides line then number + 1 else number_after (number + 1) lines
 
 -- a file is cut into a program text and a certificate text, whose first line has a number in the file
 pub record IsCut (file program certificate : List ℕ) (first : ℕ) : Type 0 where
   pub before : cut_lines program ≡ before_divider (cut_lines file)
-  pub behind : cut_lines certificate ≡ behind_divider (cut_lines file)
-  pub number : first ≡ number_behind 1 (cut_lines file)
+  pub after : cut_lines certificate ≡ after_divider (cut_lines file)
+  pub number : first ≡ number_after 1 (cut_lines file)

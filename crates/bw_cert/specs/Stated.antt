@@ -1,4 +1,5 @@
--- What the NODE, CHAIN and ROW lines of a certificate state: nodes, chains and product rows, each by the rule of its line.
+-- What the NODE, CHAIN and ROW lines of a certificate state: nodes, chains and product rows, each by the rule of its
+-- line.
 use Rattle.std.specs.Prelude.{ℕ, List, [], ◌∷◌, Result, Ok, Err}
 use Rattle.bw_model.specs.declared.column.Column.{Column}
 use Rattle.bw_model.specs.declared.fault.Fault.{Fault}

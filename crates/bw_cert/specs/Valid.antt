@@ -1,4 +1,5 @@
--- When a certificate shows that a scan program selects what a condition does, and which line is the first that breaks a rule.
+-- When a certificate shows that a scan program selects what a condition does, and which line is the first that breaks a
+-- rule.
 use Rattle.std.specs.Prelude.{◌≡◌, ℕ, List, [], ◌∷◌, length, false, Some, Result, Ok, Err, not, IsTrue, Bool, ◌&&◌, ◌||◌, nat_le}
 use Rattle.bw_model.specs.declared.fault.code.TheConstants.{CONDITION_LINE, REGISTER_UNKNOWN, END}
 use Rattle.bw_model.specs.declared.column.Column.{Column}
@@ -40,8 +41,8 @@ pub record Valid (columns : List Column) (cond : Cond) (program : ProgramShape)
   pub known : node_of (before facts program.instrs parts (length program.instrs)) program.result ≡ Some node
   pub ended : IsTrue (is_zero (cited facts Xor node pair.yes certificate.end.row))
 
--- END: after the last line of the program (610 at a line that is left over), the result register has a node (609), whose
--- XOR with the condition's is 0 by the row (610)
+-- END: after the last line of the program (610 at a line that is left over), the result register has a node (609),
+-- whose XOR with the condition's is 0 by the row (610)
 abbrev pub result_on : Facts → ℕ → Known → ℕ → ℕ → ℕ → Result Facts Fault
 result_on facts end known result first row =
     found_on REGISTER_UNKNOWN end (node_of known result) >>= λ node.
@@ -54,8 +55,8 @@ last_on facts end (line ∷ lines) known result first row = Err (at_line END lin
 abbrev pub end_on : Facts → ℕ → Taken → ℕ → ℕ → ℕ → Result Facts Fault
 end_on facts end taken result first row = last_on facts end taken.rest taken.known result first row
 
--- What a certificate states, if it is valid, or the first line that breaks a rule: the sections one after another, and the
--- lines of each in their order.
+-- What a certificate states, if it is valid, or the first line that breaks a rule: the sections one after another, and
+-- the lines of each in their order.
 abbrev pub checked : List Column → Cond → ProgramShape → CertificateShape → Result Facts Fault
 checked columns cond program certificate =
     facts_stated columns certificate >>= λ facts.
@@ -63,8 +64,8 @@ checked columns cond program certificate =
     judged facts program.instrs certificate.end.line read.1 >>= λ taken.
     end_on facts certificate.end.line taken program.result read.0.yes certificate.end.row
 
--- What the checker answers, where this is expected: yes with what is certified, or the program back with the fault, want of
--- memory aside.
+-- What the checker answers, where this is expected: yes with what is certified, or the program back with the fault, out
+-- of memory aside.
 abbrev pub Checks : {C P : Type 0} → Result C (P × Fault) → Result Facts Fault → Type 0
 Checks (Ok certified) expected = (facts : Facts) × (expected ≡ Ok facts)
 Checks (Err refused) expected = is_memory refused.1 ≡ false → expected ≡ Err refused.1

@@ -101,7 +101,7 @@ pub fn refused_lines_have_a_first_fault()
     ensures first { (facts : Facts) (instrs : List Instr) (end : ℕ) (lines : List BodyLine)
         (fault : Fault)
         → FirstFault facts instrs end lines fault → judged facts instrs end lines ≡ Err fault }
-    ensures behind { (facts : Facts) (instrs : List Instr) (end : ℕ) (lines : List BodyLine)
+    ensures after { (facts : Facts) (instrs : List Instr) (end : ℕ) (lines : List BodyLine)
         (fault : Fault)
         → judged facts instrs end lines ≡ Err fault
         → StandsOn facts instrs end lines fault ⊎ (fault ≡ at_line fault.code end) }

@@ -100,8 +100,8 @@ order_of Le c d = record { kind = Less; left = d; right = c; negated = true }
 order_of Eq c d = record { kind = Equal; left = c; right = d; negated = false }
 order_of Ne c d = record { kind = Equal; left = c; right = d; negated = true }
 
--- node e of such a comparison: of a chain over as many bits as the wider column has, or the terminal of a column that is
--- compared with itself
+-- node e of such a comparison: of a chain over as many bits as the wider column has, or the terminal of a column that
+-- is compared with itself
 abbrev pub order_node : List Column → Facts → Order → Option ℕ → Option ℕ
 order_node columns facts order chain =
     let len = max (width_at columns order.left) (width_at columns order.right) in

@@ -65,7 +65,8 @@ terminal false = 0
 abbrev pub plane_on : Facts → ℕ → Bool → ℕ → InstructionEntry → Result ℕ Fault
 plane_on facts line there variable given =
     found_on INSTRUCTION_LINE line (loaded_node given) >>= λ node.
-    refused_if (not there) (at_line INSTRUCTION_LINE line) (found_on INSTRUCTION_LINE line (variable_cited facts variable node))
+    refused_if (not there) (at_line INSTRUCTION_LINE line)
+    (found_on INSTRUCTION_LINE line (variable_cited facts variable node))
 
 -- An operation on two nodes has the third node of the row that its line names, if that is their row.
 abbrev pub operation_on : Facts → ℕ → Connective → ℕ → ℕ → ℕ → Result ℕ Fault
@@ -103,7 +104,8 @@ byte_node facts kind column slice k (Some chain) =
 -- a byte comparison, of a slice that there is
 abbrev pub byte_on : Facts → ℕ → ChainKind → Bool → ℕ → ℕ → ℕ → InstructionEntry → Result ℕ Fault
 byte_on facts line kind there column slice k given =
-    found_on INSTRUCTION_LINE line (byte_chain given) >>= λ chain. refused_if (not there) (at_line INSTRUCTION_LINE line)
+    found_on INSTRUCTION_LINE line (byte_chain given) >>= λ chain.
+    refused_if (not there) (at_line INSTRUCTION_LINE line)
     (found_on INSTRUCTION_LINE line (byte_node facts kind column slice k chain))
 
 -- a register gets a node, where there is one
@@ -117,12 +119,12 @@ fill known line register bit given = refused_if (not (is_fill given)) (at_line I
 
 -- a register that a skip looks at has to have a node, and the line to be a skip's
 abbrev pub look : Known → ℕ → ℕ → InstructionEntry → Result Known Fault
-look known line register given = refused_if (not (is_skip_line given)) (at_line INSTRUCTION_LINE line) (read_on known line register
-    >>= λ node. Ok known)
+look known line register given = refused_if (not (is_skip_line given)) (at_line INSTRUCTION_LINE line)
+    (read_on known line register >>= λ node. Ok known)
 
 -- What is known after an instruction, by its line: the register that it writes has the node that the line shows. A
--- line of another kind, and one that doesn't show it, is refused as 607, and one of the right kind that reads a register
--- without a node as 609. A skip changes nothing.
+-- line of another kind, and one that doesn't show it, is refused as 607, and one of the right kind that reads a
+-- register without a node as 609. A skip changes nothing.
 unfoldable pub after : Facts → Known → ℕ → Instr → InstructionEntry → Result Known Fault
 after facts known line (Load r column bit) given =
     put known r (plane_on facts line (instr_fits facts.columns (Load r column bit))

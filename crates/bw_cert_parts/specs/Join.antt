@@ -44,8 +44,8 @@ abbrev pub keeps_through : Facts → Known → Keep → Bool
 keeps_through facts through keep = is_zero (option_and_then (λ f. cited facts connective.Xor f keep.node keep.through)
     (node_of through keep.register))
 
--- By a skip, its node there differs from the kept one nowhere but where the skip's register is 1: one row says where they
--- differ, and the other that this "and not" the skip's register is 0.
+-- By a skip, its node there differs from the kept one nowhere but where the skip's register is 1: one row says where
+-- they differ, and the other that this "and not" the skip's register is 0.
 abbrev pub keeps_by_skip : Facts → Keep → Edge → EdgeProducts → Bool
 keeps_by_skip facts keep edge rows =
     is_zero (option_and_then (λ differs. option_and_then (λ skipped.

@@ -1,4 +1,5 @@
--- The lines of a program's instructions and joins, judged one after another: what is known at the end, or the first fault.
+-- The lines of a program's instructions and joins, judged one after another: what is known at the end, or the first
+-- fault.
 use Rattle.std.specs.Prelude.{ℕ, suc, Bool, false, not, ◌==◌, List, [], ◌∷◌, map, Option, Some, None, Result, Ok, Err}
 use Rattle.bw_model.specs.declared.fault.code.TheConstants.{INSTRUCTION_LINE, JOIN}
 use Rattle.bw_model.specs.declared.fault.Fault.{Fault}
@@ -25,7 +26,8 @@ abbrev pub told : Result Taken Fault → Result (Known × List BodyFields) Fault
 told (Ok taken) = Ok (taken.known, map body_fields taken.rest)
 told (Err fault) = Err fault
 
--- where the line of an instruction is wanted, any other is wrong (607); where the lines have run out, that is so at the end
+-- where the line of an instruction is wanted, any other is wrong (607); where the lines have run out, that is so at the
+-- end
 abbrev pub instruction_on : Facts → Known → Instr → BodyLine → Entry → Result Known Fault
 instruction_on facts known instr line (line_of.Instruction given) = after facts known line.line instr given
 instruction_on facts known instr line (line_of.Condition given) = Err (at_line INSTRUCTION_LINE line.line)

@@ -22,7 +22,7 @@ use Rattle.bw_cert_lines.specs.declared.lines.InstructionEntry.{InstructionEntry
 use Rattle.bw_cert_lines.specs.declared.lines.InstructionEntry.TheVariants.{Load, Fill, Op, Byte, Skip}
 use Rattle.bw_cert_lines.specs.declared.lines.EdgeProducts.{EdgeProducts}
 use Rattle.bw_cert_lines.specs.CertificateFields.{ColumnFields, One, Two, ChainFields, KeepFields, Condition, Instruction, Join, Kept}
-use Rattle.bw_cert_text.specs.LineText.{Node, Chain, Row, Body, Said, Before, End, node_in, one_column_in, two_columns_in, columns_behind, chain_in, reason_in, row_in, compare_in, compare_columns_in, is_in, condition_in, instruction_in, edges_in, keep_in, said_behind, said_by}
+use Rattle.bw_cert_text.specs.LineText.{Node, Chain, Row, Body, Said, Before, End, node_in, one_column_in, two_columns_in, columns_after, chain_in, reason_in, row_in, compare_in, compare_columns_in, is_in, condition_in, instruction_in, edges_in, keep_in, said_after, said_by}
 use Rattle.bw_cert_text.specs.Operand.{◌>?◌, optional_of, nothing_in, number_in, two_in}
 use Rattle.bw_text.specs.Register.{register_of}
 use Rattle.bw_cert_text.specs.Token.{Number, IsSpelled, AreSpelled, one_key, two_key, none, next, column_tokens, reason_tokens, condition_tokens, instruction_tokens, edge_tokens, keep_tokens, end_tokens, part_tokens, part_line}
@@ -88,7 +88,7 @@ two_read k (w0 ∷ w1 ∷ w2 ∷ []) x e = absurd (cc e)
 two_read k (w0 ∷ w1 ∷ w2 ∷ w3 ∷ []) x e = absurd (cc e)
 two_read k (w0 ∷ w1 ∷ w2 ∷ w3 ∷ w4 ∷ w5 ∷ words) x e = absurd (cc e)
 
-columns_read : (f : Form) (word : List ℕ) (words : List (List ℕ)) (x : ColumnFields) → form_of word ≡ Some f → columns_behind f words ≡ Some x → AreSpelled (column_tokens x) (word ∷ words)
+columns_read : (f : Form) (word : List ℕ) (words : List (List ℕ)) (x : ColumnFields) → form_of word ≡ Some f → columns_after f words ≡ Some x → AreSpelled (column_tokens x) (word ∷ words)
 columns_read form.Less word words x is e = one_read compared.Less words x e word (form_is word form.Less is)
 columns_read form.Equal word words x is e = one_read compared.Equal words x e word (form_is word form.Equal is)
 columns_read form.LessTwo word words x is e = two_read compared.Less words x e word (form_is word form.LessTwo is)
@@ -98,7 +98,7 @@ chain_read : (line : ℕ) (word : List ℕ) (words : List (List ℕ)) (x : Chain
 chain_read line word (w0 ∷ w1 ∷ words) x key e =
     opened (natural_of w0) _ x e λ n0 p0 e.
     opened (form_of w1) _ x e λ f is e.
-    opened (columns_behind f words) _ x e λ columns there e.
+    opened (columns_after f words) _ x e λ columns there e.
     let same : record { line = line; n = n0; columns = columns } ≡ x = cc e in
     rw (← same) (refl, next key (next p0 (columns_read f w1 words columns is there)))
 chain_read line word [] x key e = absurd (cc e)
@@ -250,28 +250,28 @@ keep_read word [] x key e = absurd (cc e)
 keep_read word (w0 ∷ []) x key e = absurd (cc e)
 keep_read word (w0 ∷ w1 ∷ []) x key e = absurd (cc e)
 
-behind_read : (line : ℕ) (k : LineKind) (word : List ℕ) (words : List (List ℕ)) (x : Said) → Begins k word → said_behind line k words ≡ Some x → IsSaid x line (word ∷ words)
-behind_read line kind.Node word words x key e =
+after_read : (line : ℕ) (k : LineKind) (word : List ℕ) (words : List (List ℕ)) (x : Said) → Begins k word → said_after line k words ≡ Some x → IsSaid x line (word ∷ words)
+after_read line kind.Node word words x key e =
     opened (node_in line words) _ x e λ node there e. let same : Before (Node node) ≡ x = cc e in rw (← same) (node_read line word words node key there)
-behind_read line kind.Chain word words x key e =
+after_read line kind.Chain word words x key e =
     opened (chain_in line words) _ x e λ chain there e. let same : Before (Chain chain) ≡ x = cc e in rw (← same) (chain_read line word words chain key there)
-behind_read line kind.Row word words x key e =
+after_read line kind.Row word words x key e =
     opened (row_in line words) _ x e λ row there e. let same : Before (Row row) ≡ x = cc e in rw (← same) (row_read line word words row key there)
-behind_read line (kind.Condition k) word words x key e =
+after_read line (kind.Condition k) word words x key e =
     opened (condition_in k words) _ x e λ entry there e.
     let same : Before (Body (record { line = line; entry = Condition entry })) ≡ x = cc e in rw (← same) (refl, condition_read k word words entry key there)
-behind_read line (kind.Instruction k) word words x key e =
+after_read line (kind.Instruction k) word words x key e =
     opened (instruction_in k words) _ x e λ entry there e.
     let same : Before (Body (record { line = line; entry = Instruction entry })) ≡ x = cc e in rw (← same) (refl, instruction_read k word words entry key there)
-behind_read line kind.Join word words x key e =
+after_read line kind.Join word words x key e =
     opened (number_in words) _ x e λ target there e.
     let same : Before (Body (record { line = line; entry = Join target })) ≡ x = cc e in rw (← same) (refl, next key (number_read words target there))
-behind_read line kind.Keep word words x key e =
+after_read line kind.Keep word words x key e =
     opened (keep_in words) _ x e λ keep there e.
     let same : Before (Body (record { line = line; entry = Kept keep })) ≡ x = cc e in rw (← same) (refl, keep_read word words keep key there)
-behind_read line kind.End word words x key e =
+after_read line kind.End word words x key e =
     opened (number_in words) _ x e λ row there e. let same : End (record { line = line; row = row }) ≡ x = cc e in rw (← same) (refl, next key (number_read words row there))
 
 pub line_read : (line : ℕ) (words : List (List ℕ)) (x : Said) → said_by line words ≡ Some x → IsSaid x line words
 line_read line [] x e = absurd (cc e)
-line_read line (word ∷ words) x e = opened (kind_of word) _ x e λ k is e. behind_read line k word words x (kind_is word k is) e
+line_read line (word ∷ words) x e = opened (kind_of word) _ x e λ k is e. after_read line k word words x (kind_is word k is) e

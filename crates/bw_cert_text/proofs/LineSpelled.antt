@@ -17,7 +17,7 @@ use Rattle.bw_cert_lines.specs.declared.lines.InstructionEntry.{InstructionEntry
 use Rattle.bw_cert_lines.specs.declared.lines.InstructionEntry.TheVariants.{Load, Fill, Op, Byte, Skip}
 use Rattle.bw_cert_lines.specs.declared.lines.EdgeProducts.{EdgeProducts}
 use Rattle.bw_cert_lines.specs.CertificateFields.{ColumnFields, One, Two, ChainFields, EntryFields, Condition, Instruction, Join, Kept}
-use Rattle.bw_cert_text.specs.LineText.{Node, Chain, Row, Body, Said, Before, End, columns_behind, reason_in, edges_in, said_by}
+use Rattle.bw_cert_text.specs.LineText.{Node, Chain, Row, Body, Said, Before, End, columns_after, reason_in, edges_in, said_by}
 use Rattle.bw_cert_text.specs.Token.{AreSpelled, none, next, node_tokens, column_tokens, chain_tokens, reason_tokens, row_tokens, condition_tokens, instruction_tokens, edge_tokens, end_tokens, entry_tokens}
 use Rattle.bw_text.specs.LineKind.{kind_of}
 use Rattle.bw_text.specs.Form.{form_of}
@@ -35,7 +35,7 @@ spelled_node line node _ same (next {word = word} key (next p0 (next p1 (next p2
 record Compared (word : List ℕ) (words : List (List ℕ)) (x : ColumnFields) : Type 0 where
   form : Form
   form_is : form_of word ≡ Some form
-  columns_are : columns_behind form words ≡ Some x
+  columns_are : columns_after form words ≡ Some x
 
 spelled_columns : (x : ColumnFields) (word : List ℕ) (words : List (List ℕ)) → AreSpelled (column_tokens x) (word ∷ words) → Compared word words x
 spelled_columns (One compared.Less column start len bound node prev) word _ (next key (next p0 (next p1 (next p2 (next p3 (next p4 (next {word = last} p5 none))))))) =
@@ -55,14 +55,14 @@ no_columns : (x : ColumnFields) → AreSpelled (column_tokens x) [] → ⊥
 no_columns (One k column start len bound node prev) rest = elim rest [ ]
 no_columns (Two k left right len node prev) rest = elim rest [ ]
 
-chain_behind : (line : ℕ) (chain : ChainFields) (word w0 : List ℕ) (words : List (List ℕ)) → line ≡ chain.line → kind_of word ≡ Some kind.Chain → natural_of w0 ≡ Some chain.n →
+chain_after : (line : ℕ) (chain : ChainFields) (word w0 : List ℕ) (words : List (List ℕ)) → line ≡ chain.line → kind_of word ≡ Some kind.Chain → natural_of w0 ≡ Some chain.n →
     AreSpelled (column_tokens chain.columns) words → said_by line (word ∷ w0 ∷ words) ≡ Some (Before (Chain chain))
-chain_behind line chain word w0 [] same is p0 rest = absurd (no_columns chain.columns rest)
-chain_behind line chain word w0 (w1 ∷ words) same is p0 rest = chain_from line chain word w0 w1 words same is p0 (spelled_columns chain.columns w1 words rest)
+chain_after line chain word w0 [] same is p0 rest = absurd (no_columns chain.columns rest)
+chain_after line chain word w0 (w1 ∷ words) same is p0 rest = chain_from line chain word w0 w1 words same is p0 (spelled_columns chain.columns w1 words rest)
 
 spelled_chain : (line : ℕ) (chain : ChainFields) (words : List (List ℕ)) → line ≡ chain.line → AreSpelled (chain_tokens chain) words → said_by line words ≡ Some (Before (Chain chain))
 spelled_chain line chain _ same (next {word = word} key (next {word = w0} {words = words} p0 rest)) =
-    chain_behind line chain word w0 words same (is_kind kind.Chain word key) p0 rest
+    chain_after line chain word w0 words same (is_kind kind.Chain word key) p0 rest
 
 spelled_reason : (r : Reason) (words : List (List ℕ)) → AreSpelled (reason_tokens r) words → reason_in words ≡ Some r
 spelled_reason Shortcut _ (next key none) = rw key refl

@@ -241,15 +241,15 @@ from_lower : (s t : ℕ) (lines : List NumberedWords) (c : CertificateFields) �
 from_lower s t _ _ le (before_end part h says rest) = before_end part (omega (arith, le, h)) says rest
 from_lower s t _ _ le (at_end end says) = at_end end says
 
-unfoldable behind_section : {A : Type 0} → (A → Part) → (ℕ → A → A) → ℕ → List A → CertificateFields → CertificateFields
-behind_section part at first [] c = c
-behind_section part at first (x ∷ xs) c = with_part (part (at first x)) (behind_section part at (first + 1) xs c)
+unfoldable with_section : {A : Type 0} → (A → Part) → (ℕ → A → A) → ℕ → List A → CertificateFields → CertificateFields
+with_section part at first [] c = c
+with_section part at first (x ∷ xs) c = with_part (part (at first x)) (with_section part at (first + 1) xs c)
 
 module _ {A : Type 0} (part : A → Part) (tokens : A → List Token) (at : ℕ → A → A) (s : ℕ) (same_section : (x : A) → section_of (part x) ≡ s)
     (same_tokens : (n : ℕ) (x : A) → part_tokens (part (at n x)) ≡ tokens x) (same_line : (n : ℕ) (x : A) → n ≡ part_line (part (at n x))) (begins : (x : A) → begins_line (tokens x) ≡ true) where
   section_spelled : (first : ℕ) (xs : List A) (rest : List ℕ) (c : CertificateFields) → list_all (λ x. list_all is_clear (tokens x)) xs ≡ true →
-      SpellsFrom s (numbered_from (first + length xs) (cut_lines rest)) c → SpellsFrom s (numbered_from first (cut_lines (lines_text tokens xs ++ rest))) (behind_section part at first xs c)
-  unfolding lines_text behind_section
+      SpellsFrom s (numbered_from (first + length xs) (cut_lines rest)) c → SpellsFrom s (numbered_from first (cut_lines (lines_text tokens xs ++ rest))) (with_section part at first xs c)
+  unfolding lines_text with_section
   section_spelled first [] rest c h is =
       let same : first + 0 ≡ first = omega arith in
       subst (λ (n : ℕ). SpellsFrom s (numbered_from n (cut_lines rest)) c) same is
@@ -263,7 +263,7 @@ module _ {A : Type 0} (part : A → Part) (tokens : A → List Token) (at : ℕ 
       let le : s ≤ section_of (part (at first x)) = omega (arith, of_section) in
       let spelled = subst (λ (ts : List Token). AreSpelled ts (map token_text (tokens x))) (sym (same_tokens first x)) (tokens_spelled (tokens x) here.0) in
       rw all (before_end (part (at first x)) le (same_line first x, spelled)
-      (subst (λ (k : ℕ). SpellsFrom k (numbered_from (first + 1) (cut_lines (lines_text tokens xs ++ rest))) (behind_section part at (first + 1) xs c)) of_section others))
+      (subst (λ (k : ℕ). SpellsFrom k (numbered_from (first + 1) (cut_lines (lines_text tokens xs ++ rest))) (with_section part at (first + 1) xs c)) of_section others))
 
 end_spelled : (n : ℕ) (end : EndLine) → list_all is_small (end_tokens end) ≡ true → SpellsFrom 3 (numbered_from n (cut_lines (token_line (end_tokens end)))) (end_alone (record { line = n; row = end.row }))
 unfolding cut_lines numbered_from
@@ -278,43 +278,43 @@ row_all x h =
     let first = both (nat_lt x.n (2 ^ 64)) (list_all is_small (Key (connective_spelling x.op) ∷ Number x.a ∷ Number x.b ∷ Number x.c ∷ reason_tokens x.reason)) h in
     rw first.0 (row_clear x.a x.b x.c x.op x.reason first.1)
 
-nodes_behind : (first : ℕ) (xs : List NodeLine) (c : CertificateFields) →
-    behind_section Node node_at first xs c ≡ record { nodes = numbered_on node_at first xs ++ c.nodes; chains = c.chains; products = c.products; body = c.body; end = c.end }
-unfolding numbered_on behind_section
-nodes_behind first [] c = refl
-nodes_behind first (x ∷ xs) c = ap (with_part (Node (node_at first x))) (nodes_behind (first + 1) xs c)
+nodes_after : (first : ℕ) (xs : List NodeLine) (c : CertificateFields) →
+    with_section Node node_at first xs c ≡ record { nodes = numbered_on node_at first xs ++ c.nodes; chains = c.chains; products = c.products; body = c.body; end = c.end }
+unfolding numbered_on with_section
+nodes_after first [] c = refl
+nodes_after first (x ∷ xs) c = ap (with_part (Node (node_at first x))) (nodes_after (first + 1) xs c)
 
-chains_behind : (first : ℕ) (xs : List ChainFields) (c : CertificateFields) →
-    behind_section Chain chain_at first xs c ≡ record { nodes = c.nodes; chains = numbered_on chain_at first xs ++ c.chains; products = c.products; body = c.body; end = c.end }
-unfolding numbered_on behind_section
-chains_behind first [] c = refl
-chains_behind first (x ∷ xs) c = ap (with_part (Chain (chain_at first x))) (chains_behind (first + 1) xs c)
+chains_after : (first : ℕ) (xs : List ChainFields) (c : CertificateFields) →
+    with_section Chain chain_at first xs c ≡ record { nodes = c.nodes; chains = numbered_on chain_at first xs ++ c.chains; products = c.products; body = c.body; end = c.end }
+unfolding numbered_on with_section
+chains_after first [] c = refl
+chains_after first (x ∷ xs) c = ap (with_part (Chain (chain_at first x))) (chains_after (first + 1) xs c)
 
-rows_behind : (first : ℕ) (xs : List ProductLine) (c : CertificateFields) →
-    behind_section Row row_at first xs c ≡ record { nodes = c.nodes; chains = c.chains; products = numbered_on row_at first xs ++ c.products; body = c.body; end = c.end }
-unfolding numbered_on behind_section
-rows_behind first [] c = refl
-rows_behind first (x ∷ xs) c = ap (with_part (Row (row_at first x))) (rows_behind (first + 1) xs c)
+rows_after : (first : ℕ) (xs : List ProductLine) (c : CertificateFields) →
+    with_section Row row_at first xs c ≡ record { nodes = c.nodes; chains = c.chains; products = numbered_on row_at first xs ++ c.products; body = c.body; end = c.end }
+unfolding numbered_on with_section
+rows_after first [] c = refl
+rows_after first (x ∷ xs) c = ap (with_part (Row (row_at first x))) (rows_after (first + 1) xs c)
 
-body_behind : (first : ℕ) (xs : List BodyFields) (c : CertificateFields) →
-    behind_section Body body_at first xs c ≡ record { nodes = c.nodes; chains = c.chains; products = c.products; body = numbered_on body_at first xs ++ c.body; end = c.end }
-unfolding numbered_on behind_section
-body_behind first [] c = refl
-body_behind first (x ∷ xs) c = ap (with_part (Body (body_at first x))) (body_behind (first + 1) xs c)
+body_after : (first : ℕ) (xs : List BodyFields) (c : CertificateFields) →
+    with_section Body body_at first xs c ≡ record { nodes = c.nodes; chains = c.chains; products = c.products; body = numbered_on body_at first xs ++ c.body; end = c.end }
+unfolding numbered_on with_section
+body_after first [] c = refl
+body_after first (x ∷ xs) c = ap (with_part (Body (body_at first x))) (body_after (first + 1) xs c)
 
 -- a certificate without its end, put in front of that of which this is the end
 put_together : (nodes : List NodeLine) (chains : List ChainFields) (rows : List ProductLine) (body : List BodyFields) (a b r y : ℕ) (end : EndLine) →
-    behind_section Node node_at a nodes (behind_section Chain chain_at b chains (behind_section Row row_at r rows (behind_section Body body_at y body (end_alone end))))
+    with_section Node node_at a nodes (with_section Chain chain_at b chains (with_section Row row_at r rows (with_section Body body_at y body (end_alone end))))
     ≡ record { nodes = numbered_on node_at a nodes; chains = numbered_on chain_at b chains; products = numbered_on row_at r rows; body = numbered_on body_at y body; end = end }
 put_together nodes chains rows body a b r y end =
     rw (
-      body_behind y body (end_alone end),
+      body_after y body (end_alone end),
       append-nil (numbered_on body_at y body),
-      rows_behind r rows (record { nodes = []; chains = []; products = []; body = numbered_on body_at y body; end = end }),
+      rows_after r rows (record { nodes = []; chains = []; products = []; body = numbered_on body_at y body; end = end }),
       append-nil (numbered_on row_at r rows),
-      chains_behind b chains (record { nodes = []; chains = []; products = numbered_on row_at r rows; body = numbered_on body_at y body; end = end }),
+      chains_after b chains (record { nodes = []; chains = []; products = numbered_on row_at r rows; body = numbered_on body_at y body; end = end }),
       append-nil (numbered_on chain_at b chains),
-      nodes_behind a nodes (record { nodes = []; chains = numbered_on chain_at b chains; products = numbered_on row_at r rows; body = numbered_on body_at y body; end = end }),
+      nodes_after a nodes (record { nodes = []; chains = numbered_on chain_at b chains; products = numbered_on row_at r rows; body = numbered_on body_at y body; end = end }),
       append-nil (numbered_on node_at a nodes),
     ) refl
 

@@ -88,8 +88,8 @@ last_line (line ∷ lines) x = Err (form_fault line.number)
 
 -- what a line and the lines after it say, where the lines after a section say that
 abbrev pub followed : List NumberedWords → (ℕ → Result CertificateFields Fault) → Said → Result CertificateFields Fault
-followed lines behind (Before part) = behind (section_of part) >>= λ rest. Ok (with_part part rest)
-followed lines behind (End end) = last_line lines (end_alone end)
+followed lines after (Before part) = after (section_of part) >>= λ rest. Ok (with_part part rest)
+followed lines after (End end) = last_line lines (end_alone end)
 
 -- what lines say that stand in a section or after it, or the first fault in them; they end with this number
 unfoldable pub certificate_from : ℕ → List NumberedWords → ℕ → Result CertificateFields Fault

@@ -61,16 +61,16 @@ two_columns_in kind (left ∷ right ∷ len ∷ node ∷ prev ∷ []) =
     >? λ prev. Some (Two kind left right len node prev)
 two_columns_in kind words = None
 
-abbrev pub columns_behind : Form → List (List ℕ) → Option ColumnFields
-columns_behind form.Less words = one_column_in compared.Less words
-columns_behind form.Equal words = one_column_in compared.Equal words
-columns_behind form.LessTwo words = two_columns_in compared.Less words
-columns_behind form.EqualTwo words = two_columns_in compared.Equal words
+abbrev pub columns_after : Form → List (List ℕ) → Option ColumnFields
+columns_after form.Less words = one_column_in compared.Less words
+columns_after form.Equal words = one_column_in compared.Equal words
+columns_after form.LessTwo words = two_columns_in compared.Less words
+columns_after form.EqualTwo words = two_columns_in compared.Equal words
 
 -- n, a form, and what it compares
 abbrev pub chain_in : ℕ → List (List ℕ) → Option ChainFields
 chain_in line (n ∷ word ∷ words) =
-    natural_of n >? λ n. form_of word >? λ form. columns_behind form words >? λ columns.
+    natural_of n >? λ n. form_of word >? λ form. columns_after form words >? λ columns.
     Some (record { line = line; n = n; columns = columns })
 chain_in line words = None
 
@@ -151,21 +151,21 @@ keep_in words = None
 abbrev pub body_at : ℕ → EntryFields → Said
 body_at line entry = Before (Body (record { line = line; entry = entry }))
 
-abbrev pub said_behind : ℕ → LineKind → List (List ℕ) → Option Said
-said_behind line kind.Node words = node_in line words >? λ node. Some (Before (Node node))
-said_behind line kind.Chain words = chain_in line words >? λ chain. Some (Before (Chain chain))
-said_behind line kind.Row words = row_in line words >? λ row. Some (Before (Row row))
-said_behind line (kind.Condition kind) words = condition_in kind words >? λ entry. Some (body_at line (Condition entry))
-said_behind line (kind.Instruction kind) words = instruction_in kind words
+abbrev pub said_after : ℕ → LineKind → List (List ℕ) → Option Said
+said_after line kind.Node words = node_in line words >? λ node. Some (Before (Node node))
+said_after line kind.Chain words = chain_in line words >? λ chain. Some (Before (Chain chain))
+said_after line kind.Row words = row_in line words >? λ row. Some (Before (Row row))
+said_after line (kind.Condition kind) words = condition_in kind words >? λ entry. Some (body_at line (Condition entry))
+said_after line (kind.Instruction kind) words = instruction_in kind words
     >? λ entry. Some (body_at line (Instruction entry))
-said_behind line kind.Join words = number_in words >? λ target. Some (body_at line (Join target))
-said_behind line kind.Keep words = keep_in words >? λ keep. Some (body_at line (Kept keep))
-said_behind line kind.End words = number_in words >? λ row. Some (End (record { line = line; row = row }))
+said_after line kind.Join words = number_in words >? λ target. Some (body_at line (Join target))
+said_after line kind.Keep words = keep_in words >? λ keep. Some (body_at line (Kept keep))
+said_after line kind.End words = number_in words >? λ row. Some (End (record { line = line; row = row }))
 
 -- what the words of a line say, if they are of any of its forms
 abbrev pub said_by : ℕ → List (List ℕ) → Option Said
 said_by line [] = None
-said_by line (word ∷ words) = kind_of word >? λ kind. said_behind line kind words
+said_by line (word ∷ words) = kind_of word >? λ kind. said_after line kind words
 
 abbrev pub said_in : NumberedWords → Option Said
 said_in line = said_by line.number line.words

@@ -2,7 +2,7 @@
 ghost use Rattle.std.specs.Prelude.{◌≡◌, List, ℕ, map, option_map, IfOk};
 ghost use Rattle.bw_text.specs.Lines.{line_of};
 ghost use Rattle.bw_cert_lines.specs.CertificateFields.{column_fields, chain_fields, keep_fields, entry_fields};
-ghost use Rattle.bw_cert_text.specs.LineText.{node_in, one_column_in, two_columns_in, columns_behind, chain_in, reason_in, row_in, compare_in, compare_columns_in, is_in, condition_in, byte_in, instruction_in, edges_in, keep_in, body_at, said_behind, said_in};
+ghost use Rattle.bw_cert_text.specs.LineText.{node_in, one_column_in, two_columns_in, columns_after, chain_in, reason_in, row_in, compare_in, compare_columns_in, is_in, condition_in, byte_in, instruction_in, edges_in, keep_in, body_at, said_after, said_in};
 ghost use Rattle.bw_cert_text.specs.declared.line.Said.TheVariants as said;
 ghost use Rattle.bw_cert_text.specs.SaidFields.{part_fields, said_fields};
 
@@ -120,13 +120,13 @@ fn two_columns_in(
 }
 
 /// What a chain of this form compares.
-fn columns_behind(
+fn columns_after(
     alloc: Global,
     form: Form,
     words: &[&[u8]],
 ) -> Result<Option<ChainColumns>, AllocError>
     ensures { IfOk result (λ columns. option_map column_fields columns
-        ≡ columns_behind form (map (λ word. word.now) words.now)) }
+        ≡ columns_after form (map (λ word. word.now) words.now)) }
 {
     match form {
         Form::Less => one_column_in(alloc, ChainKind::Less, words),
@@ -150,7 +150,7 @@ fn chain_in(alloc: Global, line: u64, words: &[&[u8]]) -> Result<Option<ChainLin
     let Some(form) = Form::of(word) else {
         return Ok(None);
     };
-    let Some(columns) = columns_behind(alloc, form, rest)? else {
+    let Some(columns) = columns_after(alloc, form, rest)? else {
         return Ok(None);
     };
     Ok(Some(ChainLine { line, n, columns }))
@@ -385,18 +385,18 @@ pub(crate) fn said_in(alloc: Global, line: &Line) -> Result<Option<Said>, AllocE
     let Some(kind) = LineKind::of(word) else {
         return Ok(None);
     };
-    said_behind(alloc, line.number, kind, rest)
+    said_after(alloc, line.number, kind, rest)
 }
 
 /// What the words after the first one say in a line of this kind.
-fn said_behind(
+fn said_after(
     alloc: Global,
     line: u64,
     kind: LineKind,
     words: &[&[u8]],
 ) -> Result<Option<Said>, AllocError>
     ensures { IfOk result
-        (λ said. option_map said_fields said ≡ said_behind line kind (map (λ word. word.now) words.now)) }
+        (λ said. option_map said_fields said ≡ said_after line kind (map (λ word. word.now) words.now)) }
 {
     match kind {
         LineKind::Node => Ok(before(node_in(line, words).map(Part::Node))),

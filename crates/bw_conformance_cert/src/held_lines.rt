@@ -1,5 +1,5 @@
-//! Whatever a diagram holds, with memory at hand it takes each line that obeys its rule, and refuses each other one by its
-//! own number. No clause can say so, since out of memory is set aside in all of them.
+//! Whatever a diagram holds, with memory at hand it takes each line that obeys its rule, and refuses each other one by
+//! its own number. No clause can say so, since out of memory is set aside in all of them.
 use bw_diagram::{ChainColumns, ChainKind, Connective, Diagram, Reason};
 use bw_model::{Fault, Schema};
 use std::alloc::Global;
@@ -38,7 +38,8 @@ impl Held {
     }
 }
 
-/// Adds the line after so many others of its kind: one that obeys its rule whatever else is held, or one that breaks it.
+/// Adds the line after so many others of its kind: one that obeys its rule whatever else is held, or one that breaks
+/// it.
 fn add(
     alloc: Global,
     diagram: &mut Diagram<'_>,

@@ -24,7 +24,7 @@ fn faults_are_reported(rt: HostRuntime) -> Result<(), Fail> {
 }
 
 #[test]
-fn served_queries_are_told(rt: HostRuntime) -> Result<(), Fail> {
+fn served_queries_are_reported(rt: HostRuntime) -> Result<(), Fail> {
     let served = Served {
         by: By::Program,
         scanned: Scanned {
@@ -42,7 +42,7 @@ fn served_queries_are_told(rt: HostRuntime) -> Result<(), Fail> {
 }
 
 #[test]
-fn accepted_files_are_told(rt: HostRuntime) -> Result<(), Fail> {
+fn accepted_files_are_reported(rt: HostRuntime) -> Result<(), Fail> {
     let most = usize::MAX;
     let table = [
         (

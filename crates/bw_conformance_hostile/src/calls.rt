@@ -45,8 +45,8 @@ pub enum Call<'a> {
     Plan(&'a str),
 }
 
-/// How many bytes a read gives at most, and at which read, from 1, the sources of the schema, of the CSV text and of the
-/// table file fail (0 for never).
+/// How many bytes a read gives at most, and at which read, from 1, the sources of the schema, of the CSV text and of
+/// the table file fail (0 for never).
 #[derive(Clone, Copy)]
 pub struct Reads {
     pub piece: usize,
@@ -62,7 +62,7 @@ impl Reads {
 }
 
 impl Call<'_> {
-    /// Makes the call, and gives what it answered: by whom an answer was found, where that is told.
+    /// Makes the call, and gives what it answered: by whom an answer was found, where that is reported.
     pub fn make(
         self,
         alloc: Global,
@@ -103,7 +103,7 @@ impl Call<'_> {
         Ok(by)
     }
 
-    /// By whom the answer of the call is to be found, where that is told.
+    /// By whom the answer of the call is to be found, where that is reported.
     pub fn served_by(self) -> Option<By> {
         match self {
             Call::Answer(_, _) => Some(By::Program),

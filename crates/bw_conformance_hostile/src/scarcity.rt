@@ -8,8 +8,8 @@ use std::alloc::Global;
 use std::process::Abort;
 use std::test::Fail;
 
-/// How much memory is left in all, in bytes: several times what a call takes, since pieces of it that are given back are
-/// not all joined again.
+/// How much memory is left in all, in bytes: several times what a call takes, since pieces of it that are given back
+/// are not all joined again.
 const LEFT: usize = 512 * 1024;
 
 /// How much more of it a call may use than the one before.

@@ -56,8 +56,8 @@ fn assert_served(
         let mut source = Numbers::new(*count);
         let rows = rows_of(alloc, &mut source, &schema, &numbers, 1200)?;
         let text = among(alloc, column, &numbers)?;
-        for (before, behind) in [("", ""), ("NOT (", ")"), ("a < 9 OR ", " AND b > 5")] {
-            let text = format!(in alloc; "{before}{text}{behind}")?;
+        for (before, after) in [("", ""), ("NOT (", ")"), ("a < 9 OR ", " AND b > 5")] {
+            let text = format!(in alloc; "{before}{text}{after}")?;
             cost_of(rt, alloc, &schema, text.as_str(), &rows)?;
         }
     }

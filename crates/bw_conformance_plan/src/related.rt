@@ -77,10 +77,10 @@ fn comparisons_of_columns_end_early(rt: HostRuntime) -> Result<(), Fail> {
     let alloc = rt.alloc();
     let schema = Schema::parse(alloc, TEN_BITS.as_bytes())?;
     let rows = alike(alloc, 600)?;
-    for (before, behind) in FORMS {
+    for (before, after) in FORMS {
         for (x, y) in PAIRS {
             for op in COMPARISONS {
-                let text = format!(in alloc; "{before}{x} {op} {y}{behind}")?;
+                let text = format!(in alloc; "{before}{x} {op} {y}{after}")?;
                 assert_early(&rt, &schema, text.as_str(), &rows, 8)?;
             }
         }
@@ -126,7 +126,8 @@ fn ranges_and_lists_of_columns_end_early(rt: HostRuntime) -> Result<(), Fail> {
     Ok(())
 }
 
-/// The columns `c0`, `c1` and so on of a table, from 0 to a greatest number, and the condition that each is less than the next.
+/// The columns `c0`, `c1` and so on of a table, from 0 to a greatest number, and the condition that each is less than
+/// the next.
 fn chain(alloc: Global, count: usize, most: i64) -> Result<(Schema, String), Fail> {
     let mut table = String::from_str(alloc, "TABLE t\n")?;
     let mut text = String::from_str(alloc, "c0 < c1")?;

@@ -67,13 +67,13 @@ fn check_bits(rt: &impl Abort, alloc: Global, mut file: Vec<u8>) -> Result<(), F
 }
 
 #[test]
-fn each_bit_is_told(rt: HostRuntime) -> Result<(), Fail> {
+fn each_bit_is_reported(rt: HostRuntime) -> Result<(), Fail> {
     check_bits(&rt, rt.alloc(), planes_file(rt.alloc())?)?;
     check_bits(&rt, rt.alloc(), slices_file(rt.alloc())?)
 }
 
 #[test]
-fn each_bit_of_a_wide_column_is_told(rt: HostRuntime) -> Result<(), Fail> {
+fn each_bit_of_a_wide_column_is_reported(rt: HostRuntime) -> Result<(), Fail> {
     for layout in [Layout::Planes, Layout::Slices] {
         check_bits(&rt, rt.alloc(), wide_file(&rt, rt.alloc(), layout)?)?;
     }

@@ -28,7 +28,7 @@ fn fault_ahead(alloc: Global, file: &[u8], piece: usize) -> Result<(), Fault>
 }
 
 #[test]
-fn each_bit_is_told_the_same(rt: HostRuntime) -> Result<(), Fail> {
+fn each_bit_is_reported_the_same(rt: HostRuntime) -> Result<(), Fail> {
     let alloc = rt.alloc();
     for file in &mut worked_files(&rt, alloc)? {
         for at in 0..file.len() {

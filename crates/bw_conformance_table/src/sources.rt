@@ -51,7 +51,7 @@ impl Source for Drops<'_> {
 }
 
 /// How many rows a file has, by a source that fails after so many reads: each is one byte's, and one is the end's.
-fn rows_behind(alloc: Global, file: &[u8], reads: usize) -> Result<u32, Fault> {
+fn rows_after(alloc: Global, file: &[u8], reads: usize) -> Result<u32, Fault> {
     let mut source = Drops {
         rest: file,
         left: reads,
@@ -68,18 +68,18 @@ fn rows_behind(alloc: Global, file: &[u8], reads: usize) -> Result<u32, Fault> {
 }
 
 #[test]
-fn a_read_that_fails_is_told(rt: HostRuntime) -> Result<(), Fail> {
+fn a_read_that_fails_is_reported(rt: HostRuntime) -> Result<(), Fail> {
     let alloc = rt.alloc();
     for (file, rows) in worked_files(&rt, alloc)?.iter().zip([5, 5, 3, 3]) {
         for reads in 0..=file.len() {
-            let failed = rows_behind(alloc, file, reads).err();
+            let failed = rows_after(alloc, file, reads).err();
             assert_eq!(rt;
                 failed,
                 Some(Fault::new(code::READ_FAILED)),
-                "behind {reads} reads"
+                "after {reads} reads"
             );
         }
-        assert_eq!(rt; rows_behind(alloc, file, file.len() + 1), Ok(rows));
+        assert_eq!(rt; rows_after(alloc, file, file.len() + 1), Ok(rows));
     }
     Ok(())
 }
@@ -119,7 +119,7 @@ impl Source for Endless<'_> {
 }
 
 #[test]
-fn what_never_ends_is_refused_behind_the_last_block(rt: HostRuntime) -> Result<(), Fail> {
+fn what_never_ends_is_refused_after_the_last_block(rt: HostRuntime) -> Result<(), Fail> {
     let alloc = rt.alloc();
     for file in &worked_files(&rt, alloc)? {
         let mut source = Endless { rest: file };

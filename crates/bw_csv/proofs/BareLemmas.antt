@@ -14,7 +14,7 @@ use Rattle.bw_text.specs.Number.{are_digits, number_of}
 use Rattle.bw_model.specs.Row.{Value}
 use Rattle.bw_csv.specs.Bare.{bare_number, bare_row, bare_rows, bare_value, bare_values, within_64_bits}
 use Rattle.bw_csv.specs.Rows.{is_minus, is_null_text, number_value, row_of_record, rows_from, unsigned, value_of_field, values_of_fields, with_row, within_bounds, without_blanks}
-use Rattle.bw_csv.proofs.FieldLemmas.{behind, behind-cons}
+use Rattle.bw_csv.proofs.FieldLemmas.{after, after-cons}
 
 -- the rows of a record and of those after it
 pub bare_rows-next : (width number : ℕ) (fields : List (List ℕ)) (row : List Value) (records more : List (List (List ℕ)))
@@ -36,16 +36,16 @@ pub ruleset rows_of_records = (bare_rows-next, bare_rows-fault, bare_rows-end)
 -- one more value
 pub bare_values-next : (number : ℕ) (fs fs2 : List (List ℕ)) (field : List ℕ) (value : Value) (done : List Value)
     → fs ≡ field ∷ fs2 → bare_value number field ≡ Ok value
-    → behind done (bare_values number fs) ≡ behind (done ++ value ∷ []) (bare_values number fs2)
+    → after done (bare_values number fs) ≡ after (done ++ value ∷ []) (bare_values number fs2)
 unfolding bare_values
-bare_values-next number fs fs2 field value done f v = rw (f, v) (behind-cons done value (bare_values number fs2))
+bare_values-next number fs fs2 field value done f v = rw (f, v) (after-cons done value (bare_values number fs2))
 
 pub bare_values-fault : (number : ℕ) (fs fs2 : List (List ℕ)) (field : List ℕ) (fault : Fault) (done : List Value)
-    → fs ≡ field ∷ fs2 → bare_value number field ≡ Err fault → behind done (bare_values number fs) ≡ Err fault
+    → fs ≡ field ∷ fs2 → bare_value number field ≡ Err fault → after done (bare_values number fs) ≡ Err fault
 unfolding bare_values
 bare_values-fault number fs fs2 field fault done f v = rw (f, v) refl
 
-pub bare_values-end : (number : ℕ) (fs : List (List ℕ)) (done : List Value) → fs ≡ [] → behind done (bare_values number fs) ≡ Ok done
+pub bare_values-end : (number : ℕ) (fs : List (List ℕ)) (done : List Value) → fs ≡ [] → after done (bare_values number fs) ≡ Ok done
 unfolding bare_values
 bare_values-end number fs done e = rw e (ap Ok (append-nil done))
 

@@ -10,7 +10,7 @@ use Rattle.std.proofs.lemmas.List.Sums.{AllPass-from_list_all, suffix_len-take_n
 use Rattle.bw_model.specs.declared.column.Column.{Column}
 use Rattle.bw_text.specs.Number.{are_digits, number_of}
 use Rattle.bw_text.specs.Text.{same_text}
-use Rattle.bw_csv.specs.Rows.{behind_minus, is_blank, is_minus, is_null_text, text_value, value_of_field, within_bounds, without_blanks, without_end_blanks, without_front_blanks}
+use Rattle.bw_csv.specs.Rows.{after_minus, is_blank, is_minus, is_null_text, text_value, value_of_field, within_bounds, without_blanks, without_end_blanks, without_front_blanks}
 
 pub both : (a b : Bool) → (a && b) ≡ true → (a ≡ true) × (b ≡ true)
 both true b e = (refl, e)
@@ -46,8 +46,8 @@ ended text some last =
 last_digit : (text : List ℕ) → 0 < length text → list_all is_ascii_digit text ≡ true → is_blank (get_or text (length text - 1) 0) ≡ false
 last_digit text some all = no_blank (get_or text (length text - 1) 0) (AllPass-from_list_all is_ascii_digit text all (length text - 1) 0 (omega (arith, some)))
 
-behind : (text : List ℕ) → 0 < length text → list_all is_ascii_digit text ≡ true → without_end_blanks text ≡ text
-behind text some all = ended text some (last_digit text some all)
+after : (text : List ℕ) → 0 < length text → list_all is_ascii_digit text ≡ true → without_end_blanks text ≡ text
+after text some all = ended text some (last_digit text some all)
 
 -- no digits are NULL
 no_null : (c : ℕ) (cs : List ℕ) → is_ascii_digit c ≡ true → is_null_text (c ∷ cs) ≡ false
@@ -64,42 +64,42 @@ unfolding value_of_field
 digits_alone number column [] e = absurd (cc e)
 digits_alone number column (c ∷ cs) e =
     let all = both (is_ascii_digit c) (list_all is_ascii_digit cs) e in
-    let whole : without_blanks (c ∷ cs) ≡ c ∷ cs = rw (front c cs all.0) (behind (c ∷ cs) (omega arith) e) in
+    let whole : without_blanks (c ∷ cs) ≡ c ∷ cs = rw (front c cs all.0) (after (c ∷ cs) (omega arith) e) in
     rw whole (spells_itself number column c cs all.0 e)
 
 -- a minus sign is no blank, and no text that begins with it is NULL
-whole_behind : (cs : List ℕ) → are_digits cs ≡ true → without_blanks (45 ∷ cs) ≡ 45 ∷ cs
-whole_behind [] e = absurd (cc e)
-whole_behind (c ∷ cs) e =
+whole_after : (cs : List ℕ) → are_digits cs ≡ true → without_blanks (45 ∷ cs) ≡ 45 ∷ cs
+whole_after [] e = absurd (cc e)
+whole_after (c ∷ cs) e =
     let last : length (45 ∷ c ∷ cs) - 1 ≡ suc (length (c ∷ cs) - 1) = omega arith in
     ended (45 ∷ c ∷ cs) (omega arith) (rw last (last_digit (c ∷ cs) (omega arith) e))
 
-digits_behind_minus : (number : ℕ) (column : Column) (cs : List ℕ) → are_digits cs ≡ true
+digits_after_minus : (number : ℕ) (column : Column) (cs : List ℕ) → are_digits cs ≡ true
     → value_of_field number column (45 ∷ cs) ≡ within_bounds number column (number_of true cs)
 unfolding value_of_field same_text
-digits_behind_minus number column cs e = rw (whole_behind cs e, eqb-suc-zero (length cs), e) refl
+digits_after_minus number column cs e = rw (whole_after cs e, eqb-suc-zero (length cs), e) refl
 
 by_sign : (number : ℕ) (column : Column) (c : ℕ) (cs : List ℕ) (minus : Bool) → eqb c 45 ≡ minus
     → are_digits (if minus then cs else c ∷ cs) ≡ true
     → value_of_field number column (c ∷ cs) ≡ within_bounds number column (number_of minus (if minus then cs else c ∷ cs))
-by_sign number column c cs true s e = rw (eqb-true c 45 s) (digits_behind_minus number column cs e)
+by_sign number column c cs true s e = rw (eqb-true c 45 s) (digits_after_minus number column cs e)
 by_sign number column c cs false s e = digits_alone number column (c ∷ cs) e
 
 -- digits, after a minus sign where there is one
-pub signed_digits : (number : ℕ) (column : Column) (field : List ℕ) → are_digits (behind_minus field) ≡ true
-    → value_of_field number column field ≡ within_bounds number column (number_of (is_minus field) (behind_minus field))
+pub signed_digits : (number : ℕ) (column : Column) (field : List ℕ) → are_digits (after_minus field) ≡ true
+    → value_of_field number column field ≡ within_bounds number column (number_of (is_minus field) (after_minus field))
 signed_digits number column [] e = absurd (cc e)
 signed_digits number column (c ∷ cs) e = by_sign number column c cs (eqb c 45) refl e
 
 -- what was read of a field of digits
-read_alone : (number : ℕ) (column : Column) (field : List ℕ) (n : Option ℤ) (digits : Bool) → are_digits (behind_minus field) ≡ digits
-    → Some n ≡ (if digits then Some (number_of (is_minus field) (behind_minus field)) else None) → value_of_field number column field ≡ within_bounds number column n
-read_alone number column field n true d e = signed_digits number column field d ∙ ap (within_bounds number column) (let same : n ≡ number_of (is_minus field) (behind_minus field) = cc e in sym same)
+read_alone : (number : ℕ) (column : Column) (field : List ℕ) (n : Option ℤ) (digits : Bool) → are_digits (after_minus field) ≡ digits
+    → Some n ≡ (if digits then Some (number_of (is_minus field) (after_minus field)) else None) → value_of_field number column field ≡ within_bounds number column n
+read_alone number column field n true d e = signed_digits number column field d ∙ ap (within_bounds number column) (let same : n ≡ number_of (is_minus field) (after_minus field) = cc e in sym same)
 read_alone number column field n false d e = absurd (cc e)
 
 pub read_digits : (number : ℕ) (column : Column) (field : List ℕ) (n : Option ℤ) (is_negative : Bool) (digits : List ℕ)
-    → is_negative ≡ is_minus field → digits ≡ behind_minus field
+    → is_negative ≡ is_minus field → digits ≡ after_minus field
     → Some n ≡ (if are_digits digits then Some (number_of is_negative digits) else None)
     → value_of_field number column field ≡ within_bounds number column n
 read_digits number column field n is_negative digits s d e =
-    read_alone number column field n (are_digits (behind_minus field)) refl (rw (← d, ← s) e)
+    read_alone number column field n (are_digits (after_minus field)) refl (rw (← d, ← s) e)

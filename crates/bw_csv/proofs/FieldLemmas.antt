@@ -61,35 +61,35 @@ pub is_heading-end : (cs : List Column) (fs : List (List ℕ)) (n : ℕ) → cs 
 is_heading-end cs fs n e h = rw e (no_field_left fs n h)
 
 -- results after those so far
-abbrev pub behind : {A : Type 0} → List A → Result (List A) Fault → Result (List A) Fault
-behind done more = more >>= λ rest. Ok (done ++ rest)
+abbrev pub after : {A : Type 0} → List A → Result (List A) Fault → Result (List A) Fault
+after done more = more >>= λ rest. Ok (done ++ rest)
 
-pub behind-nothing : {A : Type 0} (more : Result (List A) Fault) → more ≡ behind [] more
-behind-nothing (Ok rest) = refl
-behind-nothing (Err fault) = refl
+pub after-nothing : {A : Type 0} (more : Result (List A) Fault) → more ≡ after [] more
+after-nothing (Ok rest) = refl
+after-nothing (Err fault) = refl
 
-pub behind-cons : {A : Type 0} (done : List A) (x : A) (more : Result (List A) Fault) → behind done (more >>= λ rest. Ok (x ∷ rest)) ≡ behind (done ++ x ∷ []) more
-behind-cons done x (Ok rest) = ap Ok (sym (append_assoc done (x ∷ []) rest))
-behind-cons done x (Err fault) = refl
+pub after-cons : {A : Type 0} (done : List A) (x : A) (more : Result (List A) Fault) → after done (more >>= λ rest. Ok (x ∷ rest)) ≡ after (done ++ x ∷ []) more
+after-cons done x (Ok rest) = ap Ok (sym (append_assoc done (x ∷ []) rest))
+after-cons done x (Err fault) = refl
 
 -- one more value
 pub values-next : (number : ℕ) (cs cs2 : List Column) (fs fs2 : List (List ℕ)) (column : Column) (field : List ℕ) (value : Value) (done : List Value)
     → cs ≡ column ∷ cs2 → fs ≡ field ∷ fs2 → value_of_field number column field ≡ Ok value
-    → behind done (values_of_fields number cs fs) ≡ behind (done ++ value ∷ []) (values_of_fields number cs2 fs2)
+    → after done (values_of_fields number cs fs) ≡ after (done ++ value ∷ []) (values_of_fields number cs2 fs2)
 unfolding values_of_fields
-values-next number cs cs2 fs fs2 column field value done c f v = rw (c, f, v) (behind-cons done value (values_of_fields number cs2 fs2))
+values-next number cs cs2 fs fs2 column field value done c f v = rw (c, f, v) (after-cons done value (values_of_fields number cs2 fs2))
 
 pub values-fault : (number : ℕ) (cs cs2 : List Column) (fs fs2 : List (List ℕ)) (column : Column) (field : List ℕ) (fault : Fault) (done : List Value)
     → cs ≡ column ∷ cs2 → fs ≡ field ∷ fs2 → value_of_field number column field ≡ Err fault
-    → behind done (values_of_fields number cs fs) ≡ Err fault
+    → after done (values_of_fields number cs fs) ≡ Err fault
 unfolding values_of_fields
 values-fault number cs cs2 fs fs2 column field fault done c f v = rw (c, f, v) refl
 
 pub values-short : (number : ℕ) (cs cs2 : List Column) (fs : List (List ℕ)) (column : Column) (done : List Value)
-    → cs ≡ column ∷ cs2 → fs ≡ [] → behind done (values_of_fields number cs fs) ≡ Err (at_record 203 number)
+    → cs ≡ column ∷ cs2 → fs ≡ [] → after done (values_of_fields number cs fs) ≡ Err (at_record 203 number)
 unfolding values_of_fields
 values-short number cs cs2 fs column done c f = rw (c, f) refl
 
-pub values-end : (number : ℕ) (cs : List Column) (fs : List (List ℕ)) (done : List Value) → cs ≡ [] → behind done (values_of_fields number cs fs) ≡ Ok done
+pub values-end : (number : ℕ) (cs : List Column) (fs : List (List ℕ)) (done : List Value) → cs ≡ [] → after done (values_of_fields number cs fs) ≡ Ok done
 unfolding values_of_fields
 values-end number cs fs done c = rw c (ap Ok (append-nil done))

@@ -35,27 +35,27 @@ pub drop_at : (text : List ℕ) (i : ℕ) → i < length text → drop i text �
 drop_at text i h = rw (add-one) (drop-cons text i 0 h)
 
 -- what is to come after the byte that ends it
-behind_return : (inside : Inside) (rest : List ℕ) → is_end (step default_config (state_of inside) 13).1 ≡ true
+rest_after_return : (inside : Inside) (rest : List ℕ) → is_end (step default_config (state_of inside) 13).1 ≡ true
     → records_in (step default_config (state_of inside) 13).0 (Some rest) ≡ records_in st.StartRecord (Some (13 ∷ rest))
-behind_return Before rest e = absurd (cc e)
-behind_return Front rest e = records-after_return rest ∙ sym (records-skip 13 rest refl)
-behind_return Bare rest e = records-after_return rest ∙ sym (records-skip 13 rest refl)
-behind_return Quoted rest e = absurd (cc e)
-behind_return Closed rest e = records-after_return rest ∙ sym (records-skip 13 rest refl)
+rest_after_return Before rest e = absurd (cc e)
+rest_after_return Front rest e = records-after_return rest ∙ sym (records-skip 13 rest refl)
+rest_after_return Bare rest e = records-after_return rest ∙ sym (records-skip 13 rest refl)
+rest_after_return Quoted rest e = absurd (cc e)
+rest_after_return Closed rest e = records-after_return rest ∙ sym (records-skip 13 rest refl)
 
-behind_feed : (inside : Inside) (rest : List ℕ) → is_end (step default_config (state_of inside) 10).1 ≡ true
+rest_after_feed : (inside : Inside) (rest : List ℕ) → is_end (step default_config (state_of inside) 10).1 ≡ true
     → records_in (step default_config (state_of inside) 10).0 (Some rest) ≡ records_in st.StartRecord (Some (10 ∷ rest))
-behind_feed Before rest e = absurd (cc e)
-behind_feed Front rest e = sym (records-skip 10 rest refl)
-behind_feed Bare rest e = sym (records-skip 10 rest refl)
-behind_feed Quoted rest e = absurd (cc e)
-behind_feed Closed rest e = sym (records-skip 10 rest refl)
+rest_after_feed Before rest e = absurd (cc e)
+rest_after_feed Front rest e = sym (records-skip 10 rest refl)
+rest_after_feed Bare rest e = sym (records-skip 10 rest refl)
+rest_after_feed Quoted rest e = absurd (cc e)
+rest_after_feed Closed rest e = sym (records-skip 10 rest refl)
 
-behind_end : (inside : Inside) (c : ℕ) (rest : List ℕ) → ends_line c ≡ true → is_end (step default_config (state_of inside) c).1 ≡ true
+rest_after_end : (inside : Inside) (c : ℕ) (rest : List ℕ) → ends_line c ≡ true → is_end (step default_config (state_of inside) c).1 ≡ true
     → records_in (step default_config (state_of inside) c).0 (Some rest) ≡ records_in st.StartRecord (Some (c ∷ rest))
-behind_end inside c rest line =
+rest_after_end inside c rest line =
     line_end_is (λ d. is_end (step default_config (state_of inside) d).1 ≡ true → records_in (step default_config (state_of inside) d).0 (Some rest) ≡ records_in st.StartRecord (Some (d ∷ rest)))
-    c (eqb c 13) (eqb c 10) refl refl line (behind_return inside rest) (behind_feed inside rest)
+    c (eqb c 13) (eqb c 10) refl refl line (rest_after_return inside rest) (rest_after_feed inside rest)
 
 -- the first record of a text is read once
 same_rest : (text : List ℕ) (p : Read) (fields : List (List ℕ)) (more : List (List (List ℕ))) → next_record default_config st.StartRecord [] [] text ≡ Some p
@@ -74,7 +74,7 @@ pub goes-end : (text left : List ℕ) (i : ℕ) (inside : Inside) (fields : List
     → left ≡ get_or text i 0 ∷ drop (i + 1) text
     → records_in st.StartRecord (Some text) ≡ fields ∷ more → records_in st.StartRecord (Some left) ≡ more
 goes-end text left i inside fields more on line e l all =
-    rw l (sym (behind_end inside (get_or text i 0) (drop (i + 1) text) line e)
+    rw l (sym (rest_after_end inside (get_or text i 0) (drop (i + 1) text) line e)
     ∙ same_rest text _ fields more (ends_with text (drop (i + 1) text) (get_or text i 0) inside on e) all)
 
 -- the text ends with it

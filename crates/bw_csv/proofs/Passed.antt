@@ -7,8 +7,8 @@ use Rattle.bw_model.specs.declared.fault.Place.{Place}
 use Rattle.bw_model.specs.declared.fault.Place.TheVariants.{Nowhere, Byte, Line, Rec}
 use Rattle.bw_model.specs.Fault.{at_record}
 use Rattle.bw_model.specs.Row.{Value}
-use Rattle.bw_csv.specs.Rows.{StopsBehind, is_any_record, is_reader_fault, is_record, stands_at, with_row}
-use Rattle.bw_csv.proofs.FieldLemmas.{behind, behind-cons, behind-nothing}
+use Rattle.bw_csv.specs.Rows.{StopsAfter, is_any_record, is_reader_fault, is_record, stands_at, with_row}
+use Rattle.bw_csv.proofs.FieldLemmas.{after, after-cons, after-nothing}
 
 abbrev pub Records : Type 0
 Records = List (List (List ℕ))
@@ -21,10 +21,10 @@ pub record Passed (rows_at : ℕ → Records → Result Rows Fault) (first : Rec
   pub done : Records
   pub all : first ≡ done ++ records
   pub count : length done + 1 ≡ number
-  pub on : (rest : Records) → rows_at 1 (done ++ rest) ≡ behind before (rows_at number rest)
+  pub on : (rest : Records) → rows_at 1 (done ++ rest) ≡ after before (rows_at number rest)
 
 pub passed-nothing : (rows_at : ℕ → Records → Result Rows Fault) (records : Records) → Passed rows_at records [] 1 records
-passed-nothing rows_at records = record { done = []; all = refl; count = refl; on = λ rest. behind-nothing (rows_at 1 rest) }
+passed-nothing rows_at records = record { done = []; all = refl; count = refl; on = λ rest. after-nothing (rows_at 1 rest) }
 
 pub passed-next : (rows_at : ℕ → Records → Result Rows Fault) (first : Records) (before : Rows) (number : ℕ) (records more : Records) (fields : List (List ℕ)) (row : List Value)
     → Passed rows_at first before number records → records ≡ fields ∷ more
@@ -37,12 +37,12 @@ passed-next rows_at first before number records more fields row p e step = recor
   on = λ rest.
       ap (λ (l : Records). rows_at 1 l) (append_assoc p.done (fields ∷ []) rest)
       ∙ p.on (fields ∷ rest)
-      ∙ ap (behind before) (step rest)
-      ∙ behind-cons before row (rows_at (number + 1) rest);
+      ∙ ap (after before) (step rest)
+      ∙ after-cons before row (rows_at (number + 1) rest);
 }
 
 pub passed-on : (rows_at : ℕ → Records → Result Rows Fault) (first : Records) (before : Rows) (number : ℕ) (records : Records) → Passed rows_at first before number records
-    → rows_at 1 first ≡ behind before (rows_at number records)
+    → rows_at 1 first ≡ after before (rows_at number records)
 passed-on rows_at first before number records p = ap (λ (l : Records). rows_at 1 l) p.all ∙ p.on records
 
 -- an error of the reader's own that stands at the record of a number
@@ -65,8 +65,8 @@ reader_fault number fault at own = by (eqb fault.code 209) refl at own
     by false e at own = absurd (cc own)
 
 pub passed-stops : (rows_at : ℕ → Records → Result Rows Fault) (first : Records) (before : Rows) (number : ℕ) (records : Records) (fault : Fault) → Passed rows_at first before number records
-    → rows_at number [] ≡ Ok [] → stands_at number fault ≡ true → is_reader_fault fault ≡ true → StopsBehind rows_at first fault
+    → rows_at number [] ≡ Ok [] → stands_at number fault ≡ true → is_reader_fault fault ≡ true → StopsAfter rows_at first fault
 passed-stops rows_at first before number records fault p none at own =
     let good : rows_at 1 p.done ≡ Ok before =
-    ap (λ (l : Records). rows_at 1 l) (sym (append-nil p.done)) ∙ p.on [] ∙ ap (behind before) none ∙ ap (λ (l : Rows). Ok l) (append-nil before) in
+    ap (λ (l : Records). rows_at 1 l) (sym (append-nil p.done)) ∙ p.on [] ∙ ap (after before) none ∙ ap (λ (l : Rows). Ok l) (append-nil before) in
     record { done = p.done; rest = records; all = p.all; rows = before; good = good; is = reader_fault number fault at own ∙ ap (at_record 209) (sym p.count) }

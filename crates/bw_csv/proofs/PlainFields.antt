@@ -8,7 +8,7 @@ use Rattle.std.proofs.lemmas.Int.{ints, to_z-of_z}
 use Rattle.bw_model.specs.declared.column.Column.{Column}
 use Rattle.bw_text.specs.Number.{are_digits, digits_value, number_of}
 use Rattle.bw_csv.specs.Plain.{is_plain}
-use Rattle.bw_csv.specs.Rows.{behind_minus, is_minus, value_of_field}
+use Rattle.bw_csv.specs.Rows.{after_minus, is_minus, value_of_field}
 use Rattle.bw_csv.proofs.DigitsAlone.{both, other_than, signed_digits}
 
 -- digits are plain, and so is a minus sign
@@ -27,7 +27,7 @@ signed_plain : (c : ℕ) (cs : List ℕ) (minus : Bool) → eqb c 45 ≡ minus �
 signed_plain c cs true s e = rw (eqb-true c 45 s) (digits_plain cs (all_digits cs e))
 signed_plain c cs false s e = digits_plain (c ∷ cs) e
 
-pub plain_number : (field : List ℕ) → are_digits (behind_minus field) ≡ true → list_all is_plain field ≡ true
+pub plain_number : (field : List ℕ) → are_digits (after_minus field) ≡ true → list_all is_plain field ≡ true
 plain_number [] e = refl
 plain_number (c ∷ cs) e = signed_plain c cs (eqb c 45) refl e
 
@@ -51,15 +51,15 @@ unfolding number_of
 number_fits true digits n e = negative_fits (digits_value digits) n (leb (digits_value digits) (2 ^ 63)) refl e
 number_fits false digits n e = positive_fits (digits_value digits) n (ltb (digits_value digits) (2 ^ 63)) refl e
 
-number_within : (number : ℕ) (column : Column) (field : List ℕ) (n : ℤ) → are_digits (behind_minus field) ≡ true
-    → number_of (is_minus field) (behind_minus field) ≡ Some n → (int_le column.lo n && int_le n column.hi) ≡ true
+number_within : (number : ℕ) (column : Column) (field : List ℕ) (n : ℤ) → are_digits (after_minus field) ≡ true
+    → number_of (is_minus field) (after_minus field) ≡ Some n → (int_le column.lo n && int_le n column.hi) ≡ true
     → value_of_field number column field ≡ Ok (Some n)
 number_within number column field n digits e within = signed_digits number column field digits ∙ rw (e, within) refl
 
 -- and as the code has it
-pub number_found : (number : ℕ) (column : Column) (field : List ℕ) (n : ℤ) → are_digits (behind_minus field) ≡ true
-    → number_of (is_minus field) (behind_minus field) ≡ Some n → (int_le column.lo (to_z w64 (of_z w64 n)) && int_le (to_z w64 (of_z w64 n)) column.hi) ≡ true
+pub number_found : (number : ℕ) (column : Column) (field : List ℕ) (n : ℤ) → are_digits (after_minus field) ≡ true
+    → number_of (is_minus field) (after_minus field) ≡ Some n → (int_le column.lo (to_z w64 (of_z w64 n)) && int_le (to_z w64 (of_z w64 n)) column.hi) ≡ true
     → value_of_field number column field ≡ Ok (Some (to_z w64 (of_z w64 n)))
 number_found number column field n digits e within =
-    let same = to_z-of_z w64 n (number_fits (is_minus field) (behind_minus field) n e) in
+    let same = to_z-of_z w64 n (number_fits (is_minus field) (after_minus field) n e) in
     rw same (number_within number column field n digits e (rw same at within))

@@ -93,10 +93,10 @@ skips c rest e = line_end_is (λ d. next_record default_config st.StartRecord []
 pub records-skip : (c : ℕ) (rest : List ℕ) → ends_line c ≡ true → records_in st.StartRecord (Some (c ∷ rest)) ≡ records_in st.StartRecord (Some rest)
 records-skip c rest e = same_records st.StartRecord st.StartRecord (c ∷ rest) rest (skips c rest e)
 
-pub records-behind : (text rest : List ℕ) → eqb (length text) 0 ≡ false → ends_line (get_or text 0 0) ≡ true → rest ≡ drop 1 text
+pub records-after : (text rest : List ℕ) → eqb (length text) 0 ≡ false → ends_line (get_or text 0 0) ≡ true → rest ≡ drop 1 text
     → records_in st.StartRecord (Some text) ≡ records_in st.StartRecord (Some rest)
-records-behind [] rest some e r = absurd (cc some)
-records-behind (c ∷ cs) rest some e r = rw r (records-skip c cs e)
+records-after [] rest some e r = absurd (cc some)
+records-after (c ∷ cs) rest some e r = rw r (records-skip c cs e)
 
 -- nor does it matter whether a carriage return was before
 returned : (c : ℕ) (rest : List ℕ) (feed : Bool) → eqb c 10 ≡ feed → next_record default_config st.AfterCr [] [] (c ∷ rest) ≡ next_record default_config st.StartRecord [] [] (c ∷ rest)

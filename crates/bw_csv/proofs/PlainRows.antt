@@ -11,7 +11,7 @@ use Rattle.bw_model.specs.Limits.{most_rows}
 use Rattle.bw_model.specs.Row.{Value}
 use Rattle.bw_csv.specs.Plain.{HasRow, IsPlainField, ends_line, is_field_end, is_line_end}
 use Rattle.bw_csv.specs.Rows.{row_of_record, value_of_field, values_of_fields}
-use Rattle.bw_csv.proofs.FieldLemmas.{behind, behind-nothing, values-end, values-next}
+use Rattle.bw_csv.proofs.FieldLemmas.{after, after-nothing, values-end, values-next}
 use Rattle.bw_csv.proofs.PlainRecords.{begins, field-comma, field-end}
 
 -- Of a text's first record these are the values so far, of so many fields, and this is left of the text.
@@ -19,25 +19,25 @@ pub record ReadSoFar (number : ℕ) (columns : List Column) (text rest : List �
   pub done : List (List ℕ)
   pub many : length done ≡ i
   pub reads : next_record default_config st.StartRecord [] [] text ≡ next_record default_config st.StartField done [] rest
-  pub spelled : (more : List (List ℕ)) → values_of_fields number columns (done ++ more) ≡ behind values (values_of_fields number (drop i columns) more)
+  pub spelled : (more : List (List ℕ)) → values_of_fields number columns (done ++ more) ≡ after values (values_of_fields number (drop i columns) more)
 
 pub read-nothing : (number : ℕ) (columns : List Column) (text : List ℕ) → is_line_end text ≡ false → ReadSoFar number columns text text 0 []
 read-nothing number columns [] e = absurd (cc e)
 read-nothing number columns (c ∷ cs) e =
-    record { done = []; many = refl; reads = begins c cs e; spelled = λ more. behind-nothing (values_of_fields number columns more) }
+    record { done = []; many = refl; reads = begins c cs e; spelled = λ more. after-nothing (values_of_fields number columns more) }
 
 -- one more field
 values_more : (number : ℕ) (columns : List Column) (i : ℕ) (values : List Value) (done : List (List ℕ)) (field : List ℕ) (column : Column) (value : Value)
-    → ((more : List (List ℕ)) → values_of_fields number columns (done ++ more) ≡ behind values (values_of_fields number (drop i columns) more))
+    → ((more : List (List ℕ)) → values_of_fields number columns (done ++ more) ≡ after values (values_of_fields number (drop i columns) more))
     → drop i columns ≡ column ∷ drop (i + 1) columns → value_of_field number column field ≡ Ok value
-    → (more : List (List ℕ)) → values_of_fields number columns ((done ++ field ∷ []) ++ more) ≡ behind (values ++ value ∷ []) (values_of_fields number (drop (i + 1) columns) more)
+    → (more : List (List ℕ)) → values_of_fields number columns ((done ++ field ∷ []) ++ more) ≡ after (values ++ value ∷ []) (values_of_fields number (drop (i + 1) columns) more)
 values_more number columns i values done field column value spelled here v more =
     ap (λ (fields : List (List ℕ)). values_of_fields number columns fields) (append_assoc done (field ∷ []) more)
     ∙ spelled (field ∷ more)
     ∙ values-next number (drop i columns) (drop (i + 1) columns) (field ∷ more) more column field value values here refl v
 
 -- what is left after a field begins with a comma, where the field is not the last
-comma_is : (behind_field : List ℕ) → is_field_end behind_field ≡ true → is_line_end behind_field ≡ false → behind_field ≡ 44 ∷ drop 1 behind_field
+comma_is : (after_field : List ℕ) → is_field_end after_field ≡ true → is_line_end after_field ≡ false → after_field ≡ 44 ∷ drop 1 after_field
 comma_is [] e f = absurd (cc f)
 comma_is (c ∷ cs) e f = by (eqb c 44) refl e f
   where

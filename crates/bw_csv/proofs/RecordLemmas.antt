@@ -49,15 +49,15 @@ records_from-end cfg (suc n) = refl
 abbrev SameTurns : Config → ℕ → Type 0
 SameTurns cfg n = (m : ℕ) (s : State) (xs : List ℕ) → length xs < n → length xs < m → records_from cfg n s xs ≡ records_from cfg m s xs
 
-turns-behind : (cfg : Config) (n m : ℕ) (p : Read) (size : ℕ) → SameTurns cfg n → size < suc n → size < suc m → Eats p size → records_from cfg n p.1 p.2 ≡ records_from cfg m p.1 p.2
-turns-behind cfg n m p size same a b (inl shorter) = same m p.1 p.2 (omega arith) (omega arith)
-turns-behind cfg n m p size same a b (inr end) = rw (end.0, end.1) (records_from-end cfg n ∙ sym (records_from-end cfg m))
+turns-after : (cfg : Config) (n m : ℕ) (p : Read) (size : ℕ) → SameTurns cfg n → size < suc n → size < suc m → Eats p size → records_from cfg n p.1 p.2 ≡ records_from cfg m p.1 p.2
+turns-after cfg n m p size same a b (inl shorter) = same m p.1 p.2 (omega arith) (omega arith)
+turns-after cfg n m p size same a b (inr end) = rw (end.0, end.1) (records_from-end cfg n ∙ sym (records_from-end cfg m))
 
 turns-next : (cfg : Config) (n m : ℕ) (s : State) (xs : List ℕ) (o : Option Read) → next_record cfg s [] [] xs ≡ o → SameTurns cfg n → length xs < suc n → length xs < suc m
     → records_next (records_from cfg n) o ≡ records_next (records_from cfg m) o
 turns-next cfg n m s xs None e same a b = refl
 turns-next cfg n m s xs (Some p) e same a b =
-    ap (λ (rest : List (List (List ℕ))). p.0 ∷ rest) (turns-behind cfg n m p (length xs) same a b (next-eats cfg s [] [] xs p e))
+    ap (λ (rest : List (List (List ℕ))). p.0 ∷ rest) (turns-after cfg n m p (length xs) same a b (next-eats cfg s [] [] xs p e))
 
 turns_same : (cfg : Config) (n m : ℕ) (s : State) (xs : List ℕ) → length xs < n → length xs < m → records_from cfg n s xs ≡ records_from cfg m s xs
 unfolding records_from

@@ -11,8 +11,8 @@ use Rattle.bw_model.specs.Fault.{◌>>=◌, at_record, refused_if}
 use Rattle.bw_model.specs.Column.{admits_value, admits_values}
 use Rattle.bw_text.specs.Number.{are_digits, number_of}
 use Rattle.bw_model.specs.Row.{Value}
-use Rattle.bw_csv.specs.Rows.{StopsBehind, is_reader_fault, stands_at, is_heading, is_minus, is_null_text, number_value, row_of_record, rows_from, rows_behind, unsigned, value_of_field, values_of_fields, with_row, within_bounds, without_blanks}
-use Rattle.bw_csv.proofs.FieldLemmas.{behind}
+use Rattle.bw_csv.specs.Rows.{StopsAfter, is_reader_fault, stands_at, is_heading, is_minus, is_null_text, number_value, row_of_record, rows_from, rows_after, unsigned, value_of_field, values_of_fields, with_row, within_bounds, without_blanks}
+use Rattle.bw_csv.proofs.FieldLemmas.{after}
 use Rattle.bw_csv.proofs.Passed.{Passed, passed-nothing, passed-next, passed-on, passed-stops}
 
 -- a column admits the value of a field
@@ -116,16 +116,16 @@ led-next led start old new columns first number records more fields row h e r st
 pub led-fault : {K : Type 0} (led : K → List (List Value) → K → Type 0) (start now : K) (columns : List Column) (first : List (List (List ℕ))) (number : ℕ) (records : List (List (List ℕ))) (fault : Fault)
     → LedSoFar led start now columns first number records → rows_from columns number records ≡ Err fault → rows_from columns 1 first ≡ Err fault
 unfolding LedSoFar
-led-fault led start now columns first number records fault h e = passed-on (rows_from columns) first h.0 number records h.2 ∙ ap (behind h.0) e
+led-fault led start now columns first number records fault h e = passed-on (rows_from columns) first h.0 number records h.2 ∙ ap (after h.0) e
 
 pub led-all : {K : Type 0} (led : K → List (List Value) → K → Type 0) (start now : K) (columns : List Column) (first : List (List (List ℕ))) (number : ℕ) (records : List (List (List ℕ)))
     → LedSoFar led start now columns first number records → rows_from columns number records ≡ Ok [] → IsOkAnd (rows_from columns 1 first) (λ rows. led start rows now)
 unfolding LedSoFar
-led-all led start now columns first number records h e = rw (passed-on (rows_from columns) first h.0 number records h.2 ∙ ap (behind h.0) e ∙ ap Ok (append-nil h.0)) h.1
+led-all led start now columns first number records h e = rw (passed-on (rows_from columns) first h.0 number records h.2 ∙ ap (after h.0) e ∙ ap Ok (append-nil h.0)) h.1
 
 -- where the reader has an error of its own, it's after those
 pub led-stops : {K : Type 0} (led : K → List (List Value) → K → Type 0) (start now : K) (columns : List Column) (first : List (List (List ℕ))) (number : ℕ) (records : List (List (List ℕ))) (fault : Fault)
-    → LedSoFar led start now columns first number records → stands_at number fault ≡ true → is_reader_fault fault ≡ true → StopsBehind (rows_from columns) first fault
+    → LedSoFar led start now columns first number records → stands_at number fault ≡ true → is_reader_fault fault ≡ true → StopsAfter (rows_from columns) first fault
 unfolding LedSoFar
 led-stops led start now columns first number records fault h place own =
     passed-stops (rows_from columns) first h.0 number records fault h.2 (rows_from-end columns number [] refl) place own
@@ -133,21 +133,21 @@ led-stops led start now columns first number records fault h place own =
 pub ruleset so_far = (led-nothing, led-next, led-fault, led-all)
 
 -- the heading, and the rows after it
-pub rows_behind-none : (columns : List Column) (records : List (List (List ℕ))) → records ≡ [] → rows_behind columns records ≡ Err (at_record 201 0)
-unfolding rows_behind
-rows_behind-none columns records e = rw e refl
+pub rows_after-none : (columns : List Column) (records : List (List (List ℕ))) → records ≡ [] → rows_after columns records ≡ Err (at_record 201 0)
+unfolding rows_after
+rows_after-none columns records e = rw e refl
 
-pub rows_behind-other : (columns : List Column) (heading : List (List ℕ)) (more : List (List (List ℕ))) → is_heading columns heading ≡ false
-    → rows_behind columns (heading ∷ more) ≡ Err (at_record 202 0)
-unfolding rows_behind
-rows_behind-other columns heading more h = rw h refl
+pub rows_after-other : (columns : List Column) (heading : List (List ℕ)) (more : List (List (List ℕ))) → is_heading columns heading ≡ false
+    → rows_after columns (heading ∷ more) ≡ Err (at_record 202 0)
+unfolding rows_after
+rows_after-other columns heading more h = rw h refl
 
-pub rows_behind-rows : (columns : List Column) (records more : List (List (List ℕ))) (heading : List (List ℕ)) → records ≡ heading ∷ more → is_heading columns heading ≡ true
-    → rows_behind columns records ≡ rows_from columns 1 more
-unfolding rows_behind
-rows_behind-rows columns records more heading e h = rw (e, h) refl
+pub rows_after-rows : (columns : List Column) (records more : List (List (List ℕ))) (heading : List (List ℕ)) → records ≡ heading ∷ more → is_heading columns heading ≡ true
+    → rows_after columns records ≡ rows_from columns 1 more
+unfolding rows_after
+rows_after-rows columns records more heading e h = rw (e, h) refl
 
-pub ruleset behind_heading = (rows_behind-none, rows_behind-other, rows_behind-rows)
+pub ruleset after_heading = (rows_after-none, rows_after-other, rows_after-rows)
 
 -- the number of a record that has a row
 pub row_within : (number : ℕ) (columns : List Column) (fields : List (List ℕ)) (row : List Value) → row_of_record number columns fields ≡ Ok row → number ≤ 2 ^ 24
@@ -188,8 +188,8 @@ heading_few true rows few = tt
 heading_few false (Ok rows) few = omega (arith, few)
 heading_few false (Err fault) few = tt
 
-pub text_few : (columns : List Column) (records : List (List (List ℕ))) → IfOk (rows_behind columns records) (λ rows. length rows ≤ 2 ^ 24)
-unfolding rows_behind
+pub text_few : (columns : List Column) (records : List (List (List ℕ))) → IfOk (rows_after columns records) (λ rows. length rows ≤ 2 ^ 24)
+unfolding rows_after
 text_few columns [] = tt
 text_few columns (heading ∷ more) = heading_few (not (is_heading columns heading)) (rows_from columns 1 more) (rows_few columns more 1 (omega arith))
 
@@ -217,7 +217,7 @@ heading_admitted : (columns : List Column) (other : Bool) (rows : Result (List (
 heading_admitted columns true rows all = tt
 heading_admitted columns false rows all = all
 
-pub text_admitted : (columns : List Column) (records : List (List (List ℕ))) → IfOk (rows_behind columns records) (λ rows. IsTrue (list_all (admits_values columns) rows))
-unfolding rows_behind
+pub text_admitted : (columns : List Column) (records : List (List (List ℕ))) → IfOk (rows_after columns records) (λ rows. IsTrue (list_all (admits_values columns) rows))
+unfolding rows_after
 text_admitted columns [] = tt
 text_admitted columns (heading ∷ more) = heading_admitted columns (not (is_heading columns heading)) (rows_from columns 1 more) (rows_admitted columns more 1)

@@ -1,5 +1,5 @@
--- The rows that a CSV text spells where there is no schema yet: of as many fields as its heading, each null or any number
--- that 64 bits hold.
+-- The rows that a CSV text spells where there is no schema yet: of as many fields as its heading, each null or any
+-- number that 64 bits hold.
 use Rattle.std.specs.Prelude.{ℕ, ℤ, ◌+◌, Bool, List, [], ◌∷◌, not, ◌==◌, length, Option, Some, None, Result, Ok, Err, if◌then◌else◌, nat_lt}
 use Rattle.csv.specs.Reading.{records, strip_bom, default_config}
 use Rattle.bw_model.specs.declared.fault.code.TheConstants.{RECORD_LENGTH, NOT_A_NUMBER, OUT_OF_RANGE, TOO_MANY_ROWS}

@@ -14,9 +14,9 @@ csv_from (Err fault) = Err fault
 
 -- What a call that reads a CSV text answered is the bytes or the fault of what came; where it found no memory, so did
 -- what came.
-abbrev pub CsvTold : Result (Option (List ℕ)) Fault → Result (Vec ℕ Global) Fault → Type 0
-CsvTold came (Ok bytes) = came ≡ Ok (Some bytes.items)
-CsvTold came (Err fault) = MatchBool (is_memory fault) (came ≡ Err no_memory) (csv_from came ≡ Err fault)
+abbrev pub CsvAnswered : Result (Option (List ℕ)) Fault → Result (Vec ℕ Global) Fault → Type 0
+CsvAnswered came (Ok bytes) = came ≡ Ok (Some bytes.items)
+CsvAnswered came (Err fault) = MatchBool (is_memory fault) (came ≡ Err no_memory) (csv_from came ≡ Err fault)
 
 -- a failed read, no memory, or a text past the limit
 abbrev pub is_csv_input_fault : Fault → Bool

@@ -34,7 +34,8 @@ is_field_end (c ∷ cs) = ends_field c
 
 -- a field of plain bytes stands at the front of a text, and is so long
 abbrev pub IsPlainField : List ℕ → ℕ → Type 0
-IsPlainField text size = (size ≤ length text) × (list_all is_plain (take size text) ≡ true) × (is_field_end (drop size text) ≡ true)
+IsPlainField text size = (size ≤ length text) × (list_all is_plain (take size text) ≡ true)
+    × (is_field_end (drop size text) ≡ true)
 
 -- the csv reader's state where a byte of a record stands
 abbrev pub state_of : Inside → State

@@ -48,8 +48,8 @@ abbrev pub is_plus : List ℕ → Bool
 is_plus text = slice_index text 0 == 43
 
 -- a text without its minus sign, and without its sign, where it has one
-abbrev pub behind_minus : List ℕ → List ℕ
-behind_minus text = if is_minus text then drop 1 text else text
+abbrev pub after_minus : List ℕ → List ℕ
+after_minus text = if is_minus text then drop 1 text else text
 
 abbrev pub unsigned : List ℕ → List ℕ
 unsigned text = if is_minus text || is_plus text then drop 1 text else text
@@ -102,14 +102,14 @@ is_heading (column ∷ columns) (field ∷ fields) = same_text column.name (with
     && is_heading columns fields
 
 -- the rows of records, the first of which is the heading and has number 0
-unfoldable pub rows_behind : List Column → List (List (List ℕ)) → Result (List (List Value)) Fault
-rows_behind columns [] = Err (at_record NO_HEADING 0)
-rows_behind columns (heading ∷ more) = refused_if (not (is_heading columns heading)) (at_record HEADING 0)
+unfoldable pub rows_after : List Column → List (List (List ℕ)) → Result (List (List Value)) Fault
+rows_after columns [] = Err (at_record NO_HEADING 0)
+rows_after columns (heading ∷ more) = refused_if (not (is_heading columns heading)) (at_record HEADING 0)
     (rows_from columns 1 more)
 
 -- the rows that a text spells, after a byte order mark where it has one, or the first fault in it
 abbrev pub rows_of : List Column → List ℕ → Result (List (List Value)) Fault
-rows_of columns text = rows_behind columns (records default_config (strip_bom text))
+rows_of columns text = rows_after columns (records default_config (strip_bom text))
 
 -- the place is a record, and the record of this number
 unfoldable pub is_any_record : Place → Bool
@@ -144,12 +144,12 @@ abbrev pub stands_at : ℕ → Fault → Bool
 stands_at number fault = not (fault.code == CSV_FAULT) || is_record number fault.place
 
 -- an error of the reader's own stands at the heading, or at the record after those whose rows were handed over
-abbrev pub stands_behind : ℕ → Fault → Bool
-stands_behind rows fault = stands_at 0 fault || stands_at (rows + 1) fault
+abbrev pub stands_after : ℕ → Fault → Bool
+stands_after rows fault = stands_at 0 fault || stands_at (rows + 1) fault
 
--- Records begin with some that have rows, the first of which has number 1; and the fault is an error of the reader's own
--- at the record after them.
-pub record StopsBehind (rows_from_number : ℕ → List (List (List ℕ)) → Result (List (List Value)) Fault)
+-- Records begin with some that have rows, the first of which has number 1; and the fault is an error of the reader's
+-- own at the record after them.
+pub record StopsAfter (rows_from_number : ℕ → List (List (List ℕ)) → Result (List (List Value)) Fault)
     (records : List (List (List ℕ))) (fault : Fault) : Type 0 where
   pub done : List (List (List ℕ))
   pub rest : List (List (List ℕ))
@@ -160,14 +160,14 @@ pub record StopsBehind (rows_from_number : ℕ → List (List (List ℕ)) → Re
 
 -- An error of the reader's own stands at the heading, or at a record after a good heading and records that have rows.
 abbrev pub Stops : (List (List ℕ) → List (List (List ℕ)) → Fault → Type 0) → List (List (List ℕ)) → Fault → Type 0
-Stops behind records fault =
-    (fault ≡ at_record CSV_FAULT 0) ⊎ ((heading : List (List ℕ)) × (more : List (List (List ℕ))) × (records ≡ heading ∷ more)
-    × behind heading more fault)
+Stops after records fault =
+    (fault ≡ at_record CSV_FAULT 0) ⊎ ((heading : List (List ℕ)) × (more : List (List (List ℕ)))
+    × (records ≡ heading ∷ more) × after heading more fault)
 
 -- so it is under columns
 abbrev pub StopsUnder : List Column → List (List (List ℕ)) → Fault → Type 0
 StopsUnder columns = Stops (λ heading more fault. (is_heading columns heading ≡ true)
-    × StopsBehind (rows_from columns) more fault)
+    × StopsAfter (rows_from columns) more fault)
 
 -- What a call answered is what is expected, but for the faults that are set aside.
 abbrev pub GivesButAside : {A B : Type 0} → (A → B) → Result A Fault → Result B Fault → Type 0

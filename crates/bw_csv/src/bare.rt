@@ -16,10 +16,10 @@ use bw_model::{Fault, MAX_ROWS, Row, Value, code};
 use bw_text::number_in;
 use csv::ByteRecord;
 
-/// Puts the row of the next record, which has this number and is to have so many fields, into `row`, in the place of what
-/// that was, or answers that there is no record. An `Err` is the first fault in the record: the number of its fields
-/// (203), a row past 2^24 (207), and then its fields from the left: no whole number (204), or one that 64 bits don't hold
-/// (205); or it is out of memory, or an error of the reader's own (209).
+/// Puts the row of the next record, which has this number and is to have so many fields, into `row`, in the place of
+/// what that was, or answers that there is no record. An `Err` is the first fault in the record: the number of its
+/// fields (203), a row past 2^24 (207), and then its fields from the left: no whole number (204), or one that 64 bits
+/// don't hold (205); or it is out of memory, or an error of the reader's own (209).
 #[tactic(auto, using(crate::proofs::BareLemmas::rows_of_records))]
 pub fn read_bare_row(
     records: &mut Records<'_>,
@@ -83,8 +83,8 @@ fn read_values(fields: &ByteRecord, number: u32, row: &mut Row) -> Result<(), Fa
     Ok(())
 }
 
-/// The value that a field of the record of this number spells: null, or a number that 64 bits hold; or its fault: no whole
-/// number (204), or one that 64 bits don't hold (205).
+/// The value that a field of the record of this number spells: null, or a number that 64 bits hold; or its fault: no
+/// whole number (204), or one that 64 bits don't hold (205).
 #[tactic(auto, unfolding(crate::specs::Bare::bare_value))]
 pub fn bare_value_of(field: &[u8], number: u32) -> Result<Value, Fault>
     ensures value { GivesButAside (λ value. value) result (bare_value number field.now) }

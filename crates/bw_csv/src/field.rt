@@ -1,21 +1,21 @@
 //! The value that a field spells.
 ghost use Rattle.std.specs.Prelude.{◌≡◌, ℕ, ◌<◌, ◌≤◌, length, IfErr, IsTrue};
 ghost use Rattle.bw_model.specs.Row.{Value};
-ghost use Rattle.bw_csv.specs.Rows.{is_blank, without_front_blanks, without_end_blanks, without_blanks, is_null_text, is_minus, behind_minus, unsigned, number_value, text_value, within_bounds, value_of_field, GivesButAside, IsRowsFault, stands_at};
+ghost use Rattle.bw_csv.specs.Rows.{is_blank, without_front_blanks, without_end_blanks, without_blanks, is_null_text, is_minus, after_minus, unsigned, number_value, text_value, within_bounds, value_of_field, GivesButAside, IsRowsFault, stands_at};
 
 use bw_model::{Column, Fault, Value, code};
 use bw_text::{is_same_text, number_in};
 
-/// The value that a field of the record of this number spells in a column, or its fault: no whole number (204), a null in a column that has
-/// none (206), or a number outside the column's bounds (205). Most fields are digits alone, or after a minus sign, which
-/// are read in one pass.
+/// The value that a field of the record of this number spells in a column, or its fault: no whole number (204), a null
+/// in a column that has none (206), or a number outside the column's bounds (205). Most fields are digits alone, or
+/// after a minus sign, which are read in one pass.
 #[tactic(auto, unfolding(crate::specs::Rows::value_of_field))]
 pub fn value_of(column: &Column, field: &[u8], number: u32) -> Result<Value, Fault>
     ensures value { GivesButAside (λ value. value) result (value_of_field number column.now field.now) }
     ensures fault { IfErr result IsRowsFault }
     ensures place { IfErr result (λ fault. IsTrue (stands_at number fault)) }
 {
-    match number_in(is_minus(field), behind_minus(field)) {
+    match number_in(is_minus(field), after_minus(field)) {
         Some(n) => within_bounds(column, n, number),
         None => value_of_text(column, without_blanks(field), number),
     }
@@ -78,8 +78,8 @@ pub(crate) fn is_minus(text: &[u8]) -> bool
 
 /// A text without its minus sign, where it has one. There is no branch on the sign, which no processor foresees.
 #[inline(always)]
-pub(crate) fn behind_minus(text: &[u8]) -> &[u8]
-    ensures { result.now ≡ behind_minus text.now }
+pub(crate) fn after_minus(text: &[u8]) -> &[u8]
+    ensures { result.now ≡ after_minus text.now }
 {
     &text[is_minus(text) as usize..]
 }

@@ -6,7 +6,7 @@ ghost use Rattle.csv.specs.declared.parser.State.TheVariants as st;
 ghost use Rattle.bw_csv.specs.Plain.{ends_line, is_line_end, state_of};
 ghost use Rattle.bw_csv.specs.Records.{records_in};
 
-use crate::marks::{behind, ends_line};
+use crate::marks::{after, ends_line};
 
 /// Where a byte of a record stands: before the record, at the front of a field, in one without quotation marks, within
 /// quotation marks, or after a quotation mark that may be the last one.
@@ -20,7 +20,7 @@ pub(crate) enum Inside {
 }
 
 /// A text without its first record: what is left is a line's end, or nothing.
-pub(crate) fn behind_record(text: &[u8]) -> &[u8]
+pub(crate) fn after_record(text: &[u8]) -> &[u8]
     ensures rest { (fields : List (List ℕ)) → (more : List (List (List ℕ)))
         → records_in st.StartRecord (Some text.now) ≡ fields ∷ more
         → records_in st.StartRecord (Some result.now) ≡ more }
@@ -29,9 +29,9 @@ pub(crate) fn behind_record(text: &[u8]) -> &[u8]
     let mut inside = Inside::Before;
     for (i, c) in text.iter().enumerate() {
         if ends_record(inside, *c) {
-            return behind(text, i);
+            return after(text, i);
         }
-        inside = inside_behind(inside, *c);
+        inside = inside_after(inside, *c);
     }
     &[]
 }
@@ -48,7 +48,7 @@ fn ends_record(inside: Inside, c: u8) -> bool
 }
 
 /// Where the byte after one stands that doesn't end the record.
-fn inside_behind(inside: Inside, c: u8) -> Inside
+fn inside_after(inside: Inside, c: u8) -> Inside
     requires { is_end (step default_config (state_of inside) c).1 ≡ false }
     ensures { state_of result ≡ (step default_config (state_of inside) c).0 }
 {
@@ -65,14 +65,14 @@ fn inside_behind(inside: Inside, c: u8) -> Inside
 
 /// A text without the byte order mark at its start, where it has one.
 #[tactic(auto, using(crate::proofs::HeadingLemmas::byte_order_marks))]
-pub(crate) fn behind_byte_order_mark(text: &[u8]) -> &[u8]
+pub(crate) fn after_byte_order_mark(text: &[u8]) -> &[u8]
     ensures { result.now ≡ strip_bom text.now }
 {
     if text.len() < 3 {
         return text;
     }
     if is_byte_order_mark(text[0], text[1], text[2]) {
-        behind(text, 3)
+        after(text, 3)
     } else {
         text
     }

@@ -5,20 +5,20 @@ ghost use Rattle.bw_csv.specs.Rows.{is_reader_fault};
 ghost use Rattle.bw_device.specs.Sink.{is_write_fault};
 ghost use Rattle.bw_model.specs.Limits.{longest_csv};
 ghost use Rattle.bw_device.specs.Source.{Came, LeavesSource};
-ghost use Rattle.bw_csv.specs.Input.{is_csv_input_fault, CsvTold};
+ghost use Rattle.bw_csv.specs.Input.{is_csv_input_fault, CsvAnswered};
 
 use bw_device::{Input, Source, read_limited};
 use bw_model::{Fault, MAX_CSV_LEN, code};
 use std::alloc::Global;
 
-/// The bytes of a CSV text, whole: at most 2^30. Refuses its source (701), and a text past that (208); of that it takes one
-/// byte more. That the source's count of failures can rise is the caller's condition.
+/// The bytes of a CSV text, whole: at most 2^30. Refuses its source (701), and a text past that (208); of that it takes
+/// one byte more. That the source's count of failures can rise is the caller's condition.
 pub fn read_csv<C: Source>(alloc: Global, source: &mut C) -> Result<Vec<u8>, Fault>
     requires { C.failures source.old < 2 ^ 64 - 1 }
-    ensures told { (came : Result (Option (List ℕ)) Fault)
+    ensures answered { (came : Result (Option (List ℕ)) Fault)
         × Came longest_csv (C.to_come source.old) (C.to_come source.new) (C.failures source.old)
         (C.failures source.new) came
-        × CsvTold came result }
+        × CsvAnswered came result }
     ensures source { LeavesSource (longest_csv + 1) (C.to_come source.old) (C.to_come source.new)
         (C.failures source.old) (C.failures source.new) result }
     ensures fault { IfErr result (λ fault. is_write_fault fault ≡ false) }

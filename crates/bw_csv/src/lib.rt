@@ -7,9 +7,9 @@
 //! schema yet, [`Records`] and [`read_bare_row`] read the same rows with no bounds but those of 64 bits.
 //!
 //! Read `specs/Rows.antt` first, and then `rows.rt`, `row.rt` and `field.rt`; `records.rt` has the `csv` crate's
-//! reader behind a few calls, and `bare.rt` rows without a schema. Records without a quotation mark are read from the text
-//! itself, in one pass over its bytes (`plain_row.rt`, `plain_field.rt`), and `rest.rt` has both behind one call: it goes by
-//! `specs/Plain.antt` and `specs/Rest.antt`.
+//! reader behind a few calls, and `bare.rt` rows without a schema. Records without a quotation mark are read from the
+//! text itself, in one pass over its bytes (`plain_row.rt`, `plain_field.rt`), and `rest.rt` has both behind one call:
+//! it goes by `specs/Plain.antt` and `specs/Rest.antt`.
 #![tactic(auto)]
 
 mod bare;

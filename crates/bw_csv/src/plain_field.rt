@@ -6,10 +6,10 @@ ghost use Rattle.std.specs.Prelude.{◌≡◌, ◌^◌, ◌<◌, ◌≤◌, ◌&
 ghost use Rattle.std.specs.List.{list_all};
 ghost use Rattle.bw_text.specs.Number.{are_digits, digits_value, number_of};
 ghost use Rattle.bw_csv.specs.Plain.{IsPlainField, is_plain};
-ghost use Rattle.bw_csv.specs.Rows.{behind_minus, is_minus, value_of_field};
+ghost use Rattle.bw_csv.specs.Rows.{after_minus, is_minus, value_of_field};
 
-use crate::field::{behind_minus, is_minus, value_of};
-use crate::marks::{behind, is_field_end, is_plain};
+use crate::field::{after_minus, is_minus, value_of};
+use crate::marks::{after, is_field_end, is_plain};
 use bw_model::{Column, Value};
 use bw_text::with_sign;
 
@@ -58,7 +58,7 @@ fn number_at(column: &Column, text: &[u8]) -> Option<Found>
     let Some(spelled) = spelled_at(text) else {
         return None;
     };
-    if is_field_end(behind(text, spelled.len)) && is_within(column, spelled.number) {
+    if is_field_end(after(text, spelled.len)) && is_within(column, spelled.number) {
         Some(Found {
             value: Some(spelled.number),
             len: spelled.len,
@@ -76,7 +76,7 @@ fn other_at(column: &Column, text: &[u8], number: u32) -> Option<Found>
         ≡ Ok found.value) }
 {
     let len = plain_len(text);
-    if !is_field_end(behind(text, len)) {
+    if !is_field_end(after(text, len)) {
         return None;
     }
     match value_of(column, &text[..len], number) {
@@ -90,12 +90,12 @@ fn other_at(column: &Column, text: &[u8], number: u32) -> Option<Found>
 #[inline(always)]
 fn spelled_at(text: &[u8]) -> Option<Spelled>
     ensures within { IfSome result (λ spelled. spelled.len < length text.now) }
-    ensures digits { IfSome result (λ spelled. are_digits (behind_minus (take spelled.len text.now)) ≡ true) }
+    ensures digits { IfSome result (λ spelled. are_digits (after_minus (take spelled.len text.now)) ≡ true) }
     ensures number { IfSome result (λ spelled. number_of (is_minus (take spelled.len text.now))
-        (behind_minus (take spelled.len text.now)) ≡ Some spelled.number) }
+        (after_minus (take spelled.len text.now)) ≡ Some spelled.number) }
 {
     let is_negative = is_minus(text);
-    let Some(digits) = digits_at(behind_minus(text)) else {
+    let Some(digits) = digits_at(after_minus(text)) else {
         return None;
     };
     Some(Spelled {

@@ -6,7 +6,7 @@ ghost use Rattle.bw_model.specs.Row.{values_of};
 ghost use Rattle.bw_csv.specs.Plain.{HasRow, is_line_end};
 ghost use Rattle.bw_csv.specs.Records.{records_in};
 
-use crate::marks::{behind, ends_line, is_line_end};
+use crate::marks::{after, ends_line, is_line_end};
 use crate::plain_field::value_at;
 use bw_model::{Column, MAX_ROWS, Row};
 
@@ -22,7 +22,7 @@ pub(crate) fn plain_row<'a>(
     ensures row { IfSome result (λ rest. HasRow number columns.now text.now rest.now (values_of row.new)) }
     ensures end { IfSome result (λ rest. is_line_end rest.now ≡ true) }
 {
-    let record = behind_line_ends(text);
+    let record = after_line_ends(text);
     if number > MAX_ROWS || is_line_end(record) {
         return None;
     }
@@ -31,12 +31,12 @@ pub(crate) fn plain_row<'a>(
 
 /// A text without the line ends at its front: most have one, or two.
 #[inline(always)]
-fn behind_line_ends(text: &[u8]) -> &[u8]
+fn after_line_ends(text: &[u8]) -> &[u8]
     ensures { records_in st.StartRecord (Some text.now) ≡ records_in st.StartRecord (Some result.now) }
 {
     let mut rest = text;
     while !rest.is_empty() && ends_line(rest[0]) {
-        rest = behind(rest, 1);
+        rest = after(rest, 1);
     }
     rest
 }
@@ -58,7 +58,7 @@ fn row_at<'a>(columns: &[Column], text: &'a [u8], number: u32, row: &mut Row) ->
         let Ok(()) = row.values.push(found.value) else {
             return None;
         };
-        let left = behind(rest, found.len);
+        let left = after(rest, found.len);
         if is_line_end(left) {
             return if i + 1 == columns.len() {
                 Some(left)
@@ -66,7 +66,7 @@ fn row_at<'a>(columns: &[Column], text: &'a [u8], number: u32, row: &mut Row) ->
                 None
             };
         }
-        rest = behind(left, 1);
+        rest = after(left, 1);
     }
     None
 }

@@ -36,8 +36,8 @@ impl<'a> Records<'a> {
     }
 
     /// Reads the next record, which has this number, or answers that there is none. An `Err` is out of memory,
-    /// or an error of the reader's own (209), and then nothing more is read. That the records are open, as they are until
-    /// then, is the caller's condition.
+    /// or an error of the reader's own (209), and then nothing more is read. That the records are open, as they are
+    /// until then, is the caller's condition.
     #[tactic(auto, unfolding(crate::specs::Rows::is_any_record))]
     pub fn next(&mut self, number: u32) -> Result<bool, Fault>
         requires { IsOpen self.old }
@@ -64,8 +64,8 @@ impl<'a> Records<'a> {
         self.fields.len()
     }
 
-    /// A field of the record that was read last, without the spaces and tabs at both ends. That the record has it is the
-    /// caller's condition.
+    /// A field of the record that was read last, without the spaces and tabs at both ends. That the record has it is
+    /// the caller's condition.
     pub fn field(&self, i: usize) -> &[u8]
         requires { i < length (fields_in self.now) }
         ensures { result.now ≡ without_blanks (slice_index_or (fields_in self.now) i []) }

@@ -8,7 +8,7 @@ ghost use Rattle.bw_csv.specs.Records.{coming};
 ghost use Rattle.bw_csv.specs.Rest.{IsReadable, to_come};
 ghost use Rattle.bw_csv.specs.Rows.{is_aside, row_of_record, rows_from, IsRowsFault, stands_at};
 
-use crate::heading_end::{behind_byte_order_mark, behind_record};
+use crate::heading_end::{after_byte_order_mark, after_record};
 use crate::plain_row::plain_row;
 use crate::records::Records;
 use crate::row::read_row;
@@ -37,7 +37,7 @@ impl<'a> Rest<'a> {
         Rest {
             alloc,
             is_plain: true,
-            text: behind_record(behind_byte_order_mark(text)),
+            text: after_record(after_byte_order_mark(text)),
             records,
         }
     }

@@ -5,7 +5,7 @@ ghost use Rattle.bw_model.specs.Column.{admits_values};
 ghost use Rattle.bw_model.specs.Limits.{most_rows};
 ghost use Rattle.bw_model.specs.Row.{values_of};
 ghost use Rattle.bw_csv.specs.Records.{IsOpen, coming};
-ghost use Rattle.bw_csv.specs.Rows.{is_aside, is_heading, row_of_record, rows_behind, rows_from, values_of_fields, GivesButAside, IsRowsFault, stands_at};
+ghost use Rattle.bw_csv.specs.Rows.{is_aside, is_heading, row_of_record, rows_after, rows_from, values_of_fields, GivesButAside, IsRowsFault, stands_at};
 
 use crate::field::{value_of, without_blanks};
 use crate::records::Records;
@@ -13,13 +13,13 @@ use bw_model::{Column, Fault, MAX_ROWS, Row, code};
 use csv::ByteRecord;
 
 /// Reads the heading, which is the first record: refuses a text without a record (201), and other names (202).
-#[tactic(auto, using(crate::proofs::RowLemmas::behind_heading))]
+#[tactic(auto, using(crate::proofs::RowLemmas::after_heading))]
 pub(crate) fn read_heading(columns: &[Column], records: &mut Records<'_>) -> Result<(), Fault>
     requires { IsOpen records.old }
     ensures open { OnOk result (IsOpen records.new) }
     ensures heading_read { OnOk result ((heading : List (List ℕ)) × (coming records.old ≡ heading ∷ coming records.new)
         × (is_heading columns.now heading ≡ true)) }
-    ensures heading { IfErr result (λ fault. is_aside fault ≡ false → rows_behind columns.now (coming records.old)
+    ensures heading { IfErr result (λ fault. is_aside fault ≡ false → rows_after columns.now (coming records.old)
         ≡ Err fault) }
     ensures fault { IfErr result IsRowsFault }
     ensures place { IfErr result (λ fault. IsTrue (stands_at 0 fault)) }

@@ -13,7 +13,7 @@ ghost use Rattle.bw_model.specs.Limits.{most_rows};
 ghost use Rattle.bw_model.specs.Row.{Value, values_of};
 ghost use Rattle.bw_csv.specs.Rest.{IsReadable, to_come};
 ghost use Rattle.bw_csv.specs.Bare.{records_of};
-ghost use Rattle.bw_csv.specs.Rows.{rows_of, rows_from, is_reader_fault, Hands, IsRowsFault, StopsBehind, StopsUnder, stands_at, stands_behind};
+ghost use Rattle.bw_csv.specs.Rows.{rows_of, rows_from, is_reader_fault, Hands, IsRowsFault, StopsAfter, StopsUnder, stands_at, stands_after};
 
 use crate::records::Records;
 use crate::rest::Rest;
@@ -40,7 +40,7 @@ pub fn read_rows<K: RowTaker>(
     requires starts { K.led taker.old [] taker.old }
     ensures handed { Hands K.led (rows_of schema.now.columns.items text.now) taker.old taker.new result }
     ensures fault { IfErr result IsRowsFault }
-    ensures place { IfErr result (λ fault. IsTrue (stands_behind (K.rows taker.new) fault)) }
+    ensures place { IfErr result (λ fault. IsTrue (stands_after (K.rows taker.new) fault)) }
     // An error of the reader's own stands at the heading, or at the record after those whose rows are good.
     ensures reader { IfErr result (λ fault. is_reader_fault fault ≡ true
         → StopsUnder schema.now.columns.items (records_of text.now) fault) }
@@ -70,7 +70,7 @@ fn hand_rows<K: RowTaker>(
     ensures fault { IfErr result IsRowsFault }
     ensures place { IfErr result (λ fault. IsTrue (stands_at (K.rows taker.new + 1) fault)) }
     ensures reader { IfErr result (λ fault. is_reader_fault fault ≡ true
-        → StopsBehind (rows_from columns.now) (to_come rest.old) fault) }
+        → StopsAfter (rows_from columns.now) (to_come rest.old) fault) }
 {
     let mut number = 1;
     'rows: while rest.next_row(columns, number, row)? {

@@ -10,8 +10,8 @@ use Rattle.bw_device.specs.Source.{EndsWith}
 abbrev pub is_write_fault : Fault → Bool
 is_write_fault fault = fault.code == WRITE_FAILED
 
--- What a call leaves of a sink to which it writes once all else has succeeded: where a write failed it ends with that; where
--- it refuses for another reason the sink is as it was; and where it succeeds no write failed.
+-- What a call leaves of a sink to which it writes once all else has succeeded: where a write failed it ends with that;
+-- where it refuses for another reason the sink is as it was; and where it succeeds no write failed.
 abbrev pub LeavesSink : {T : Type 0} → Option (List ℕ) → Option (List ℕ) → ℕ → ℕ → Result T Fault → Type 0
 LeavesSink old new before after result =
     EndsWith (nowhere WRITE_FAILED) before after result

@@ -28,12 +28,13 @@ PassedLimit limit old new = (bytes : List ℕ) × Consumes old new bytes × (len
 abbrev pub TookAtMost : ℕ → Option (List ℕ) → Option (List ℕ) → Type 0
 TookAtMost most old new = (bytes : List ℕ) × Consumes old new bytes × (length bytes ≤ most)
 
--- What a call leaves of a source: of its bytes to come it took at most so many, and where a read failed it ends with that.
+-- What a call leaves of a source: of its bytes to come it took at most so many, and where a read failed it ends with
+-- that.
 abbrev pub LeavesSource : {T : Type 0} → ℕ → Option (List ℕ) → Option (List ℕ) → ℕ → ℕ → Result T Fault → Type 0
 LeavesSource most old new before after result = TookAtMost most old new
     × EndsWith (nowhere READ_FAILED) before after result
 
--- What came: all bytes, which are within the limit; or None, for more than the limit; or want of
+-- What came: all bytes, which are within the limit; or None, for more than the limit; or out of
 -- memory; or a failed read. The source's failures rise from before to after, by one, at a failed
 -- read alone.
 abbrev pub Came : ℕ → Option (List ℕ) → Option (List ℕ) → ℕ → ℕ → Result (Option (List ℕ)) Fault

@@ -12,12 +12,12 @@ use std::alloc::Global;
 use std::io::{Error, Read};
 use std::rc::Rc;
 
-/// How many bytes of the memory stay unused before a piece. A system's allocator gives as much memory as a piece takes from 16
-/// bytes after a multiple of 64 on, and a system copies a file fastest to such a multiple.
+/// How many bytes of the memory stay unused before a piece. A system's allocator gives as much memory as a piece takes
+/// from 16 bytes after a multiple of 64 on, and a system copies a file fastest to such a multiple.
 const FRONT: usize = 48;
 
-/// A reader of std as a source, which is asked for a piece at a time. What is left of a piece can be shared. Each error of the
-/// reader, that of an interrupted call too, counts as a failure.
+/// A reader of std as a source, which is asked for a piece at a time. What is left of a piece can be shared. Each error
+/// of the reader, that of an interrupted call too, counts as a failure.
 #[derive(Drop)]
 pub struct ReadAhead<R> {
     inner: R,
@@ -64,7 +64,8 @@ impl<R: Read> ReadAhead<R> {
     ghost use Rattle.bw_device.specs.Failure.{failures_after};
     ghost use Rattle.bw_device.specs.ReadAhead.{coming, kept, read_failures};
 
-    /// Reads a piece where nothing is left of the one before, and tells whether it could: not while others hold the memory.
+    /// Reads a piece where nothing is left of the one before, and tells whether it could: not while others hold the
+    /// memory.
     fn fill(&mut self) -> Result<bool, Failed>
         requires countable { read_failures self.old < 2 ^ 64 - 1 }
         requires empty { self.old.start ≡ self.old.end }

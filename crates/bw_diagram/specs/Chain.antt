@@ -146,7 +146,8 @@ leads_always nodes kind left right e node =
     leads nodes kind left right e node false false && leads nodes kind left right e node false true
     && leads nodes kind left right e node true false && leads nodes kind left right e node true true
 
--- a chain's node chooses by its top bits, at this place from the least, between what follows from the node of the bits below
+-- a chain's node chooses by its top bits, at this place from the least, between what follows from the node of the bits
+-- below
 abbrev pub chooses : List Column → List Node → Chain → ℕ → ℕ → Bool
 chooses columns nodes (One kind col start len bound node prev) place e =
     is_choice nodes (bit_variable columns col (start + place))

@@ -19,7 +19,8 @@ third_node op a b row = if same_connective row.op op && row.a == a && row.b == b
 unfoldable pub cited : Facts → Connective → ℕ → ℕ → ℕ → Option ℕ
 cited facts op a b number = option_and_then (third_node op a b) (slice_get facts.products number)
 
--- the node that the chain of this number compares so many bits of a column by, from the bit `start` upwards, with a number
+-- the node that the chain of this number compares so many bits of a column by, from the bit `start` upwards, with a
+-- number
 unfoldable pub chain_cited : Facts → ChainKind → ℕ → ℕ → ℕ → ℕ → ℕ → Option ℕ
 chain_cited facts kind col start len bound number = option_and_then (node_of_one kind col start len bound)
     (slice_get facts.chains number)

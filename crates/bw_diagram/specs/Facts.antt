@@ -71,8 +71,8 @@ with_chain facts number named =
 unfoldable pub judged_product : Facts → ℕ → Product → Reason → Result Product Fault
 judged_product facts number row reason =
     refused_if (nat_le most_products (length facts.products)) (nowhere LIMIT)
-    (refused_if (not (obeys_product (variables_of facts.columns) facts.nodes facts.products number row reason)) (nowhere PRODUCT_ROW)
-    (Ok row))
+    (refused_if (not (obeys_product (variables_of facts.columns) facts.nodes facts.products number row reason))
+    (nowhere PRODUCT_ROW) (Ok row))
 
 -- what is held after its line
 abbrev pub with_product : Facts → ℕ → Product → Reason → Result Facts Fault

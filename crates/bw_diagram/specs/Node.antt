@@ -19,8 +19,8 @@ abbrev pub child : Bool → Node → ℕ
 child true node = node.high
 child false node = node.low
 
--- what a node is worth, from the values of all that come before it: its high child's value where its variable is 1, else
--- its low child's
+-- what a node is worth, from the values of all that come before it: its high child's value where its variable is 1,
+-- else its low child's
 abbrev pub chosen : Assignment → List Bool → Node → Bool
 chosen assignment before node = slice_index_or before (child (assignment node.v) node) false
 

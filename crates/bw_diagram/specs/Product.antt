@@ -25,8 +25,8 @@ pub record IsProduct (nodes : List Node) (row : Product) : Type 0 where
   pub joins : (assignment : Assignment) → node_value nodes assignment row.c
       ≡ joined row.op (node_value nodes assignment row.a) (node_value nodes assignment row.b)
 
--- The shortcuts, in which x is any node: for AND (0,x,0) (x,0,0) (1,x,x) (x,1,x) (x,x,x), for OR (0,x,x) (x,0,x) (1,x,1)
--- (x,1,1) (x,x,x), for XOR (0,x,x) (x,0,x) (x,x,0), for DIFF (0,x,0) (x,0,x) (x,x,0) (x,1,0).
+-- The shortcuts, in which x is any node: for AND (0,x,0) (x,0,0) (1,x,x) (x,1,x) (x,x,x), for OR (0,x,x) (x,0,x)
+-- (1,x,1) (x,1,1) (x,x,x), for XOR (0,x,x) (x,0,x) (x,x,0), for DIFF (0,x,0) (x,0,x) (x,x,0) (x,1,0).
 unfoldable pub is_shortcut : Connective → ℕ → ℕ → ℕ → Bool
 is_shortcut And a b c =
     (a == 0 && c == 0) || (b == 0 && c == 0) || (a == 1 && c == b) || (b == 1 && c == a) || (a == b && c == a)

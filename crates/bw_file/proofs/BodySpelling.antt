@@ -59,7 +59,7 @@ IsBytes-append (x ∷ a) b fa fb (suc i) = IsBytes-append a b (λ k. fa (suc k))
 
 record BlocksTaken (layout : Layout) (schema : List Column) (rows count : ℕ) (before : List ℕ) (t : Tail) (x : List ℕ × Tail) : Type 0 where
   text : List ℕ
-  behind : x.0 ≡ before ++ text
+  after : x.0 ≡ before ++ text
   takes : TakesBoth t text x.1
   sound : AreSound layout schema rows count x.0
   fits : IsBytes x.0
@@ -73,7 +73,7 @@ blocks_take layout schema rows zero number before t x fits own sound e =
     subst (λ (y : List ℕ × Tail). BlocksTaken layout schema rows (number + 0) before t y) (ok_is made x e)
     (record {
       text = [];
-      behind = sym (append-nil before);
+      after = sym (append-nil before);
       takes = record { parts = refl; rest = fits };
       sound = subst (λ (k : ℕ). AreSound layout schema rows k before) none sound;
       fits = own;
@@ -86,7 +86,7 @@ blocks_take layout schema rows (suc more) number before t x fits own sound e =
     let next : suc number + more ≡ number + suc more = omega arith in
     record {
       text = a.0.0 ++ r.text;
-      behind = r.behind ∙ append_assoc before a.0.0 r.text;
+      after = r.after ∙ append_assoc before a.0.0 r.text;
       takes = takes_then t a.0.1 x.1 a.0.0 r.text (both_of t a.0.1 a.0.0 b.takes) r.takes;
       sound = subst (λ (k : ℕ). AreSound layout schema rows k x.0) next r.sound;
       fits = r.fits;
@@ -111,7 +111,7 @@ segment_takes layout schema size t x fits some few e =
     let again : segment_bytes layout schema (rows_spelled layout schema size a.0.0) ≡ a.0.0 = bytes_again (form_of layout) law schema size a.0.0 few sound (all_bytes a.0.0 b.fits) in
     let group = spelled_group (form_of layout) law schema size a.0.0 few sound [] some in
     let made : List (List Value) × Tail = (rows_spelled layout schema size a.0.0, a.0.1) in
-    let takes : TakesBoth t (segment_bytes layout schema (rows_spelled layout schema size a.0.0)) a.0.1 = rw (again, b.behind) b.takes in
+    let takes : TakesBoth t (segment_bytes layout schema (rows_spelled layout schema size a.0.0)) a.0.1 = rw (again, b.after) b.takes in
     subst (λ (y : List (List Value) × Tail). SegmentTaken layout schema size t y) (ok_is made x a.2)
     (record { takes = takes; admitted = group.admitted })
 
@@ -184,7 +184,7 @@ first_group group rest rows some here there =
 -- groups that were read of so many rows are the groups of these rows
 pub record GroupsFound (rows : ℕ) (before found : List (List (List Value))) : Type 0 where
   pub groups : List (List (List Value))
-  pub behind : found ≡ before ++ groups
+  pub after : found ≡ before ++ groups
   pub count : length (together groups) ≡ rows
   pub cut : groups_of (together groups) ≡ groups
 
@@ -195,7 +195,7 @@ groups_found layout schema [] rows before t x sized e =
     let none : rows ≡ 0 = no_sizes rows (sym sized) in
     let a = bind_ok (end t) (λ _. give before) x e in
     let same : before ≡ x.0 = ap (λ (z : List (List (List Value)) × Tail). z.0) (ok_is (found_pair before a.0.1) x a.2) in
-    record { groups = []; behind = sym same ∙ sym (append-nil before); count = sym none; cut = groups_of-nothing {A = List Value} }
+    record { groups = []; after = sym same ∙ sym (append-nil before); count = sym none; cut = groups_of-nothing {A = List Value} }
 groups_found layout schema (size ∷ sizes) rows before t x sized e =
     let some = some_sizes rows size sizes (sym sized) in
     let first = first_size rows size sizes some sized in
@@ -204,7 +204,7 @@ groups_found layout schema (size ∷ sizes) rows before t x sized e =
     let r = groups_found layout schema sizes (rows - group_size) (before ++ a.0.0 ∷ []) a.0.1 x first.2 a.2 in
     record {
       groups = a.0.0 ∷ r.groups;
-      behind = r.behind ∙ append_assoc before (a.0.0 ∷ []) r.groups;
+      after = r.after ∙ append_assoc before (a.0.0 ∷ []) r.groups;
       count = length-append a.0.0 (together r.groups) ∙ omega (arith, count, r.count, first.0);
       cut = first_group a.0.0 (together r.groups) rows some (count ∙ first.0) r.count ∙ ap (λ (l : List (List (List Value))). a.0.0 ∷ l) r.cut;
     }
@@ -212,7 +212,7 @@ groups_found layout schema (size ∷ sizes) rows before t x sized e =
 -- their text is what was read
 pub record GroupsTaken (layout : Layout) (schema : List Column) (before : List (List (List Value))) (t : Tail) (found : List (List (List Value))) : Type 0 where
   pub groups : List (List (List Value))
-  pub behind : found ≡ before ++ groups
+  pub after : found ≡ before ++ groups
   pub text : t.bytes ≡ flat_map (segment_bytes layout schema) groups
   pub admitted : list_all (admits_values schema) (together groups) ≡ true
 
@@ -222,7 +222,7 @@ unfolding body
 body_take layout schema [] rows before t x fits sized e =
     let a = bind_ok (end t) (λ _. give before) x e in
     let same : before ≡ x.0 = ap (λ (z : List (List (List Value)) × Tail). z.0) (ok_is (found_pair before a.0.1) x a.2) in
-    record { groups = []; behind = sym same ∙ sym (append-nil before); text = end_takes t a.0 a.1; admitted = refl }
+    record { groups = []; after = sym same ∙ sym (append-nil before); text = end_takes t a.0 a.1; admitted = refl }
 body_take layout schema (size ∷ sizes) rows before t x fits sized e =
     let some = some_sizes rows size sizes (sym sized) in
     let first = first_size rows size sizes some sized in
@@ -231,7 +231,7 @@ body_take layout schema (size ∷ sizes) rows before t x fits sized e =
     let r = body_take layout schema sizes (rows - group_size) (before ++ a.0.0 ∷ []) a.0.1 x g.takes.rest first.2 a.2 in
     record {
       groups = a.0.0 ∷ r.groups;
-      behind = r.behind ∙ append_assoc before (a.0.0 ∷ []) r.groups;
+      after = r.after ∙ append_assoc before (a.0.0 ∷ []) r.groups;
       text = g.takes.parts ∙ ap (λ (l : List ℕ). segment_bytes layout schema a.0.0 ++ l) r.text;
       admitted = list_all-append (admits_values schema) a.0.0 (together r.groups) ∙ rw (g.admitted, r.admitted) refl;
     }

@@ -13,7 +13,7 @@ use Rattle.bw_file.specs.declared.layout.Layout.{Layout}
 use Rattle.bw_file.specs.Blocks.{segment_bytes}
 use Rattle.bw_file.specs.FileBytes.{IsSchema, IsFileBytes, file_bytes, file_bytes2, bytes_of_version, front_bytes, name_bytes, header_bytes, segments_bytes, version_for, are_bounds, column_bytes}
 use Rattle.bw_file.specs.Reading.{Tail, tail}
-use Rattle.bw_file.specs.TableReading.{group_sizes, body, HeaderShape, header, Found, found_in, IsReadAs, IsReadBehind}
+use Rattle.bw_file.specs.TableReading.{group_sizes, body, HeaderShape, header, Found, found_in, IsReadAs, IsReadAfter}
 use Rattle.bw_model.proofs.SameColumns.{columns_same}
 use Rattle.bw_file.proofs.SpellingLemmas.{IsBytes, TakesBoth, schema_bytes, fits_version, head_bytes, IsHeader, header_takes}
 use Rattle.bw_file.proofs.BodySpelling.{groups_found, body_take}
@@ -67,16 +67,16 @@ spelled_with bytes h t schema y head known same e =
     let b = body_take h.layout columns (group_sizes h.rows) h.rows [] t y head.rest refl e in
     let rows = together y.0 in
     let f = groups_found h.layout columns (group_sizes h.rows) h.rows [] t y refl e in
-    let cut : groups_of rows ≡ y.0 = rw f.behind f.cut in
-    let count : length rows ≡ h.rows = rw f.behind f.count in
-    let body_bytes : t.bytes ≡ segments_bytes h.layout columns rows = b.text ∙ ap (flat_map (segment_bytes h.layout columns)) (sym b.behind ∙ sym cut) in
+    let cut : groups_of rows ≡ y.0 = rw f.after f.cut in
+    let count : length rows ≡ h.rows = rw f.after f.count in
+    let body_bytes : t.bytes ≡ segments_bytes h.layout columns rows = b.text ∙ ap (flat_map (segment_bytes h.layout columns)) (sym b.after ∙ sym cut) in
     let shaped : head_bytes h ≡ header_bytes h.version h.layout schema.name columns (length rows) =
     ap (λ (s : SchemaShape). head_bytes (record { version = h.version; layout = h.layout; rows = h.rows; schema = s })) (sym same)
     ∙ head_is h.version h.rows h.layout schema ∙ ap (header_bytes h.version h.layout schema.name columns) (sym count) in
     let whole : bytes ≡ bytes_of_version h.version h.layout schema.name columns rows = head.parts ∙ ap (λ (l : List ℕ). head_bytes h ++ l) body_bytes ∙ ap (λ (l : List ℕ). l ++ segments_bytes h.layout columns rows) shaped in
     let narrow : list_all (λ (c : Column). are_bounds h.version c.lo c.hi) columns ≡ true =
     sym (shapes_fit h.version columns) ∙ ap (λ (s : SchemaShape). list_all (fits_version h.version) s.columns) same ∙ known.bounds in
-    let admitted : list_all (admits_values columns) rows ≡ true = rw b.behind b.admitted in
+    let admitted : list_all (admits_values columns) rows ≡ true = rw b.after b.admitted in
     record {
       schema = schema;
       shape = same;
@@ -87,18 +87,18 @@ spelled_with bytes h t schema y head known same e =
       };
     }
 
-read_behind : (bytes : List ℕ) (r : Result (HeaderShape × Tail) Fault) (found : Found) → IsBytes bytes → header (tail 0 bytes) ≡ r → IsReadBehind r (Ok found) → Spelled bytes found
-read_behind bytes (Ok x) found fits e read =
+read_after : (bytes : List ℕ) (r : Result (HeaderShape × Tail) Fault) (found : Found) → IsBytes bytes → header (tail 0 bytes) ≡ r → IsReadAfter r (Ok found) → Spelled bytes found
+read_after bytes (Ok x) found fits e read =
     let head = header_takes (tail 0 bytes) x fits e in
     let b = body_found x.0.layout x.0.schema (body x.0.layout read.0.columns.items (group_sizes x.0.rows) [] x.1) found (sym read.2) in
     subst (Spelled bytes) b.2 (spelled_with bytes x.0 x.1 read.0 b.0 head.0 head.1 read.1 b.1)
-read_behind bytes (Err fault) found fits e read = absurd (cc read)
+read_after bytes (Err fault) found fits e read = absurd (cc read)
 
 -- so what is read of bytes is spelled by them
 pub read_is_spelled : (bytes : List ℕ) (found : Found) → IsBytes bytes → IsReadAs bytes (Ok found)
     → (schema : Schema) × (schema_shape schema ≡ found.schema) × IsFileBytes bytes found.layout schema found.rows
 read_is_spelled bytes found fits read =
-    let s = read_behind bytes (header (tail 0 bytes)) found fits refl read in (s.schema, s.shape, s.text)
+    let s = read_after bytes (header (tail 0 bytes)) found fits refl read in (s.schema, s.shape, s.text)
 
 -- and by any schema of that shape
 pub read_is_spelled_by : (bytes : List ℕ) (found : Found) (schema : Schema) → IsBytes bytes → schema_shape schema ≡ found.schema → IsReadAs bytes (Ok found)

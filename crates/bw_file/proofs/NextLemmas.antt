@@ -19,8 +19,8 @@ pub all_groups : (start now : State) (reader : TableReader) (groups : List (List
     → groups ≡ groups_of (together groups)
 unfolding end
 all_groups start now reader groups all so_far =
-    let found = groups_found reader.layout reader.placement.value.schema.columns.items (group_sizes reader.rows) reader.rows [] (tail so_far.behind.offset (so_far.on.bytes ++ [])) (groups, tail now.offset []) refl (at_end start now reader groups all so_far []) in
-    let same : groups ≡ found.groups = found.behind in
+    let found = groups_found reader.layout reader.placement.value.schema.columns.items (group_sizes reader.rows) reader.rows [] (tail so_far.after.offset (so_far.on.bytes ++ [])) (groups, tail now.offset []) refl (at_end start now reader groups all so_far []) in
+    let same : groups ≡ found.groups = found.after in
     sym (subst (λ (l : List (List (List Value))). groups_of (together l) ≡ l) (sym same) found.cut)
 
 module _ {S : Type 0} (source next_source : S) (old now : State) (reader next : TableReader) (same : SameTable reader next) where

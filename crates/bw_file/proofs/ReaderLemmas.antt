@@ -15,7 +15,7 @@ use Rattle.bw_file.specs.declared.layout.Layout.{Layout}
 use Rattle.bw_file.specs.declared.table_reader.TableReader.{TableReader}
 use Rattle.bw_file.specs.Reading.{tail, Reading, ◌>>=◌, give, State, Took, GoesOn, NeedsEach, NeedsMore, HasFault, Fails, HasByteMore}
 use Rattle.bw_file.specs.TableReading.{HeaderShape, header, body, segment, end, sizes_within, group_sizes, found_in, IsReadAs}
-use Rattle.bw_file.specs.TableReader.{header_told, SoFar, found_so_far, ReadWhole, LacksFault, AreTooFew, NoneToSpare, HasFirstFault, AnswersFault}
+use Rattle.bw_file.specs.TableReader.{header_stated, SoFar, found_so_far, ReadWhole, LacksFault, AreTooFew, NoneToSpare, HasFirstFault, AnswersFault}
 use Rattle.bw_file.proofs.ReadingLemmas.{passes, stops, took_more, coming_of, is_coming}
 
 -- the sizes of groups don't hang on how many groups there may be
@@ -42,17 +42,17 @@ unfolding group_sizes
 group_sizes-none = refl
 
 -- one group more
-body_more : (layout : Layout) (columns : List Column) (rows left : ℕ) (groups : List (List (List Value))) (group : List (List Value)) (size : ℕ) (behind old new : State)
+body_more : (layout : Layout) (columns : List Column) (rows left : ℕ) (groups : List (List (List Value))) (group : List (List Value)) (size : ℕ) (after old new : State)
     → 0 < left → size ≡ min group_size left
-    → GoesOn (body layout columns (group_sizes rows) []) behind (body layout columns (group_sizes left) groups) old
+    → GoesOn (body layout columns (group_sizes rows) []) after (body layout columns (group_sizes left) groups) old
     → GoesOn (segment layout columns size) old (give group) new
-    → GoesOn (body layout columns (group_sizes rows) []) behind (body layout columns (group_sizes (left - size)) (groups ++ group ∷ [])) new
+    → GoesOn (body layout columns (group_sizes rows) []) after (body layout columns (group_sizes (left - size)) (groups ++ group ∷ [])) new
 unfolding body group_size
-body_more layout columns rows left groups group size behind old new some sized p q =
+body_more layout columns rows left groups group size after old new some sized p q =
     let sizes : group_sizes left ≡ size ∷ group_sizes (left - group_size) = rw sized (group_sizes-some left some) in
     let rest : left - size ≡ left - group_size = omega (arith, sized) in
-    let so_far : GoesOn (body layout columns (group_sizes rows) []) behind (body layout columns (size ∷ group_sizes (left - group_size)) groups) old = rw sizes at p in
-    rw rest (passes (body layout columns (group_sizes rows) []) (segment layout columns size) (λ group. body layout columns (group_sizes (left - group_size)) (groups ++ group ∷ [])) group behind old new so_far q)
+    let so_far : GoesOn (body layout columns (group_sizes rows) []) after (body layout columns (size ∷ group_sizes (left - group_size)) groups) old = rw sizes at p in
+    rw rest (passes (body layout columns (group_sizes rows) []) (segment layout columns size) (λ group. body layout columns (group_sizes (left - group_size)) (groups ++ group ∷ [])) group after old new so_far q)
 
 pub so_far_more : (start old new : State) (reader next : TableReader) (groups : List (List (List Value))) (rows : List (List Value)) (size : ℕ)
     → next.version ≡ reader.version → next.layout ≡ reader.layout → next.placement.value.schema ≡ reader.placement.value.schema → next.rows ≡ reader.rows → next.given ≡ reader.given + size
@@ -62,11 +62,11 @@ pub so_far_more : (start old new : State) (reader next : TableReader) (groups : 
 so_far_more start old new reader next groups rows size same_version same_layout same_schema same_rows same_given left sized so_far more =
     let left_now : reader.rows - (reader.given + size) ≡ reader.rows - reader.given - size = omega arith in
     record {
-      behind = so_far.behind;
+      after = so_far.after;
       first = so_far.first;
       head = rw (same_version, same_layout, same_schema, same_rows) so_far.head;
       on = rw (same_layout, same_schema, same_rows, same_given, left_now)
-          (body_more reader.layout reader.placement.value.schema.columns.items reader.rows (reader.rows - reader.given) groups rows size so_far.behind old new (omega arith) sized so_far.on more);
+          (body_more reader.layout reader.placement.value.schema.columns.items reader.rows (reader.rows - reader.given) groups rows size so_far.after old new (omega arith) sized so_far.on more);
     }
 
 -- a file that ends within its header ends too early
@@ -103,19 +103,19 @@ header_refused start new fault first p = record {
 }
 
 -- the header of a file, from its first byte on
-pub head_at : (start behind : State) (h : HeaderShape) (rest : List ℕ) → start.offset ≡ 0 → (p : GoesOn header start (give h) behind)
-    → header (tail 0 (p.bytes ++ rest)) ≡ Ok (h, tail behind.offset rest)
-head_at start behind h rest first p = rw first at (p.on rest)
+pub head_at : (start after : State) (h : HeaderShape) (rest : List ℕ) → start.offset ≡ 0 → (p : GoesOn header start (give h) after)
+    → header (tail 0 (p.bytes ++ rest)) ≡ Ok (h, tail after.offset rest)
+head_at start after h rest first p = rw first at (p.on rest)
 
 module _ (start old : State) (reader : TableReader) (groups : List (List (List Value))) (so_far : SoFar start old reader groups) where
   abbrev whole_body : Reading (List (List (List Value)))
   whole_body = body reader.layout reader.placement.value.schema.columns.items (group_sizes reader.rows) []
 
-  header_on : (rest : List ℕ) → header (tail 0 (so_far.head.bytes ++ rest)) ≡ Ok (header_told reader.version reader, tail so_far.behind.offset rest)
-  header_on rest = head_at start so_far.behind (header_told reader.version reader) rest so_far.first so_far.head
+  header_on : (rest : List ℕ) → header (tail 0 (so_far.head.bytes ++ rest)) ≡ Ok (header_stated reader.version reader, tail so_far.after.offset rest)
+  header_on rest = head_at start so_far.after (header_stated reader.version reader) rest so_far.first so_far.head
 
   -- a file that ends within its header, or where what stands after it needs more, ends too early
-  pub ends_early : (more : List ℕ) → NeedsEach whole_body so_far.behind.offset more → (n : ℕ) → n < length (so_far.head.bytes ++ more)
+  pub ends_early : (more : List ℕ) → NeedsEach whole_body so_far.after.offset more → (n : ℕ) → n < length (so_far.head.bytes ++ more)
       → IsReadAs (take n (so_far.head.bytes ++ more)) (Err (at_byte 305 n))
   ends_early more needed n lt =
       elim (cases_lt n (length so_far.head.bytes)) [
@@ -128,36 +128,36 @@ module _ (start old : State) (reader : TableReader) (groups : List (List (List V
             let more_than : n ≡ length so_far.head.bytes + m = omega (arith, same) in
             let split : take n (so_far.head.bytes ++ more) ≡ so_far.head.bytes ++ take m more =
             ap (λ (k : ℕ). take k (so_far.head.bytes ++ more)) more_than ∙ take-append-add so_far.head.bytes more m in
-            let place : so_far.behind.offset + m ≡ n = omega (arith, same, so_far.first, so_far.head.took.counted) in
-            let early : whole_body (tail so_far.behind.offset (take m more)) ≡ Err (at_byte 305 n) =
+            let place : so_far.after.offset + m ≡ n = omega (arith, same, so_far.first, so_far.head.took.counted) in
+            let early : whole_body (tail so_far.after.offset (take m more)) ≡ Err (at_byte 305 n) =
             rw place at (needed m (omega (arith, lt, same, length-append so_far.head.bytes more))) in
             rw (split, header_on (take m more))
             (reader.placement.value.schema, refl, sym (ap (found_in reader.layout (schema_shape reader.placement.value.schema)) early))
       ]
 
-  behind_unfinished : (more : List ℕ) → NeedsMore whole_body so_far.behind.offset more → IsReadAs (so_far.head.bytes ++ more) (Err (at_byte 305 (length (so_far.head.bytes ++ more))))
-  behind_unfinished more p =
-      let place : so_far.behind.offset + length more ≡ length (so_far.head.bytes ++ more) = omega (arith, so_far.first, so_far.head.took.counted, length-append so_far.head.bytes more) in
-      let early : whole_body (tail so_far.behind.offset more) ≡ Err (at_byte 305 (length (so_far.head.bytes ++ more))) = rw place at p in
+  after_unfinished : (more : List ℕ) → NeedsMore whole_body so_far.after.offset more → IsReadAs (so_far.head.bytes ++ more) (Err (at_byte 305 (length (so_far.head.bytes ++ more))))
+  after_unfinished more p =
+      let place : so_far.after.offset + length more ≡ length (so_far.head.bytes ++ more) = omega (arith, so_far.first, so_far.head.took.counted, length-append so_far.head.bytes more) in
+      let early : whole_body (tail so_far.after.offset more) ≡ Err (at_byte 305 (length (so_far.head.bytes ++ more))) = rw place at p in
       rw (header_on more) (reader.placement.value.schema, refl, sym (ap (found_in reader.layout (schema_shape reader.placement.value.schema)) early))
 
   -- the fault after the header is the file's
-  behind_fault : (new : State) (more : List ℕ) (fault : Fault) → ((n : ℕ) → n < length (so_far.head.bytes ++ more) → LacksFault (so_far.head.bytes ++ more) n fault)
-      → HasFault whole_body so_far.behind new more fault → HasFirstFault new (so_far.head.bytes ++ more) fault
-  behind_fault new more fault needed has =
-      let e : header (tail 0 ((so_far.head.bytes ++ more) ++ has.rest)) ≡ Ok (header_told reader.version reader, tail so_far.behind.offset (more ++ has.rest)) =
+  after_fault : (new : State) (more : List ℕ) (fault : Fault) → ((n : ℕ) → n < length (so_far.head.bytes ++ more) → LacksFault (so_far.head.bytes ++ more) n fault)
+      → HasFault whole_body so_far.after new more fault → HasFirstFault new (so_far.head.bytes ++ more) fault
+  after_fault new more fault needed has =
+      let e : header (tail 0 ((so_far.head.bytes ++ more) ++ has.rest)) ≡ Ok (header_stated reader.version reader, tail so_far.after.offset (more ++ has.rest)) =
       rw append_assoc (header_on (more ++ has.rest)) in
       let own_fault = sym (ap (found_in reader.layout (schema_shape reader.placement.value.schema)) has.gives) in
       record { needed = needed; rest = has.rest; coming = has.coming; read = rw e (reader.placement.value.schema, refl, own_fault) }
 
-  behind_refused : (new : State) (fault : Fault) → Fails whole_body so_far.behind new fault → AnswersFault start old new fault
-  behind_refused new fault p = record {
+  after_refused : (new : State) (fault : Fault) → Fails whole_body so_far.after new fault → AnswersFault start old new fault
+  after_refused new fault p = record {
     bytes = so_far.head.bytes ++ p.bytes;
-    took = took_more start so_far.behind new so_far.head.bytes p.bytes so_far.head.took p.took;
+    took = took_more start so_far.after new so_far.head.bytes p.bytes so_far.head.took p.took;
     needed = λ n lt. inl (ends_early p.bytes p.needed n lt);
-    unfinished = λ failed. inl (behind_unfinished p.bytes (p.unfinished failed));
+    unfinished = λ failed. inl (after_unfinished p.bytes (p.unfinished failed));
     failures = omega (arith, p.failures, so_far.on.failures);
-    first = λ own. behind_fault new p.bytes fault (λ n lt. inl (ends_early p.bytes p.needed n lt)) (p.refused own);
+    first = λ own. after_fault new p.bytes fault (λ n lt. inl (ends_early p.bytes p.needed n lt)) (p.refused own);
   }
 
 pub segment_refused : (start old new : State) (reader : TableReader) (groups : List (List (List Value))) (size : ℕ) (fault : Fault)
@@ -169,13 +169,13 @@ segment_refused start old new reader groups size fault left sized so_far p =
     let columns = reader.placement.value.schema.columns.items in
     let rest = reader.rows - reader.given in
     let sizes : group_sizes rest ≡ size ∷ group_sizes (rest - group_size) = rw sized (group_sizes-some rest (omega arith)) in
-    let on : GoesOn (body layout columns (group_sizes reader.rows) []) so_far.behind (body layout columns (size ∷ group_sizes (rest - group_size)) groups) old = rw sizes at so_far.on in
-    behind_refused start old reader groups so_far new fault
-    (stops (body layout columns (group_sizes reader.rows) []) (segment layout columns size) (λ group. body layout columns (group_sizes (rest - group_size)) (groups ++ group ∷ [])) so_far.behind old new fault on p)
+    let on : GoesOn (body layout columns (group_sizes reader.rows) []) so_far.after (body layout columns (size ∷ group_sizes (rest - group_size)) groups) old = rw sizes at so_far.on in
+    after_refused start old reader groups so_far new fault
+    (stops (body layout columns (group_sizes reader.rows) []) (segment layout columns size) (λ group. body layout columns (group_sizes (rest - group_size)) (groups ++ group ∷ [])) so_far.after old new fault on p)
 
 -- where all groups were read, the end is wanted
 pub at_end : (start old : State) (reader : TableReader) (groups : List (List (List Value))) → reader.given ≡ reader.rows → (so_far : SoFar start old reader groups) → (rest : List ℕ)
-    → body reader.layout reader.placement.value.schema.columns.items (group_sizes reader.rows) [] (tail so_far.behind.offset (so_far.on.bytes ++ rest))
+    → body reader.layout reader.placement.value.schema.columns.items (group_sizes reader.rows) [] (tail so_far.after.offset (so_far.on.bytes ++ rest))
     ≡ (end >>= λ _. give groups) (tail old.offset rest)
 unfolding body
 at_end start old reader groups all so_far rest =
@@ -188,7 +188,7 @@ read_so_far : (start old : State) (reader : TableReader) (groups : List (List (L
     → IsReadAs (so_far.head.bytes ++ so_far.on.bytes) (Ok (found_so_far reader groups))
 unfolding end
 read_so_far start old reader groups all so_far =
-    let read : body reader.layout reader.placement.value.schema.columns.items (group_sizes reader.rows) [] (tail so_far.behind.offset so_far.on.bytes) ≡ Ok (groups, tail old.offset []) =
+    let read : body reader.layout reader.placement.value.schema.columns.items (group_sizes reader.rows) [] (tail so_far.after.offset so_far.on.bytes) ≡ Ok (groups, tail old.offset []) =
     rw append-nil at (at_end start old reader groups all so_far []) in
     rw (header_on start old reader groups so_far so_far.on.bytes)
     (reader.placement.value.schema, refl, sym (ap (found_in reader.layout (schema_shape reader.placement.value.schema)) read))
@@ -243,7 +243,7 @@ pub end_missed : (start old new : State) (reader : TableReader) (groups : List (
     → HasByteMore old new fault → AnswersFault start old new fault
 end_missed start old new reader groups fault all so_far p = record {
   bytes = so_far.head.bytes ++ (so_far.on.bytes ++ p.bytes);
-  took = took_more start so_far.behind new so_far.head.bytes (so_far.on.bytes ++ p.bytes) so_far.head.took (took_more so_far.behind old new so_far.on.bytes p.bytes so_far.on.took p.took);
+  took = took_more start so_far.after new so_far.head.bytes (so_far.on.bytes ++ p.bytes) so_far.head.took (took_more so_far.after old new so_far.on.bytes p.bytes so_far.on.took p.took);
   needed = end_needed start old reader groups all so_far p.bytes (is_read_fault fault) p.unfinished (λ own. (p.refused own).0);
   unfinished = λ failed.
       let whole : so_far.on.bytes ++ p.bytes ≡ so_far.on.bytes = rw (p.unfinished failed) (append-nil so_far.on.bytes) in
@@ -253,15 +253,15 @@ end_missed start old new reader groups fault all so_far p = record {
       let has = p.refused (own_fault fault own) in
       let whole = body reader.layout reader.placement.value.schema.columns.items (group_sizes reader.rows) [] in
       let rest = coming_of new.known in
-      let found : HasFault whole so_far.behind new (so_far.on.bytes ++ p.bytes) (at_byte 309 old.offset) = record {
+      let found : HasFault whole so_far.after new (so_far.on.bytes ++ p.bytes) (at_byte 309 old.offset) = record {
         rest = rest;
         coming = is_coming new.known;
         gives =
-            ap (λ (bytes : List ℕ). whole (tail so_far.behind.offset bytes)) (append_assoc so_far.on.bytes p.bytes rest)
+            ap (λ (bytes : List ℕ). whole (tail so_far.after.offset bytes)) (append_assoc so_far.on.bytes p.bytes rest)
             ∙ at_end start old reader groups all so_far (p.bytes ++ rest)
             ∙ byte_more groups old.offset p.bytes rest has.0;
       } in
-      rw has.1 (behind_fault start old reader groups so_far new (so_far.on.bytes ++ p.bytes) (at_byte 309 old.offset) (byte_needed start old reader groups all so_far p.bytes has.0) found);
+      rw has.1 (after_fault start old reader groups so_far new (so_far.on.bytes ++ p.bytes) (at_byte 309 old.offset) (byte_needed start old reader groups all so_far p.bytes has.0) found);
 }
 
 pub end_seen : (start old new : State) (reader : TableReader) (groups : List (List (List Value))) → reader.given ≡ reader.rows → SoFar start old reader groups
@@ -269,7 +269,7 @@ pub end_seen : (start old new : State) (reader : TableReader) (groups : List (Li
 end_seen start old new reader groups all so_far took same ended = record {
   bytes = so_far.head.bytes ++ so_far.on.bytes;
   took = rw append-nil at (took_more start old new (so_far.head.bytes ++ so_far.on.bytes) []
-      (took_more start so_far.behind old so_far.head.bytes so_far.on.bytes so_far.head.took so_far.on.took) took);
+      (took_more start so_far.after old so_far.head.bytes so_far.on.bytes so_far.head.took so_far.on.took) took);
   needed = λ n lt. inl (ends_early start old reader groups so_far so_far.on.bytes so_far.on.needed n lt);
   failures = omega (arith, same, so_far.on.failures, so_far.head.failures);
   ended = ended;

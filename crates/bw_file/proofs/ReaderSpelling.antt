@@ -13,8 +13,8 @@ use Rattle.bw_file.specs.declared.table_reader.TableReader.{TableReader}
 use Rattle.bw_file.specs.FileBytes.{IsFileBytes}
 use Rattle.bw_file.specs.Reading.{tail, State}
 use Rattle.bw_device.specs.Source.{is_input_fault}
-use Rattle.bw_file.specs.TableReading.{group_sizes, body, header, Found, found_as, IsReadBehind}
-use Rattle.bw_file.specs.TableReader.{header_told, SoFar, ReadWhole, AnswersFault, GaveFirst}
+use Rattle.bw_file.specs.TableReading.{group_sizes, body, header, Found, found_as, IsReadAfter}
+use Rattle.bw_file.specs.TableReader.{header_stated, SoFar, ReadWhole, AnswersFault, GaveFirst}
 use Rattle.bw_file.proofs.BodySpelling.{groups_found}
 use Rattle.bw_model.proofs.SameColumns.{columns_same}
 use Rattle.bw_file.proofs.FileSpelling.{of_groups, body_found}
@@ -60,29 +60,29 @@ pub gave_first : (bytes : List ℕ) (layout : Layout) (schema : Schema) (rows : 
 gave_first bytes layout schema rows file start now reader groups known so_far =
     let head = so_far.head in
     let on = so_far.on in
-    let behind = so_far.behind in
+    let after = so_far.after in
     let own = reader.placement.value.schema in
-    let h = header_told reader.version reader in
-    let a = known_rest start.known behind.known bytes head.bytes known head.took.consumed in
-    let b = known_rest behind.known now.known a.0 on.bytes a.1 on.took.consumed in
+    let h = header_stated reader.version reader in
+    let a = known_rest start.known after.known bytes head.bytes known head.took.consumed in
+    let b = known_rest after.known now.known a.0 on.bytes a.1 on.took.consumed in
     let all : bytes ≡ head.bytes ++ (on.bytes ++ b.0) = a.2 ∙ ap (λ (more : List ℕ). head.bytes ++ more) b.2 in
-    let e : header (tail 0 bytes) ≡ Ok (h, tail behind.offset (on.bytes ++ b.0)) = ap (λ (l : List ℕ). header (tail 0 l)) all ∙ head_at start behind h (on.bytes ++ b.0) so_far.first head in
-    let read = subst (λ r. IsReadBehind r (Ok (found_as layout (schema_shape schema) rows))) e (spelled_is_read bytes layout schema rows file) in
+    let e : header (tail 0 bytes) ≡ Ok (h, tail after.offset (on.bytes ++ b.0)) = ap (λ (l : List ℕ). header (tail 0 l)) all ∙ head_at start after h (on.bytes ++ b.0) so_far.first head in
+    let read = subst (λ r. IsReadAfter r (Ok (found_as layout (schema_shape schema) rows))) e (spelled_is_read bytes layout schema rows file) in
     let under : read.0.columns.items ≡ own.columns.items = columns_same read.0.columns.items own.columns.items (ap (λ (s : SchemaShape). s.columns) read.1) in
-    let found = body_found reader.layout (schema_shape own) (body reader.layout read.0.columns.items (group_sizes reader.rows) [] (tail behind.offset (on.bytes ++ b.0))) (found_as layout (schema_shape schema) rows) (sym read.2) in
+    let found = body_found reader.layout (schema_shape own) (body reader.layout read.0.columns.items (group_sizes reader.rows) [] (tail after.offset (on.bytes ++ b.0))) (found_as layout (schema_shape schema) rows) (sym read.2) in
     let y = found.0 in
     let same : of_groups reader.layout (schema_shape own) y.0 ≡ found_as layout (schema_shape schema) rows = found.2 in
-    let whole : body reader.layout own.columns.items (group_sizes reader.rows) [] (tail behind.offset (on.bytes ++ b.0)) ≡ Ok y =
-    ap (λ (columns : List Column). body reader.layout columns (group_sizes reader.rows) [] (tail behind.offset (on.bytes ++ b.0))) (sym under) ∙ found.1 in
+    let whole : body reader.layout own.columns.items (group_sizes reader.rows) [] (tail after.offset (on.bytes ++ b.0)) ≡ Ok y =
+    ap (λ (columns : List Column). body reader.layout columns (group_sizes reader.rows) [] (tail after.offset (on.bytes ++ b.0))) (sym under) ∙ found.1 in
     let rest : body reader.layout own.columns.items (group_sizes (reader.rows - reader.given)) groups (tail now.offset b.0) ≡ Ok y = sym (on.on b.0) ∙ whole in
     let first = groups_found reader.layout own.columns.items (group_sizes (reader.rows - reader.given)) (reader.rows - reader.given) groups (tail now.offset b.0) y refl rest in
-    let cut = groups_found reader.layout own.columns.items (group_sizes reader.rows) reader.rows [] (tail behind.offset (on.bytes ++ b.0)) y refl whole in
-    let made : y.0 ≡ cut.groups = cut.behind in
+    let cut = groups_found reader.layout own.columns.items (group_sizes reader.rows) reader.rows [] (tail after.offset (on.bytes ++ b.0)) y refl whole in
+    let made : y.0 ≡ cut.groups = cut.after in
     let table : together y.0 ≡ rows = ap (λ (f : Found). f.rows) same in
     record {
       layout = ap (λ (f : Found). f.layout) same;
       schema = ap (λ (f : Found). f.schema) same;
       count = sym cut.count ∙ ap (λ (l : List (List (List Value))). length (together l)) (sym made) ∙ ap length table;
       more = first.groups;
-      first = sym first.behind ∙ made ∙ sym cut.cut ∙ ap (λ (l : List (List (List Value))). groups_of (together l)) (sym made) ∙ ap groups_of table;
+      first = sym first.after ∙ made ∙ sym cut.cut ∙ ap (λ (l : List (List (List Value))). groups_of (together l)) (sym made) ∙ ap groups_of table;
     }

@@ -57,24 +57,24 @@ abbrev short_at : (A : Type 0) → ℕ → Result (A × Tail) Fault
 short_at A place = Err (at_byte 305 place)
 
 -- bytes that are needed, and then more
-pub needs_more : {A : Type 0} (reading next : Reading A) (at behind : ℕ) (xs ys : List ℕ) → behind ≡ at + length xs → NeedsEach reading at xs
-    → ((rest : List ℕ) → reading (tail at (xs ++ rest)) ≡ next (tail behind rest)) → NeedsEach next behind ys → NeedsEach reading at (xs ++ ys)
-needs_more {A = A} reading next at behind xs ys e p on q n lt =
+pub needs_more : {A : Type 0} (reading next : Reading A) (at after : ℕ) (xs ys : List ℕ) → after ≡ at + length xs → NeedsEach reading at xs
+    → ((rest : List ℕ) → reading (tail at (xs ++ rest)) ≡ next (tail after rest)) → NeedsEach next after ys → NeedsEach reading at (xs ++ ys)
+needs_more {A = A} reading next at after xs ys e p on q n lt =
     elim (cases_lt n (length xs)) [
       | inl less ↦ rw (take-append-le n xs ys (omega (arith, less))) (p n less)
       | inr same ↦
           let more : n ≡ length xs + (n - length xs) = omega (arith, same) in
           let split : take n (xs ++ ys) ≡ xs ++ take (n - length xs) ys = ap (λ (k : ℕ). take k (xs ++ ys)) more ∙ take-append-add xs ys (n - length xs) in
-          let place : behind + (n - length xs) ≡ at + n = omega (arith, same, e) in
+          let place : after + (n - length xs) ≡ at + n = omega (arith, same, e) in
           ap (λ (l : List ℕ). reading (tail at l)) split ∙ on (take (n - length xs) ys) ∙ q (n - length xs) (omega (arith, lt, same, length-append xs ys))
           ∙ ap (λ (k : ℕ). short_at A k) place
     ]
 
 -- what needs more than the bytes that it finds still does so after others
-needs_still : {A B : Type 0} (reading : Reading B) (first : Reading A) (next : A → Reading B) (at behind : ℕ) (xs ys : List ℕ) → behind ≡ at + length xs
-    → ((rest : List ℕ) → reading (tail at (xs ++ rest)) ≡ (first >>= next) (tail behind rest)) → NeedsMore first behind ys → NeedsMore reading at (xs ++ ys)
-needs_still {A = A} {B = B} reading first next at behind xs ys e on p =
-    let place : behind + length ys ≡ at + length (xs ++ ys) = omega (arith, e, length-append xs ys) in
+needs_still : {A B : Type 0} (reading : Reading B) (first : Reading A) (next : A → Reading B) (at after : ℕ) (xs ys : List ℕ) → after ≡ at + length xs
+    → ((rest : List ℕ) → reading (tail at (xs ++ rest)) ≡ (first >>= next) (tail after rest)) → NeedsMore first after ys → NeedsMore reading at (xs ++ ys)
+needs_still {A = A} {B = B} reading first next at after xs ys e on p =
+    let place : after + length ys ≡ at + length (xs ++ ys) = omega (arith, e, length-append xs ys) in
     on ys ∙ ap (λ (r : Result (A × Tail) Fault). passed r next) p ∙ ap (λ (k : ℕ). short_at B k) place
 
 -- reading begins where it begins
@@ -143,9 +143,9 @@ stops_memory reading next old mid p = record {
 }
 
 -- a fault of bytes, whatever stands after them
-refuses_behind : {A : Type 0} (reading : Reading A) (old new : State) (bytes : List ℕ) (code place : ℕ) → Took old new bytes → NeedsEach reading old.offset bytes → new.failures ≡ old.failures
+refuses_after : {A : Type 0} (reading : Reading A) (old new : State) (bytes : List ℕ) (code place : ℕ) → Took old new bytes → NeedsEach reading old.offset bytes → new.failures ≡ old.failures
     → ((rest : List ℕ) → reading (tail old.offset (bytes ++ rest)) ≡ Err (at_byte code place)) → Fails reading old new (at_byte code place)
-refuses_behind reading old new bytes code place took needed same e =
+refuses_after reading old new bytes code place took needed same e =
     let own : is_read_fault (at_byte code place) ≡ false = refused_place (code == 701) in
     record {
       bytes = bytes;
@@ -167,7 +167,7 @@ pub refuses : {A : Type 0} (reading next : Reading A) (old new : State) (code pl
     → ((rest : List ℕ) → next (tail new.offset rest) ≡ Err (at_byte code place))
     → Fails reading old new (at_byte code place)
 refuses reading next old new code place p e =
-    refuses_behind reading old new p.bytes code place p.took p.needed p.failures (λ rest. p.on rest ∙ e rest)
+    refuses_after reading old new p.bytes code place p.took p.needed p.failures (λ rest. p.on rest ∙ e rest)
 
 -- a field needs each of its bytes
 pub field_needs : (size at : ℕ) (bytes : List ℕ) → length bytes ≤ size → NeedsEach (field size) at bytes

@@ -13,7 +13,7 @@ use Rattle.bw_model.proofs.GroupLemmas.{groups_of-table}
 use Rattle.bw_file.specs.declared.layout.Layout.{Layout}
 use Rattle.bw_file.specs.FileBytes.{IsFileBytes, bytes_of_version, segments_bytes, version_for, are_bounds}
 use Rattle.bw_file.specs.Reading.{Tail, tail}
-use Rattle.bw_file.specs.TableReading.{group_sizes, body, HeaderShape, header, Found, found_as, found_in, IsReadBehind, IsReadAs}
+use Rattle.bw_file.specs.TableReading.{group_sizes, body, HeaderShape, header, Found, found_as, found_in, IsReadAfter, IsReadAs}
 use Rattle.bw_model.proofs.SameColumns.{columns_same}
 use Rattle.bw_file.proofs.FileSpelling.{head_is, shapes_fit}
 use Rattle.bw_file.proofs.SpellingLemmas.{head_bytes, IsHeader}
@@ -62,9 +62,9 @@ of_version version bytes layout schema rows one_or_two room file text =
       limited = omega (arith, count, schema.limited);
       apart = ap are_apart (names_same columns) ∙ schema.apart;
     } in
-    let behind = segments_bytes layout columns rows in
-    let parts : bytes ≡ head_bytes h ++ behind = text ∙ ap (λ (l : List ℕ). l ++ behind) (sym (head_is version (length rows) layout schema)) in
-    let e : header (tail 0 bytes) ≡ Ok (h, tail (0 + length (head_bytes h)) behind) = ap (λ (l : List ℕ). header (tail 0 l)) parts ∙ header_reads h is 0 behind in
+    let after = segments_bytes layout columns rows in
+    let parts : bytes ≡ head_bytes h ++ after = text ∙ ap (λ (l : List ℕ). l ++ after) (sym (head_is version (length rows) layout schema)) in
+    let e : header (tail 0 bytes) ≡ Ok (h, tail (0 + length (head_bytes h)) after) = ap (λ (l : List ℕ). header (tail 0 l)) parts ∙ header_reads h is 0 after in
     let groups = groups_read layout columns rows (0 + length (head_bytes h)) file.admitted.admitted in
     let whole = ap (found_in layout (schema_shape schema)) groups.1 ∙ ap (λ (l : List (List Value)). Ok (found_as layout (schema_shape schema) l)) (groups_of-table rows) in
     rw e (schema, refl, sym whole)
@@ -78,14 +78,14 @@ spelled_is_read bytes layout schema rows file =
     ]
 
 -- bytes are read in one way
-behind_one_way : (r : Result (HeaderShape × Tail) Fault) (one other : Result Found Fault) → IsReadBehind r one → IsReadBehind r other → one ≡ other
-behind_one_way (Ok x) one other p q =
+after_one_way : (r : Result (HeaderShape × Tail) Fault) (one other : Result Found Fault) → IsReadAfter r one → IsReadAfter r other → one ≡ other
+after_one_way (Ok x) one other p q =
     let same = columns_same p.0.columns.items q.0.columns.items (ap (λ (s : SchemaShape). s.columns) (p.1 ∙ sym q.1)) in
     p.2 ∙ ap (λ (columns : List Column). found_in x.0.layout x.0.schema (body x.0.layout columns (group_sizes x.0.rows) [] x.1)) same ∙ sym q.2
-behind_one_way (Err fault) one other p q = p ∙ sym q
+after_one_way (Err fault) one other p q = p ∙ sym q
 
 pub read_one_way : (bytes : List ℕ) (one other : Result Found Fault) → IsReadAs bytes one → IsReadAs bytes other → one ≡ other
-read_one_way bytes one other p q = behind_one_way (header (tail 0 bytes)) one other p q
+read_one_way bytes one other p q = after_one_way (header (tail 0 bytes)) one other p q
 
 abbrev done : Found → Result Found Fault
 done x = Ok x

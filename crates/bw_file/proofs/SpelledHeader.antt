@@ -149,17 +149,17 @@ not_any true b e = absurd cc
 not_any false true e = absurd cc
 not_any false false e = (refl, refl)
 
-apart_there : (text name : List ℕ) (before behind : List (List ℕ)) → not (list_any (same_text name) (before ++ text ∷ behind)) ≡ true → same_text name text ≡ false
-apart_there text name [] behind e = (not_any (same_text name text) (list_any (same_text name) behind) e).0
-apart_there text name (other ∷ before) behind e =
-    apart_there text name before behind (ap not (not_any (same_text name other) (list_any (same_text name) (before ++ text ∷ behind)) e).1)
+apart_there : (text name : List ℕ) (before after : List (List ℕ)) → not (list_any (same_text name) (before ++ text ∷ after)) ≡ true → same_text name text ≡ false
+apart_there text name [] after e = (not_any (same_text name text) (list_any (same_text name) after) e).0
+apart_there text name (other ∷ before) after e =
+    apart_there text name before after (ap not (not_any (same_text name other) (list_any (same_text name) (before ++ text ∷ after)) e).1)
 
-apart_before : (text : List ℕ) (before behind : List (List ℕ)) → are_apart (before ++ text ∷ behind) ≡ true → list_any (λ (other : List ℕ). same_text other text) before ≡ false
+apart_before : (text : List ℕ) (before after : List (List ℕ)) → are_apart (before ++ text ∷ after) ≡ true → list_any (λ (other : List ℕ). same_text other text) before ≡ false
 unfolding are_apart
-apart_before text [] behind e = refl
-apart_before text (name ∷ before) behind e =
-    let p = both (not (list_any (same_text name) (before ++ text ∷ behind))) (are_apart (before ++ text ∷ behind)) e in
-    ap₂ ◌||◌ (apart_there text name before behind p.0) (apart_before text before behind p.1)
+apart_before text [] after e = refl
+apart_before text (name ∷ before) after e =
+    let p = both (not (list_any (same_text name) (before ++ text ∷ after))) (are_apart (before ++ text ∷ after)) e in
+    ap₂ ◌||◌ (apart_there text name before after p.0) (apart_before text before after p.1)
 
 names-more : (before : List ColumnShape) (c : ColumnShape) (more : List ColumnShape) → shape_names (before ++ c ∷ []) ++ shape_names more ≡ shape_names before ++ c.name ∷ shape_names more
 names-more [] c more = refl

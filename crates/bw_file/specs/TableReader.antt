@@ -29,8 +29,8 @@ abbrev pub layout_in : TableReader → Layout
 layout_in reader = reader.layout
 
 -- how many rows the header tells of, how many were given, and how many bytes were taken
-abbrev pub rows_told : TableReader → ℕ
-rows_told reader = reader.rows
+abbrev pub rows_stated : TableReader → ℕ
+rows_stated reader = reader.rows
 
 abbrev pub rows_given : TableReader → ℕ
 rows_given reader = reader.given
@@ -49,8 +49,8 @@ abbrev pub settled : TableReader → Option (Result (Unit {0}) Fault)
 settled reader = settled_by reader.phase
 
 -- the header that the reader read
-abbrev pub header_told : ℕ → TableReader → HeaderShape
-header_told version reader =
+abbrev pub header_stated : ℕ → TableReader → HeaderShape
+header_stated version reader =
     record {
       version = version;
       layout = reader.layout;
@@ -62,12 +62,12 @@ header_told version reader =
 -- groups of rows; reading goes on with those that are left, whatever stands there.
 pub record SoFar (start now : State) (reader : TableReader)
     (groups : List (List (List Value))) : Type 0 where
-  pub behind : State
+  pub after : State
   pub first : start.offset ≡ 0
-  pub head : GoesOn header start (give (header_told (version_in reader) reader)) behind
+  pub head : GoesOn header start (give (header_stated (version_in reader) reader)) after
   pub on : GoesOn
       (body reader.layout reader.placement.value.schema.columns.items
-      (group_sizes reader.rows) []) behind
+      (group_sizes reader.rows) []) after
       (body reader.layout reader.placement.value.schema.columns.items
       (group_sizes (reader.rows - reader.given)) groups) now
 
@@ -144,7 +144,7 @@ failed_by (Err fault) = failed_reads fault
 abbrev pub WantsMore : TableReader → ℕ → List ℕ → Type 0
 WantsMore reader at bytes =
     (bytes ≡ []) ⊎ NeedsMore (segment (layout_in reader) (schema_in reader).columns.items
-    (min group_size (rows_told reader - rows_given reader))) at bytes
+    (min group_size (rows_stated reader - rows_given reader))) at bytes
 
 -- a call that answered this took bytes of a source, whose failures rose where it answered a failed
 -- read; and there it wanted more than these bytes
@@ -219,6 +219,6 @@ pub record GaveFirst (reader : TableReader) (groups : List (List (List Value))) 
     (under : Schema) (rows : List (List Value)) : Type 0 where
   pub layout : layout_in reader ≡ kept
   pub schema : schema_shape (schema_in reader) ≡ schema_shape under
-  pub count : rows_told reader ≡ length rows
+  pub count : rows_stated reader ≡ length rows
   pub more : List (List (List Value))
   pub first : groups ++ more ≡ groups_of rows

@@ -233,15 +233,15 @@ found_in layout schema (Err fault) = Err fault
 
 -- What bytes are read as: a table, or the first fault in them. The header comes first; what stands
 -- after it is read under columns that are those of the header.
-abbrev pub IsReadBehind : Result (HeaderShape × Tail) Fault → Result Found Fault → Type 0
-IsReadBehind (Ok x) read =
+abbrev pub IsReadAfter : Result (HeaderShape × Tail) Fault → Result Found Fault → Type 0
+IsReadAfter (Ok x) read =
     (schema : Schema) × (schema_shape schema ≡ x.0.schema)
     × (read ≡ found_in x.0.layout x.0.schema
     (body x.0.layout schema.columns.items (group_sizes x.0.rows) [] x.1))
-IsReadBehind (Err fault) read = read ≡ Err fault
+IsReadAfter (Err fault) read = read ≡ Err fault
 
 abbrev pub IsReadAs : List ℕ → Result Found Fault → Type 0
-IsReadAs bytes read = IsReadBehind (header (tail 0 bytes)) read
+IsReadAs bytes read = IsReadAfter (header (tail 0 bytes)) read
 
 -- what a call that reads a table file refuses by: 301 to 310, a failed read or out of memory
 abbrev pub is_table_fault : Fault → Bool

@@ -9,8 +9,8 @@
 //! read, and `table_reader.rt` with `specs/TableReader.antt` for reading a file one segment at a
 //! time.
 //!
-//! `bw` itself writes row by row and reads segment by segment. [`encode`] and [`decode`] are the library's public face, for
-//! whole tables in memory:
+//! `bw` itself writes row by row and reads segment by segment. [`encode`] and [`decode`] are the library's public face,
+//! for whole tables in memory:
 //!
 //! ```
 //! let bytes = encode(rt.alloc(), Layout::Planes, &schema, &rows)?;

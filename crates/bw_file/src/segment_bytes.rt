@@ -10,8 +10,8 @@ use bw_device::{SharedBytes, Source};
 use bw_model::Fault;
 use std::alloc::Global;
 
-/// The bytes of a segment of which some, the first ones, were taken from a source: bytes that the source keeps and shares, or
-/// memory of the segment's own, into which they are copied.
+/// The bytes of a segment of which some, the first ones, were taken from a source: bytes that the source keeps and
+/// shares, or memory of the segment's own, into which they are copied.
 #[derive(Drop)]
 pub(crate) enum SegmentBytes {
     Shared(SharedBytes),
@@ -33,8 +33,8 @@ impl SegmentBytes {
         Ok(SegmentBytes::Own(own))
     }
 
-    /// Takes the next ones of these bytes, so many from `start` on, and counts them. A source that ends before is 305 at the
-    /// number of its bytes, and a failed read 701.
+    /// Takes the next ones of these bytes, so many from `start` on, and counts them. A source that ends before is 305
+    /// at the number of its bytes, and a failed read 701.
     pub(crate) fn take<S: Source>(
         &mut self,
         source: &mut S,

@@ -42,7 +42,7 @@ impl TableReader {
     ghost use Rattle.bw_file.specs.Blocks.{segment_size};
     ghost use Rattle.bw_file.specs.Reading.{Fails, GoesOn, give, state};
     ghost use Rattle.bw_file.specs.TableReading.{header};
-    ghost use Rattle.bw_file.specs.TableReader.{schema_in, version_in, layout_in, header_told, rows_told, rows_given, bytes_taken, settled, SoFar, AnswersFault, GivesNext};
+    ghost use Rattle.bw_file.specs.TableReader.{schema_in, version_in, layout_in, header_stated, rows_stated, rows_given, bytes_taken, settled, SoFar, AnswersFault, GivesNext};
 
     /// Reads the header of a table file, and no byte past it: 301 to 304 and 310, each at the first
     /// byte of its field, 305 at the end of a file that ends before, or 701 where a read fails
@@ -52,9 +52,9 @@ impl TableReader {
         ensures began { IfOk result (λ reader. SoFar
             (state (S.to_come source.old) 0 (S.failures source.old))
             (state (S.to_come source.new) (bytes_taken reader) (S.failures source.new)) reader []) }
-        ensures told { IfOk result (λ reader. GoesOn header
+        ensures stated { IfOk result (λ reader. GoesOn header
             (state (S.to_come source.old) 0 (S.failures source.old))
-            (give (header_told (version_in reader) reader))
+            (give (header_stated (version_in reader) reader))
             (state (S.to_come source.new) (bytes_taken reader) (S.failures source.new))) }
         ensures short { IfOk result (λ reader. bytes_taken reader ≤ 20000) }
         ensures fresh { IfOk result (λ reader. (rows_given reader ≡ 0) × (settled reader ≡ None)) }
@@ -91,7 +91,7 @@ impl TableReader {
     /// the last one, where the source has ended. Takes a block at a time, and judges it before the
     /// next: 308 at the first byte with a bit of a padding row, 307, 306 at the block's first byte,
     /// 305 at the end of a file that ends before, 309 at a byte after the last block, or 701; and no
-    /// byte that isn't needed to tell. From None on it answers None, and from a fault on, want of
+    /// byte that isn't needed to tell. From None on it answers None, and from a fault on, out of
     /// memory too, that fault, and takes nothing.
     pub fn next_segment<S: Source>(&mut self, source: &mut S) -> Result<Option<AnySegment>, Fault>
         requires { S.failures source.old < 2 ^ 64 - 1 }
@@ -175,7 +175,7 @@ impl TableReader {
 
     /// How many rows the header tells of.
     pub fn rows(&self) -> u32
-        ensures { result ≡ rows_told self.now }
+        ensures { result ≡ rows_stated self.now }
     {
         self.rows
     }

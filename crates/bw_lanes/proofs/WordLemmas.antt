@@ -237,13 +237,13 @@ written_more f word old ys long size lt =
     let rows = written f word old ys in
     let front = zip2 f (take at old) (take at ys) in
     let before : length front ≡ at = omega (arith, length-zip2 f (take at old) (take at ys) (omega (arith, length-take at old, length-take at ys)), length-take at old) in
-    let behind : drop at rows ≡ drop at old = ap (λ n. drop n rows) (sym before) ∙ drop-append_seam front (drop at old) in
+    let after : drop at rows ≡ drop at old = ap (λ n. drop n rows) (sym before) ∙ drop-append_seam front (drop at old) in
     let first : take at rows ≡ front = ap (λ n. take n rows) (sym before) ∙ take-append_seam front (drop at old) in
     let some = zip2 f (part word rows) (part word ys) in
-    let made_of : some ≡ zip2 f (part word old) (part word ys) = ap (λ l. zip2 f (take 64 (take (512 - at) l)) (part word ys)) behind in
+    let made_of : some ≡ zip2 f (part word old) (part word ys) = ap (λ l. zip2 f (take 64 (take (512 - at) l)) (part word ys)) after in
     let all = length-part word old long lt in
     let count : length some ≡ 64 = ap length made_of ∙ length-zip2 f (part word old) (part word ys) (all ∙ sym (length-part word ys size lt)) ∙ all in
-    sym (put_chunk_is at rows some (omega (arith, ap length behind, length-drop at rows, length-drop at old)) ∙ ap₂ ◌++◌ first (ap₂ (λ k l. some ++ drop k l) count behind)
+    sym (put_chunk_is at rows some (omega (arith, ap length after, length-drop at rows, length-drop at old)) ∙ ap₂ ◌++◌ first (ap₂ (λ k l. some ++ drop k l) count after)
     ∙ sym (append_assoc front some (drop 64 (drop at old)))
     ∙ ap₂ ◌++◌ (ap (λ l. front ++ l) made_of ∙ sym (zipped_more f word old ys long size lt)) (drop-drop 64 at old ∙ ap (λ n. drop n old) {y = 64 * (word + 1)} (omega arith)))
 

@@ -22,7 +22,7 @@ const BIT_OF_ROW: [u8; 64] = [
     32, 64, 128, 1, 2, 4, 8, 16, 32, 64, 128,
 ];
 
-// Inline, behind a loop that makes the plane, it was compiled to take each byte by itself: a sum took seven times as long.
+// Inline, after a loop that makes the plane, it was compiled to take each byte by itself: a sum took seven times as long.
 /// A byte a row: 255 where its lane is 1, and else 0.
 #[tactic(auto, using(crate::proofs::WordLemmas::put_bytes))]
 #[inline(never)]

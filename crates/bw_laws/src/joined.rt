@@ -11,10 +11,10 @@ use bw_file::{a_file_is_of_one_table, a_schema_has_names_and_bounds};
 use bw_model::Schema;
 use bw_sql::schemas_of_one_shape;
 
-/// A law, which joins `load` to `answer` and `dump`: over the bytes that a load writes for a CSV text under this schema, in
-/// either layout, what is answered to a statement is its meaning over the rows of that CSV text, whichever program finds
-/// them; and what is dumped is every row of it in every column. It's the same text that `direct` writes. It looks at each
-/// column of the schema.
+/// A law, which joins `load` to `answer` and `dump`: over the bytes that a load writes for a CSV text under this
+/// schema, in either layout, what is answered to a statement is its meaning over the rows of that CSV text, whichever
+/// program finds them; and what is dumped is every row of it in every column. It's the same text that `direct` writes.
+/// It looks at each column of the schema.
 pub fn what_is_loaded_is_answered(schema: &Schema)
     ensures answered { (layout : Layout) (csv bytes sql : List ℕ) (program old new : Option (List ℕ))
         → file_of layout schema.now csv ≡ Ok bytes → AnswersFile (by_statement program sql) bytes old new

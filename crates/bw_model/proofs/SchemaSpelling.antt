@@ -58,7 +58,7 @@ shape_names-push (c ∷ columns) column = ap (λ (names : List (List ℕ)). c.na
 
 -- columns that were read after others
 record Added (before : List ColumnShape) (lines : List NumberedWords) (columns rest : List ColumnShape) : Type 0 where
-  behind : columns ≡ before ++ rest
+  joined : columns ≡ before ++ rest
   spelled : AllZip SpellsColumn lines rest
   limited : length columns ≤ 64
   apart : are_apart (shape_names columns) ≡ true
@@ -70,7 +70,7 @@ unfolding columns_on
 added before [] columns few apart e =
     let same : before ≡ columns = cc e in
     let P : List ColumnShape → Type 0 = λ cs. Added before [] cs [] in
-    ([], subst P same (record { behind = sym (append-nil before); spelled = tt; limited = few; apart = apart }))
+    ([], subst P same (record { joined = sym (append-nil before); spelled = tt; limited = few; apart = apart }))
 added before (line ∷ lines) columns few apart e =
     let first = bind_ok (column_on (shape_names before) line) (λ column. columns_on (before ++ column ∷ []) lines) columns e in
     let column = first.0 in
@@ -81,7 +81,7 @@ added before (line ∷ lines) columns few apart e =
     let others = added (before ++ column ∷ []) lines columns few' apart' first.2 in (
       column ∷ others.0,
       record {
-        behind = others.1.behind ∙ append_assoc before (column ∷ []) others.0;
+        joined = others.1.joined ∙ append_assoc before (column ∷ []) others.0;
         spelled = (facts.spelled, others.1.spelled);
         limited = others.1.limited;
         apart = others.1.apart;
@@ -108,7 +108,7 @@ spelled_by (line ∷ lines) end schema e =
     let name = named line.number (table_words line.words) table.0 table.1 in
     let some = not_refused (is_empty columns.0) (at_line 105 end) _ schema columns.2 in
     let all = added [] lines columns.0 (omega arith) refl columns.1 in
-    let same : columns.0 ≡ all.0 = all.1.behind in
+    let same : columns.0 ≡ all.0 = all.1.joined in
     let P : SchemaShape → Type 0 = λ s. SpellsSchema (line ∷ lines) s in
     let spelled : AllZip SpellsColumn lines columns.0 = rw same all.1.spelled in
     let whole_schema : record { name = table.0; columns = columns.0 } ≡ schema = cc some.1 in

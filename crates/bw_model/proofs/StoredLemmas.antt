@@ -48,10 +48,10 @@ spelled_bits bits next width n start (suc count) low has le =
     let m = n / 2 ^ start in
     let first = next - (start + suc count) in
     let here : first ≡ next - suc (start + count) = omega arith in
-    let behind : suc first ≡ next - (start + count) = omega arith in
+    let after : suc first ≡ next - (start + count) = omega arith in
     let bit : bits first ≡ has_bit m count = ap bits here ∙ has (start + count) (omega arith) ∙ ap (λ b. b == 1) (bit_above n start count) in
     let high : cond (bits first) (2 ^ count) 0 ≡ bit_at m count * 2 ^ count = ap (λ b. cond b (2 ^ count) 0) bit ∙ bit_worth (bit_at m count) (2 ^ count) (bit_at-lt m count) in
-    let low_part : spelled bits (suc first) count ≡ m % 2 ^ count = ap (λ k. spelled bits k count) behind ∙ spelled_bits bits next width n start count low has (omega arith) in
+    let low_part : spelled bits (suc first) count ≡ m % 2 ^ count = ap (λ k. spelled bits k count) after ∙ spelled_bits bits next width n start count low has (omega arith) in
     let next_count : suc count ≡ 1 + count = omega arith in
     ap₂ ◌+◌ high low_part ∙ sym (ap (λ k. m % 2 ^ k) next_count ∙ mod-pow-add m 1 count)
 

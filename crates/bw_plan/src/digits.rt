@@ -7,8 +7,8 @@ use crate::refusal::Refusal;
 use crate::sets::groups_from;
 use bw_program::{ColumnIndex, Register, SliceIndex};
 
-/// Registers that are 1 where the upper digit of a byte is 0, 1 and so on, and where the lower one is. A byte of four bits or
-/// fewer has no upper digit.
+/// Registers that are 1 where the upper digit of a byte is 0, 1 and so on, and where the lower one is. A byte of four
+/// bits or fewer has no upper digit.
 #[derive(Clone, Copy)]
 pub(crate) struct Digits {
     slice: SliceIndex,
@@ -23,8 +23,8 @@ pub(crate) struct Upper {
     register: Register,
 }
 
-/// Two digits take 64 instructions, and pay where a byte is compared with so many numbers: a look at it takes ten times as
-/// long as an AND.
+/// Two digits take 64 instructions, and pay where a byte is compared with so many numbers: a look at it takes ten times
+/// as long as an AND.
 const MANY_NUMBERS: usize = 48;
 
 /// The same of the digit of a byte of four bits.
@@ -36,8 +36,8 @@ const ROOM_FOR_TWO: usize = 48;
 const ROOM_FOR_THREE: usize = 60;
 
 impl Code<'_> {
-    /// Makes the digits of the byte that is compared most often where rows are in no order, if that is often: the lowest one
-    /// with at most nine bits above it that aren't the same in all bounds. Those bits may have digits too.
+    /// Makes the digits of the byte that is compared most often where rows are in no order, if that is often: the
+    /// lowest one with at most nine bits above it that aren't the same in all bounds. Those bits may have digits too.
     pub(crate) fn split_bytes(
         &mut self,
         column: ColumnIndex,

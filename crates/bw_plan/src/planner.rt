@@ -31,10 +31,10 @@ pub struct Proposal {
     pub certificate: Certificate,
 }
 
-/// Proposes a program for a condition, and a certificate for it. Both fit the schema; that they are right is the checker's to
-/// say. Refuses at no place: 651 where a limit of instructions, registers, nodes, chains or rows would be passed, two columns of
-/// unequal lowest values are compared, or looking up the rows one by one takes no longer, and out of memory (801). That the
-/// condition names columns of the schema is the caller's condition.
+/// Proposes a program for a condition, and a certificate for it. Both fit the schema; that they are right is the
+/// checker's to say. Refuses at no place: 651 where a limit of instructions, registers, nodes, chains or rows would be
+/// passed, two columns of unequal lowest values are compared, or looking up the rows one by one takes no longer, and
+/// out of memory (801). That the condition names columns of the schema is the caller's condition.
 pub fn propose(alloc: Global, schema: &Schema, cond: &Cond) -> Result<Proposal, Fault>
     requires { IsTrue (names_within (length schema.now.columns.items) cond.now) }
     ensures program { IfOk result (λ proposal.

@@ -55,9 +55,9 @@ impl Code<'_> {
         Ok(same)
     }
 
-    /// A register, `out` if there is one, with the lanes turned round that are 1 in `mask` and whose low bytes, from this one
-    /// down, have an odd number of bounds above them. A new register has these lanes among those of `mask`, and in others
-    /// anything.
+    /// A register, `out` if there is one, with the lanes turned round that are 1 in `mask` and whose low bytes, from
+    /// this one down, have an odd number of bounds above them. A new register has these lanes among those of `mask`,
+    /// and in others anything.
     #[cycle(within)]
     fn within(
         &mut self,
@@ -86,7 +86,8 @@ impl Code<'_> {
         }
     }
 
-    /// The same for the bounds with one byte in common, where the codes have it too. A new register is 0 in other lanes.
+    /// The same for the bounds with one byte in common, where the codes have it too. A new register is 0 in other
+    /// lanes.
     #[cycle(within)]
     fn below(
         &mut self,
@@ -125,8 +126,9 @@ impl Code<'_> {
         Ok(Some(out))
     }
 
-    /// Takes those lanes out of a register whose byte is above that of the last bound, and skips where none is left. That's
-    /// so in most segments whose rows are in no order, if few codes remain, and else more than two looks at the byte come.
+    /// Takes those lanes out of a register whose byte is above that of the last bound, and skips where none is left.
+    /// That's so in most segments whose rows are in no order, if few codes remain, and else more than two looks at the
+    /// byte come.
     fn narrow(
         &mut self,
         column: ColumnIndex,

@@ -151,8 +151,8 @@ pub(crate) fn going_on(group: &[u64], slice: SliceIndex) -> &[u64] {
     }
 }
 
-/// Whether a column of so many bits has, in less than one row of 512, a code with zeros above a byte and no more than this
-/// number in it, where all codes come as often.
+/// Whether a column of so many bits has, in less than one row of 512, a code with zeros above a byte and no more than
+/// this number in it, where all codes come as often.
 pub(crate) fn is_rare(byte: u8, slice: SliceIndex, width: u32) -> bool {
     let above = u32::from(slice) * 8;
     let codes = (u64::from(byte) + 1) << above.min(55);

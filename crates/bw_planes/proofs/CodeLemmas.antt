@@ -46,11 +46,11 @@ bit_in_lane : (width place lane : ℕ) (bytes : List ℕ) → length bytes ≡ 6
 bit_in_lane width place lane bytes long there lt =
     let bit = width - suc place in
     let plane : place ≡ width - suc bit = omega arith in
-    let behind = drop (64 * place) bytes in
+    let after = drop (64 * place) bytes in
     let byte = get_or bytes (64 * place + lane / 8) 0 in
-    let size : length (take 64 behind) ≡ 64 = omega (arith, length-take 64 behind, length-drop (64 * place) bytes, long) in
-    let byte_is : get_or (take 64 behind) (lane / 8) 0 ≡ byte = get_or-take 64 behind (lane / 8) 0 (omega arith) ∙ get_or-drop (64 * place) bytes (lane / 8) 0 in
-    let shown = ap (λ b. bit_at b (lane % 8) == 1) (sym byte_is) ∙ sym (lane_of_bytes (take 64 behind) lane (omega (arith, size))) ∙ ap (λ k. get_or (plane_lanes bytes k) lane false) plane
+    let size : length (take 64 after) ≡ 64 = omega (arith, length-take 64 after, length-drop (64 * place) bytes, long) in
+    let byte_is : get_or (take 64 after) (lane / 8) 0 ≡ byte = get_or-take 64 after (lane / 8) 0 (omega arith) ∙ get_or-drop (64 * place) bytes (lane / 8) 0 in
+    let shown = ap (λ b. bit_at b (lane % 8) == 1) (sym byte_is) ∙ sym (lane_of_bytes (take 64 after) lane (omega (arith, size))) ∙ ap (λ k. get_or (plane_lanes bytes k) lane false) plane
     ∙ ap (λ l. get_or l lane false) (plane_of_codes width bit bytes long (omega arith)) ∙ get_or-map (λ code. has_bit code bit) (planes_codes width bytes) lane 0 false (omega (arith, codes_long width bytes)) in
     omega (arith, shr_and_one byte (lane % 8), bit_worth (bit_at byte (lane % 8)) 1 (bit_at-lt byte (lane % 8)), ap {B = ℕ} (λ b. cond b 1 0) shown)
 

@@ -37,15 +37,15 @@ pub word_of_codes : (width plane word : ℕ) (bytes : List ℕ) → length bytes
     → lanes_of_bytes (take 8 (drop (64 * plane + 8 * word) bytes)) ≡ map (λ code. has_bit code (width - 1 - plane)) (codes_in_word word (planes_codes width bytes))
 word_of_codes width plane word bytes long there lt =
     let bit = width - 1 - plane in
-    let behind = drop (64 * plane) bytes in
+    let after = drop (64 * plane) bytes in
     let codes = planes_codes width bytes in
     let same : plane ≡ width - suc bit = omega (arith, there) in
     let all : 8 * word + (64 - 8 * word) ≡ 64 = omega arith in
     let place : 8 * (8 * word) ≡ 64 * word = omega arith in
-    let within : take 8 (drop (8 * word) behind) ≡ take 8 (drop (8 * word) (take 64 behind)) =
-    sym (take-take 8 (64 - 8 * word) (drop (8 * word) behind) (omega arith)) ∙ ap (take 8) (sym (drop-take (8 * word) (64 - 8 * word) behind) ∙ ap (λ n. drop (8 * word) (take n behind)) all) in
+    let within : take 8 (drop (8 * word) after) ≡ take 8 (drop (8 * word) (take 64 after)) =
+    sym (take-take 8 (64 - 8 * word) (drop (8 * word) after) (omega arith)) ∙ ap (take 8) (sym (drop-take (8 * word) (64 - 8 * word) after) ∙ ap (λ n. drop (8 * word) (take n after)) all) in
     ap (λ l. lanes_of_bytes (take 8 l)) (sym (drop-drop (8 * word) (64 * plane) bytes)) ∙ ap lanes_of_bytes within
-    ∙ lanes_range (8 * word) 8 (take 64 behind) (omega (arith, length-take 64 behind, length-drop (64 * plane) bytes)) ∙ ap (λ n. take 64 (drop n (plane_lanes bytes plane))) place
+    ∙ lanes_range (8 * word) 8 (take 64 after) (omega (arith, length-take 64 after, length-drop (64 * plane) bytes)) ∙ ap (λ n. take 64 (drop n (plane_lanes bytes plane))) place
     ∙ ap (λ l. take 64 (drop (64 * word) l)) (ap (plane_lanes bytes) same ∙ plane_of_codes width bit bytes long (omega (arith, there)))
     ∙ ap (take 64) (drop-map (λ code. has_bit code bit) (64 * word) codes) ∙ take-map (λ code. has_bit code bit) 64 (drop (64 * word) codes)
 

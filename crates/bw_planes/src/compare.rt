@@ -1,5 +1,5 @@
-//! Comparisons of some bits of the codes with a constant, from the lowest bit up, by one operation a plane and with no early
-//! end: to ask after each plane whether a lane is left takes longer than the planes of a byte.
+//! Comparisons of some bits of the codes with a constant, from the lowest bit up, by one operation a plane and with no
+//! early end: to ask after each plane whether a lane is left takes longer than the planes of a byte.
 ghost use Rattle.std.specs.Prelude.{◌≡◌, ◌==◌, ◌&&◌, ◌||◌, if◌then◌else◌, ◌+◌, ◌*◌, ◌/◌, ◌%◌, ◌^◌, ◌≤◌, length, map, nat_lt, not};
 ghost use lib.Lanes.{zip2};
 ghost use Rattle.bw_lanes.specs.Lanes.{lanes_of_words};
@@ -30,8 +30,8 @@ pub(crate) fn at_least(width: u32, bytes: &[u8], low: u32, count: u32, c: u64) -
     }
 }
 
-/// The same with a constant that has no higher bit. It's compiled into its callers, so that the loop over the planes of a
-/// whole byte, which most are, is written out.
+/// The same with a constant that has no higher bit. It's compiled into its callers, so that the loop over the planes of
+/// a whole byte, which most are, is written out.
 #[tactic(auto, using(crate::proofs::CompareLemmas::comparison))]
 #[inline(always)]
 fn low_at_least(width: u32, bytes: &[u8], low: u32, count: u32, c: u64) -> Plane
@@ -90,8 +90,8 @@ fn low_eq(width: u32, bytes: &[u8], low: u32, count: u32, c: u8) -> Plane
     equal
 }
 
-/// The lanes that aren't below the constant in one bit more, its highest so far: where it has a 1, those that have one too
-/// and weren't below so far; where it has a 0, those that have a 1 or weren't below.
+/// The lanes that aren't below the constant in one bit more, its highest so far: where it has a 1, those that have one
+/// too and weren't below so far; where it has a 0, those that have a 1 or weren't below.
 fn risen(at_least: &Plane, plane: &Plane, one: bool) -> Plane
     ensures { lanes_of_words result ≡ zip2 (λ a p. if one then a && p else (a || p))
         (lanes_of_words at_least.now) (lanes_of_words plane.now) }

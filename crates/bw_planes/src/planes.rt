@@ -16,8 +16,8 @@ use bw_lanes::{
 use bw_model::Fault;
 use bw_segment::{CodeLayout, push_byte, put_byte, slices_of};
 
-/// Codes kept as planes, one for each bit, from the top bit down, 64 bytes a plane: bit i mod 8, the least first, of byte
-/// i / 8 is row i's.
+/// Codes kept as planes, one for each bit, from the top bit down, 64 bytes a plane: bit i mod 8, the least first, of
+/// byte i / 8 is row i's.
 pub struct Planes;
 
 impl CodeLayout for Planes {
@@ -65,7 +65,8 @@ impl CodeLayout for Planes {
         plane_of(width, bytes, bit as usize)
     }
 
-    // Compiled into the loop of a run, as `byte_eq` is: a plane that a call leaves in memory would be cleared for each step.
+    // Compiled into the loop of a run, as `byte_eq` is: a plane that a call leaves in memory would be cleared for each
+    // step.
     #[inline(always)]
     fn byte_lt(width: u32, bytes: &[u8], slice: usize, c: u8) -> Plane {
         let low = 8 * slice as u32;
@@ -119,8 +120,8 @@ impl CodeLayout for Planes {
     ghost keeps = { planes_keep_codes };
 }
 
-/// The greatest of the codes in some lanes, or the least; none where there are no lanes. From the top bit down the lanes that
-/// remain are those in which the bit is 1, or for the least 0, or all of them where there are none of these.
+/// The greatest of the codes in some lanes, or the least; none where there are no lanes. From the top bit down the
+/// lanes that remain are those in which the bit is 1, or for the least 0, or all of them where there are none of these.
 #[inline(always)]
 fn chosen_code(width: u32, bytes: &[u8], lanes: &Selection, greatest: bool) -> Option<u64>
     requires width { (1 ≤ width) × (width ≤ 63) }
@@ -148,8 +149,8 @@ fn chosen_code(width: u32, bytes: &[u8], lanes: &Selection, greatest: bool) -> O
     Some(code)
 }
 
-/// So many of the highest digits tell in nearly all segments that no code is above a number: of 512 codes that are spread over
-/// as many as there may be, one in sixteen times one has the same such digits as the greatest.
+/// So many of the highest digits tell in nearly all segments that no code is above a number: of 512 codes that are
+/// spread over as many as there may be, one in sixteen times one has the same such digits as the greatest.
 const HIGHEST: u32 = 14;
 
 /// Whether the codes' highest digits show that none is above a number. Where few digits tell in any case, they don't.
@@ -179,8 +180,8 @@ pub(crate) fn plane_of(width: u32, bytes: &[u8], bit: usize) -> Plane
     load(&bytes[64 * (width as usize - 1 - bit)..])
 }
 
-/// A byte of each code, of which byte 0 is the least: the planes of its bits are shifted into a byte of each lane, from the
-/// top one down.
+/// A byte of each code, of which byte 0 is the least: the planes of its bits are shifted into a byte of each lane, from
+/// the top one down.
 #[tactic(auto, using(crate::proofs::TransposeLemmas::byte_steps))]
 fn byte_at(width: u32, bytes: &[u8], slice: usize) -> [u8; LANES]
     requires width { (1 ≤ width) × (width ≤ 63) }

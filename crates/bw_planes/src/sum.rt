@@ -1,5 +1,5 @@
-//! Sums of codes, 64 rows at a time. The bits of these rows stand in one word of each plane, and of rows of which none counts
-//! nothing is read.
+//! Sums of codes, 64 rows at a time. The bits of these rows stand in one word of each plane, and of rows of which none
+//! counts nothing is read.
 ghost use Rattle.std.specs.Prelude.{◌≡◌, ◌+◌, ◌-◌, ◌*◌, ◌/◌, ◌%◌, ◌^◌, ◌<◌, ◌≤◌, ◌&&◌, length, take, map, sum, sum_by, count_by};
 ghost use lib.Lanes.{zip2};
 ghost use Rattle.bw_lanes.specs.Lanes.{bits_from_least, lanes_of_bytes};
@@ -24,8 +24,8 @@ pub(crate) fn sum_in_word(width: u32, bytes: &[u8], word: usize, rows: u64) -> u
     u128::from(lower) + (u128::from(upper) << few)
 }
 
-/// The sum of the numbers that so many bits of these codes are, from `low` upwards: by the number of ones in each plane, from
-/// the highest down.
+/// The sum of the numbers that so many bits of these codes are, from `low` upwards: by the number of ones in each
+/// plane, from the highest down.
 #[inline(always)]
 fn sum_of_bits(width: u32, bytes: &[u8], word: usize, rows: u64, low: u32, count: u32) -> u64
     requires width { width ≤ 63 }
@@ -45,8 +45,8 @@ fn sum_of_bits(width: u32, bytes: &[u8], word: usize, rows: u64, low: u32, count
     sum
 }
 
-/// A word of a plane, of which plane 0 is that of the highest bit. It's reckoned in whole words, so that a loop over planes
-/// moves from one to the next.
+/// A word of a plane, of which plane 0 is that of the highest bit. It's reckoned in whole words, so that a loop over
+/// planes moves from one to the next.
 #[inline(always)]
 fn word_of(width: u32, bytes: &[u8], word: usize, plane: usize) -> u64
     requires width { width ≤ 63 }

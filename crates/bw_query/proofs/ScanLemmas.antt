@@ -13,7 +13,7 @@ use Rattle.bw_query.specs.declared.scan.Scan.{Scan}
 use Rattle.bw_query.specs.declared.scan.Scan.TheVariants.{Program, Rows}
 use Rattle.bw_report.specs.declared.served.Scanned.{Scanned}
 use Rattle.bw_query.specs.Scan.{IsChosen, IsUsable, loads_in, skips_in}
-use Rattle.bw_query.specs.Served.{IsServed, told_by}
+use Rattle.bw_query.specs.Served.{IsServed, report_of}
 use Rattle.bw_query.specs.TableText.{IsScanOf}
 
 -- a program file whose program is used is accepted
@@ -33,11 +33,11 @@ no_skips columns (group ∷ groups) = no_skips columns groups
 
 -- what is reported of a scan over the groups of a table's rows
 abbrev pub served : Option (List ℕ) → Scan → Scanned → Schema → Query → List (List Value) → Type 0
-served file scan scanned schema query rows = IsServed file schema query rows (told_by scan scanned)
+served file scan scanned schema query rows = IsServed file schema query rows (report_of scan scanned)
 
 pub serves : (file : Option (List ℕ)) (schema : Schema) (query : Query) (rows : List (List Value)) (scan : Scan) (scanned : Scanned)
     → IsChosen file schema.columns.items query.cond scan → IsScanOf schema.columns.items scan (groups_of rows) scanned
-    → IsServed file schema query rows (told_by scan scanned)
+    → IsServed file schema query rows (report_of scan scanned)
 serves (Some file) schema query rows (Program certified) scanned chosen counts = record {
   segments = counts.segments;
   how = (certified.program, chosen.0, chosen.1, record { by = refl; loads = counts.loads; skips = counts.skips });

@@ -19,7 +19,7 @@ use Rattle.bw_device.specs.Source.{is_input_fault, is_read_fault}
 use Rattle.bw_file.specs.FileBytes.{IsFileBytes}
 use Rattle.bw_file.specs.Reading.{State, Fails, GoesOn, failed_reads, give}
 use Rattle.bw_file.specs.TableReading.{IsTableFault, header, is_table_fault}
-use Rattle.bw_file.specs.TableReader.{AnswersFault, schema_in, version_in, header_told}
+use Rattle.bw_file.specs.TableReader.{AnswersFault, schema_in, version_in, header_stated}
 use Rattle.bw_file.specs.declared.table_reader.TableReader.{TableReader}
 use Rattle.bw_file.proofs.FileSpelling.{read_is_spelled_by}
 use Rattle.bw_query.specs.TableAnswer.{AnswersFile, HeaderRead, TableGave, TableText, is_no_verdict}
@@ -41,12 +41,12 @@ Ends asks start now W = (offset : ℕ) × (given : Given) × TableGave asks star
 pub ends : (asks : Schema → Result Query Fault → Type 0) (start : State) (now : ℕ → State) (W : Given → Type 0) (given : Given) → Gives asks start now given → W given → Ends asks start now W
 ends asks start now W given gave w = (gave.0, given, gave.1, w)
 
--- a reader tells of the header that it read
-abbrev pub Told : State → State → TableReader → Type 0
-Told start behind reader = GoesOn header start (give (header_told (version_in reader) reader)) behind
+-- a reader states the header that it read
+abbrev pub Stated : State → State → TableReader → Type 0
+Stated start after reader = GoesOn header start (give (header_stated (version_in reader) reader)) after
 
-head_of : (start behind : State) (reader : TableReader) → Told start behind reader → HeaderRead start behind (schema_in reader)
-head_of start behind reader told = record { told = header_told (version_in reader) reader; read = told; shape = refl }
+head_of : (start after : State) (reader : TableReader) → Stated start after reader → HeaderRead start after (schema_in reader)
+head_of start after reader told = record { stated = header_stated (version_in reader) reader; read = told; shape = refl }
 
 -- the header was refused
 pub header_exit : (asks : Schema → Result Query Fault → Type 0) (start : State) (now : ℕ → State) (fault : Fault)
@@ -55,7 +55,7 @@ header_exit asks start now fault fails = (fails.0, record { failures = fails.1.f
 
 -- what is asked was refused
 pub asked_refused : (asks : Schema → Result Query Fault → Type 0) (start now : State) (reader : TableReader) (fault : Fault)
-    → Told start now reader → failed_reads fault ≡ 0 → (is_memory fault ≡ false → asks (schema_in reader) (Err fault)) → TableGave asks start now (Err fault)
+    → Stated start now reader → failed_reads fault ≡ 0 → (is_memory fault ≡ false → asks (schema_in reader) (Err fault)) → TableGave asks start now (Err fault)
 asked_refused asks start now reader fault told none asked = record {
   failures = omega (arith, told.failures, none);
   answer = inr (inl (record { schema = schema_in reader; head = head_of start now reader told; asked = asked }));
@@ -63,13 +63,13 @@ asked_refused asks start now reader fault told none asked = record {
 
 -- a segment was refused, or a read of one failed
 pub segment_refused : (asks : Schema → Result Query Fault → Type 0) (start old now : State) (reader : TableReader) (query : Query) (fault : Fault)
-    → Told start old reader → asks (schema_in reader) (Ok query) → AnswersFault start old now fault → TableGave asks start now (Err fault)
+    → Stated start old reader → asks (schema_in reader) (Ok query) → AnswersFault start old now fault → TableGave asks start now (Err fault)
 segment_refused asks start old now reader query fault told asked answers = record {
   failures = answers.failures ∙ ap (λ (n : ℕ). n + failed_reads fault) told.failures;
   answer = inr (inr (record {
     schema = schema_in reader;
     query = query;
-    behind = old;
+    after = old;
     head = head_of start old reader told;
     asked = asked;
     bytes = answers.bytes;

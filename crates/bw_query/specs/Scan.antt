@@ -23,8 +23,8 @@ IsFor columns cond (Program certified) = (certified.schema.columns.items ≡ col
     × (tree_of certified.condition ≡ tree_of cond)
 IsFor columns cond Rows = Unit {0}
 
--- The program of a program file is used, where there is one. Else it's some program that with some certificate is valid,
--- or none.
+-- The program of a program file is used, where there is one. Else it's some program that with some certificate is
+-- valid, or none.
 abbrev pub IsChosen : Option (List ℕ) → List Column → Cond → Scan → Type 0
 IsChosen (Some file) columns cond (Program certified) = (certificate : CertificateShape)
     × Certifies columns cond file certified.program certificate
@@ -33,8 +33,8 @@ IsChosen None columns cond (Program certified) = (certificate : CertificateShape
     × Valid columns cond certified.program certificate
 IsChosen None columns cond Rows = Unit {0}
 
--- The scan by what came of a search for a program: by the program; row by row, where none was found by a fault other than
--- out of memory; and out of memory is no scan.
+-- The scan by what came of a search for a program: by the program; row by row, where none was found by a fault other
+-- than out of memory; and out of memory is no scan.
 abbrev pub scan_by : Result Certified Fault → Result Scan Fault
 scan_by (Ok certified) = Ok (Program certified)
 scan_by (Err fault) = if is_memory fault then Err fault else Ok Rows

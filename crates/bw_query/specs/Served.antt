@@ -32,8 +32,8 @@ pub record ByRows (served : Served) : Type 0 where
   pub loads : served.scanned.loads ≡ 0
   pub skips : served.scanned.skips ≡ 0
 
--- By the program of a program file, where there is one; its certificate is valid for the condition. Else by some program
--- that with some certificate is, or row by row.
+-- By the program of a program file, where there is one; its certificate is valid for the condition. Else by some
+-- program that with some certificate is, or row by row.
 abbrev pub IsServedBy : Option (List ℕ) → List Column → Cond → List (List Value) → Served → Type 0
 IsServedBy (Some file) columns cond rows served =
     (program : ProgramShape) × (certificate : CertificateShape) × Certifies columns cond file program certificate
@@ -55,8 +55,8 @@ finder_of (Program certified) = By.Program
 finder_of Rows = By.Rows
 
 -- what is reported of a scan
-abbrev pub told_by : Scan → Scanned → Served
-told_by scan scanned = record {
+abbrev pub report_of : Scan → Scanned → Served
+report_of scan scanned = record {
   by = finder_of scan;
   scanned = scanned;
 }

@@ -20,20 +20,20 @@ use Rattle.bw_file.specs.declared.layout.Layout.{Layout}
 use Rattle.bw_file.specs.FileBytes.{IsFileBytes}
 use Rattle.bw_file.specs.Reading.{State, Took, GoesOn, Fails, give}
 use Rattle.bw_file.specs.TableReading.{HeaderShape, Found, header}
-use Rattle.bw_file.specs.TableReader.{AreUnfinished, HasFirstFault, NoneToSpare, ReadWhole, SoFar, failed_by, header_told, version_in}
+use Rattle.bw_file.specs.TableReader.{AreUnfinished, HasFirstFault, NoneToSpare, ReadWhole, SoFar, failed_by, header_stated, version_in}
 use Rattle.bw_file.specs.declared.table_reader.TableReader.{TableReader}
 use Rattle.bw_query.specs.Scan.{IsScanFault, IsUsable}
 
 -- the header of the file was read, and tells of this schema
-pub record HeaderRead (start behind : State) (schema : Schema) : Type 0 where
-  pub told : HeaderShape
-  pub read : GoesOn header start (give told) behind
-  pub shape : schema_shape schema ≡ told.schema
+pub record HeaderRead (start after : State) (schema : Schema) : Type 0 where
+  pub stated : HeaderShape
+  pub read : GoesOn header start (give stated) after
+  pub shape : schema_shape schema ≡ stated.schema
 
 -- a reader has read the header, which stands at the start of its file, and nothing after it
 pub record Began (start now : State) (reader : TableReader) : Type 0 where
   pub so_far : SoFar start now reader []
-  pub told : GoesOn header start (give (header_told (version_in reader) reader)) now
+  pub stated : GoesOn header start (give (header_stated (version_in reader) reader)) now
 
 -- all bytes of the file were taken, and they are the table file of these rows under this schema
 pub record WholeTable (start now : State) (schema : Schema) (rows : List (List Value)) : Type 0 where
@@ -74,15 +74,15 @@ pub record AskedRefused (asks : Schema → Result Query Fault → Type 0) (start
   pub head : HeaderRead start now schema
   pub asked : is_memory fault ≡ false → asks schema (Err fault)
 
--- The header was read and what is asked is a query; and then, once bytes were taken none of which could be spared, a read
--- failed, where another byte or the end was to be seen; or memory ran out; or the file has its first fault after the
--- header.
+-- The header was read and what is asked is a query; and then, once bytes were taken none of which could be spared, a
+-- read failed, where another byte or the end was to be seen; or memory ran out; or the file has its first fault after
+-- the header.
 pub record SegmentRefused (asks : Schema → Result Query Fault → Type 0) (start now : State)
     (fault : Fault) : Type 0 where
   pub schema : Schema
   pub query : Query
-  pub behind : State
-  pub head : HeaderRead start behind schema
+  pub after : State
+  pub head : HeaderRead start after schema
   pub asked : asks schema (Ok query)
   pub bytes : List ℕ
   pub took : Took start now bytes
@@ -91,8 +91,8 @@ pub record SegmentRefused (asks : Schema → Result Query Fault → Type 0) (sta
   pub first : is_input_fault fault ≡ false → HasFirstFault now bytes fault
 
 -- What is asked of a table file is answered by this text, or by the first fault in the order of the header, what is
--- asked, and the segments; a failed read is answered in its place in that order, and out of memory at any, where no more
--- was taken than is needed until then.
+-- asked, and the segments; a failed read is answered in its place in that order, and out of memory at any, where no
+-- more was taken than is needed until then.
 abbrev pub IsTableAnswer : (Schema → Result Query Fault → Type 0) → State → State → Result (List ℕ) Fault → Type 0
 IsTableAnswer asks start now (Ok text) = TableText asks start now text
 IsTableAnswer asks start now (Err fault) =
@@ -110,8 +110,8 @@ pub record ProgramRefused (file : Option (List ℕ)) (sql : List ℕ) (schema : 
   pub asked : IsReadAs schema sql (Ok query)
   pub refused : IsScanFault file schema.columns.items query.cond fault
 
--- A statement is asked, with a program file or without one: it spells a query, for whose condition the file is accepted; or
--- the statement is refused, or else the file.
+-- A statement is asked, with a program file or without one: it spells a query, for whose condition the file is
+-- accepted; or the statement is refused, or else the file.
 abbrev pub by_statement : Option (List ℕ) → List ℕ → Schema → Result Query Fault → Type 0
 by_statement file sql schema (Ok query) = IsReadAs schema sql (Ok query) × IsUsable file schema.columns.items query.cond
 by_statement file sql schema (Err fault) = IsReadAs schema sql (Err fault) ⊎ ProgramRefused file sql schema fault

@@ -35,8 +35,8 @@ pub record TookAll (old now : State) (reader : TableReader) (scan : Scan) (befor
   pub read : (start : State) → SoFar start old reader [] → ReadWhole start now (found_so_far reader groups)
   pub cut : (start : State) → SoFar start old reader [] → groups ≡ groups_of (together groups)
 
--- The file was read whole, as a table of this schema and of the rows of groups that were scanned, and the text is that of
--- the query's meaning over them.
+-- The file was read whole, as a table of this schema and of the rows of groups that were scanned, and the text is that
+-- of the query's meaning over them.
 pub record TextOver (start now : State) (schema : Schema) (query : Query) (scan : Scan) (text : List ℕ)
     (scanned : Scanned) : Type 0 where
   pub found : Found

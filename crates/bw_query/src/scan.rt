@@ -62,8 +62,8 @@ fn planned(alloc: Global, schema: &Schema, cond: &Cond) -> Result<Scan, Fault>
     scan_by(accepted(alloc, schema, cond))
 }
 
-/// The planner's program, which the checker has accepted; else the fault that one of the two answered, the planner (651) or
-/// the checker (601 to 610), or out of memory (801).
+/// The planner's program, which the checker has accepted; else the fault that one of the two answered, the planner
+/// (651) or the checker (601 to 610), or out of memory (801).
 fn accepted(alloc: Global, schema: &Schema, cond: &Cond) -> Result<Certified, Fault>
     requires { IsTrue (names_within (length schema.now.columns.items) cond.now) }
     ensures certified { IfOk result (λ certified. IsFor schema.now.columns.items cond.now (Program certified)) }
@@ -76,8 +76,8 @@ fn accepted(alloc: Global, schema: &Schema, cond: &Cond) -> Result<Certified, Fa
     }
 }
 
-/// The scan by a program that was found; row by row, where there is none by a fault other than out of memory; and out of
-/// memory as it is.
+/// The scan by a program that was found; row by row, where there is none by a fault other than out of memory; and out
+/// of memory as it is.
 fn scan_by(found: Result<Certified, Fault>) -> Result<Scan, Fault>
     ensures { result ≡ scan_by found }
 {

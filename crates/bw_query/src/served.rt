@@ -1,13 +1,13 @@
 //! How a query was served.
 ghost use Rattle.std.specs.Prelude.{◌≡◌};
-ghost use Rattle.bw_query.specs.Served.{told_by};
+ghost use Rattle.bw_query.specs.Served.{report_of};
 
 use crate::scan::Scan;
 use bw_report::{By, Scanned, Served};
 
 /// What is reported of a scan.
 pub(crate) fn served_by(scan: &Scan, scanned: Scanned) -> Served
-    ensures { result ≡ told_by scan.now scanned }
+    ensures { result ≡ report_of scan.now scanned }
 {
     Served {
         by: match scan {

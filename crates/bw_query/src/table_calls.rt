@@ -35,16 +35,16 @@ use bw_sql::{one_query_of_a_text, parse, schemas_of_one_shape};
 use std::alloc::Global;
 
 /// Answers a statement over the rows of a table file, and writes the answer as CSV text: a heading record and then the
-/// records, fields joined by commas and each record ended by a line feed. The rows are found by the program of a program
-/// file, where one is given; else by a program of the planner's, where it has one that the checker accepts; else row by
-/// row. Tells how the query was served, with the loads and skips of the program's runs.
+/// records, fields joined by commas and each record ended by a line feed. The rows are found by the program of a
+/// program file, where one is given; else by a program of the planner's, where it has one that the checker accepts;
+/// else row by row. Tells how the query was served, with the loads and skips of the program's runs.
 ///
-/// Refuses in this order: the file's header (301 to 305, 310), the statement (401 to 408), the program file (508, 501 to
-/// 507, 605, 601 to 604 and 606 to 610), the file's segments (305 to 309) and the sink (702); a failed read (701) in the
-/// place of what was to be read, and out of memory (801) wherever it comes. Nothing after the header is read before the
-/// statement and the program file are accepted, and nothing is written before the last segment was found good and the file
-/// has ended. One segment is in memory, and the answer's text. That each device's count of failures can rise is the
-/// caller's condition.
+/// Refuses in this order: the file's header (301 to 305, 310), the statement (401 to 408), the program file (508, 501
+/// to 507, 605, 601 to 604 and 606 to 610), the file's segments (305 to 309) and the sink (702); a failed read (701) in
+/// the place of what was to be read, and out of memory (801) wherever it comes. Nothing after the header is read before
+/// the statement and the program file are accepted, and nothing is written before the last segment was found good and
+/// the file has ended. One segment is in memory, and the answer's text. That each device's count of failures can rise
+/// is the caller's condition.
 pub fn answer<S: Source, K: Sink>(
     alloc: Global,
     table: &mut S,
@@ -93,8 +93,8 @@ struct AnswerText {
     served: Served,
 }
 
-/// The text of the answer to a statement over the rows of a table file, once the last segment was found good and the file
-/// has ended. Refuses as [`answer`] does, but for the sink.
+/// The text of the answer to a statement over the rows of a table file, once the last segment was found good and the
+/// file has ended. Refuses as [`answer`] does, but for the sink.
 fn answered<S: Source>(
     alloc: Global,
     table: &mut S,
@@ -170,8 +170,8 @@ struct Prepared {
     scan: Scan,
 }
 
-/// What a statement asks of the rows of a table of this schema, and who finds them. Refuses the statement (401 to 408), and
-/// then the program file, as [`scan_for`] does.
+/// What a statement asks of the rows of a table of this schema, and who finds them. Refuses the statement (401 to 408),
+/// and then the program file, as [`scan_for`] does.
 fn prepare(
     alloc: Global,
     schema: &Schema,
@@ -206,8 +206,8 @@ fn prepare(
 
 /// Writes every row of a table file in every column, as CSV text.
 ///
-/// Refuses in this order: the file's header (301 to 305, 310), its segments (305 to 309) and the sink (702); 701 where a
-/// read fails, and out of memory (801) wherever it comes. Nothing is written before the last segment was found good
+/// Refuses in this order: the file's header (301 to 305, 310), its segments (305 to 309) and the sink (702); 701 where
+/// a read fails, and out of memory (801) wherever it comes. Nothing is written before the last segment was found good
 /// and the file has ended.
 pub fn dump<S: Source, K: Sink>(alloc: Global, table: &mut S, sink: &mut K) -> Result<(), Fault>
     requires table { S.failures table.old < 2 ^ 64 - 1 }
@@ -231,8 +231,8 @@ pub fn dump<S: Source, K: Sink>(alloc: Global, table: &mut S, sink: &mut K) -> R
     write_whole(sink, &text)
 }
 
-/// The text of every row of a table file, once the last segment was found good and the file has ended. Refuses as [`dump`]
-/// does, but for the sink.
+/// The text of every row of a table file, once the last segment was found good and the file has ended. Refuses as
+/// [`dump`] does, but for the sink.
 fn dumped<S: Source>(alloc: Global, table: &mut S) -> Result<Vec<u8>, Fault>
     requires { S.failures table.old < 2 ^ 64 - 1 }
     ensures answer { (offset : ℕ) × TableGave by_dump (state (S.to_come table.old) 0 (S.failures table.old))

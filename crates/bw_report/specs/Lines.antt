@@ -45,8 +45,8 @@ stats_line served =
     ++ with_count (codes " skips ") served.scanned.skips)
     ++ codes "\n"
 
--- The line that tells of an accepted program file, as `accepted: 4 instructions, 1 skips, 6 nodes, 9 chains, 17 rows`, with
--- its end.
+-- The line that tells of an accepted program file, as `accepted: 4 instructions, 1 skips, 6 nodes, 9 chains, 17 rows`,
+-- with its end.
 abbrev pub accepted_line : Accepted → List ℕ
 accepted_line accepted =
     ((((with_count (codes "accepted: ") accepted.instructions

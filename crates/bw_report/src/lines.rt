@@ -77,8 +77,8 @@ fn and_words<const N: usize>(line: InlineText<N>, words: &str) -> InlineText<N>
     line.and_str(words, words.len())
 }
 
-/// A line with words and then a number more, in decimal, which takes 20 bytes at most. That there is room for them is the
-/// caller's condition.
+/// A line with words and then a number more, in decimal, which takes 20 bytes at most. That there is room for them is
+/// the caller's condition.
 fn and_count<const N: usize>(line: InlineText<N>, words: &str, count: u64) -> InlineText<N>
     requires { length (inline_text line) + length words.now + 20 < N }
     ensures text { inline_text result ≡ inline_text line.entry ++ with_count words.now count }
@@ -111,8 +111,8 @@ fn by_text(by: By) -> &'static str
     }
 }
 
-/// Writes the line of how a query was served, as `served rows segments 1 loads 0 skips 0`. Refuses as 702 alone. That the sink's count of failures can rise is the
-/// caller's condition.
+/// Writes the line of how a query was served, as `served rows segments 1 loads 0 skips 0`. Refuses as 702 alone. That
+/// the sink's count of failures can rise is the caller's condition.
 pub fn stats_line<K: Sink>(served: &Served, sink: &mut K) -> Result<(), Fault>
     requires { K.failures sink.old < 2 ^ 64 - 1 }
     ensures { GoesOut (K.taken sink.old) (K.taken sink.new) (K.failures sink.old) (K.failures sink.new)
@@ -139,8 +139,8 @@ fn line_of_accepted(accepted: &Accepted) -> InlineText<LONG_LINE>
     and_words(line, " rows\n")
 }
 
-/// Writes the line of an accepted program file, as `accepted: 4 instructions, 1 skips, 6 nodes, 9 chains, 17 rows`. Refuses as 702 alone. That the sink's count of failures can rise is the
-/// caller's condition.
+/// Writes the line of an accepted program file, as `accepted: 4 instructions, 1 skips, 6 nodes, 9 chains, 17 rows`.
+/// Refuses as 702 alone. That the sink's count of failures can rise is the caller's condition.
 pub fn accepted_line<K: Sink>(accepted: &Accepted, sink: &mut K) -> Result<(), Fault>
     requires { K.failures sink.old < 2 ^ 64 - 1 }
     ensures { GoesOut (K.taken sink.old) (K.taken sink.new) (K.failures sink.old) (K.failures sink.new)

@@ -86,8 +86,8 @@ impl Accumulator {
         };
     }
 
-    /// Adds so many rows, of which the total is known, to those so far. There are at most 2^24 in all, and the total is no
-    /// larger than 2^73 a row.
+    /// Adds so many rows, of which the total is known, to those so far. There are at most 2^24 in all, and the total is
+    /// no larger than 2^73 a row.
     #[tactic(auto, using(crate::proofs::TotalLemmas::small_below))]
     pub fn add_total(&mut self, count: u32, others: Option<i128>)
         requires room { self.old.count + count ≤ most_rows }

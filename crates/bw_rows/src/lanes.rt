@@ -18,8 +18,8 @@ use bw_model::{Op, Operand, Truth, admitted_rows_have_each_value};
 use bw_segment::{Segment, values_in_lanes};
 
 impl Prepared {
-    /// The rows of a segment on which the condition is TRUE: neither FALSE nor UNKNOWN will do. Lane i is row i's, and 0 past
-    /// the last row.
+    /// The rows of a segment on which the condition is TRUE: neither FALSE nor UNKNOWN will do. Lane i is row i's, and
+    /// 0 past the last row.
     pub fn rows_kept<S: Segment>(&self, segment: &S) -> Selection
         ensures { lanes_of_words result
             ≡ map (λ row. is_truth (prepared_truth row self.now) True) (S.meaning segment.now).rows

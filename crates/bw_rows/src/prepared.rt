@@ -11,7 +11,8 @@ use crate::numbers::Numbers;
 use bw_model::{Cond, Fault, Op, Operand, Truth};
 use std::alloc::Global;
 
-/// A condition in the form that rows are tested by. It has the truth of the condition that it was made from on every row.
+/// A condition in the form that rows are tested by. It has the truth of the condition that it was made from on every
+/// row.
 #[derive(Drop)]
 pub enum Prepared {
     Always,

@@ -48,22 +48,22 @@ impl Totals {
         }
     }
 
-    /// Adds the rows of a segment that a plane picks: row i is picked where lane i is 1. The plane has no bit
+    /// Adds the rows of a segment that a selection picks: row i is picked where lane i is 1. The selection has no bit
     /// past the segment's rows, and the segment has the aggregate's column. With the rows of the segments
     /// before it there are at most 2^24.
     #[tactic(auto, using(crate::proofs::PickedLemmas::few_picked))]
-    pub fn add<S: Segment>(&mut self, segment: &S, plane: &Selection)
+    pub fn add<S: Segment>(&mut self, segment: &S, selection: &Selection)
         requires column { IsTrue (item_within (length (S.meaning segment.now).columns) self.old.picked.item) }
-        requires plane { IsWithin (length (S.meaning segment.now).rows) (lanes_of_words plane.now) }
+        requires selection { IsWithin (length (S.meaning segment.now).rows) (lanes_of_words selection.now) }
         requires room { self.old.rows + length (S.meaning segment.now).rows ≤ most_rows }
         ensures item { self.new.picked.item ≡ self.old.picked.item }
         ensures rows { self.new.rows ≡ self.old.rows + length (S.meaning segment.now).rows }
         ensures total { (rows : List (List Value)) → self.old.picked ≡ tally_of self.old.picked.item rows
             → self.new.picked ≡ tally_of self.old.picked.item
-            (rows ++ picked_rows (S.meaning segment.now) (lanes_of_words plane.now)) }
+            (rows ++ picked_rows (S.meaning segment.now) (lanes_of_words selection.now)) }
     {
         let mut picked = self.picked;
-        add_picked(&mut picked, segment, plane);
+        add_picked(&mut picked, segment, selection);
         *self = Totals {
             picked,
             rows: self.rows + segment.rows_in(),

@@ -6,7 +6,7 @@ use Rattle.bw_model.specs.declared.column.Column.{Column}
 use Rattle.bw_model.specs.declared.fault.Fault.{Fault}
 use Rattle.bw_model.specs.Column.{names_of}
 use Rattle.bw_model.specs.SchemaText.{ColumnShape, column_shape}
-use Rattle.bw_csv.proofs.FieldLemmas.{behind, behind-cons}
+use Rattle.bw_csv.proofs.FieldLemmas.{after, after-cons}
 use Rattle.bw_schemas.specs.declared.seen.Seen.{Seen}
 use Rattle.bw_schemas.specs.Inferred.{ranged, ranged_column}
 use Rattle.bw_schemas.specs.Seen.{column_seen, columns_seen}
@@ -24,19 +24,19 @@ column_there names seen i name d h k e =
 
 -- bounds that are too far apart
 pub out_of_range : (names : List (List ℕ)) (seen : List Seen) (i : ℕ) (name : List ℕ) (d : Seen) (done : List ColumnShape) (fault : Fault) → i < length names → i < length seen → name ≡ get_or names i name
-    → ranged_column (column_seen name (get_or seen i d)) ≡ Err fault → behind done (ranged (columns_at names seen i)) ≡ Err fault
+    → ranged_column (column_seen name (get_or seen i d)) ≡ Err fault → after done (ranged (columns_at names seen i)) ≡ Err fault
 unfolding ranged
 out_of_range names seen i name d done fault h k e wide = rw (column_there names seen i name d h k e, wide) refl
 
 -- one column more
 pub column_more : (names : List (List ℕ)) (seen : List Seen) (i : ℕ) (name : List ℕ) (d : Seen) (done : List ColumnShape) (column : ColumnShape) → i < length names → i < length seen → name ≡ get_or names i name
     → ranged_column (column_seen name (get_or seen i d)) ≡ Ok column
-    → behind done (ranged (columns_at names seen i)) ≡ behind (done ++ column ∷ []) (ranged (columns_at names seen (i + 1)))
+    → after done (ranged (columns_at names seen i)) ≡ after (done ++ column ∷ []) (ranged (columns_at names seen (i + 1)))
 unfolding ranged
 column_more names seen i name d done column h k e within =
-    rw (column_there names seen i name d h k e, within) (behind-cons done column (ranged (columns_at names seen (i + 1))))
+    rw (column_there names seen i name d h k e, within) (after-cons done column (ranged (columns_at names seen (i + 1))))
 
-pub columns_end : (names : List (List ℕ)) (seen : List Seen) (i : ℕ) (done : List ColumnShape) → length names ≤ i → behind done (ranged (columns_at names seen i)) ≡ Ok done
+pub columns_end : (names : List (List ℕ)) (seen : List Seen) (i : ℕ) (done : List ColumnShape) → length names ≤ i → after done (ranged (columns_at names seen i)) ≡ Ok done
 unfolding ranged columns_seen
 columns_end names seen i done all = rw (drop_all i names all) (ap Ok (append-nil done))
 

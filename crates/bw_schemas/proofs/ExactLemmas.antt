@@ -21,10 +21,10 @@ use Rattle.bw_model.specs.Total.{joined, total}
 use Rattle.bw_model.specs.Truth.{is_null}
 use Rattle.bw_model.proofs.TotalLemmas.{total_append}
 use Rattle.bw_csv.specs.Bare.{bare_rows, records_of}
-use Rattle.bw_csv.specs.Rows.{is_heading, rows_behind, without_blanks}
+use Rattle.bw_csv.specs.Rows.{is_heading, rows_after, without_blanks}
 use Rattle.bw_csv.proofs.BareLemmas.{both, bound, passed, rows_are, rows_wide}
 use Rattle.bw_schemas.specs.Heading.{heading_names}
-use Rattle.bw_schemas.specs.Inferred.{column_over, columns_over, has_null, inferred, inferred_behind, or_zero, ranged, ranged_column, schema_over, table_of, IsExact, IsNarrowest}
+use Rattle.bw_schemas.specs.Inferred.{column_over, columns_over, has_null, inferred, inferred_after, or_zero, ranged, ranged_column, schema_over, table_of, IsExact, IsNarrowest}
 use Rattle.bw_schemas.proofs.HeadingLemmas.{heading_is}
 use Rattle.bw_schemas.proofs.NarrowLemmas.{greatest_of_one, least_of_one}
 
@@ -184,11 +184,11 @@ ranged_is (column ∷ columns) found e =
 
 record Found (columns : List Column) (records : List (List (List ℕ))) : Type 0 where
   rows : List (List Value)
-  spelled : rows_behind columns records ≡ Ok rows
+  spelled : rows_after columns records ≡ Ok rows
   narrow : (number : ℕ) (column : Column) → number < length columns → IsNarrowest rows number (get_or columns number column)
 
-found_in : (table : List ℕ) (schema : Schema) (records : List (List (List ℕ))) → inferred_behind table records ≡ Ok (schema_shape schema) → Found schema.columns.items records
-unfolding inferred_behind rows_behind
+found_in : (table : List ℕ) (schema : Schema) (records : List (List (List ℕ))) → inferred_after table records ≡ Ok (schema_shape schema) → Found schema.columns.items records
+unfolding inferred_after rows_after
 found_in table schema [] e = absurd (cc e)
 found_in table schema (heading ∷ more) e =
     let columns = schema.columns.items in

@@ -14,7 +14,7 @@ use Rattle.bw_file.specs.declared.layout.Layout.{Layout}
 use Rattle.bw_file.specs.declared.table_reader.TableReader.{TableReader}
 use Rattle.bw_file.specs.FileBytes.{IsFileBytes}
 use Rattle.bw_file.specs.Reading.{State, Fails, GoesOn, failed_reads, give}
-use Rattle.bw_file.specs.TableReader.{GaveFirst, header_told, layout_in, rows_told, schema_in, version_in}
+use Rattle.bw_file.specs.TableReader.{GaveFirst, header_stated, layout_in, rows_stated, schema_in, version_in}
 use Rattle.bw_file.specs.TableReading.{IsTableFault, header, is_table_fault}
 use Rattle.bw_model.proofs.SameColumns.{columns_same}
 use Rattle.bw_schemas.specs.Info.{InfoGave, TellsFile, info_text, is_no_verdict}
@@ -34,7 +34,7 @@ header_exit start now W fault fails w =
 
 -- there was no memory for the text
 pub memory_exit : (start : State) (now : ℕ → State) (offset : ℕ) (W : Given → Type 0) (fault : Fault) (reader : TableReader)
-    → GoesOn header start (give (header_told (version_in reader) reader)) (now offset) → fault ≡ no_memory → W (Err fault) → Ends start now W
+    → GoesOn header start (give (header_stated (version_in reader) reader)) (now offset) → fault ≡ no_memory → W (Err fault) → Ends start now W
 memory_exit start now offset W fault reader read memory w =
     let given : Given = Err fault in
     let none : failed_reads fault ≡ 0 = ap failed_reads memory in
@@ -53,7 +53,7 @@ memory_exit start now offset W fault reader read memory w =
 
 -- the text of the header was given
 pub text_exit : (start : State) (now : ℕ → State) (offset : ℕ) (W : Given → Type 0) (reader : TableReader) (text : List ℕ)
-    → GoesOn header start (give (header_told (version_in reader) reader)) (now offset) → text ≡ info_text (version_in reader) (layout_in reader) (schema_in reader) (rows_told reader)
+    → GoesOn header start (give (header_stated (version_in reader) reader)) (now offset) → text ≡ info_text (version_in reader) (layout_in reader) (schema_in reader) (rows_stated reader)
     → IsSchemaText text (schema_shape (schema_in reader)) → W (Ok text) → Ends start now W
 text_exit start now offset W reader text read is spelled w =
     let given : Given = Ok text in (
@@ -61,7 +61,7 @@ text_exit start now offset W reader text read is spelled w =
       given,
       record {
         failures = omega (arith, read.failures);
-        info = record { told = header_told (version_in reader) reader; schema = schema_in reader; read = read; shape = refl; is = is; spelled = spelled };
+        info = record { told = header_stated (version_in reader) reader; schema = schema_in reader; read = read; shape = refl; is = is; spelled = spelled };
       },
       w,
     )
@@ -84,14 +84,14 @@ text_same version l m s t n o p q r =
 
 -- a table file's header was reported
 pub told_file : (reader : TableReader) (bytes : List ℕ) (layout : Layout) (schema : Schema) (rows : List (List Value)) (text : List ℕ) → IsFileBytes bytes layout schema rows
-    → GaveFirst reader [] layout schema rows → text ≡ info_text (version_in reader) (layout_in reader) (schema_in reader) (rows_told reader)
+    → GaveFirst reader [] layout schema rows → text ≡ info_text (version_in reader) (layout_in reader) (schema_in reader) (rows_stated reader)
     → (old new : Option (List ℕ)) (before after : ℕ) (result : Result (Unit {0}) Fault) → GoesOut old new before after text result → OnOk result (TellsFile bytes layout schema rows old new)
 told_file reader bytes layout schema rows text file gave is old new before after (Ok x) goes =
     let version = version_in reader in
     record {
       version = version;
       size = file_sized bytes layout schema rows version file;
-      text = subst (Appends old new) (is ∙ text_same version (layout_in reader) layout (schema_in reader) schema (rows_told reader) (length rows) gave.layout gave.schema gave.count) goes.0;
+      text = subst (Appends old new) (is ∙ text_same version (layout_in reader) layout (schema_in reader) schema (rows_stated reader) (length rows) gave.layout gave.schema gave.count) goes.0;
     }
 told_file reader bytes layout schema rows text file gave is old new before after (Err fault) goes = tt
 

@@ -15,7 +15,7 @@ use Rattle.bw_model.proofs.TotalLemmas.{total_append}
 use Rattle.bw_csv.specs.Bare.{bare_rows}
 use Rattle.bw_schemas.specs.declared.seen.Seen.{Seen}
 use Rattle.bw_schemas.specs.Inferred.{column_over, columns_over, has_null, ranged}
-use Rattle.bw_schemas.specs.Seen.{columns_behind, columns_seen, greater, lesser, nothing, seen, seen_in, with_records, with_rows, with_value, with_values}
+use Rattle.bw_schemas.specs.Seen.{columns_after, columns_seen, greater, lesser, nothing, seen, seen_in, with_records, with_rows, with_value, with_values}
 
 -- what the rows have in so many columns from this one on
 unfoldable seen_from : List (List Value) → ℕ → ℕ → List Seen
@@ -115,9 +115,9 @@ by_rows names (Ok rows) = ap ranged (sym (columns_by_rows names rows))
 by_rows names (Err fault) = refl
 
 -- the columns after a heading, by what was seen, or by the fault before that
-pub behind_seen : (names : List (List ℕ)) (more : List (List (List ℕ))) (width : ℕ) (found : Result (List Seen) Fault)
+pub after_seen : (names : List (List ℕ)) (more : List (List (List ℕ))) (width : ℕ) (found : Result (List Seen) Fault)
     → width ≡ length names → with_records (replicate width nothing) width 1 more ≡ found
-    → columns_behind names more ≡ (found >>= λ columns. ranged (columns_seen names columns))
-behind_seen names more width found e s =
+    → columns_after names more ≡ (found >>= λ columns. ranged (columns_seen names columns))
+after_seen names more width found e s =
     by_rows names (bare_rows (length names) 1 more)
     ∙ ap (λ (those : Result (List Seen) Fault). those >>= λ columns. ranged (columns_seen names columns)) (rw e at s)

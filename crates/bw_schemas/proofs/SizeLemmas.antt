@@ -18,7 +18,7 @@ use Rattle.bw_file.specs.declared.table_reader.TableReader.{TableReader}
 use Rattle.bw_file.specs.Blocks.{form_of, segment_size, segment_bytes}
 use Rattle.bw_file.specs.FileBytes.{AreRows, IsFileBytes, front_bytes, header_bytes, segments_bytes, bytes_of_version, version_for}
 use Rattle.bw_file.specs.Reading.{State, GoesOn, give, tail}
-use Rattle.bw_file.specs.TableReader.{header_told, layout_in, rows_told, schema_in, version_in}
+use Rattle.bw_file.specs.TableReader.{header_stated, layout_in, rows_stated, schema_in, version_in}
 use Rattle.bw_file.specs.TableReading.{header}
 use Rattle.bw_file.proofs.FileSpelling.{head_is}
 use Rattle.bw_file.proofs.ReaderLemmas.{head_at}
@@ -27,17 +27,17 @@ use Rattle.bw_file.proofs.SpellingLemmas.{IsBytes, head_bytes, header_takes}
 use Rattle.bw_schemas.specs.Info.{file_size, segment_count}
 
 -- a reader took the bytes of its header
-pub header_taken : (start now : State) (reader : TableReader) → start.offset ≡ 0 → GoesOn header start (give (header_told (version_in reader) reader)) now
-    → now.offset ≡ length (header_bytes (version_in reader) (layout_in reader) (schema_in reader).name (schema_in reader).columns.items (rows_told reader))
+pub header_taken : (start now : State) (reader : TableReader) → start.offset ≡ 0 → GoesOn header start (give (header_stated (version_in reader) reader)) now
+    → now.offset ≡ length (header_bytes (version_in reader) (layout_in reader) (schema_in reader).name (schema_in reader).columns.items (rows_stated reader))
 header_taken start now reader first read =
-    let h = header_told (version_in reader) reader in
+    let h = header_stated (version_in reader) reader in
     let bytes = read.bytes in
     let e = head_at start now h [] first read in
     let fits : IsBytes (bytes ++ []) = subst IsBytes (sym (append-nil bytes)) read.took.each in
     let takes = header_takes (tail 0 (bytes ++ [])) (h, tail now.offset []) fits e in
     let same : bytes ≡ head_bytes h = sym (append-nil bytes) ∙ takes.0.parts ∙ append-nil (head_bytes h) in
     let size : length bytes ≡ length (head_bytes h) = ap length same in
-    let shaped = ap length (head_is (version_in reader) (rows_told reader) (layout_in reader) (schema_in reader)) in
+    let shaped = ap length (head_is (version_in reader) (rows_stated reader) (layout_in reader) (schema_in reader)) in
     omega (arith, read.took.counted, size, shaped, first)
 
 -- the sizes of groups, and what is said of each of them

@@ -9,7 +9,7 @@ use Rattle.bw_model.specs.Name.{is_name}
 use Rattle.bw_model.specs.SchemaText.{schema_shape, IsSchemaText}
 use Rattle.bw_csv.specs.Bare.{bare_rows, records_of}
 use Rattle.bw_csv.specs.Input.{csv_from}
-use Rattle.bw_csv.specs.Rows.{Stops, StopsBehind, is_rows_fault}
+use Rattle.bw_csv.specs.Rows.{Stops, StopsAfter, is_rows_fault}
 use Rattle.bw_schemas.specs.Printed.{schema_text}
 use Rattle.bw_schemas.specs.Heading.{heading_names}
 use Rattle.bw_schemas.specs.Inferred.{inferred, IsExact}
@@ -26,7 +26,7 @@ text_from table csv = refused_if (not (is_name table)) (nowhere SCHEMA_NAME) (cs
 abbrev pub StopsInferring : List ℕ → Fault → Type 0
 StopsInferring csv =
     Stops (λ heading more fault. (names : List (List ℕ)) × (heading_names heading ≡ Ok names)
-    × StopsBehind (bare_rows (length names)) more fault) (records_of csv)
+    × StopsAfter (bare_rows (length names)) more fault) (records_of csv)
 
 -- a text spells a schema that is exact for a CSV text
 pub record SpellsExactly (text csv : List ℕ) : Type 0 where

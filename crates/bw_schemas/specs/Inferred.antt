@@ -50,14 +50,14 @@ schema_over table names rows = ranged (columns_over rows 0 names) >>= λ columns
 
 -- the schema of records, the first of which is the heading and has number 0, or the first fault in them: the heading, the
 -- records after it, and then the bounds
-unfoldable pub inferred_behind : List ℕ → List (List (List ℕ)) → Result SchemaShape Fault
-inferred_behind table [] = Err (at_record NO_HEADING 0)
-inferred_behind table (heading ∷ more) =
+unfoldable pub inferred_after : List ℕ → List (List (List ℕ)) → Result SchemaShape Fault
+inferred_after table [] = Err (at_record NO_HEADING 0)
+inferred_after table (heading ∷ more) =
     heading_names heading >>= λ names. bare_rows (length names) 1 more >>= λ rows. schema_over table names rows
 
 -- the schema of this name that is inferred from a text, after a byte order mark where it has one, or the first fault
 abbrev pub inferred : List ℕ → List ℕ → Result SchemaShape Fault
-inferred table text = inferred_behind table (records_of text)
+inferred table text = inferred_after table (records_of text)
 
 -- a column is as narrow as what the rows have in it
 pub record IsNarrowest (rows : List (List Value)) (number : ℕ) (column : Column) : Type 0 where

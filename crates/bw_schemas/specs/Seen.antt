@@ -60,5 +60,5 @@ columns_seen (name ∷ names) (s ∷ columns) = column_seen name s ∷ columns_s
 
 -- the columns of these names over the rows of records, the first of which has number 1; or the first fault in them, and then
 -- in the bounds
-abbrev pub columns_behind : List (List ℕ) → List (List (List ℕ)) → Result (List ColumnShape) Fault
-columns_behind names more = bare_rows (length names) 1 more >>= λ rows. ranged (columns_over rows 0 names)
+abbrev pub columns_after : List (List ℕ) → List (List (List ℕ)) → Result (List ColumnShape) Fault
+columns_after names more = bare_rows (length names) 1 more >>= λ rows. ranged (columns_over rows 0 names)

@@ -8,10 +8,10 @@ ghost use Rattle.bw_model.specs.SchemaText.{column_shape, schema_shape};
 ghost use Rattle.bw_model.specs.Column.{names_of};
 ghost use Rattle.bw_csv.specs.Records.{IsOpen, coming, fields_in};
 ghost use Rattle.bw_csv.specs.Bare.{bare_rows};
-ghost use Rattle.bw_csv.specs.Rows.{GivesButAside, is_reader_fault, StopsBehind};
+ghost use Rattle.bw_csv.specs.Rows.{GivesButAside, is_reader_fault, StopsAfter};
 ghost use Rattle.bw_schemas.specs.Infer.{is_inferring_fault, StopsInferring};
 ghost use Rattle.bw_schemas.specs.Inferred.{inferred, IsExact};
-ghost use Rattle.bw_schemas.specs.Seen.{columns_behind, nothing, with_records};
+ghost use Rattle.bw_schemas.specs.Seen.{columns_after, nothing, with_records};
 
 use crate::columns::columns_seen;
 use crate::heading::heading_names;
@@ -26,7 +26,7 @@ use std::alloc::{AllocError, Global};
 /// then for each record its number of fields (203), a row past 2^24 (207), and its fields from the left: no whole number
 /// (204), or one that 64 bits don't hold (205); and at last a column whose values are 2^63 or more apart (103, at record
 /// 0). 209 is any other error of the reader.
-#[tactic(auto, unfolding(crate::specs::Inferred::inferred_behind))]
+#[tactic(auto, unfolding(crate::specs::Inferred::inferred_after))]
 pub(crate) fn infer_schema(alloc: Global, table: &[u8], text: &[u8]) -> Result<Schema, Fault>
     requires { IsTrue (is_name table.now) }
     ensures schema { GivesButAside schema_shape result (inferred table.now text.now) }
@@ -38,7 +38,7 @@ pub(crate) fn infer_schema(alloc: Global, table: &[u8], text: &[u8]) -> Result<S
         return Err(Fault::at_record(code::NO_HEADING, 0));
     }
     let names = heading_names(alloc, &records)?;
-    let columns = columns_behind(alloc, &mut records, &names)?;
+    let columns = columns_after(alloc, &mut records, &names)?;
     Ok(Schema {
         name: Name::new(alloc, table)?,
         columns,
@@ -46,18 +46,18 @@ pub(crate) fn infer_schema(alloc: Global, table: &[u8], text: &[u8]) -> Result<S
 }
 
 /// The columns of these names, by the rows of the records to come, the first of which has number 1.
-fn columns_behind(
+fn columns_after(
     alloc: Global,
     records: &mut Records<'_>,
     names: &[Name],
 ) -> Result<Vec<Column>, Fault>
     requires { IsOpen records.old }
     ensures columns { GivesButAside (λ columns. map column_shape columns.items) result
-        (columns_behind names.now (coming records.old)) }
+        (columns_after names.now (coming records.old)) }
     ensures names { IfOk result (λ columns. names_of columns.items ≡ names.now) }
     ensures fault { IfErr result (λ fault. is_inferring_fault fault ≡ true) }
     ensures reader { IfErr result (λ fault. is_reader_fault fault ≡ true
-        → StopsBehind (bare_rows (length names.now)) (coming records.old) fault) }
+        → StopsAfter (bare_rows (length names.now)) (coming records.old) fault) }
 {
     let seen = rows_seen(alloc, records, names.len())?;
     columns_seen(alloc, names, &seen)
@@ -71,7 +71,7 @@ fn rows_seen(alloc: Global, records: &mut Records<'_>, width: usize) -> Result<V
     ensures width { IfOk result (λ columns. length columns.items ≡ width) }
     ensures fault { IfErr result (λ fault. is_inferring_fault fault ≡ true) }
     ensures reader { IfErr result (λ fault. is_reader_fault fault ≡ true
-        → StopsBehind (bare_rows width) (coming records.old) fault) }
+        → StopsAfter (bare_rows width) (coming records.old) fault) }
 {
     let mut row = Row {
         values: Vec::with_capacity(alloc, width)?,
@@ -103,7 +103,7 @@ fn take_rows(records: &mut Records<'_>, row: &mut Row, columns: &mut Vec<Seen>) 
     ensures width { OnOk result (length columns.new.items ≡ length columns.old.items) }
     ensures fault { IfErr result (λ fault. is_inferring_fault fault ≡ true) }
     ensures reader { IfErr result (λ fault. is_reader_fault fault ≡ true
-        → StopsBehind (bare_rows (length columns.old.items)) (coming records.old) fault) }
+        → StopsAfter (bare_rows (length columns.old.items)) (coming records.old) fault) }
 {
     let width = columns.len();
     let mut number = 1;

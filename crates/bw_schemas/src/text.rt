@@ -3,7 +3,7 @@ ghost use Rattle.std.specs.Prelude.{◌≡◌, ◌++◌, ◌≤◌, IfOk, IsOkUn
 ghost use Rattle.bw_model.specs.Fault.{no_memory};
 ghost use Rattle.bw_model.specs.SchemaText.{IsSchemaText, schema_shape};
 ghost use Rattle.bw_file.specs.FileBytes.{header_bytes};
-ghost use Rattle.bw_file.specs.TableReader.{bytes_taken, layout_in, rows_told, schema_in, version_in};
+ghost use Rattle.bw_file.specs.TableReader.{bytes_taken, layout_in, rows_stated, schema_in, version_in};
 ghost use Rattle.bw_schemas.specs.Info.{comment, info_text, layout_word};
 ghost use Rattle.bw_text.specs.Printed.{piece_text};
 
@@ -16,10 +16,10 @@ use std::alloc::{AllocError, Global};
 /// The text of what a reader's header says. That it took the header's bytes, and no other, is the caller's condition.
 pub(crate) fn info_text(alloc: Global, reader: &TableReader) -> Result<Vec<u8>, Fault>
     requires head { bytes_taken reader.now ≡ length (header_bytes (version_in reader.now) (layout_in reader.now)
-        (schema_in reader.now).name (schema_in reader.now).columns.items (rows_told reader.now)) }
+        (schema_in reader.now).name (schema_in reader.now).columns.items (rows_stated reader.now)) }
     requires short { bytes_taken reader.now ≤ 20000 }
     ensures text { IfOk result (λ text. text.items
-        ≡ info_text (version_in reader.now) (layout_in reader.now) (schema_in reader.now) (rows_told reader.now)) }
+        ≡ info_text (version_in reader.now) (layout_in reader.now) (schema_in reader.now) (rows_stated reader.now)) }
     ensures spelled { IfOk result (λ text. IsSchemaText text.items (schema_shape (schema_in reader.now))) }
     ensures only_memory { IsOkUnless result no_memory }
 {

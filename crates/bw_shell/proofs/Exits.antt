@@ -10,8 +10,8 @@ use Rattle.bw_csv.specs.Rows.{StopsUnder, is_aside, is_any_record}
 use Rattle.bw_device.specs.Sink.{is_write_fault, GoesOut, Wrote}
 use Rattle.bw_device.proofs.SinkLemmas.{wrote_nothing, wrote_text}
 use Rattle.bw_device.specs.Source.{Came}
-use Rattle.bw_csv.specs.Input.{csv_from, CsvTold}
-use Rattle.bw_shell.specs.Arrived.{CsvStopped, SchemaCame, IsSchemaFrom, SchemaTold}
+use Rattle.bw_csv.specs.Input.{csv_from, CsvAnswered}
+use Rattle.bw_shell.specs.Arrived.{CsvStopped, SchemaCame, IsSchemaFrom, SchemaAnswered}
 
 -- what came of a source, and the text that goes out, or a fault
 abbrev pub Arrival : Type 0
@@ -68,7 +68,7 @@ schema_exit_by P Q Is W came fault false m refused p q told w =
 
 pub schema_exit : (P Q : Arrival → Type 0) (Is : Arrival → Arrival → Given → Type 0) (W : Given → Type 0) (came : Arrival) (fault : Fault)
     → ((came : Arrival) (fault : Fault) → IsSchemaFrom came (Err fault) → Is came unread (Err fault))
-    → P came → Q unread → SchemaTold came (Err fault) → ((given : Given) → IsFaultOf fault given → W given) → Ends P Q Is W
+    → P came → Q unread → SchemaAnswered came (Err fault) → ((given : Given) → IsFaultOf fault given → W given) → Ends P Q Is W
 schema_exit P Q Is W came fault refused p q told w = schema_exit_by P Q Is W came fault (is_memory fault) refl refused p q told w
 
 -- the CSV's source failed, or gave more bytes than its limit
@@ -78,7 +78,7 @@ csv_fault_by make csv fault true m told other = memory_is_aside fault (csv_from 
 csv_fault_by make csv fault false m told other = ap (λ bytes. bytes >>= make) told
 
 pub csv_exit : (P Q : Arrival → Type 0) (Is : Arrival → Arrival → Given → Type 0) (W : Given → Type 0) (came csv : Arrival) (make : List ℕ → Given) (fault : Fault)
-    → Is came csv (csv_from csv >>= make) → P came → Q csv → CsvTold csv (Err fault)
+    → Is came csv (csv_from csv >>= make) → P came → Q csv → CsvAnswered csv (Err fault)
     → ((given : Given) → IsFaultOf fault given → W given) → Ends P Q Is W
 csv_exit P Q Is W came csv make fault is p q told w =
     (came, csv, (csv_from csv >>= make), p, q, is, w (csv_from csv >>= make) (csv_fault_by make csv fault (is_memory fault) refl told))
@@ -98,10 +98,10 @@ pub went_nowhere : (P Q : Arrival → Type 0) (Is : Arrival → Arrival → Give
 went_nowhere P Q Is old count fault other e = (e.0, e.1, e.2, e.3, e.4, e.5, wrote_nothing (Unit {0}) is_aside old count fault e.2 other e.6)
 
 -- a schema that was read came of a text that came whole
-pub came_of : (came : Arrival → Type 0) (schema : Schema) → ((arrived : Arrival) × came arrived × SchemaTold arrived (Ok schema)) → SchemaCame came schema
+pub came_of : (came : Arrival → Type 0) (schema : Schema) → ((arrived : Arrival) × came arrived × SchemaAnswered arrived (Ok schema)) → SchemaCame came schema
 came_of came schema told = by told.0 told.1 told.2
   where
-    by : (arrived : Arrival) → came arrived → SchemaTold arrived (Ok schema) → SchemaCame came schema
+    by : (arrived : Arrival) → came arrived → SchemaAnswered arrived (Ok schema) → SchemaCame came schema
     by (Ok (Some text)) whole spelled = record { text = text; whole = whole; spelled = spelled }
     by (Ok None) whole spelled = let e : ◌≡◌ {A = Result Schema Fault} (Ok schema) (Err (nowhere 106)) = spelled in absurd (cc e)
     by (Err fault) whole spelled = let e : ◌≡◌ {A = Result Schema Fault} (Ok schema) (Err fault) = spelled in absurd (cc e)

@@ -17,9 +17,9 @@ IsSchemaFrom (Err fault) outcome = outcome ≡ Err fault
 
 -- What a call that reads a schema answered is the schema or fault of what came; where it found no memory, so did what
 -- came.
-abbrev pub SchemaTold : Result (Option (List ℕ)) Fault → Result Schema Fault → Type 0
-SchemaTold came (Ok schema) = IsSchemaFrom came (Ok schema)
-SchemaTold came (Err fault) = MatchBool (is_memory fault) (came ≡ Err no_memory) (IsSchemaFrom came (Err fault))
+abbrev pub SchemaAnswered : Result (Option (List ℕ)) Fault → Result Schema Fault → Type 0
+SchemaAnswered came (Ok schema) = IsSchemaFrom came (Ok schema)
+SchemaAnswered came (Err fault) = MatchBool (is_memory fault) (came ≡ Err no_memory) (IsSchemaFrom came (Err fault))
 
 -- a schema text came whole, and spells this schema
 pub record SchemaCame (came : Result (Option (List ℕ)) Fault → Type 0) (schema : Schema) : Type 0 where

@@ -50,10 +50,11 @@ pub fn direct<S: Source, C: Source, K: Sink>(
         × Came longest_csv (C.to_come csv_source.old) (C.to_come csv_source.new)
         (C.failures csv_source.old) (C.failures csv_source.new) csv
         × IsAnswer schema sql.now csv given
-        × Wrote is_aside (K.taken sink.old) (K.taken sink.new) (K.failures sink.old) (K.failures sink.new) given result }
+        × Wrote is_aside (K.taken sink.old) (K.taken sink.new) (K.failures sink.old) (K.failures sink.new)
+        given result }
 
-    // Where the CSV's reader has an error of its own, the schema and the statement were accepted, the CSV came whole, and
-    // the error's place is the heading, or the record after those whose rows are good.
+    // Where the CSV's reader has an error of its own, the schema and the statement were accepted, the CSV came whole,
+    // and the error's place is the heading, or the record after those whose rows are good.
     ensures reader { IfErr result (λ fault. is_reader_fault fault ≡ true → (schema : Schema) × (query : Query)
         × SchemaCame (Came longest_schema (S.to_come schema_source.old) (S.to_come schema_source.new)
         (S.failures schema_source.old) (S.failures schema_source.new)) schema
@@ -61,8 +62,8 @@ pub fn direct<S: Source, C: Source, K: Sink>(
         × CsvStopped (Came longest_csv (C.to_come csv_source.old) (C.to_come csv_source.new)
         (C.failures csv_source.old) (C.failures csv_source.new)) schema fault) }
 
-    // Where a device failed, the call ends with that; of a source no more is taken than one byte past its limit; and where
-    // the call refuses, but for a write that failed, it has written nothing.
+    // Where a device failed, the call ends with that; of a source no more is taken than one byte past its limit; and
+    // where the call refuses, but for a write that failed, it has written nothing.
     ensures schema { LeavesSource (longest_schema + 1) (S.to_come schema_source.old) (S.to_come schema_source.new)
         (S.failures schema_source.old) (S.failures schema_source.new) result }
     ensures csv { LeavesSource (longest_csv + 1) (C.to_come csv_source.old) (C.to_come csv_source.new)

@@ -123,7 +123,7 @@ module _ (bytes : List ℕ) (slices most first : ℕ) (small : (at : ℕ) → ge
           let next : 8 + 8 * slice ≡ 8 * (slice + 1) = omega arith in
           ap₂ (λ m b. ltb m b || ((b == m) && above_in bytes slices most slice row)) is byte ∙ next_row most n (8 * slice) ∙ ap (λ k. ltb (most % 2 ^ k) (n % 2 ^ k)) next
 
-  -- at first none is, and at the end all bytes have told
+  -- at first none is, and at the end all bytes were looked at
   pub none_above_in : map set (replicate 64 0) ≡ map (above_in bytes slices most 0) (range_with_len first 64)
   none_above_in =
       let rows = range_with_len first 64 in

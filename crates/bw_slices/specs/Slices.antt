@@ -1,4 +1,5 @@
--- Codes kept as byte slices: a slice for each byte of the codes, from the most significant down, of 512 bytes, one a lane.
+-- Codes kept as byte slices: a slice for each byte of the codes, from the most significant down, of 512 bytes, one a
+-- lane.
 use Rattle.std.specs.Prelude.{ℕ, zero, suc, ◌+◌, ◌*◌, ◌/◌, List, [], ◌++◌, map, slice_index}
 use Rattle.std.specs.List.{range_with_len}
 use Rattle.bw_model.specs.Stored.{byte_of}

@@ -1,5 +1,5 @@
-//! Whether a code isn't 0, or is above a number. Of a column there are mostly one to four slices: each of these counts has a call
-//! of its own, in which there is no loop over slices.
+//! Whether a code isn't 0, or is above a number. Of a column there are mostly one to four slices: each of these counts
+//! has a call of its own, in which there is no loop over slices.
 ghost use Rattle.std.specs.Prelude.{◌≡◌, ◌==◌, ◌*◌, ◌^◌, ◌<◌, ◌≤◌, length, nat_lt, not};
 ghost use Rattle.std.specs.List.{list_any};
 ghost use Rattle.bw_lanes.specs.Lanes.{lanes_of_words};

@@ -17,8 +17,8 @@ use bw_segment::{CodeLayout, bytes_of, push_byte, put_byte};
 /// The most lanes whose codes are added one by one, which takes less time than to add the bytes of all lanes.
 const FEW: u32 = 24;
 
-/// Codes kept as byte slices. For each byte of the codes, from the most significant down, there are 512 bytes, byte i being
-/// lane i's.
+/// Codes kept as byte slices. For each byte of the codes, from the most significant down, there are 512 bytes, byte i
+/// being lane i's.
 pub struct Slices;
 
 impl CodeLayout for Slices {

@@ -66,9 +66,9 @@ longest_run : (c : ℕ) (rest other after : List ℕ) (any : Piece) → c ∷ re
 longest_run c rest [] after any e h = omega arith
 longest_run c rest (d ∷ tail) after any e h =
     let same : d ≡ c = cc in
-    let behind : rest ≡ tail ++ after = cc in
+    let tails : rest ≡ tail ++ after = cc in
     let most = run_most (follows c) tail after (subst (λ d. is_run (d ∷ tail) ≡ true) same (piece_run (d ∷ tail) any h)) in
-    rw behind (omega arith)
+    rw tails (omega arith)
 
 none_run : (p : ℕ → Bool) (xs : List ℕ) → ((x : ℕ) → p x ≡ false) → length (take_while p xs) ≡ 0
 none_run p [] h = refl
@@ -166,8 +166,8 @@ module _ (text : List ℕ) (c : ℕ) (rest : List ℕ) (e : text ≡ c ∷ rest)
   delimiter_only [] after any g h = let none = piece_run [] any h in cc
   delimiter_only (x ∷ tail) after any g h =
       let f : c ∷ rest ≡ x ∷ (tail ++ after) = sym e ∙ g in
-      let same : c ≡ x = cc in let behind : rest ≡ tail ++ after = cc in
-      subst (λ x. IsPiece (x ∷ tail) any → (t : Lexeme) × IsDelimiter (x ∷ tail) t) same (delimiter_at tail after any behind) h
+      let same : c ≡ x = cc in let tails : rest ≡ tail ++ after = cc in
+      subst (λ x. IsPiece (x ∷ tail) any → (t : Lexeme) × IsDelimiter (x ∷ tail) t) same (delimiter_at tail after any tails) h
 
   pub delimiter_longest : (back : List ℕ) (t : Lexeme) → IsLongestDelimiter text back t → IsLongest text back (Token t)
   delimiter_longest back t best = record {
@@ -198,9 +198,9 @@ pub cut_step : (n : ℕ) (rest after : List ℕ) (tokens : List Spot) (stop : Op
     IsLongest rest after p → IsCut (n - length after) after tokens stop →
     IsCut (n - length rest) rest (pushed p (n - length rest) tokens) stop
 cut_step n rest after tokens stop p h longest cut =
-    let behind : n - length after ≡ (n - length rest) + length longest.front =
+    let place : n - length after ≡ (n - length rest) + length longest.front =
     omega (arith, ap length longest.cut, length-append longest.front after) in
-    cut_on (n - length rest) rest after tokens stop p longest (subst (λ at. IsCut at after tokens stop) behind cut)
+    cut_on (n - length rest) rest after tokens stop p longest (subst (λ at. IsCut at after tokens stop) place cut)
 
 -- a piece has a byte or more
 some_front : (front : List ℕ) (piece : Piece) → IsPiece front piece → 0 < length front
@@ -261,7 +261,7 @@ one_longest text rest after p q a b =
     let same = same_front a.front b.front rest after (sym a.cut ∙ b.cut) (omega arith) in
     (one_piece b.front p q (subst (λ bytes. IsPiece bytes p) same.0 a.is) b.is, same.0, same.1)
 
--- a cut is at its end where no piece begins, and else goes on behind the longest
+-- a cut is at its end where no piece begins, and else goes on after the longest
 abbrev end_of : ℕ → List ℕ → Option ℕ
 end_of at [] = None
 end_of at (c ∷ rest) = Some at
@@ -354,8 +354,8 @@ cut_of (suc n) at (c ∷ rest) h = go (begun c rest) (λ at text h. cut_of n at 
     go : First IsPiece (c ∷ rest) → ((at : ℕ) (text : List ℕ) → length text ≤ n → Cut at text) → Cut at (c ∷ rest)
     go (nothing none) next = record { tokens = []; stop = Some at; cut = stopped (omega arith) none }
     go (a_thing after p longest) next =
-        let behind = next (at + length longest.front) after (omega (arith, shrinks (c ∷ rest) after p longest)) in
-        record { tokens = pushed p at behind.tokens; stop = behind.stop; cut = cut_on at _ after _ _ p longest behind.cut }
+        let others = next (at + length longest.front) after (omega (arith, shrinks (c ∷ rest) after p longest)) in
+        record { tokens = pushed p at others.tokens; stop = others.stop; cut = cut_on at _ after _ _ p longest others.cut }
 
 pub cut_of_text : (text : List ℕ) → Cut 0 text
 cut_of_text text = cut_of (length text) 0 text (omega arith)

@@ -244,17 +244,17 @@ pub data Ran (schema : Schema) (signed : Bool) (stack : List Symbol) : List Lexe
       Ran schema signed stack tokens (Ok tt)
   ends : {tokens : List Lexeme} (last : List Symbol) → Path (is_met schema) stack tokens last →
       Ran schema signed stack tokens (Err (record { why = Syntax; left = 0 }))
-  stops : {tokens : List Lexeme} (before behind : List Lexeme) (t : Lexeme) (last : List Symbol) (why : Refusal) →
-      tokens ≡ before ++ t ∷ behind → Path (is_met schema) stack before last → step (is_met schema) last t ≡ Err why →
-      Ran schema signed stack tokens (Err (record { why = why; left = left_at why (after_sign signed before) (length behind) }))
+  stops : {tokens : List Lexeme} (before after : List Lexeme) (t : Lexeme) (last : List Symbol) (why : Refusal) →
+      tokens ≡ before ++ t ∷ after → Path (is_met schema) stack before last → step (is_met schema) last t ≡ Err why →
+      Ran schema signed stack tokens (Err (record { why = why; left = left_at why (after_sign signed before) (length after) }))
 
 ran_on : (schema : Schema) (signed : Bool) (stack next : List Symbol) (t : Lexeme) {tokens : List Lexeme}
     {r : Result (Unit {0}) Halt} → step (is_met schema) stack t ≡ Ok next → Ran schema (is_sign t) next tokens r →
     Ran schema signed stack (t ∷ tokens) r
 ran_on schema signed stack next t e (whole last p m) = whole last (there e p) m
 ran_on schema signed stack next t e (ends last p) = ends last (there e p)
-ran_on schema signed stack next t e (stops before behind u last why f p g) =
-    stops (t ∷ before) behind u last why (ap (λ ts. t ∷ ts) f) (there e p) g
+ran_on schema signed stack next t e (stops before after u last why f p g) =
+    stops (t ∷ before) after u last why (ap (λ ts. t ∷ ts) f) (there e p) g
 
 pub ran : (schema : Schema) (signed : Bool) (stack : List Symbol) (tokens : List Lexeme) →
     Ran schema signed stack tokens (run schema signed stack tokens)
@@ -269,34 +269,34 @@ ran schema signed stack (t ∷ tokens) = go (step (is_met schema) stack t) refl 
     go (Err why) f onward = rw f (stops [] tokens t stack why refl here f)
 
 -- what one list has before a token lies before, at or after what another has
-data Order (before behind : List Lexeme) (t : Lexeme) (front rest : List Lexeme) : Type 0 where
-  sooner : (gap : List Lexeme) → front ≡ (before ++ t ∷ []) ++ gap → behind ≡ gap ++ rest → Order before behind t front rest
-  there_too : before ≡ front → t ∷ behind ≡ rest → Order before behind t front rest
-  later : length front < length before → Order before behind t front rest
+data Order (before after : List Lexeme) (t : Lexeme) (front rest : List Lexeme) : Type 0 where
+  sooner : (gap : List Lexeme) → front ≡ (before ++ t ∷ []) ++ gap → after ≡ gap ++ rest → Order before after t front rest
+  there_too : before ≡ front → t ∷ after ≡ rest → Order before after t front rest
+  later : length front < length before → Order before after t front rest
 
-order_cons : (before behind : List Lexeme) (t : Lexeme) (front rest : List Lexeme) (a b : Lexeme) → a ≡ b →
-    Order before behind t front rest → Order (a ∷ before) behind t (b ∷ front) rest
-order_cons before behind t front rest a b e (sooner gap f g) = sooner gap (rw (e, f) refl) g
-order_cons before behind t front rest a b e (there_too f g) = there_too (rw (e, f) refl) g
-order_cons before behind t front rest a b e (later h) = later (omega arith)
+order_cons : (before after : List Lexeme) (t : Lexeme) (front rest : List Lexeme) (a b : Lexeme) → a ≡ b →
+    Order before after t front rest → Order (a ∷ before) after t (b ∷ front) rest
+order_cons before after t front rest a b e (sooner gap f g) = sooner gap (rw (e, f) refl) g
+order_cons before after t front rest a b e (there_too f g) = there_too (rw (e, f) refl) g
+order_cons before after t front rest a b e (later h) = later (omega arith)
 
-order : (before behind : List Lexeme) (t : Lexeme) (front rest : List Lexeme) → before ++ t ∷ behind ≡ front ++ rest →
-    Order before behind t front rest
-order [] behind t [] rest e = there_too refl e
-order [] behind t (b ∷ front) rest e =
-    let heads : t ≡ b = cc in let tails : behind ≡ front ++ rest = cc in sooner front (rw heads refl) tails
-order (a ∷ before) behind t [] rest e = later (omega arith)
-order (a ∷ before) behind t (b ∷ front) rest e =
-    let heads : a ≡ b = cc in let tails : before ++ t ∷ behind ≡ front ++ rest = cc in
-    order_cons before behind t front rest a b heads (order before behind t front rest tails)
+order : (before after : List Lexeme) (t : Lexeme) (front rest : List Lexeme) → before ++ t ∷ after ≡ front ++ rest →
+    Order before after t front rest
+order [] after t [] rest e = there_too refl e
+order [] after t (b ∷ front) rest e =
+    let heads : t ≡ b = cc in let tails : after ≡ front ++ rest = cc in sooner front (rw heads refl) tails
+order (a ∷ before) after t [] rest e = later (omega arith)
+order (a ∷ before) after t (b ∷ front) rest e =
+    let heads : a ≡ b = cc in let tails : before ++ t ∷ after ≡ front ++ rest = cc in
+    order_cons before after t front rest a b heads (order before after t front rest tails)
 
 path_push : {met : Demand → Bool} {stack last next : List Symbol} {tokens : List Lexeme} (t : Lexeme) →
     Path met stack tokens last → step met last t ≡ Ok next → Path met stack (tokens ++ t ∷ []) next
 path_push t here e = there e here
 path_push t (there d p) e = there d (path_push t p e)
 
-beyond : (tokens before behind : List Lexeme) (t : Lexeme) → tokens ≡ before ++ t ∷ behind → length before < length tokens
-beyond tokens before behind t e = omega (arith, ap length e, length-append before (t ∷ behind))
+beyond : (tokens before after : List Lexeme) (t : Lexeme) → tokens ≡ before ++ t ∷ after → length before < length tokens
+beyond tokens before after t e = omega (arith, ap length e, length-append before (t ∷ after))
 
 module _ (schema : Schema) where
   -- what is refused under the demands of the refusal's number isn't spelled under them
@@ -331,10 +331,10 @@ module _ (schema : Schema) where
 module _ (schema : Schema) (tokens : List Lexeme) (last : List Symbol) (p : Path (is_met schema) (AStatement ∷ []) tokens last) where
   pub only_at_end : (other : Refusal) (at : ℕ) → Stands schema tokens other at → (at ≡ length tokens) × (other ≡ Syntax) ×
       ((query : Asked) → StatementIs schema.columns.items (asked_for schema Syntax) tokens query → ⊥)
-  only_at_end other at (at_token before behind t e v unless) =
-      absurd (unless (begun schema other (before ++ t ∷ []) behind tokens last p (e ∙ sym (append_assoc before (t ∷ []) behind))))
-  only_at_end other at (at_sign before behind t digits s e v unless) = absurd (unless (begun schema Literal
-      (before ++ t ∷ Digits digits ∷ []) behind tokens last p (e ∙ sym (append_assoc before (t ∷ Digits digits ∷ []) behind))))
+  only_at_end other at (at_token before after t e v unless) =
+      absurd (unless (begun schema other (before ++ t ∷ []) after tokens last p (e ∙ sym (append_assoc before (t ∷ []) after))))
+  only_at_end other at (at_sign before after t digits s e v unless) = absurd (unless (begun schema Literal
+      (before ++ t ∷ Digits digits ∷ []) after tokens last p (e ∙ sym (append_assoc before (t ∷ Digits digits ∷ []) after))))
   only_at_end other at (at_end v unless) = (refl, refl, unless)
 
   end_first : statement_at schema tokens ≡ Err (record { why = Syntax; left = 0 }) → IsFirst schema tokens Syntax (length tokens)
@@ -346,8 +346,8 @@ module _ (schema : Schema) (tokens : List Lexeme) (last : List Symbol) (p : Path
   }
 
 -- the machine stops at a token
-module _ (schema : Schema) (tokens before behind : List Lexeme) (t : Lexeme) (last : List Symbol) (why : Refusal)
-    (e : tokens ≡ before ++ t ∷ behind) (p : Path (is_met schema) (AStatement ∷ []) before last)
+module _ (schema : Schema) (tokens before after : List Lexeme) (t : Lexeme) (last : List Symbol) (why : Refusal)
+    (e : tokens ≡ before ++ t ∷ after) (p : Path (is_met schema) (AStatement ∷ []) before last)
     (stop : step (is_met schema) last t ≡ Err why) where
   stuck : Begins schema why (before ++ t ∷ []) → ⊥
   unfolding run
@@ -364,10 +364,10 @@ module _ (schema : Schema) (tokens before behind : List Lexeme) (t : Lexeme) (la
       path_viable schema (asked_for schema other) (asked_for_weaker schema other) (before ++ t ∷ []) onward.0
       (path_push t (path_weaker schema (asked_for schema other) (asked_for_weaker schema other) p) onward.1)
 
-  -- where another refusal stands: at the token or behind it, or before it as that of a literal of which it has the digits
+  -- where another refusal stands: at the token or after it, or before it as that of a literal of which it has the digits
   data Near (other : Refusal) (at : ℕ) : Type 0 where
     here_too : length before ≡ at → code_of why ≤ code_of other → Near other at
-    behind_it : length before < at → Near other at
+    after_it : length before < at → Near other at
     astride : (front : List Lexeme) (u : Lexeme) (digits : List ℕ) → is_sign u ≡ true → before ≡ front ++ u ∷ [] →
         t ≡ Digits digits → at ≡ length front → other ≡ Literal → Near other at
 
@@ -378,22 +378,22 @@ module _ (schema : Schema) (tokens before behind : List Lexeme) (t : Lexeme) (la
 
   near : (other : Refusal) (at : ℕ) → Stands schema tokens other at → Near other at
   near other at (at_token front rest u f v unless) =
-      elim (order front rest u before (t ∷ behind) (sym f ∙ e)) [
+      elim (order front rest u before (t ∷ after) (sym f ∙ e)) [
         | sooner gap g h ↦ absurd (unless (begun schema other (front ++ u ∷ []) gap before last p g))
         | there_too g h ↦ here_too (sym (ap length g)) (least other (λ b. unless (again g (cc) b)))
-        | later h ↦ behind_it h
+        | later h ↦ after_it h
       ]
     where
       again : front ≡ before → u ≡ t → Begins schema other (before ++ t ∷ []) → Begins schema other (front ++ u ∷ [])
       again g h b = rw (g, h) b
   near other at (at_sign front rest u digits s f v unless) =
-      elim (order front (Digits digits ∷ rest) u before (t ∷ behind) (sym f ∙ e)) [
+      elim (order front (Digits digits ∷ rest) u before (t ∷ after) (sym f ∙ e)) [
         | sooner gap g h ↦ two gap g h
         | there_too g h ↦ here_too (sym (ap length g)) (at_a_sign (cc))
-        | later h ↦ behind_it h
+        | later h ↦ after_it h
       ]
     where
-      two : (gap : List Lexeme) → before ≡ (front ++ u ∷ []) ++ gap → Digits digits ∷ rest ≡ gap ++ t ∷ behind →
+      two : (gap : List Lexeme) → before ≡ (front ++ u ∷ []) ++ gap → Digits digits ∷ rest ≡ gap ++ t ∷ after →
           Near Literal (length front)
       two [] g h = let is : t ≡ Digits digits = cc in
           astride front u digits s (g ∙ append-nil (front ++ u ∷ [])) is (refl {a = length front}) (refl {a = Literal})
@@ -406,15 +406,15 @@ module _ (schema : Schema) (tokens before behind : List Lexeme) (t : Lexeme) (la
       at_a_sign : u ≡ t → code_of why ≤ code_of Literal
       at_a_sign same =
           let syntax : why ≡ Syntax = (step_refuses schema t why last stop).0 (subst (λ v. is_sign v ≡ true) same s) in rw syntax (omega arith)
-  near other at (at_end v unless) = behind_it (beyond tokens before behind t e)
+  near other at (at_end v unless) = after_it (beyond tokens before after t e)
 
   -- and it stands there, if the token isn't the digits of a literal after a sign
   token_first : Alone before t → IsFirst schema tokens why (length before)
   token_first alone = record {
-    stands = at_token before behind t e (begun schema why before [] before last p (sym (append-nil before))) stuck;
+    stands = at_token before after t e (begun schema why before [] before last p (sym (append-nil before))) stuck;
     first = λ other at stands. elim (near other at stands) [
       | here_too h l ↦ inr (h, l)
-      | behind_it h ↦ inl h
+      | after_it h ↦ inl h
       | astride front u digits s f g h i ↦ absurd (alone front u digits s f g)
     ];
   }
@@ -423,11 +423,11 @@ module _ (schema : Schema) (tokens before behind : List Lexeme) (t : Lexeme) (la
   sign_first : (digits : List ℕ) → t ≡ Digits digits → (front : List Lexeme) (u : Lexeme) → is_sign u ≡ true →
       before ≡ front ++ u ∷ [] → why ≡ Literal → IsFirst schema tokens Literal (length front)
   sign_first digits is front u s f w = record {
-    stands = at_sign front behind u digits s (e ∙ rw (f, is) (append_assoc front (u ∷ []) (Digits digits ∷ behind)))
+    stands = at_sign front after u digits s (e ∙ rw (f, is) (append_assoc front (u ∷ []) (Digits digits ∷ after)))
         (begun schema Literal front (u ∷ []) before last p f) (λ v. stuck (rw w (subst (λ ts. Begins schema Literal ts) moved v)));
     first = λ other at stands. elim (near other at stands) [
       | here_too h l ↦ inl (omega (arith, h, one))
-      | behind_it h ↦ inl (omega (arith, one))
+      | after_it h ↦ inl (omega (arith, one))
       | astride ahead v others s g h i j ↦ inr (omega (arith, i, one, ap length g, length-append ahead (v ∷ [])), rw j (omega arith))
     ];
   }
@@ -445,15 +445,15 @@ pub record FirstFault (schema : Schema) (tokens : List Lexeme) (halt : Halt) : T
   pub left : place + halt.left ≡ length tokens
   pub last : length tokens ≤ place → halt.why ≡ Syntax
 
-module _ (schema : Schema) (tokens before behind : List Lexeme) (t : Lexeme) (last : List Symbol)
-    (e : tokens ≡ before ++ t ∷ behind) (p : Path (is_met schema) (AStatement ∷ []) before last) where
+module _ (schema : Schema) (tokens before after : List Lexeme) (t : Lexeme) (last : List Symbol)
+    (e : tokens ≡ before ++ t ∷ after) (p : Path (is_met schema) (AStatement ∷ []) before last) where
   at_the_token : (why : Refusal) → step (is_met schema) last t ≡ Err why → Alone before t →
-      FirstFault schema tokens (record { why = why; left = suc (length behind) })
+      FirstFault schema tokens (record { why = why; left = suc (length after) })
   at_the_token why stop alone = record {
     place = length before;
-    first = token_first schema tokens before behind t last why e p stop alone;
-    left = omega (arith, ap length e, length-append before (t ∷ behind));
-    last = λ h. absurd (omega (arith, beyond tokens before behind t e));
+    first = token_first schema tokens before after t last why e p stop alone;
+    left = omega (arith, ap length e, length-append before (t ∷ after));
+    last = λ h. absurd (omega (arith, beyond tokens before after t e));
   }
 
   -- after a sign digits are refused as a literal
@@ -466,18 +466,18 @@ module _ (schema : Schema) (tokens before behind : List Lexeme) (t : Lexeme) (la
       let both : true ≡ false = sym s ∙ sym (sign_last false front u) ∙ ap (after_sign false) (sym f) ∙ plain in cc
 
   stop_first : (why : Refusal) (signed : Bool) → after_sign false before ≡ signed → step (is_met schema) last t ≡ Err why →
-      FirstFault schema tokens (record { why = why; left = left_at why signed (length behind) })
+      FirstFault schema tokens (record { why = why; left = left_at why signed (length after) })
   stop_first Literal true s stop = go t refl ((step_refuses schema t Literal last stop).1 refl) where
     go : (v : Lexeme) → t ≡ v → is_digits v ≡ true →
-        FirstFault schema tokens (record { why = Literal; left = suc (suc (length behind)) })
+        FirstFault schema tokens (record { why = Literal; left = suc (suc (length after)) })
     go (Digits digits) is d =
         let u = last_sign before s in
         let one = length-append u.0 (u.1 ∷ []) in
         record {
           place = length u.0;
-          first = sign_first schema tokens before behind t last Literal e p stop digits is u.0 u.1 u.3 u.2 refl;
-          left = omega (arith, ap length e, length-append before (t ∷ behind), ap length u.2, one);
-          last = λ h. absurd (omega (arith, beyond tokens before behind t e, ap length u.2, one));
+          first = sign_first schema tokens before after t last Literal e p stop digits is u.0 u.1 u.3 u.2 refl;
+          left = omega (arith, ap length e, length-append before (t ∷ after), ap length u.2, one);
+          last = λ h. absurd (omega (arith, beyond tokens before after t e, ap length u.2, one));
         }
     go _ is d = cc
   stop_first Literal false s stop = at_the_token Literal stop (unsigned_alone s)
@@ -497,5 +497,5 @@ first_fault schema tokens halt e = go e (ran_so schema tokens (Err halt) e) wher
       FirstFault schema tokens halt
   go e (ends last p) =
       record { place = length tokens; first = end_first schema tokens last p e; left = omega arith; last = λ h. refl }
-  go e (stops before behind t last why g p stop) =
-      stop_first schema tokens before behind t last g p why (after_sign false before) refl stop
+  go e (stops before after t last why g p stop) =
+      stop_first schema tokens before after t last g p why (after_sign false before) refl stop

@@ -61,25 +61,25 @@ one_of (Some first) = AnItem first
 
 -- a factor, or a term, and then what stands after it
 abbrev pub a_part : Connective → ℕ → List Symbol → List Symbol
-a_part connective.And depth behind = AFactor depth ∷ behind
-a_part connective.Or depth behind = AFactor depth ∷ PartTail connective.And depth ∷ behind
+a_part connective.And depth after = AFactor depth ∷ after
+a_part connective.Or depth after = AFactor depth ∷ PartTail connective.And depth ∷ after
 
 abbrev pub in_brackets : ℕ → List Symbol → List Symbol
-in_brackets depth behind = a_part connective.Or depth (PartTail connective.Or depth ∷ Closing ∷ behind)
+in_brackets depth after = a_part connective.Or depth (PartTail connective.Or depth ∷ Closing ∷ after)
 
 -- an operand, and then what stands after it
 abbrev pub operand_choice : List Symbol → Lexeme → Choice
-operand_choice behind (Reserved word.Null) = Take behind
-operand_choice behind (Name text) = Ask (IsColumn text ∷ []) behind
-operand_choice behind (Digits digits) = Ask (Fits false digits ∷ []) behind
-operand_choice behind (Punct mark.Plus) = Take (SignedDigits false ∷ behind)
-operand_choice behind (Punct mark.Minus) = Take (SignedDigits true ∷ behind)
-operand_choice behind _ = Stop
+operand_choice after (Reserved word.Null) = Take after
+operand_choice after (Name text) = Ask (IsColumn text ∷ []) after
+operand_choice after (Digits digits) = Ask (Fits false digits ∷ []) after
+operand_choice after (Punct mark.Plus) = Take (SignedDigits false ∷ after)
+operand_choice after (Punct mark.Minus) = Take (SignedDigits true ∷ after)
+operand_choice after _ = Stop
 
 -- a bracket, or a predicate
 abbrev pub primary_choice : ℕ → List Symbol → Lexeme → Choice
-primary_choice depth behind (Punct mark.Open) = Ask (Depth (suc depth) ∷ []) (in_brackets (suc depth) behind)
-primary_choice depth behind t = operand_choice (PredicateTail ∷ behind) t
+primary_choice depth after (Punct mark.Open) = Ask (Depth (suc depth) ∷ []) (in_brackets (suc depth) after)
+primary_choice depth after t = operand_choice (PredicateTail ∷ after) t
 
 -- a range after BETWEEN, or a list after IN
 abbrev pub range_choice : Lexeme → Choice
@@ -95,14 +95,14 @@ truth_choice _ = Stop
 
 -- an aggregate, where some demands are met
 abbrev pub of_aggregate : Aggregate → List Symbol → List Symbol
-of_aggregate kind behind = Opening ∷ AnArgument kind ∷ Closing ∷ behind
+of_aggregate kind after = Opening ∷ AnArgument kind ∷ Closing ∷ after
 
 abbrev pub aggregate_choice : List Demand → List Symbol → Lexeme → Choice
-aggregate_choice demands behind (Reserved word.Count) = Ask demands (of_aggregate aggregate.Count behind)
-aggregate_choice demands behind (Reserved word.Sum) = Ask demands (of_aggregate aggregate.Sum behind)
-aggregate_choice demands behind (Reserved word.Min) = Ask demands (of_aggregate aggregate.Min behind)
-aggregate_choice demands behind (Reserved word.Max) = Ask demands (of_aggregate aggregate.Max behind)
-aggregate_choice demands behind _ = Stop
+aggregate_choice demands after (Reserved word.Count) = Ask demands (of_aggregate aggregate.Count after)
+aggregate_choice demands after (Reserved word.Sum) = Ask demands (of_aggregate aggregate.Sum after)
+aggregate_choice demands after (Reserved word.Min) = Ask demands (of_aggregate aggregate.Min after)
+aggregate_choice demands after (Reserved word.Max) = Ask demands (of_aggregate aggregate.Max after)
+aggregate_choice demands after _ = Stop
 
 unfoldable pub decide : Symbol → Lexeme → Choice
 decide (AWord word) (Reserved found) = if same_keyword found word then Take [] else Stop
@@ -175,12 +175,12 @@ step met (s ∷ stack) t = chosen met (decide s t) stack (step met stack t)
 
 -- how many tokens are left where a token is refused, after a sign or not: a literal is refused at its sign
 abbrev pub left_at : Refusal → Bool → ℕ → ℕ
-left_at Literal true behind = suc (suc behind)
-left_at _ _ behind = suc behind
+left_at Literal true after = suc (suc after)
+left_at _ _ after = suc after
 
 abbrev pub proceed : Bool → Result (List Symbol) Refusal → ℕ → (List Symbol → Result (Unit {0}) Halt) → Result (Unit {0}) Halt
-proceed signed (Ok stack) behind onward = onward stack
-proceed signed (Err why) behind onward = Err (record { why = why; left = left_at why signed behind })
+proceed signed (Ok stack) after onward = onward stack
+proceed signed (Err why) after onward = Err (record { why = why; left = left_at why signed after })
 
 -- a run over all tokens, after a sign or not, with all demands of the schema
 unfoldable pub run : Schema → Bool → List Symbol → List Lexeme → Result (Unit {0}) Halt

@@ -5,7 +5,7 @@ use Rattle.bw_sql.specs.declared.reader.Stop.{Stop}
 use Rattle.bw_sql.specs.declared.reader.Stop.TheVariants.{Refused, OutOfMemory}
 use Rattle.bw_sql.specs.Reader.{Halts}
 use Rattle.bw_sql.specs.declared.token.Placed.{Placed}
-use Rattle.bw_sql.specs.Reading.{Halt, repeated, with_front, more_behind}
+use Rattle.bw_sql.specs.Reading.{Halt, repeated, with_front, more_after}
 use Rattle.bw_sql.specs.Token.{Lexeme, lexemes}
 
 pub length-lexemes : (tokens : List Placed) → length (lexemes tokens) ≡ length tokens
@@ -35,16 +35,16 @@ module _ {A : Type 0} {after : List Lexeme → Option (List Lexeme)} {one : List
 
   -- where another comes
   more : {next : List Lexeme} → after tokens ≡ Some next → 0 < left → (fuel : ℕ) × (left ≤ suc fuel) ×
-      (whole ≡ with_front front (more_behind (Some next) tokens one (repeated fuel after one)))
+      (whole ≡ with_front front (more_after (Some next) tokens one (repeated fuel after one)))
   unfolding repeated
   more {next = next} e some = go repeats.fuel repeats.enough repeats.same where
     go : (fuel : ℕ) → left ≤ fuel → whole ≡ with_front front (repeated fuel after one tokens) → (fuel : ℕ) × (left ≤ suc fuel) ×
-        (whole ≡ with_front front (more_behind (Some next) tokens one (repeated fuel after one)))
+        (whole ≡ with_front front (more_after (Some next) tokens one (repeated fuel after one)))
     go zero enough same = absurd (omega arith)
     go (suc fuel) enough same = (fuel, enough, rw e at same)
 
   pub halts : {next : List Lexeme} (stop : Stop) → after tokens ≡ Some next → Halts stop (one next) → 0 < left → Halts stop whole
-  halts (Refused why behind) e f some = let m = more e some in m.2 ∙ (rw f refl)
+  halts (Refused why left) e f some = let m = more e some in m.2 ∙ (rw f refl)
   halts OutOfMemory e f some = tt
 
   pub steps : {next rest : List Lexeme} {x : A} {all : List A} {fewer : ℕ} → after tokens ≡ Some next → one next ≡ Ok (x, rest) →

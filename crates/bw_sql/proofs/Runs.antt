@@ -22,7 +22,7 @@ use Rattle.bw_model.specs.Column.{column_named}
 use Rattle.bw_sql.specs.Demand.{Depth, is_met, meets}
 use Rattle.bw_sql.specs.Frontier.{is_sign}
 use Rattle.bw_sql.specs.Limits.{deepest_nesting}
-use Rattle.bw_sql.specs.Reading.{Halt, Nested, ◌>>=◌, more_items, same_keyword, after_keyword, after_mark, keyword_at, mark_at, name_at, digits_at, sign_at, literal_at, column_at, table_at, operand_at, repeated, with_front, operands_at, range_at, list_at, range_or_list_at, null_test_at, after_comparison, behind_comparison, predicate_at, truth_value_at, truth_test_at, primary_in, test_in, factor_in, part_in, joined_in, series_at, series_behind, term_in, condition_in, nested, selection_at, table_expression_at, end_at, after_aggregate, aggregated_at, argument_at, item_at, of_one_kind, next_item_at, items_at, statement_at}
+use Rattle.bw_sql.specs.Reading.{Halt, Nested, ◌>>=◌, more_items, same_keyword, after_keyword, after_mark, keyword_at, mark_at, name_at, digits_at, sign_at, literal_at, column_at, table_at, operand_at, repeated, with_front, operands_at, range_at, list_at, range_or_list_at, null_test_at, after_comparison, predicate_after, predicate_at, truth_value_at, truth_test_at, primary_in, test_in, factor_in, part_in, joined_in, series_at, series_after, term_in, condition_in, nested, selection_at, table_expression_at, end_at, after_aggregate, aggregated_at, argument_at, item_at, of_one_kind, next_item_at, items_at, statement_at}
 use Rattle.bw_sql.specs.Token.{Lexeme, Name, Digits, Reserved, Compare, Punct}
 use Rattle.bw_sql.specs.Words.{word_of, join_of}
 use Rattle.bw_sql.proofs.Cases.{bool_cases, option_cases}
@@ -94,21 +94,21 @@ module _ (schema : Schema) where
 
   -- the machine's choice at a token, above a stack
   abbrev Chooses : {A : Type 0} → (List Symbol → Lexeme → Choice) → (List Lexeme → Result (A × List Lexeme) Halt) → Type 0
-  Chooses choice read = (behind stack : List Symbol) (passed : Result (List Symbol) Refusal) (t : Lexeme) (tokens : List Lexeme) →
-      proceed false (chosen (is_met schema) (choice behind t) stack passed) (length tokens) (λ next. run schema (is_sign t) next tokens) ≡
-      (read (t ∷ tokens) >>= λ x. run schema false (behind ++ stack) x.1)
+  Chooses choice read = (after stack : List Symbol) (passed : Result (List Symbol) Refusal) (t : Lexeme) (tokens : List Lexeme) →
+      proceed false (chosen (is_met schema) (choice after t) stack passed) (length tokens) (λ next. run schema (is_sign t) next tokens) ≡
+      (read (t ∷ tokens) >>= λ x. run schema false (after ++ stack) x.1)
 
   operand_chosen : Chooses operand_choice (operand_at schema)
   unfolding run step decide all_may_end may_end meets operand_at after_keyword after_mark column_at name_at literal_at sign_at digits_at
-  operand_chosen behind stack passed (Reserved word.Null) tokens = refl
-  operand_chosen behind stack passed (Name text) tokens =
+  operand_chosen after stack passed (Reserved word.Null) tokens = refl
+  operand_chosen after stack passed (Name text) tokens =
       option_cases (column_named schema.columns.items text) (λ e. rw e refl) (λ n e. rw e refl)
-  operand_chosen behind stack passed (Digits digits) tokens = option_cases (number_of false digits) (λ e. rw e refl) (λ n e. rw e refl)
-  operand_chosen behind stack passed (Punct mark.Plus) (Digits digits ∷ tokens) =
+  operand_chosen after stack passed (Digits digits) tokens = option_cases (number_of false digits) (λ e. rw e refl) (λ n e. rw e refl)
+  operand_chosen after stack passed (Punct mark.Plus) (Digits digits ∷ tokens) =
       option_cases (number_of false digits) (λ e. rw e refl) (λ n e. rw e refl)
-  operand_chosen behind stack passed (Punct mark.Minus) (Digits digits ∷ tokens) =
+  operand_chosen after stack passed (Punct mark.Minus) (Digits digits ∷ tokens) =
       option_cases (number_of true digits) (λ e. rw e refl) (λ n e. rw e refl)
-  operand_chosen behind stack passed _ _ = refl
+  operand_chosen after stack passed _ _ = refl
 
   pub operand_runs : Runs (λ stack. AnOperand ∷ stack) (operand_at schema)
   unfolding run step decide all_may_end may_end operand_at after_keyword literal_at sign_at digits_at after_mark
@@ -144,7 +144,7 @@ module _ (schema : Schema) (tail : Symbol) (ones : List Symbol → List Symbol) 
     (one : List Lexeme → Result (CondTree × List Lexeme) Halt) (laws : TailLaws schema tail ones (after_keyword w) one)
     (join : CondTrees → CondTree) where
   joined_tail : (first : CondTree) (stack : List Symbol) (tokens : List Lexeme) → run schema false (tail ∷ stack) tokens ≡
-      (series_behind w join one first (after_keyword w tokens) tokens >>= λ c. run schema false stack c.1)
+      (series_after w join one first (after_keyword w tokens) tokens >>= λ c. run schema false stack c.1)
   joined_tail first stack tokens = option_cases (after_keyword w tokens) (λ e. rw e (laws.ends stack tokens e))
       (λ next e. rw e (tail_runs schema tail ones (after_keyword w) one laws (length tokens) stack tokens (omega arith)
       ∙ sym (assoc (with_front (first ∷ []) (repeated (length tokens) (after_keyword w) one tokens)) _ _
@@ -198,7 +198,7 @@ module _ (schema : Schema) where
   range_runs x stack _ = refl
 
   predicate_tail : (x : Operand) → Runs schema (λ stack. PredicateTail ∷ stack)
-      (λ tokens. behind_comparison schema x (after_comparison tokens) tokens)
+      (λ tokens. predicate_after schema x (after_comparison tokens) tokens)
   unfolding run step decide all_may_end may_end range_or_list_at after_keyword keyword_at after_comparison null_test_at
   predicate_tail x stack (Compare op ∷ tokens) = operand_runs schema stack tokens ∙ chain (operand_at schema tokens) _ _ _ (λ y e. refl)
   predicate_tail x stack (Reserved word.Is ∷ Reserved word.Null ∷ tokens) = refl
@@ -222,10 +222,10 @@ not_too_deep n depth e = grind (arith, nat_tests)
 
 -- what stands one level deeper, after `(` and after NOT
 pub record LevelRuns (schema : Schema) (depth : ℕ) (inner : Nested) : Type 0 where
-  enclosed_runs : (behind stack : List Symbol) (next : List Lexeme) →
-      proceed false (ask (is_met schema) (Depth (suc depth) ∷ []) (in_brackets (suc depth) behind ++ stack)) (length next)
+  enclosed_runs : (after stack : List Symbol) (next : List Lexeme) →
+      proceed false (ask (is_met schema) (Depth (suc depth) ∷ []) (in_brackets (suc depth) after ++ stack)) (length next)
       (λ s. run schema false s next) ≡
-      (inner.enclosed (Punct mark.Open ∷ next) next >>= λ c. run schema false (behind ++ stack) c.1)
+      (inner.enclosed (Punct mark.Open ∷ next) next >>= λ c. run schema false (after ++ stack) c.1)
   negated_runs : (stack : List Symbol) (next : List Lexeme) →
       proceed false (ask (is_met schema) (Depth (suc depth) ∷ []) (APrimary (suc depth) ∷ TestTail ∷ stack)) (length next)
       (λ s. run schema false s next) ≡
@@ -234,9 +234,9 @@ pub record LevelRuns (schema : Schema) (depth : ℕ) (inner : Nested) : Type 0 w
 module _ (schema : Schema) (n depth : ℕ) (level : LevelRuns schema depth (nested schema n)) where
   primary_chosen : Chooses schema (primary_choice depth) (primary_in schema (nested schema n))
   unfolding primary_in after_mark predicate_at
-  primary_chosen behind stack passed (Punct mark.Open) tokens = level.enclosed_runs behind stack tokens
-  primary_chosen behind stack passed t tokens = operand_chosen schema (PredicateTail ∷ behind) stack passed t tokens
-      ∙ chain (operand_at schema (t ∷ tokens)) _ _ _ (λ x e. predicate_tail schema x.0 (behind ++ stack) x.1)
+  primary_chosen after stack passed (Punct mark.Open) tokens = level.enclosed_runs after stack tokens
+  primary_chosen after stack passed t tokens = operand_chosen schema (PredicateTail ∷ after) stack passed t tokens
+      ∙ chain (operand_at schema (t ∷ tokens)) _ _ _ (λ x e. predicate_tail schema x.0 (after ++ stack) x.1)
 
   test_runs : Runs schema (λ stack. APrimary depth ∷ TestTail ∷ stack) (test_in schema (nested schema n))
   unfolding run step decide all_may_end may_end test_in primary_in after_mark predicate_at operand_at after_keyword literal_at digits_at sign_at
@@ -244,10 +244,10 @@ module _ (schema : Schema) (n depth : ℕ) (level : LevelRuns schema depth (nest
   test_runs stack (t ∷ tokens) = primary_chosen [] (TestTail ∷ stack) (step (is_met schema) (TestTail ∷ stack) t) t tokens
       ∙ chain (primary_in schema (nested schema n) (t ∷ tokens)) _ _ _ (λ c e. test_tail schema c.0 stack c.1)
 
-  test_chosen : Chooses schema (λ behind. primary_choice depth (TestTail ∷ behind)) (test_in schema (nested schema n))
+  test_chosen : Chooses schema (λ after. primary_choice depth (TestTail ∷ after)) (test_in schema (nested schema n))
   unfolding test_in
-  test_chosen behind stack passed t tokens = primary_chosen (TestTail ∷ behind) stack passed t tokens
-      ∙ chain (primary_in schema (nested schema n) (t ∷ tokens)) _ _ _ (λ c e. test_tail schema c.0 (behind ++ stack) c.1)
+  test_chosen after stack passed t tokens = primary_chosen (TestTail ∷ after) stack passed t tokens
+      ∙ chain (primary_in schema (nested schema n) (t ∷ tokens)) _ _ _ (λ c e. test_tail schema c.0 (after ++ stack) c.1)
 
   factor_runs : Runs schema (a_part connective.And depth) (part_in schema (nested schema n) connective.And)
   unfolding run step decide all_may_end may_end factor_in after_keyword part_in test_in primary_in after_mark predicate_at operand_at literal_at digits_at sign_at
@@ -299,15 +299,15 @@ module _ (schema : Schema) (n depth : ℕ) (level : LevelRuns schema depth (nest
 pub level_runs : (schema : Schema) (n depth : ℕ) → n + depth ≡ deepest_nesting → LevelRuns schema depth (nested schema n)
 unfolding nested meets
 level_runs schema zero depth e = record {
-  enclosed_runs = λ behind stack next. rw (too_deep depth e) refl;
+  enclosed_runs = λ after stack next. rw (too_deep depth e) refl;
   negated_runs = λ stack next. rw (too_deep depth e) refl;
 }
 level_runs schema (suc n) depth e =
     let level = level_runs schema n (suc depth) (omega arith) in
     record {
-      enclosed_runs = λ behind stack next. rw (not_too_deep n depth e)
-          (condition_runs schema n (suc depth) level (Closing ∷ behind ++ stack) next
-          ∙ chain (condition_in schema (nested schema n) next) _ _ _ (λ c f. closing_runs schema (behind ++ stack) c.1
+      enclosed_runs = λ after stack next. rw (not_too_deep n depth e)
+          (condition_runs schema n (suc depth) level (Closing ∷ after ++ stack) next
+          ∙ chain (condition_in schema (nested schema n) next) _ _ _ (λ c f. closing_runs schema (after ++ stack) c.1
           ∙ chain (mark_at mark.Close c.1) _ _ _ (λ rest g. refl)));
       negated_runs = λ stack next. rw (not_too_deep n depth e) (test_runs schema n (suc depth) level stack next
           ∙ chain (test_in schema (nested schema n) next) _ _ _ (λ c f. refl));

@@ -133,8 +133,8 @@ at_most_one : (c : ℕ) (rest : List ℕ) → NoLong c rest → (other after : L
     length other ≤ 1
 at_most_one c rest none (x ∷ d ∷ []) after any g is =
     let same : x ≡ c = cc in
-    let behind : rest ≡ d ∷ after = cc in
-    absurd (none d after any behind (subst (λ y. IsDelimiter (y ∷ d ∷ []) any) same is))
+    let tails : rest ≡ d ∷ after = cc in
+    absurd (none d after any tails (subst (λ y. IsDelimiter (y ∷ d ∷ []) any) same is))
 at_most_one c rest none (x ∷ d ∷ y ∷ more) after any g is = let f = (known any (x ∷ d ∷ y ∷ more) is).is in cc
 at_most_one c rest none _ after any g is = omega arith
 

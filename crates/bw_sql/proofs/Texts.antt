@@ -160,7 +160,7 @@ module _ (schema : Schema) (text : List ℕ) (tokens : List Spot) where
       (path_weaker schema (asked_for schema Syntax) (asked_for_weaker schema Syntax) p.1) p.2 in
       (only_at_end schema (tokens_of tokens) p.0 p.1 why place stands).2 asked.0 asked.1
 
-  -- a refusal, by its place among the tokens and behind them
+  -- a refusal, by its place among the tokens and after them
   refused_at : (stop : Option ℕ) (why : Refusal) (place : ℕ) → IsCut 0 text tokens stop →
       IsFirst schema (tokens_of tokens) why place →
       (length tokens ≤ place → (place ≡ length tokens) × (why ≡ Syntax)) → (found : Option Spot) → slice_get tokens place ≡ found →

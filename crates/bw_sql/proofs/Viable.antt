@@ -98,41 +98,41 @@ module _ (columns : List Column) (met : Demand → Bool) where
 
   -- what a thing that begins with the token leads to
   abbrev Onto : {A : Type 0} → (List Lexeme → List Lexeme → A → Type 0) → Symbol → List Symbol → Lexeme → Type 0
-  Onto {A = A} Is s behind t =
-      (more middle : List Lexeme) (x : A) → Is (t ∷ more) middle x → Leads behind middle (Means s (t ∷ more))
+  Onto {A = A} Is s after t =
+      (more middle : List Lexeme) (x : A) → Is (t ∷ more) middle x → Leads after middle (Means s (t ∷ more))
 
-  plus_fair : (s : Symbol) (behind : List Symbol) → Onto (OperandIs columns met) s behind (Punct mark.Plus) →
-      Fair s (Punct mark.Plus) (Take (SignedDigits false ∷ behind))
-  plus_fair s behind k m more middle (digits, fits, here_is) = k more middle _ (plus fits)
+  plus_fair : (s : Symbol) (after : List Symbol) → Onto (OperandIs columns met) s after (Punct mark.Plus) →
+      Fair s (Punct mark.Plus) (Take (SignedDigits false ∷ after))
+  plus_fair s after k m more middle (digits, fits, here_is) = k more middle _ (plus fits)
 
-  minus_fair : (s : Symbol) (behind : List Symbol) → Onto (OperandIs columns met) s behind (Punct mark.Minus) →
-      Fair s (Punct mark.Minus) (Take (SignedDigits true ∷ behind))
-  minus_fair s behind k m more middle (digits, fits, here_is) = k more middle _ (minus fits)
+  minus_fair : (s : Symbol) (after : List Symbol) → Onto (OperandIs columns met) s after (Punct mark.Minus) →
+      Fair s (Punct mark.Minus) (Take (SignedDigits true ∷ after))
+  minus_fair s after k m more middle (digits, fits, here_is) = k more middle _ (minus fits)
 
-  operand_fair : (s : Symbol) (behind : List Symbol) (t : Lexeme) → Onto (OperandIs columns met) s behind t →
-      Fair s t (operand_choice behind t)
-  operand_fair s behind (Reserved word.Null) k = λ m more. k more more Null null
-  operand_fair s behind (Name text) k = λ m more. k more more _ (column m.0)
-  operand_fair s behind (Digits digits) k = λ m more. k more more _ (unsigned m.0)
-  operand_fair s behind (Punct mark.Plus) k = plus_fair s behind k
-  operand_fair s behind (Punct mark.Minus) k = minus_fair s behind k
-  operand_fair s behind _ k = tt
+  operand_fair : (s : Symbol) (after : List Symbol) (t : Lexeme) → Onto (OperandIs columns met) s after t →
+      Fair s t (operand_choice after t)
+  operand_fair s after (Reserved word.Null) k = λ m more. k more more Null null
+  operand_fair s after (Name text) k = λ m more. k more more _ (column m.0)
+  operand_fair s after (Digits digits) k = λ m more. k more more _ (unsigned m.0)
+  operand_fair s after (Punct mark.Plus) k = plus_fair s after k
+  operand_fair s after (Punct mark.Minus) k = minus_fair s after k
+  operand_fair s after _ k = tt
 
-  bracket_fair : (s : Symbol) (depth : ℕ) (behind : List Symbol) → Onto (PrimaryIs columns met depth) s behind (Punct mark.Open) →
-      Fair s (Punct mark.Open) (Ask (Depth (suc depth) ∷ []) (in_brackets (suc depth) behind))
-  bracket_fair s depth behind k m more a f b fs d ts rest here_is =
+  bracket_fair : (s : Symbol) (depth : ℕ) (after : List Symbol) → Onto (PrimaryIs columns met depth) s after (Punct mark.Open) →
+      Fair s (Punct mark.Open) (Ask (Depth (suc depth) ∷ []) (in_brackets (suc depth) after))
+  bracket_fair s depth after k m more a f b fs d ts rest here_is =
       k more rest _ (bracket m.0 (parts (term (parts (factor f.1) fs.1)) ts.1))
 
-  primary_fair : (s : Symbol) (depth : ℕ) (behind : List Symbol) (t : Lexeme) → Onto (PrimaryIs columns met depth) s behind t →
-      Fair s t (primary_choice depth behind t)
-  primary_fair s depth behind (Punct mark.Open) k = bracket_fair s depth behind k
-  primary_fair s depth behind t k =
-      operand_fair s (PredicateTail ∷ behind) t (λ more middle x o rest q. let p = q x in k more rest p.0 (predicate (compared o p.1)))
+  primary_fair : (s : Symbol) (depth : ℕ) (after : List Symbol) (t : Lexeme) → Onto (PrimaryIs columns met depth) s after t →
+      Fair s t (primary_choice depth after t)
+  primary_fair s depth after (Punct mark.Open) k = bracket_fair s depth after k
+  primary_fair s depth after t k =
+      operand_fair s (PredicateTail ∷ after) t (λ more middle x o rest q. let p = q x in k more rest p.0 (predicate (compared o p.1)))
 
-  aggregate_fair : (kind : Aggregate) (s : Symbol) (demands : List Demand) (behind : List Symbol) →
-      (AllMet demands → Onto (ItemIs columns met false) s behind (Reserved (aggregate_word kind))) →
-      Fair s (Reserved (aggregate_word kind)) (Ask demands (of_aggregate kind behind))
-  aggregate_fair kind s demands behind k m more a here_is b given rest close = let p = given rest close in k m more rest p.0 p.1
+  aggregate_fair : (kind : Aggregate) (s : Symbol) (demands : List Demand) (after : List Symbol) →
+      (AllMet demands → Onto (ItemIs columns met false) s after (Reserved (aggregate_word kind))) →
+      Fair s (Reserved (aggregate_word kind)) (Ask demands (of_aggregate kind after))
+  aggregate_fair kind s demands after k m more a here_is b given rest close = let p = given rest close in k m more rest p.0 p.1
 
   counted_fair : (kind : Aggregate) (text : List ℕ) (more : List Lexeme) → met (IsColumn text) ≡ true →
       Means (AnArgument kind) (Name text ∷ more) more
@@ -141,13 +141,13 @@ module _ (columns : List Column) (met : Demand → Bool) where
   rows_fair : (more : List Lexeme) → Means (AnArgument aggregate.Count) (Punct mark.Star ∷ more) more
   rows_fair more after here_is = (CountAll, count_all)
 
-  aggregates_fair : (s : Symbol) (demands : List Demand) (behind : List Symbol) (t : Lexeme) →
-      (AllMet demands → Onto (ItemIs columns met false) s behind t) → Fair s t (aggregate_choice demands behind t)
-  aggregates_fair s demands behind (Reserved word.Count) k = aggregate_fair aggregate.Count s demands behind k
-  aggregates_fair s demands behind (Reserved word.Sum) k = aggregate_fair aggregate.Sum s demands behind k
-  aggregates_fair s demands behind (Reserved word.Min) k = aggregate_fair aggregate.Min s demands behind k
-  aggregates_fair s demands behind (Reserved word.Max) k = aggregate_fair aggregate.Max s demands behind k
-  aggregates_fair s demands behind _ k = tt
+  aggregates_fair : (s : Symbol) (demands : List Demand) (after : List Symbol) (t : Lexeme) →
+      (AllMet demands → Onto (ItemIs columns met false) s after t) → Fair s t (aggregate_choice demands after t)
+  aggregates_fair s demands after (Reserved word.Count) k = aggregate_fair aggregate.Count s demands after k
+  aggregates_fair s demands after (Reserved word.Sum) k = aggregate_fair aggregate.Sum s demands after k
+  aggregates_fair s demands after (Reserved word.Min) k = aggregate_fair aggregate.Min s demands after k
+  aggregates_fair s demands after (Reserved word.Max) k = aggregate_fair aggregate.Max s demands after k
+  aggregates_fair s demands after _ k = tt
 
   -- what a range leads to
   abbrev OfRange : Symbol → Lexeme → Type 0

@@ -34,14 +34,14 @@ is_sign _ = false
 -- Why a statement is refused, and after how many tokens: at a token with which none goes on, at a sign where none
 -- goes on with it and its digits, and at the end where the tokens are no statement.
 pub data Stands (schema : Schema) (tokens : List Lexeme) : Refusal → ℕ → Type 0 where
-  at_token : {why : Refusal} (before behind : List Lexeme) (t : Lexeme) → tokens ≡ before ++ t ∷ behind →
+  at_token : {why : Refusal} (before after : List Lexeme) (t : Lexeme) → tokens ≡ before ++ t ∷ after →
       Begins schema why before → (Begins schema why (before ++ t ∷ []) → ⊥) → Stands schema tokens why (length before)
-  at_sign : (before behind : List Lexeme) (t : Lexeme) (digits : List ℕ) → IsTrue (is_sign t) → tokens ≡ before ++ t
-      ∷ Digits digits ∷ behind →
+  at_sign : (before after : List Lexeme) (t : Lexeme) (digits : List ℕ) → IsTrue (is_sign t) →
+      tokens ≡ before ++ t ∷ Digits digits ∷ after →
       Begins schema Literal before → (Begins schema Literal (before ++ t ∷ Digits digits ∷ []) → ⊥)
       → Stands schema tokens Literal (length before)
-  at_end : Begins schema Syntax tokens → ((query : Asked) → StatementIs schema.columns.items (asked_for schema Syntax) tokens query
-      → ⊥) →
+  at_end : Begins schema Syntax tokens →
+      ((query : Asked) → StatementIs schema.columns.items (asked_for schema Syntax) tokens query → ⊥) →
       Stands schema tokens Syntax (length tokens)
 
 -- the first place at which a fault stands, and the lowest number there

@@ -49,7 +49,8 @@ pub data OperandIs (columns : List Column) (met : Demand → Bool) : List Lexeme
 pub data CommaList {A : Type 0} (Is : List Lexeme → List Lexeme → A → Type 0) : List Lexeme → List Lexeme → List A
     → Type 0 where
   no_more : {rest : List Lexeme} → CommaList Is rest rest []
-  one_more : {tokens others rest : List Lexeme} {x : A} {xs : List A} → Is tokens others x → CommaList Is others rest xs →
+  one_more : {tokens others rest : List Lexeme} {x : A} {xs : List A} →
+      Is tokens others x → CommaList Is others rest xs →
       CommaList Is (Punct mark.Comma ∷ tokens) rest (x ∷ xs)
 
 -- BETWEEN operand AND operand | IN ( operand { , operand } ), said of an operand x
@@ -71,7 +72,8 @@ pub data ComparedIs (columns : List Column) (met : Demand → Bool) (x : Operand
       ComparedIs columns met x tokens rest c
   not_range : {tokens rest : List Lexeme} {c : CondTree} → RangeIs columns met x tokens rest c →
       ComparedIs columns met x (Reserved word.Not ∷ tokens) rest (Not c)
-  is_null : {rest : List Lexeme} → ComparedIs columns met x (Reserved word.Is ∷ Reserved word.Null ∷ rest) rest (IsNull x)
+  is_null : {rest : List Lexeme} →
+      ComparedIs columns met x (Reserved word.Is ∷ Reserved word.Null ∷ rest) rest (IsNull x)
   is_not_null : {rest : List Lexeme} →
       ComparedIs columns met x (Reserved word.Is ∷ Reserved word.Not ∷ Reserved word.Null ∷ rest) rest (Not (IsNull x))
 
@@ -91,8 +93,8 @@ pub data TestedIs (c : CondTree) : List Lexeme → List Lexeme → CondTree → 
 -- Conditions, inside of so many brackets and NOTs.
 mutual
   -- cond = term { OR term }, and term = factor { AND factor }: a part, alone or joined with those that follow
-  pub data JoinedIs (columns : List Column) (met : Demand → Bool) : Connective → ℕ → List Lexeme → List Lexeme → CondTree
-      → Type 0 where
+  pub data JoinedIs (columns : List Column) (met : Demand → Bool) : Connective → ℕ → List Lexeme → List Lexeme
+      → CondTree → Type 0 where
     parts : {by : Connective} {depth : ℕ} {tokens others rest : List Lexeme} {c : CondTree} {cs : List CondTree} →
         PartIs columns met by depth tokens others c → MoreParts columns met by depth others rest cs →
         JoinedIs columns met by depth tokens rest (joined (join_of by) c cs)
@@ -114,7 +116,8 @@ mutual
         JoinedIs columns met connective.And depth tokens rest c → PartIs columns met connective.Or depth tokens rest c
 
   -- factor = [ NOT ] test
-  pub data FactorIs (columns : List Column) (met : Demand → Bool) : ℕ → List Lexeme → List Lexeme → CondTree → Type 0 where
+  pub data FactorIs (columns : List Column) (met : Demand → Bool) : ℕ → List Lexeme → List Lexeme → CondTree
+      → Type 0 where
     test : {depth : ℕ} {tokens rest : List Lexeme} {c : CondTree} →
         TestIs columns met depth tokens rest c → FactorIs columns met depth tokens rest c
     not_test : {depth : ℕ} {tokens rest : List Lexeme} {c : CondTree} → IsTrue (met (Depth (suc depth))) →
@@ -122,12 +125,14 @@ mutual
         (Not c)
 
   -- test = a primary, and what follows it
-  pub data TestIs (columns : List Column) (met : Demand → Bool) : ℕ → List Lexeme → List Lexeme → CondTree → Type 0 where
+  pub data TestIs (columns : List Column) (met : Demand → Bool) : ℕ → List Lexeme → List Lexeme → CondTree
+      → Type 0 where
     tested : {depth : ℕ} {tokens others rest : List Lexeme} {c d : CondTree} →
         PrimaryIs columns met depth tokens others c → TestedIs c others rest d → TestIs columns met depth tokens rest d
 
   -- primary = ( cond ) | predicate
-  pub data PrimaryIs (columns : List Column) (met : Demand → Bool) : ℕ → List Lexeme → List Lexeme → CondTree → Type 0 where
+  pub data PrimaryIs (columns : List Column) (met : Demand → Bool) : ℕ → List Lexeme → List Lexeme → CondTree
+      → Type 0 where
     predicate : {depth : ℕ} {tokens rest : List Lexeme} {c : CondTree} →
         PredicateIs columns met tokens rest c → PrimaryIs columns met depth tokens rest c
     bracket : {depth : ℕ} {tokens rest : List Lexeme} {c : CondTree} → IsTrue (met (Depth (suc depth))) →

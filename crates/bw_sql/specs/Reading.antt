@@ -102,16 +102,16 @@ digits_at (Compare op ∷ tokens) = refuse Syntax (Compare op ∷ tokens)
 digits_at (Punct found ∷ tokens) = refuse Syntax (Punct found ∷ tokens)
 
 -- whether a minus comes first, and the tokens after the sign, where there is one
-abbrev pub behind_plus : Option (List Lexeme) → List Lexeme → Bool × List Lexeme
-behind_plus (Some rest) tokens = (false, rest)
-behind_plus None tokens = (false, tokens)
+abbrev pub after_plus : Option (List Lexeme) → List Lexeme → Bool × List Lexeme
+after_plus (Some rest) tokens = (false, rest)
+after_plus None tokens = (false, tokens)
 
-abbrev pub behind_minus : Option (List Lexeme) → List Lexeme → Bool × List Lexeme
-behind_minus (Some rest) tokens = (true, rest)
-behind_minus None tokens = behind_plus (after_mark mark.Plus tokens) tokens
+abbrev pub after_minus : Option (List Lexeme) → List Lexeme → Bool × List Lexeme
+after_minus (Some rest) tokens = (true, rest)
+after_minus None tokens = after_plus (after_mark mark.Plus tokens) tokens
 
 unfoldable pub sign_at : List Lexeme → Bool × List Lexeme
-sign_at tokens = behind_minus (after_mark mark.Minus tokens) tokens
+sign_at tokens = after_minus (after_mark mark.Minus tokens) tokens
 
 unfoldable pub literal_at : List Lexeme → Read ℤ
 literal_at tokens = do
@@ -149,19 +149,19 @@ literal_operand tokens = do
   n ← literal_at tokens
   Ok (Lit n.0, n.1)
 
-abbrev pub operand_behind : Option (List Lexeme) → Schema → List Lexeme → Read Operand
-operand_behind (Some rest) schema tokens = Ok (Null, rest)
-operand_behind None schema tokens =
+abbrev pub operand_after : Option (List Lexeme) → Schema → List Lexeme → Read Operand
+operand_after (Some rest) schema tokens = Ok (Null, rest)
+operand_after None schema tokens =
     if begins_with_name tokens then column_operand schema tokens else literal_operand tokens
 
 unfoldable pub operand_at : Schema → List Lexeme → Read Operand
-operand_at schema tokens = operand_behind (after_keyword word.Null tokens) schema tokens
+operand_at schema tokens = operand_after (after_keyword word.Null tokens) schema tokens
 
 -- what is read again and again, as long as what introduces it comes; there are no more of them than tokens
-abbrev pub more_behind : {A : Type 0} → Option (List Lexeme) → List Lexeme → (List Lexeme → Read A) →
+abbrev pub more_after : {A : Type 0} → Option (List Lexeme) → List Lexeme → (List Lexeme → Read A) →
     (List Lexeme → Read (List A)) → Read (List A)
-more_behind None tokens one others = Ok ([], tokens)
-more_behind (Some next) tokens one others = do
+more_after None tokens one others = Ok ([], tokens)
+more_after (Some next) tokens one others = do
   x ← one next
   xs ← others x.1
   Ok (x.0 ∷ xs.0, xs.1)
@@ -169,7 +169,7 @@ more_behind (Some next) tokens one others = do
 unfoldable pub repeated : {A : Type 0} → ℕ → (List Lexeme → Option (List Lexeme)) → (List Lexeme → Read A) →
     List Lexeme → Read (List A)
 repeated zero after one tokens = Ok ([], tokens)
-repeated (suc n) after one tokens = more_behind (after tokens) tokens one (repeated n after one)
+repeated (suc n) after one tokens = more_after (after tokens) tokens one (repeated n after one)
 
 abbrev pub with_front : {A : Type 0} → List A → Read (List A) → Read (List A)
 with_front front read = do
@@ -200,24 +200,24 @@ list_at schema x tokens = do
   rest ← mark_at mark.Close items.1
   Ok (Among x items.0, rest)
 
-abbrev pub range_or_list_behind : Option (List Lexeme) → Schema → Operand → List Lexeme → Read CondTree
-range_or_list_behind (Some next) schema x tokens = range_at schema x next
-range_or_list_behind None schema x tokens = list_at schema x tokens
+abbrev pub range_or_list_after : Option (List Lexeme) → Schema → Operand → List Lexeme → Read CondTree
+range_or_list_after (Some next) schema x tokens = range_at schema x next
+range_or_list_after None schema x tokens = list_at schema x tokens
 
 unfoldable pub range_or_list_at : Schema → Operand → List Lexeme → Read CondTree
-range_or_list_at schema x tokens = range_or_list_behind (after_keyword word.Between tokens) schema x tokens
+range_or_list_at schema x tokens = range_or_list_after (after_keyword word.Between tokens) schema x tokens
 
 -- [ NOT ] NULL after IS
-abbrev pub null_behind : Option (List Lexeme) → Operand → List Lexeme → Read CondTree
-null_behind (Some next) x tokens = do
+abbrev pub null_after : Option (List Lexeme) → Operand → List Lexeme → Read CondTree
+null_after (Some next) x tokens = do
   rest ← keyword_at word.Null next
   Ok (Not (IsNull x), rest)
-null_behind None x tokens = do
+null_after None x tokens = do
   rest ← keyword_at word.Null tokens
   Ok (IsNull x, rest)
 
 unfoldable pub null_test_at : Operand → List Lexeme → Read CondTree
-null_test_at x tokens = null_behind (after_keyword word.Not tokens) x tokens
+null_test_at x tokens = null_after (after_keyword word.Not tokens) x tokens
 
 unfoldable pub after_comparison : List Lexeme → Option (Op × List Lexeme)
 after_comparison [] = None
@@ -228,24 +228,24 @@ after_comparison (Reserved found ∷ tokens) = None
 after_comparison (Punct found ∷ tokens) = None
 
 -- what follows the first operand of a predicate
-abbrev pub behind_not : Schema → Operand → Option (List Lexeme) → List Lexeme → Read CondTree
-behind_not schema x (Some next) tokens = do
+abbrev pub after_not : Schema → Operand → Option (List Lexeme) → List Lexeme → Read CondTree
+after_not schema x (Some next) tokens = do
   c ← range_or_list_at schema x next
   Ok (Not c.0, c.1)
-behind_not schema x None tokens = range_or_list_at schema x tokens
+after_not schema x None tokens = range_or_list_at schema x tokens
 
-abbrev pub behind_is : Schema → Operand → Option (List Lexeme) → List Lexeme → Read CondTree
-behind_is schema x (Some next) tokens = null_test_at x next
-behind_is schema x None tokens = behind_not schema x (after_keyword word.Not tokens) tokens
+abbrev pub after_is : Schema → Operand → Option (List Lexeme) → List Lexeme → Read CondTree
+after_is schema x (Some next) tokens = null_test_at x next
+after_is schema x None tokens = after_not schema x (after_keyword word.Not tokens) tokens
 
-abbrev pub behind_comparison : Schema → Operand → Option (Op × List Lexeme) → List Lexeme → Read CondTree
-behind_comparison schema x (Some next) tokens = do
+abbrev pub predicate_after : Schema → Operand → Option (Op × List Lexeme) → List Lexeme → Read CondTree
+predicate_after schema x (Some next) tokens = do
   y ← operand_at schema next.1
   Ok (Cmp next.0 x y.0, y.1)
-behind_comparison schema x None tokens = behind_is schema x (after_keyword word.Is tokens) tokens
+predicate_after schema x None tokens = after_is schema x (after_keyword word.Is tokens) tokens
 
 abbrev pub predicate_of : Schema → Operand → List Lexeme → Read CondTree
-predicate_of schema x tokens = behind_comparison schema x (after_comparison tokens) tokens
+predicate_of schema x tokens = predicate_after schema x (after_comparison tokens) tokens
 
 unfoldable pub predicate_at : Schema → List Lexeme → Read CondTree
 predicate_at schema tokens = do
@@ -253,14 +253,14 @@ predicate_at schema tokens = do
   predicate_of schema x.0 x.1
 
 -- a truth value, and a test for it after IS
-abbrev pub behind_true : Option (List Lexeme) → Option (List Lexeme) → Option (List Lexeme) → List Lexeme → Read Truth
-behind_true (Some rest) second third tokens = Ok (True, rest)
-behind_true None (Some rest) third tokens = Ok (False, rest)
-behind_true None None (Some rest) tokens = Ok (Unknown, rest)
-behind_true None None None tokens = refuse Syntax tokens
+abbrev pub after_true : Option (List Lexeme) → Option (List Lexeme) → Option (List Lexeme) → List Lexeme → Read Truth
+after_true (Some rest) second third tokens = Ok (True, rest)
+after_true None (Some rest) third tokens = Ok (False, rest)
+after_true None None (Some rest) tokens = Ok (Unknown, rest)
+after_true None None None tokens = refuse Syntax tokens
 
 unfoldable pub truth_value_at : List Lexeme → Read Truth
-truth_value_at tokens = behind_true (after_keyword word.True tokens) (after_keyword word.False tokens)
+truth_value_at tokens = after_true (after_keyword word.True tokens) (after_keyword word.False tokens)
     (after_keyword word.Unknown tokens) tokens
 
 abbrev pub value_test_at : CondTree → List Lexeme → Read CondTree
@@ -274,12 +274,12 @@ tested c (Some next) tokens = do
   Ok (Not d.0, d.1)
 tested c None tokens = value_test_at c tokens
 
-abbrev pub truth_behind : CondTree → Option (List Lexeme) → List Lexeme → Read CondTree
-truth_behind c (Some next) tokens = tested c (after_keyword word.Not next) next
-truth_behind c None tokens = Ok (c, tokens)
+abbrev pub truth_after : CondTree → Option (List Lexeme) → List Lexeme → Read CondTree
+truth_after c (Some next) tokens = tested c (after_keyword word.Not next) next
+truth_after c None tokens = Ok (c, tokens)
 
 unfoldable pub truth_test_at : CondTree → List Lexeme → Read CondTree
-truth_test_at c tokens = truth_behind c (after_keyword word.Is tokens) tokens
+truth_test_at c tokens = truth_after c (after_keyword word.Is tokens) tokens
 
 -- what stands one level deeper: a condition after `(`, and a test after NOT, given the tokens from the mark
 -- or word on and those after it
@@ -287,30 +287,30 @@ pub record Nested : Type 0 where
   pub enclosed : List Lexeme → List Lexeme → Read CondTree
   pub negated : List Lexeme → List Lexeme → Read CondTree
 
-abbrev pub primary_behind : Schema → Nested → Option (List Lexeme) → List Lexeme → Read CondTree
-primary_behind schema inner (Some next) tokens = inner.enclosed tokens next
-primary_behind schema inner None tokens = predicate_at schema tokens
+abbrev pub primary_after : Schema → Nested → Option (List Lexeme) → List Lexeme → Read CondTree
+primary_after schema inner (Some next) tokens = inner.enclosed tokens next
+primary_after schema inner None tokens = predicate_at schema tokens
 
 unfoldable pub primary_in : Schema → Nested → List Lexeme → Read CondTree
-primary_in schema inner tokens = primary_behind schema inner (after_mark mark.Open tokens) tokens
+primary_in schema inner tokens = primary_after schema inner (after_mark mark.Open tokens) tokens
 
 unfoldable pub test_in : Schema → Nested → List Lexeme → Read CondTree
 test_in schema inner tokens = do
   c ← primary_in schema inner tokens
   truth_test_at c.0 c.1
 
-abbrev pub factor_behind : Schema → Nested → Option (List Lexeme) → List Lexeme → Read CondTree
-factor_behind schema inner (Some next) tokens = inner.negated tokens next
-factor_behind schema inner None tokens = test_in schema inner tokens
+abbrev pub factor_after : Schema → Nested → Option (List Lexeme) → List Lexeme → Read CondTree
+factor_after schema inner (Some next) tokens = inner.negated tokens next
+factor_after schema inner None tokens = test_in schema inner tokens
 
 unfoldable pub factor_in : Schema → Nested → List Lexeme → Read CondTree
-factor_in schema inner tokens = factor_behind schema inner (after_keyword word.Not tokens) tokens
+factor_in schema inner tokens = factor_after schema inner (after_keyword word.Not tokens) tokens
 
 -- one part, or two and more that a word joins
-abbrev pub series_behind : Keyword → (CondTrees → CondTree) → (List Lexeme → Read CondTree) → CondTree →
+abbrev pub series_after : Keyword → (CondTrees → CondTree) → (List Lexeme → Read CondTree) → CondTree →
     Option (List Lexeme) → List Lexeme → Read CondTree
-series_behind word join one first None tokens = Ok (first, tokens)
-series_behind word join one first (Some next) tokens = do
+series_after word join one first None tokens = Ok (first, tokens)
+series_after word join one first (Some next) tokens = do
   parts ← with_front (first ∷ []) (repeated (length tokens) (after_keyword word) one tokens)
   Ok (join (trees_of parts.0), parts.1)
 
@@ -318,7 +318,7 @@ abbrev pub series_at : Keyword → (CondTrees → CondTree) → (List Lexeme →
     Read CondTree
 series_at word join one tokens = do
   first ← one tokens
-  series_behind word join one first.0 (after_keyword word first.1) first.1
+  series_after word join one first.0 (after_keyword word first.1) first.1
 
 unfoldable pub term_in : Schema → Nested → List Lexeme → Read CondTree
 term_in schema inner tokens = series_at word.And And (factor_in schema inner) tokens
@@ -355,36 +355,36 @@ nested schema (suc n) = record {
 }
 
 -- the condition after WHERE, where it comes
-abbrev pub behind_where : Schema → Option (List Lexeme) → List Lexeme → Read CondTree
-behind_where schema None tokens = Ok (Always, tokens)
-behind_where schema (Some rest) tokens = condition_in schema (nested schema deepest_nesting) rest
+abbrev pub after_where : Schema → Option (List Lexeme) → List Lexeme → Read CondTree
+after_where schema None tokens = Ok (Always, tokens)
+after_where schema (Some rest) tokens = condition_in schema (nested schema deepest_nesting) rest
 
 unfoldable pub selection_at : Schema → List Lexeme → Read CondTree
-selection_at schema tokens = behind_where schema (after_keyword word.Where tokens) tokens
+selection_at schema tokens = after_where schema (after_keyword word.Where tokens) tokens
 
 -- the end of a statement, after a semicolon, where it comes
 abbrev pub nothing_left : List Lexeme → Result (Unit {0}) Halt
 nothing_left [] = Ok tt
 nothing_left (t ∷ tokens) = refuse Syntax (t ∷ tokens)
 
-abbrev pub behind_semicolon : Option (List Lexeme) → List Lexeme → List Lexeme
-behind_semicolon (Some rest) tokens = rest
-behind_semicolon None tokens = tokens
+abbrev pub after_semicolon : Option (List Lexeme) → List Lexeme → List Lexeme
+after_semicolon (Some rest) tokens = rest
+after_semicolon None tokens = tokens
 
 unfoldable pub end_at : List Lexeme → Result (Unit {0}) Halt
-end_at tokens = nothing_left (behind_semicolon (after_mark mark.Semicolon tokens) tokens)
+end_at tokens = nothing_left (after_semicolon (after_mark mark.Semicolon tokens) tokens)
 
 -- the aggregates, by their words
-abbrev pub aggregate_behind : Option (List Lexeme) → Option (List Lexeme) → Option (List Lexeme) → Option (List Lexeme)
+abbrev pub aggregate_after : Option (List Lexeme) → Option (List Lexeme) → Option (List Lexeme) → Option (List Lexeme)
     → Option (Aggregate × List Lexeme)
-aggregate_behind (Some rest) sum min max = Some (aggregate.Count, rest)
-aggregate_behind None (Some rest) min max = Some (aggregate.Sum, rest)
-aggregate_behind None None (Some rest) max = Some (aggregate.Min, rest)
-aggregate_behind None None None (Some rest) = Some (aggregate.Max, rest)
-aggregate_behind None None None None = None
+aggregate_after (Some rest) sum min max = Some (aggregate.Count, rest)
+aggregate_after None (Some rest) min max = Some (aggregate.Sum, rest)
+aggregate_after None None (Some rest) max = Some (aggregate.Min, rest)
+aggregate_after None None None (Some rest) = Some (aggregate.Max, rest)
+aggregate_after None None None None = None
 
 unfoldable pub after_aggregate : List Lexeme → Option (Aggregate × List Lexeme)
-after_aggregate tokens = aggregate_behind (after_keyword word.Count tokens) (after_keyword word.Sum tokens)
+after_aggregate tokens = aggregate_after (after_keyword word.Count tokens) (after_keyword word.Sum tokens)
     (after_keyword word.Min tokens) (after_keyword word.Max tokens)
 
 abbrev pub column_of : Schema → Aggregate → List Lexeme → Read Item
@@ -447,14 +447,14 @@ abbrev pub more_items : Schema → Bool → List Lexeme → Read (List Item)
 more_items schema is_plain tokens = repeated (length tokens) (after_mark mark.Comma)
     (next_item_at schema is_plain) tokens
 
-abbrev pub items_behind : Schema → Option (List Lexeme) → List Lexeme → Read (List Item)
-items_behind schema (Some rest) tokens = Ok (every_column schema.columns.items, rest)
-items_behind schema None tokens = do
+abbrev pub items_after : Schema → Option (List Lexeme) → List Lexeme → Read (List Item)
+items_after schema (Some rest) tokens = Ok (every_column schema.columns.items, rest)
+items_after schema None tokens = do
   first ← item_at schema tokens
   with_front (first.0 ∷ []) (more_items schema (begins_with_name tokens) first.1)
 
 unfoldable pub items_at : Schema → List Lexeme → Read (List Item)
-items_at schema tokens = items_behind schema (after_mark mark.Star tokens) tokens
+items_at schema tokens = items_after schema (after_mark mark.Star tokens) tokens
 
 -- FROM, the table, and the condition
 unfoldable pub table_expression_at : Schema → List Lexeme → Read CondTree

@@ -61,13 +61,14 @@ pub const MAX_LEN: usize = 65_536;
 /// one byte the lowest number: a byte that is part of no token, blank or comment (401), a token with which
 /// no query can go on, or the end where no query ends (402), a table (403) or a column (404) that isn't the
 /// schema's, a literal that 64 bits don't hold (405, at its sign or first digit), an item of another kind than
-/// the first (406, at its first token), and a bracket or NOT that nests more than 100 deep (408). 801 is want
+/// the first (406, at its first token), and a bracket or NOT that nests more than 100 deep (408). 801 is out
 /// of memory.
 pub fn parse(alloc: Global, schema: &Schema, text: &[u8]) -> Result<Query, Fault>
     ensures read { Parses schema.now text.now result }
     ensures refused { (query : Asked) → Spells schema.now text.now query
         → IfErr result (λ fault. IsTrue (is_memory fault)) }
-    ensures too_long { longest_statement < length text.now → result ≡ Err (at_byte STATEMENT_TOO_LONG longest_statement) }
+    ensures too_long { longest_statement < length text.now
+        → result ≡ Err (at_byte STATEMENT_TOO_LONG longest_statement) }
     ensures columns { IfOk result (λ query.
         IsTrue (names_within (vec_len schema.now.columns) query.cond)) }
     ensures whole { IfOk result (λ query. IsTrue (is_whole query.cond)) }
@@ -82,7 +83,8 @@ pub fn parse(alloc: Global, schema: &Schema, text: &[u8]) -> Result<Query, Fault
 
 /// The query that a statement is read as, or the fault at which reading stopped.
 fn read(alloc: Global, schema: &Schema, text: &[u8]) -> Result<Query, Fault>
-    ensures too_long { longest_statement < length text.now → result ≡ Err (at_byte STATEMENT_TOO_LONG longest_statement) }
+    ensures too_long { longest_statement < length text.now
+        → result ≡ Err (at_byte STATEMENT_TOO_LONG longest_statement) }
     ensures exact { length text.now ≤ longest_statement → Answers schema.now text.now result }
     ensures fault { IfErr result IsStatementFault }
 {

@@ -9,8 +9,8 @@ use bw_sql::parse;
 use std::alloc::{AllocError, Global};
 use std::fmt::{self, Write};
 
-/// Says which part of a statement's condition has no scan program by itself, and why; nothing where the condition has one,
-/// or the statement is refused.
+/// Says which part of a statement's condition has no scan program by itself, and why; nothing where the condition has
+/// one, or the statement is refused.
 pub(crate) fn of_rows(alloc: Global, schema: &Schema, sql: &[u8]) -> Result<String, AllocError> {
     let mut text = String::new(alloc);
     let Ok(query) = parse(alloc, schema, sql) else {
@@ -37,8 +37,8 @@ fn has_program(alloc: Global, schema: &Schema, cond: &Cond) -> bool
     propose(alloc, schema, cond).is_ok()
 }
 
-/// The smallest part of a condition that has no program by itself: within the first such part, or the condition where each
-/// of its parts has one.
+/// The smallest part of a condition that has no program by itself: within the first such part, or the condition where
+/// each of its parts has one.
 #[tactic(auto, using(bw_model::proofs::CondLemmas::names))]
 #[cycle(smallest)]
 fn smallest<'a>(alloc: Global, schema: &Schema, cond: &'a Cond) -> &'a Cond

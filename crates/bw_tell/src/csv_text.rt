@@ -5,9 +5,9 @@ use crate::unfit::of_columns;
 use bw_model::{Fault, Place, Schema, code};
 use std::alloc::{AllocError, Global};
 
-/// Says what is wrong with a CSV text that is read under a schema, or with none, as `bw infer` reads it: the line of the file,
-/// the column, the field as it stands, and what would have been right; of a heading, which one it is and what it should be;
-/// and for `bw infer` each column that doesn't fit. Faults that stand at no record have nothing to say.
+/// Says what is wrong with a CSV text that is read under a schema, or with none, as `bw infer` reads it: the line of
+/// the file, the column, the field as it stands, and what would have been right; of a heading, which one it is and what
+/// it should be; and for `bw infer` each column that doesn't fit. Faults that stand at no record have nothing to say.
 pub(crate) fn of_csv(
     alloc: Global,
     csv: &[u8],

@@ -59,8 +59,8 @@ const OTHERS: [&str; 26] = [
     "WITH",
 ];
 
-/// Says what could stand at the byte of a statement's syntax fault, and whether what does stand there is SQL that isn't in
-/// the language. The schema is the one under which the statement was refused.
+/// Says what could stand at the byte of a statement's syntax fault, and whether what does stand there is SQL that isn't
+/// in the language. The schema is the one under which the statement was refused.
 pub(crate) fn of_statement(
     alloc: Global,
     schema: &Schema,
@@ -72,8 +72,8 @@ pub(crate) fn of_statement(
         return Ok(text);
     };
     let at = usize::try_from(byte).unwrap_or(sql.len()).min(sql.len());
-    let (before, behind) = sql.split_at(at);
-    if let Some(word) = other_word(before, behind) {
+    let (before, after) = sql.split_at(at);
+    if let Some(word) = other_word(before, after) {
         writeln!(
             text,
             "{word} isn't in the language: docs/SQL.md says what is, and what to do instead"
@@ -86,14 +86,14 @@ pub(crate) fn of_statement(
 }
 
 /// The word at a fault, or just before it, that is SQL but not in the language.
-fn other_word(before: &[u8], behind: &[u8]) -> Option<&'static str> {
-    if behind.starts_with(b"!=") {
+fn other_word(before: &[u8], after: &[u8]) -> Option<&'static str> {
+    if after.starts_with(b"!=") {
         return Some("!=");
     }
-    if behind.starts_with(b"=") && before.ends_with(b"=") {
+    if after.starts_with(b"=") && before.ends_with(b"=") {
         return Some("==");
     }
-    other_of(first_word(behind)).or_else(|| other_of(last_word(before)))
+    other_of(first_word(after)).or_else(|| other_of(last_word(before)))
 }
 
 /// A word of SQL that isn't in the language, if this is one, in any case.
@@ -156,8 +156,8 @@ fn put_frontier(
     Ok(())
 }
 
-/// Whether a statement goes on with this text after its beginning, by the parser's own answer: it's read, or refused for
-/// what comes later, or for a name that isn't the table's or a column's.
+/// Whether a statement goes on with this text after its beginning, by the parser's own answer: it's read, or refused
+/// for what comes later, or for a name that isn't the table's or a column's.
 fn could_stand(
     alloc: Global,
     schema: &Schema,

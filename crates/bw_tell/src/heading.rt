@@ -9,8 +9,8 @@ use std::alloc::{AllocError, Global};
 use std::fmt;
 use std::fmt::Write;
 
-/// Says what is wrong with the heading of a CSV text that is read under a schema, or with none, as `bw infer` does: which
-/// heading, what it is and what it should be; and whether the whole looks like a file of another kind.
+/// Says what is wrong with the heading of a CSV text that is read under a schema, or with none, as `bw infer` does:
+/// which heading, what it is and what it should be; and whether the whole looks like a file of another kind.
 pub(crate) fn of_heading(
     alloc: Global,
     csv: &[u8],

@@ -4,8 +4,8 @@ use bw_model::{Fault, Place, code};
 use std::alloc::{AllocError, Global};
 use std::fmt::Write;
 
-/// Says what stands on the line of a program file's fault, and where that is an instruction's line of the certificate, which
-/// instruction it stands for.
+/// Says what stands on the line of a program file's fault, and where that is an instruction's line of the certificate,
+/// which instruction it stands for.
 pub(crate) fn of_program(alloc: Global, file: &[u8], fault: &Fault) -> Result<String, AllocError> {
     let mut text = String::new(alloc);
     let Place::Line(number) = fault.place else {
@@ -17,7 +17,7 @@ pub(crate) fn of_program(alloc: Global, file: &[u8], fault: &Fault) -> Result<St
         .nth(number.saturating_sub(1))
     {
         Some(line) => writeln!(text, "line {number}: {}", Shown(line))?,
-        None => writeln!(text, "line {number} is behind the last one")?,
+        None => writeln!(text, "line {number} is after the last one")?,
     }
     if matches!(fault.code, code::INSTRUCTION_LINE | code::REGISTER_UNKNOWN) {
         put_instruction(&mut text, file, number)?;

@@ -7,8 +7,8 @@ use std::alloc::{AllocError, Global};
 use std::fmt;
 use std::fmt::Write;
 
-/// Says what is wrong with a record of a CSV text that is read under a schema: the line of the file, from 1, the column, the
-/// field as it stands, and what would have been right.
+/// Says what is wrong with a record of a CSV text that is read under a schema: the line of the file, from 1, the
+/// column, the field as it stands, and what would have been right.
 pub(crate) fn of_record(
     alloc: Global,
     csv: &[u8],

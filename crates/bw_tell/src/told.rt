@@ -39,9 +39,9 @@ impl<'a> Ended<'a> {
     }
 }
 
-/// Says on standard error what is wrong, where there is something to say of it: the statement's part with a caret under the
-/// byte, and what could stand there; or the line of the file, what stands on it, and what would have been right; or else the
-/// file that the fault is of.
+/// Says on standard error what is wrong, where there is something to say of it: the statement's part with a caret under
+/// the byte, and what could stand there; or the line of the file, what stands on it, and what would have been right; or
+/// else the file that the fault is of.
 pub fn explain(rt: &HostRuntime, words: &Words<'_>, ended: &Ended<'_>) {
     let fault = &ended.fault;
     if let (400..500, Some(sql), Place::Byte(byte)) = (fault.code, words.sql(), fault.place) {
@@ -54,7 +54,8 @@ pub fn explain(rt: &HostRuntime, words: &Words<'_>, ended: &Ended<'_>) {
     }
 }
 
-/// Says on standard error why the rows that a statement asks for were looked up one by one, where the table can be read again.
+/// Says on standard error why the rows that a statement asks for were looked up one by one, where the table can be read
+/// again.
 pub fn explain_rows(rt: &HostRuntime, table: &str, sql: &str) {
     say(rt, "", said_of_rows(rt, table, sql));
 }

@@ -8,8 +8,8 @@ use std::alloc::{AllocError, Global};
 use std::fmt;
 use std::fmt::Write;
 
-/// Says which columns aren't of whole numbers, each with the first field that isn't one, or of numbers too far apart; which
-/// record is the first with another number of fields; and how columns can be made to fit.
+/// Says which columns aren't of whole numbers, each with the first field that isn't one, or of numbers too far apart;
+/// which record is the first with another number of fields; and how columns can be made to fit.
 pub(crate) fn of_columns(alloc: Global, csv: &[u8]) -> Result<String, AllocError> {
     match Found::of(alloc, csv, 0) {
         Some(heading) => of_columns_under(alloc, csv, &heading.record),

@@ -106,11 +106,11 @@ none_before (c ∷ cs) = before_by (is_line_feed c) c cs (position_or_len is_lin
 
 split_by : (b : Bool) (c : ℕ) (cs : List ℕ) (n : ℕ) → is_line_feed c ≡ b → (n < length cs → cs ≡ take n cs ++ (10 ∷ drop (n + 1) cs))
     → cond (not b) (1 + n) 0 < length (c ∷ cs) → c ∷ cs ≡ take (cond (not b) (1 + n) 0) (c ∷ cs) ++ (10 ∷ drop (cond (not b) (1 + n) 0 + 1) (c ∷ cs))
-split_by true c cs n e behind h = ap (λ x. x ∷ cs) (eqb-true _ _ e)
-split_by false c cs n e behind h =
+split_by true c cs n e after h = ap (λ x. x ∷ cs) (eqb-true _ _ e)
+split_by false c cs n e after h =
     let one : 1 + n ≡ suc n = omega arith in
     let two : suc n + 1 ≡ suc (n + 1) = omega arith in
-    rw (one, two) (ap (λ xs. c ∷ xs) (behind (omega arith)))
+    rw (one, two) (ap (λ xs. c ∷ xs) (after (omega arith)))
 
 pub fed_at : (text : List ℕ) → position_or_len is_line_feed text < length text
     → text ≡ take (position_or_len is_line_feed text) text ++ (10 ∷ drop (position_or_len is_line_feed text + 1) text)

@@ -1,6 +1,7 @@
 //! What the command line may be: `bw direct SCHEMA CSV SQL`, `bw infer [--table NAME] CSV`,
-//! `bw load [--layout planes|slices] SCHEMA CSV OUT`, `bw query [--program FILE] [--stats] TABLE SQL`, `bw plan SCHEMA SQL`,
-//! `bw check SCHEMA SQL FILE`, `bw info TABLE` or `bw dump TABLE`, each with `--explain` before the command or after it.
+//! `bw load [--layout planes|slices] SCHEMA CSV OUT`, `bw query [--program FILE] [--stats] TABLE SQL`,
+//! `bw plan SCHEMA SQL`, `bw check SCHEMA SQL FILE`, `bw info TABLE` or `bw dump TABLE`, each with `--explain` before
+//! the command or after it.
 use crate::words::Words;
 use bw_file::Layout;
 use clap::{Arg, ArgAction, ArgMatches, Command, Error};

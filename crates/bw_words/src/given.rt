@@ -32,8 +32,8 @@ pub fn words_given(rt: &HostRuntime) -> Result<Vec<String>, u8> {
     }
 }
 
-/// The command of a command line, whose first word is the program's name; or the status without one, once what the command
-/// line asked for in place of it was written.
+/// The command of a command line, whose first word is the program's name; or the status without one, once what the
+/// command line asked for in place of it was written.
 pub fn asked_by<'a>(rt: &HostRuntime, words: &'a [String]) -> Result<Asked<'a>, u8> {
     match matches_of(rt.alloc(), words) {
         Ok(matches) => asked_in(&matches).ok_or(USAGE),
@@ -57,8 +57,8 @@ fn out_of_memory(rt: &HostRuntime) -> u8 {
     )
 }
 
-/// Says what the command line asked for in place of a command, and gives the status: the version goes to standard output
-/// with status 0, and all else, a call for help too, to standard error.
+/// Says what the command line asked for in place of a command, and gives the status: the version goes to standard
+/// output with status 0, and all else, a call for help too, to standard error.
 fn tell(rt: &HostRuntime, error: &Error) -> u8 {
     match error.kind() {
         ErrorKind::DisplayVersion => {

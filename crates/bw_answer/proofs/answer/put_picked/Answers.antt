@@ -29,7 +29,7 @@ returns-in_ok-push_picked-clause-over g c = λ names rows over.
     let query = c.args.query.now in
     let more = (g.S.Segment.meaning c.args.segment.now).rows in
     let lists = sym c.requires.lists ∙ c.if-lists.true in
-    let kept_all : picked (lanes_of_words c.args.plane.now) more ≡ kept query.cond more =
+    let kept_all : picked (lanes_of_words c.args.selection.now) more ≡ kept query.cond more =
     ap (λ lanes. picked lanes more) c.requires.picks ∙ picked_as_kept query.cond more (group_size - length more) in
     let items = query.items.items in
     let named = (c.requires.names c.if-lists.true).0 in
@@ -37,7 +37,7 @@ returns-in_ok-push_picked-clause-over g c = λ names rows over.
     rw named (map_listed items (kept query.cond more)) in
     let records = ap (map (fields_of c.args.records.now.columns.items)) kept_all ∙ fields in
     record {
-      written = c.in_ok-push_picked.ensures.records ∙ ap (λ (l : List ℕ). l ++ csv_text (map (fields_of c.args.records.now.columns.items) (picked (lanes_of_words c.args.plane.now) more))) over.written
+      written = c.in_ok-push_picked.ensures.records ∙ ap (λ (l : List ℕ). l ++ csv_text (map (fields_of c.args.records.now.columns.items) (picked (lanes_of_words c.args.selection.now) more))) over.written
           ∙ ap (λ (those : List (List (List ℕ))). text_over names query rows ++ csv_text those) records ∙ text_over_more names query rows more lists;
       totalled = λ totals. absurd (cc (lists, totals));
     }
@@ -52,7 +52,7 @@ returns-else-lists-clause-over g c = λ names rows over.
     let more = (g.S.Segment.meaning c.args.segment.now).rows in
     let lists = sym c.requires.lists ∙ c.if-lists.false in
     let items = filter is_aggregate query.items.items in
-    let those = picked (lanes_of_words c.args.plane.now) more in
+    let those = picked (lanes_of_words c.args.selection.now) more in
     let kept_all : those ≡ kept query.cond more =
     ap (λ lanes. picked lanes more) c.requires.picks ∙ picked_as_kept query.cond more (group_size - length more) in
     let kept_more : kept query.cond rows ++ those ≡ kept query.cond (rows ++ more) =
@@ -68,7 +68,7 @@ pub returns-else-lists-clause-counts : goal.returns-else-lists-clause-counts
 returns-else-lists-clause-counts g c = λ width rows e.
     let query = c.args.query.now in
     let more = (g.S.Segment.meaning c.args.segment.now).rows in
-    let those = picked (lanes_of_words c.args.plane.now) more in
+    let those = picked (lanes_of_words c.args.selection.now) more in
     let kept_all : those ≡ kept query.cond more =
     ap (λ lanes. picked lanes more) c.requires.picks ∙ picked_as_kept query.cond more (group_size - length more) in
     let few : length those ≤ length more = omega (arith, ap length kept_all, few_kept query.cond more) in

@@ -7,7 +7,7 @@ use Rattle.bw_answer.proofs.lanes.fetch_rows.Given as goal
 abbrev pub invariant-loop-last : goal.invariant-loop-last
 invariant-loop-last g l = record {
   within : l.number ≤ length (g.S.Segment.meaning l.segment).rows;
-  fetched : (k : ℕ) → l.number ≤ k → k < length (g.S.Segment.meaning l.segment).rows → get_or (lanes_of_words l.plane) k false ≡ true
+  fetched : (k : ℕ) → l.number ≤ k → k < length (g.S.Segment.meaning l.segment).rows → get_or (lanes_of_words l.selection) k false ≡ true
       → HasRow (get_or (g.S.Segment.meaning l.segment).rows k []) l.columns k l.lanes;
 }
 

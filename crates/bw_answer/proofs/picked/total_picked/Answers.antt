@@ -8,7 +8,7 @@ use Rattle.bw_answer.proofs.picked.total_picked.Goals as goal
 
 pub loop-total-preserved : goal.loop-total-preserved
 loop-total-preserved g c =
-    let more = picked_rows (g.S.Segment.meaning c.args.segment.now) (lanes_of_words c.args.plane.now) in
+    let more = picked_rows (g.S.Segment.meaning c.args.segment.now) (lanes_of_words c.args.selection.now) in
     let f = λ (tally : Tally). with_picked tally more in
     let i = c.loop-total.total-index in
     let here = get_or c.loop-total.totals i c.total-item.result in

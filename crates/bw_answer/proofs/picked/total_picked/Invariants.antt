@@ -7,5 +7,5 @@ use Rattle.bw_answer.proofs.picked.total_picked.Given as goal
 -- the totals so far have the picked rows
 abbrev pub invariant-loop-total : goal.invariant-loop-total
 invariant-loop-total g l =
-    l.totals ≡ map (λ (tally : Tally). with_picked tally (picked_rows (g.S.Segment.meaning l.segment) (lanes_of_words l.plane))) (take l.total-index l.fn.totals)
+    l.totals ≡ map (λ (tally : Tally). with_picked tally (picked_rows (g.S.Segment.meaning l.segment) (lanes_of_words l.selection))) (take l.total-index l.fn.totals)
     ++ drop l.total-index l.fn.totals

@@ -24,11 +24,11 @@ loop-first-preserved c =
     record {
       rows = omega (arith, c.min-past.ensures);
       size = c.put_records-start.auto.draft ∙ so_far.size;
-      added = records_more (fields_in_lane c.args.lanes.now c.args.columns.now) c.loop-first.first c.min-past.result (lanes_of_words c.args.plane.now) c.args.text.now.items _ _ _
+      added = records_more (fields_in_lane c.args.lanes.now c.args.columns.now) c.loop-first.first c.min-past.result (lanes_of_words c.args.selection.now) c.args.text.now.items _ _ _
           (omega (arith, c.min-past.ensures, c.loop-first-test.true)) so_far.added (take_all _ _ rest ∙ c.put_records-start.ensures.written) c.in_ok-extend_from_slice.ensures.items;
     }
 
 pub returns-clause-records : goal.returns-clause-records
 returns-clause-records c =
     c.loop-first.invariant.added ∙ ap (λ l. c.args.text.now.items ++ csv_text (map (fields_in_lane c.args.lanes.now c.args.columns.now) l))
-    (all_positions c.args.plane.now c.loop-first.first c.told-plane (omega (arith, c.loop-first-test.false)))
+    (all_positions c.args.selection.now c.loop-first.first c.told-selection (omega (arith, c.loop-first-test.false)))

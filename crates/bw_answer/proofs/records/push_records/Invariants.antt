@@ -9,7 +9,7 @@ abbrev pub invariant-loop-first : goal.invariant-loop-first
 invariant-loop-first l = record {
   rows : l.first ≤ 512;
   size : length l.draft ≡ length l.fn.draft;
-  added : l.text.items ≡ l.fn.text.items ++ csv_text (map (fields_in_lane l.lanes l.columns) (positions_between 0 l.first (lanes_of_words l.plane)));
+  added : l.text.items ≡ l.fn.text.items ++ csv_text (map (fields_in_lane l.lanes l.columns) (positions_between 0 l.first (lanes_of_words l.selection)));
 }
 
 abbrev pub decreases-loop-first : goal.decreases-loop-first

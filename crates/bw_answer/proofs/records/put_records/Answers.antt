@@ -14,7 +14,7 @@ loop-last-init c =
     record {
       rows = (c.requires.rows.0, omega arith);
       room = (c.requires.room, omega arith);
-      written = drop_all (length c.args.draft.now) c.args.draft.now (omega arith) ∙ sym (ap (λ l. csv_text (map fields l)) (positions_none c.args.past (lanes_of_words c.args.plane.now)));
+      written = drop_all (length c.args.draft.now) c.args.draft.now (omega arith) ∙ sym (ap (λ l. csv_text (map fields l)) (positions_none c.args.past (lanes_of_words c.args.selection.now)));
     }
 
 pub loop-last-preserved : goal.loop-last-preserved
@@ -30,12 +30,12 @@ loop-last-preserved c =
         room_left (21 * length c.args.columns.now) (lane - c.args.first) (number - c.args.first) c.loop-last.start c.put_record-start.result (omega (arith, last.from, last.to)) so_far.room.0 put.room.1,
         omega (arith, put.room.0, so_far.room.1, c.put_record-start.auto.text),
       );
-      written = record_last (fields_in_lane c.args.lanes.now c.args.columns.now) c.args.first number c.args.past lane (lanes_of_words c.args.plane.now) _ _ so_far.rows.1 last so_far.written put.written;
+      written = record_last (fields_in_lane c.args.lanes.now c.args.columns.now) c.args.first number c.args.past lane (lanes_of_words c.args.selection.now) _ _ so_far.rows.1 last so_far.written put.written;
     }
 
 pub returns-clause-written : goal.returns-clause-written
 returns-clause-written c =
     let so_far = c.loop-last.invariant in
     let fields = fields_in_lane c.args.lanes.now c.args.columns.now in
-    let lanes = lanes_of_words c.args.plane.now in
+    let lanes = lanes_of_words c.args.selection.now in
     so_far.written ∙ sym (ap (λ l. csv_text (map fields l)) (positions_passed c.args.first c.loop-last.number c.args.past lanes so_far.rows.0 so_far.rows.1 (c.in_default.ensures.none refl)))

@@ -9,7 +9,7 @@ abbrev pub invariant-loop-last : goal.invariant-loop-last
 invariant-loop-last l = record {
   rows : (l.first ≤ l.number) × (l.number ≤ l.past);
   room : (21 * length l.columns * (l.number - l.first) ≤ l.start) × (l.start ≤ length l.draft);
-  written : drop l.start l.draft ≡ csv_text (map (fields_in_lane l.lanes l.columns) (positions_between l.number l.past (lanes_of_words l.plane)));
+  written : drop l.start l.draft ≡ csv_text (map (fields_in_lane l.lanes l.columns) (positions_between l.number l.past (lanes_of_words l.selection)));
 }
 
 abbrev pub decreases-loop-last : goal.decreases-loop-last

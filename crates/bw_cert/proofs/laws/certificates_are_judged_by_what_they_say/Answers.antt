@@ -16,12 +16,12 @@ use Rattle.bw_cert.proofs.laws.certificates_are_judged_by_what_they_say.Goals as
 
 pub returns : goal.returns
 returns c columns cond same program certificate other trees say =
-    let behind : Cond → EndLine → List BodyLine → Facts → Result Facts Fault = λ (cond : Cond) (end : EndLine) (body : List BodyLine) (facts : Facts).
+    let after : Cond → EndLine → List BodyLine → Facts → Result Facts Fault = λ (cond : Cond) (end : EndLine) (body : List BodyLine) (facts : Facts).
     pair_of columns facts end.line cond body >>= λ read. judged facts program.instrs end.line read.1 >>= λ taken. end_on facts end.line taken program.result read.0.yes end.row in
     let end : certificate.end ≡ other.end = ap (λ (said : CertificateFields). said.end) say in
-    ap (λ (stated : Result Facts Fault). stated >>= behind cond certificate.end certificate.body) (stated-same columns certificate other say)
-    ∙ ap (λ (end : EndLine). facts_stated columns other >>= behind cond end certificate.body) end
-    ∙ then-same (facts_stated columns other) (behind cond other.end certificate.body) (behind same other.end other.body) (λ facts.
+    ap (λ (stated : Result Facts Fault). stated >>= after cond certificate.end certificate.body) (stated-same columns certificate other say)
+    ∙ ap (λ (end : EndLine). facts_stated columns other >>= after cond end certificate.body) end
+    ∙ then-same (facts_stated columns other) (after cond other.end certificate.body) (after same other.end other.body) (λ facts.
     after_pair _ _ _ _ (c.pairs_are_of_trees.ensures columns facts other.end.line cond same certificate.body other.body trees (ap (λ (said : CertificateFields). said.body) say)) (λ pair lines others say.
     after_walk _ _ _ _ (c.lines_are_judged_by_what_they_say.ensures facts program.instrs other.end.line lines others say) (λ known lines others say.
     end-same facts other.end.line known lines others program.result pair.yes other.end.row say)))

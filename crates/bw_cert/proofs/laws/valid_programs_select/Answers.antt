@@ -8,7 +8,7 @@ use Rattle.bw_model.specs.Variable.{row_of}
 use Rattle.bw_diagram.specs.Node.{node_value}
 use Rattle.bw_program.specs.Machine.{Reaches, end_state}
 use Rattle.bw_program.specs.Program.{instr_fits, fits}
-use Rattle.bw_cert.proofs.ValidLemmas.{stated_columns, stated_true, behind_fits, all_so, part_there, map_same, same_worth}
+use Rattle.bw_cert.proofs.ValidLemmas.{stated_columns, stated_true, after_fits, all_so, part_there, map_same, same_worth}
 use Rattle.bw_cert.proofs.laws.valid_programs_select.Goals as goal
 
 pub returns-clause-fits : goal.returns-clause-fits
@@ -17,7 +17,7 @@ returns-clause-fits c = λ columns cond program certificate valid.
     let right : valid.facts.columns ≡ columns = stated_columns columns certificate valid.facts valid.stated in
     all_so (instr_fits columns) program.instrs (λ k i there.
     let part = part_there program.instrs valid.parts k i valid.obeys.counted there in
-    subst (λ columns. instr_fits columns i ≡ true) right (behind_fits valid.facts _ _ part.0.line i part.0.entry (valid.obeys.instruction k i part.0 there part.1)))
+    subst (λ columns. instr_fits columns i ≡ true) right (after_fits valid.facts _ _ part.0.line i part.0.entry (valid.obeys.instruction k i part.0 there part.1)))
 
 pub returns-clause-places : goal.returns-clause-places
 returns-clause-places c = λ columns cond program certificate sound valid lanes place state reaches.

@@ -8,7 +8,7 @@ pub returns : goal.returns
 returns c = λ start now reader groups read. (
   (
     read.head.bytes ++ read.on.bytes,
-    took_more start read.behind now read.head.bytes read.on.bytes read.head.took read.on.took,
+    took_more start read.after now read.head.bytes read.on.bytes read.head.took read.on.took,
     λ n lt. inl (ends_early start now reader groups read read.on.bytes read.on.needed n lt),
   ),
   read.on.failures ∙ read.head.failures,

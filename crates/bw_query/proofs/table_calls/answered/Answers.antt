@@ -26,16 +26,16 @@ returns-in_err-reader-clause-fault g c =
 pub returns-clause-answer : goal.returns-clause-answer
 returns-clause-answer g c =
     let reader = c.in_ok-reader.ensures in
-    (bytes_taken c.answered_after_header.new.reader, c.answered_after_header.ensures.answer _ (record { so_far = reader.began; told = reader.told }))
+    (bytes_taken c.answered_after_header.new.reader, c.answered_after_header.ensures.answer _ (record { so_far = reader.began; stated = reader.stated }))
 
 pub returns-clause-served : goal.returns-clause-served
 returns-clause-served g c =
     let reader = c.in_ok-reader.ensures in
     IfOk-weaker c.answered_after_header.result _ _ (λ answered served.
-    let told = served _ (record { so_far = reader.began; told = reader.told }) in
+    let told = served _ (record { so_far = reader.began; stated = reader.stated }) in
     (bytes_taken c.answered_after_header.new.reader, told.0, told.1)) c.answered_after_header.ensures.served
 
 pub returns-clause-accepted : goal.returns-clause-accepted
 returns-clause-accepted g c = λ bytes layout schema rows query known file asks.
     let reader = c.in_ok-reader.ensures in
-    c.answered_after_header.ensures.accepted _ bytes layout schema rows query (record { so_far = reader.began; told = reader.told }) known file asks
+    c.answered_after_header.ensures.accepted _ bytes layout schema rows query (record { so_far = reader.began; stated = reader.stated }) known file asks

@@ -14,7 +14,7 @@ returns-in_err-prepared-clause-answer g c =
     let fault = c.in_err-prepared.field-0.0 in
     let refused = rw c.schema.ensures at c.in_err-prepared.ensures.refused in
     rw (p.1, p.2) (λ start began.
-    asked_refused (by_statement (given_file c.args.program) c.args.sql.now) start _ c.args.reader.now fault began.told (no_read fault c.in_err-prepared.ensures.unread) refused)
+    asked_refused (by_statement (given_file c.args.program) c.args.sql.now) start _ c.args.reader.now fault began.stated (no_read fault c.in_err-prepared.ensures.unread) refused)
 
 pub returns-in_err-prepared-clause-accepted : goal.returns-in_err-prepared-clause-accepted
 returns-in_err-prepared-clause-accepted g c =
@@ -27,7 +27,7 @@ returns-in_err-prepared-clause-accepted g c =
 pub returns-clause-answer : goal.returns-clause-answer
 returns-clause-answer g c = λ start began.
     let asked = rw c.schema.ensures at c.in_ok-prepared.ensures.asked in
-    segment_refused (by_statement (given_file c.args.program) c.args.sql.now) start _ _ c.args.reader.now c.in_ok-prepared.prepared.query c.in-Err.fault began.told
+    segment_refused (by_statement (given_file c.args.program) c.args.sql.now) start _ _ c.args.reader.now c.in_ok-prepared.prepared.query c.in-Err.fault began.stated
     asked (c.in-Err.ensures.refused start began.so_far)
 
 pub returns-clause-accepted : goal.returns-clause-accepted

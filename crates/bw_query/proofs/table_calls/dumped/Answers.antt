@@ -25,15 +25,15 @@ returns-in_err-reader-clause-fault g c =
 pub returns-clause-answer : goal.returns-clause-answer
 returns-clause-answer g c =
     let reader = c.in_ok-reader.ensures in
-    (bytes_taken c.dumped_after_header.new.reader, c.dumped_after_header.ensures.answer _ (record { so_far = reader.began; told = reader.told }))
+    (bytes_taken c.dumped_after_header.new.reader, c.dumped_after_header.ensures.answer _ (record { so_far = reader.began; stated = reader.stated }))
 
 pub returns-clause-text : goal.returns-clause-text
 returns-clause-text g c =
     let reader = c.in_ok-reader.ensures in
-    IfOk-weaker c.dumped_after_header.result _ _ (λ text told. (bytes_taken c.dumped_after_header.new.reader, told _ (record { so_far = reader.began; told = reader.told })))
+    IfOk-weaker c.dumped_after_header.result _ _ (λ text told. (bytes_taken c.dumped_after_header.new.reader, told _ (record { so_far = reader.began; stated = reader.stated })))
     c.dumped_after_header.ensures.text
 
 pub returns-clause-accepted : goal.returns-clause-accepted
 returns-clause-accepted g c = λ bytes layout schema rows known file.
     let reader = c.in_ok-reader.ensures in
-    c.dumped_after_header.ensures.accepted _ bytes layout schema rows (record { so_far = reader.began; told = reader.told }) known file
+    c.dumped_after_header.ensures.accepted _ bytes layout schema rows (record { so_far = reader.began; stated = reader.stated }) known file

@@ -13,7 +13,7 @@ returns-in_err-query-clause-answer g c =
     let p = err_from_is_err_and c.from_residual.result c.from_residual.ensures.1 in
     let fault = c.in_err-query.field-0.0 in
     let memory = c.in_err-query.ensures.only_memory in
-    rw (p.1, p.2) (λ start began. asked_refused by_dump start _ c.args.reader.now fault began.told (ap failed_reads memory)
+    rw (p.1, p.2) (λ start began. asked_refused by_dump start _ c.args.reader.now fault began.stated (ap failed_reads memory)
     (λ other. let e : true ≡ false = sym (ap is_memory memory) ∙ other in absurd (cc e)))
 
 pub returns-in_err-query-clause-accepted : goal.returns-in_err-query-clause-accepted
@@ -29,7 +29,7 @@ returns-in_err-query-clause-fault g c =
 pub returns-clause-answer : goal.returns-clause-answer
 returns-clause-answer g c = λ start began.
     let asked = rw c.schema.ensures at c.in_ok-query.ensures.every in
-    segment_refused by_dump start _ _ c.args.reader.now c.in_ok-query.query c.in-Err.fault began.told asked (c.in-Err.ensures.refused start began.so_far)
+    segment_refused by_dump start _ _ c.args.reader.now c.in_ok-query.query c.in-Err.fault began.stated asked (c.in-Err.ensures.refused start began.so_far)
 
 pub returns-clause-accepted : goal.returns-clause-accepted
 returns-clause-accepted g c = λ start bytes layout schema rows began known file.

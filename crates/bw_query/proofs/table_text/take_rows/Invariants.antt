@@ -4,7 +4,7 @@ use Rattle.bw_model.specs.Row.{Value}
 use Rattle.bw_answer.specs.AreOver.{CountsRows}
 use Rattle.bw_answer.specs.Over.{GoesOver, asked_by}
 use Rattle.bw_file.specs.Reading.{State, state}
-use Rattle.bw_file.specs.TableReader.{SameTable, SoFar, bytes_taken, rows_given, rows_told, schema_in, settled}
+use Rattle.bw_file.specs.TableReader.{SameTable, SoFar, bytes_taken, rows_given, rows_stated, schema_in, settled}
 use Rattle.bw_query.specs.TableText.{IsScanOf}
 use Rattle.bw_query.proofs.table_text.take_rows.Given as goal
 
@@ -30,4 +30,4 @@ invariant-loop-segment g l = record {
 }
 
 abbrev pub decreases-loop-segment : goal.decreases-loop-segment
-decreases-loop-segment g l = rows_told l.reader - rows_given l.reader
+decreases-loop-segment g l = rows_stated l.reader - rows_given l.reader

@@ -10,7 +10,7 @@ use Rattle.bw_schemas.proofs.SizeLemmas.{header_taken}
 use Rattle.bw_schemas.proofs.info_call.info.Goals as goal
 
 pub info_text-requires-clause-head : goal.info_text-requires-clause-head
-info_text-requires-clause-head g c = header_taken _ _ c.in_ok-reader.reader refl c.in_ok-reader.ensures.told
+info_text-requires-clause-head g c = header_taken _ _ c.in_ok-reader.reader refl c.in_ok-reader.ensures.stated
 
 pub returns-in_err-reader-clause-info : goal.returns-in_err-reader-clause-info
 returns-in_err-reader-clause-info g c =
@@ -29,14 +29,14 @@ returns-in_err-text-clause-info g c =
     let p = err_from_is_err_and c.from_residual-in_err-text.result c.from_residual-in_err-text.ensures.1 in
     let reader = c.in_ok-reader.reader in
     let now : ℕ → State = λ offset. state (g.S.Source.to_come c.begin.new.source) offset (g.S.Source.failures c.begin.new.source) in
-    rw (p.1, p.2) (memory_exit _ now (bytes_taken reader) _ c.in_err-text.field-0.0 reader c.in_ok-reader.ensures.told c.in_err-text.ensures.only_memory (refused_memory _ _ _ c.in_err-text.ensures.only_memory))
+    rw (p.1, p.2) (memory_exit _ now (bytes_taken reader) _ c.in_err-text.field-0.0 reader c.in_ok-reader.ensures.stated c.in_err-text.ensures.only_memory (refused_memory _ _ _ c.in_err-text.ensures.only_memory))
 
 pub returns-clause-info : goal.returns-clause-info
 returns-clause-info g c =
     let reader = c.in_ok-reader.reader in
     let now : ℕ → State = λ offset. state (g.S.Source.to_come c.begin.new.source) offset (g.S.Source.failures c.begin.new.source) in
     let goes = rw c.deref.ensures.value at c.write_whole.ensures in
-    text_exit _ now (bytes_taken reader) _ reader c.in_ok-text.text.items c.in_ok-reader.ensures.told c.in_ok-text.ensures.text c.in_ok-text.ensures.spelled (wrote_text (Unit {0}) none_aside _ _ _ _ _ _ c.write_whole.result refl goes)
+    text_exit _ now (bytes_taken reader) _ reader c.in_ok-text.text.items c.in_ok-reader.ensures.stated c.in_ok-text.ensures.text c.in_ok-text.ensures.spelled (wrote_text (Unit {0}) none_aside _ _ _ _ _ _ c.write_whole.result refl goes)
 
 pub returns-clause-file : goal.returns-clause-file
 returns-clause-file g c = λ bytes layout schema rows known file.

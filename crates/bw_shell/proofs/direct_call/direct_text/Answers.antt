@@ -10,7 +10,7 @@ use Rattle.bw_shell.proofs.direct_call.direct_text.Goals as goal
 pub returns-in_err-schema-clause-answer : goal.returns-in_err-schema-clause-answer
 returns-in_err-schema-clause-answer g c =
     let p = err_from_is_err_and c.from_residual.result c.from_residual.ensures.1 in
-    let told = c.in_err-schema.ensures.told in
+    let told = c.in_err-schema.ensures.answered in
     let fault = c.in_err-schema.field-0.0 in
     let sql = c.args.sql.now in
     rw (p.1, p.2) (schema_exit _ _ (AnswerTo sql) _ told.0 fault (refused_schema sql) told.1 (never_read longest_csv (g.C.Source.to_come c.args.csv_source.now) _) told.2
@@ -19,7 +19,7 @@ returns-in_err-schema-clause-answer g c =
 pub returns-in_err-query-clause-answer : goal.returns-in_err-query-clause-answer
 returns-in_err-query-clause-answer g c =
     let p = err_from_is_err_and c.from_residual-in_err-query.result c.from_residual-in_err-query.ensures.1 in
-    let told = c.in_ok-schema.ensures.told in
+    let told = c.in_ok-schema.ensures.answered in
     let fault = c.in_err-query.field-0.0 in
     rw (p.1, p.2) (statement_exit _ _ c.args.sql.now _ told.0 c.in_ok-schema.schema fault told.1
     (unread_schema longest_schema _ _ _ _ told.0 c.in_ok-schema.schema told.1 told.2) (never_read longest_csv (g.C.Source.to_come c.args.csv_source.now) _) told.2
@@ -29,8 +29,8 @@ returns-in_err-query-clause-answer g c =
 pub returns-in_err-csv-clause-answer : goal.returns-in_err-csv-clause-answer
 returns-in_err-csv-clause-answer g c =
     let p = err_from_is_err_and c.from_residual-in_err-csv.result c.from_residual-in_err-csv.ensures.1 in
-    let told = c.in_ok-schema.ensures.told in
-    let csv = c.in_err-csv.ensures.told in
+    let told = c.in_ok-schema.ensures.answered in
+    let csv = c.in_err-csv.ensures.answered in
     let fault = c.in_err-csv.field-0.0 in
     let schema = c.in_ok-schema.schema in
     let query = c.in_ok-query.query in
@@ -41,8 +41,8 @@ returns-in_err-csv-clause-answer g c =
 
 pub returns-clause-answer : goal.returns-clause-answer
 returns-clause-answer g c =
-    let told = c.in_ok-schema.ensures.told in
-    let csv = c.in_ok-csv.ensures.told in
+    let told = c.in_ok-schema.ensures.answered in
+    let csv = c.in_ok-csv.ensures.answered in
     let schema = c.in_ok-schema.schema in
     let query = c.in_ok-query.query in
     let sql = c.args.sql.now in
@@ -57,7 +57,7 @@ returns-clause-reader g c =
     IfErr-weaker c.answer_text.result _ _ (λ fault stops own. (
       schema,
       c.in_ok-query.query,
-      came_of _ schema c.in_ok-schema.ensures.told,
+      came_of _ schema c.in_ok-schema.ensures.answered,
       c.in_ok-query.ensures.read,
-      stopped_of _ schema c.in_ok-csv.csv.items _ _ c.in_ok-csv.ensures.told c.deref.ensures.value (stops own),
+      stopped_of _ schema c.in_ok-csv.csv.items _ _ c.in_ok-csv.ensures.answered c.deref.ensures.value (stops own),
     )) c.answer_text.ensures.reader

@@ -29,7 +29,7 @@ read_schema layout came csv schema from =
 pub returns-in_err-schema-clause-file : goal.returns-in_err-schema-clause-file
 returns-in_err-schema-clause-file g c =
     let p = err_from_is_err_and c.from_residual.result c.from_residual.ensures.1 in
-    let told = c.in_err-schema.ensures.told in
+    let told = c.in_err-schema.ensures.answered in
     let fault = c.in_err-schema.field-0.0 in
     let layout = c.args.layout in
     rw (p.1, p.2) (schema_exit _ _ (IsFile layout) _ told.0 fault (refused_schema layout) told.1 (never_read longest_csv (g.C.Source.to_come c.args.csv_source.now) _) told.2
@@ -38,8 +38,8 @@ returns-in_err-schema-clause-file g c =
 pub returns-in_err-csv-clause-file : goal.returns-in_err-csv-clause-file
 returns-in_err-csv-clause-file g c =
     let p = err_from_is_err_and c.from_residual-in_err-csv.result c.from_residual-in_err-csv.ensures.1 in
-    let told = c.in_ok-schema.ensures.told in
-    let csv = c.in_err-csv.ensures.told in
+    let told = c.in_ok-schema.ensures.answered in
+    let csv = c.in_err-csv.ensures.answered in
     let fault = c.in_err-csv.field-0.0 in
     let schema = c.in_ok-schema.schema in
     let layout = c.args.layout in
@@ -49,8 +49,8 @@ returns-in_err-csv-clause-file g c =
 
 pub returns-clause-file : goal.returns-clause-file
 returns-clause-file g c =
-    let told = c.in_ok-schema.ensures.told in
-    let csv = c.in_ok-csv.ensures.told in
+    let told = c.in_ok-schema.ensures.answered in
+    let csv = c.in_ok-csv.ensures.answered in
     let schema = c.in_ok-schema.schema in
     let layout = c.args.layout in
     let bytes = c.deref.result.now in
@@ -63,6 +63,6 @@ returns-clause-reader g c =
     let schema = c.in_ok-schema.schema in
     IfErr-weaker c.file_bytes.result _ _ (λ fault stops own. (
       schema,
-      came_of _ schema c.in_ok-schema.ensures.told,
-      stopped_of _ schema c.in_ok-csv.csv.items _ _ c.in_ok-csv.ensures.told c.deref.ensures.value (stops own),
+      came_of _ schema c.in_ok-schema.ensures.answered,
+      stopped_of _ schema c.in_ok-csv.csv.items _ _ c.in_ok-csv.ensures.answered c.deref.ensures.value (stops own),
     )) c.file_bytes.ensures.reader

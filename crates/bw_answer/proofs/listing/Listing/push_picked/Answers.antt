@@ -18,17 +18,17 @@ returns-then-is_zero-clause-records g c =
     let rows = (g.S.Segment.meaning c.args.segment.now).rows in
     let fields = fields_of c.args.self.now.columns.items in
     sym (no_records c.args.text.now.items) ∙ ap (λ (those : List (List Value)). c.args.text.now.items ++ csv_text (map fields those))
-    (sym (none_picked (lanes_of_words c.args.plane.now) rows (sym c.is_zero.ensures ∙ c.if-is_zero.true)))
+    (sym (none_picked (lanes_of_words c.args.selection.now) rows (sym c.is_zero.ensures ∙ c.if-is_zero.true)))
 
 pub returns-clause-records : goal.returns-clause-records
 returns-clause-records g c =
     let self = c.args.self.now in
     let rows = (g.S.Segment.meaning c.args.segment.now).rows in
-    let bits = lanes_of_words c.args.plane.now in
+    let bits = lanes_of_words c.args.selection.now in
     let after = c.fetch_picked.new.lanes in
     let size : length after ≡ self.lanes.len = c.fetch_picked.auto.lanes ∙ c.deref_mut.ensures.len in
     let lanes : c.deref-2.result.now ≡ after = c.deref-2.ensures.value ∙ with_items_is self.lanes after size in
     let fetched = rw c.deref.ensures.value at c.fetch_picked.ensures in
     let same : map (fields_in_lane c.deref-2.result.now c.deref-3.result.now) (positions_of bits) ≡ map (fields_of self.columns.items) (picked bits rows) =
-    rw (lanes, c.deref-3.ensures.value) (records_same self.columns.items after bits rows fetched c.requires.plane) in
+    rw (lanes, c.deref-3.ensures.value) (records_same self.columns.items after bits rows fetched c.requires.selection) in
     on_ok_weaker c.push_records.result (λ added. added ∙ ap (λ (records : List (List (List ℕ))). c.args.text.now.items ++ csv_text records) same) c.push_records.ensures.records

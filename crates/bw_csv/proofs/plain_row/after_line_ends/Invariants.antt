@@ -1,7 +1,7 @@
 use Rattle.std.proofs.Common.{◌≡◌, Some, length}
 use Rattle.csv.specs.declared.parser.State.TheVariants as st
 use Rattle.bw_csv.specs.Records.{records_in}
-use Rattle.bw_csv.proofs.plain_row.behind_line_ends.Given as goal
+use Rattle.bw_csv.proofs.plain_row.after_line_ends.Given as goal
 
 -- the same records are to come
 abbrev pub invariant-loop-rest : goal.invariant-loop-rest

@@ -2,7 +2,7 @@
 use Rattle.std.proofs.Common.{◌∙◌, ◌+◌, List, ℕ, sym, subst, drop, get_or}
 use Rattle.std.proofs.lemmas.List.{drop_all}
 use Rattle.bw_csv.proofs.HeadingLemmas.{GoesOn, drop_at, goes-end, goes-first, goes-last, goes-next}
-use Rattle.bw_csv.proofs.heading_end.behind_record.Goals as goal
+use Rattle.bw_csv.proofs.heading_end.after_record.Goals as goal
 
 pub loop-i-init : goal.loop-i-init
 loop-i-init c = goes-first c.args.text.now
@@ -12,7 +12,7 @@ loop-i-preserved c =
     let text = c.args.text.now in
     let i = c.loop-i.i in
     let on = subst (λ (rest : List ℕ). GoesOn text rest c.loop-i.inside) (drop_at text i c.loop-i-test.true) c.loop-i.invariant in
-    goes-next text (drop (i + 1) text) (get_or text i 0) c.loop-i.inside c.inside_behind-inside.result on (sym c.ends_record.ensures.end ∙ c.if-ends_record.false) c.inside_behind-inside.ensures
+    goes-next text (drop (i + 1) text) (get_or text i 0) c.loop-i.inside c.inside_after-inside.result on (sym c.ends_record.ensures.end ∙ c.if-ends_record.false) c.inside_after-inside.ensures
 
 pub returns-then-ends_record-clause-rest : goal.returns-then-ends_record-clause-rest
 returns-then-ends_record-clause-rest c = λ fields more all.
@@ -20,7 +20,7 @@ returns-then-ends_record-clause-rest c = λ fields more all.
     let i = c.loop-i.i in
     let here = drop_at text i c.loop-i-test.true in
     let on = subst (λ (rest : List ℕ). GoesOn text rest c.loop-i.inside) here c.loop-i.invariant in
-    goes-end text c.behind.result.now i c.loop-i.inside fields more on (c.ends_record.ensures.line c.if-ends_record.true) (sym c.ends_record.ensures.end ∙ c.if-ends_record.true) (c.behind.ensures ∙ here) all
+    goes-end text c.after.result.now i c.loop-i.inside fields more on (c.ends_record.ensures.line c.if-ends_record.true) (sym c.ends_record.ensures.end ∙ c.if-ends_record.true) (c.after.ensures ∙ here) all
 
 pub returns-clause-rest : goal.returns-clause-rest
 returns-clause-rest c = λ fields more all.
