@@ -56,7 +56,7 @@ pub record TellsHeader (start now : State) (text : List ℕ) : Type 0 where
   pub is : text ≡ info_text told.version told.layout schema told.rows
   pub spelled : IsSchemaText text (schema_shape schema)
 
--- that text; or the header's first fault, or a failed read before the header was whole; or want of
+-- that text; or the header's first fault, or a failed read before the header was whole; or out of
 -- memory, once no more was taken than the header needs
 abbrev pub IsInfo : State → State → Result (List ℕ) Fault → Type 0
 IsInfo start now (Ok text) = TellsHeader start now text
