@@ -14,6 +14,7 @@ use bw_cert_lines::{BodyLine, Certificate, ChainLine, EndLine, Entry, NodeLine, 
 use bw_diagram::{ChainColumns, Reason};
 use bw_model::{Schema, code};
 use bw_program::{ColumnIndex, Instr, Program, Register, SliceIndex};
+use bw_text::{Opcode, Piece, push_line};
 use indexmap::IndexMap;
 use std::alloc::{AllocError, Global};
 
@@ -30,26 +31,13 @@ pub(crate) fn program(
     for instr in instrs {
         put_instr(alloc, schema, *instr, &mut text)?;
     }
-    put_line(
-        alloc,
-        schema,
-        "RESULT",
-        &[Word::Register(answer)],
-        &mut text,
-    )?;
+    let result = [word(Opcode::Result), Piece::Register(answer)];
+    push_line(alloc, &result, &mut text)?;
     match Program::parse(alloc, schema, &text) {
         Ok(program) => Ok(program),
         Err(fault) if fault.code == code::OUT_OF_MEMORY => Err(Refusal::NoMemory),
         Err(_) => Err(Refusal::NoProgram),
     }
-}
-
-/// What stands after a keyword.
-#[derive(Clone, Copy)]
-enum Word {
-    Register(Register),
-    Column(ColumnIndex),
-    Number(u64),
 }
 
 /// Appends the line of an instruction.
@@ -59,42 +47,56 @@ fn put_instr(
     instr: Instr,
     text: &mut Vec<u8>,
 ) -> Result<(), AllocError> {
-    use Word::{Column, Number, Register};
+    use Piece::{Number, Register};
     match instr {
         Instr::Load { to, column, bit } => {
-            let words = [Register(to), Column(column), Number(u64::from(bit))];
-            put_line(alloc, schema, "LOAD", &words, text)
+            let (column, bit) = (name_of(schema, column), Number(u64::from(bit)));
+            push_line(
+                alloc,
+                &[word(Opcode::Load), Register(to), column, bit],
+                text,
+            )
         }
         Instr::Nulls { to, column } => {
-            let words = [Register(to), Column(column)];
-            put_line(alloc, schema, "NULLS", &words, text)
+            let column = name_of(schema, column);
+            push_line(alloc, &[word(Opcode::Nulls), Register(to), column], text)
         }
         Instr::Fill { to, bit } => {
-            let words = [Register(to), Number(u64::from(bit))];
-            put_line(alloc, schema, "FILL", &words, text)
+            let bit = Number(u64::from(bit));
+            push_line(alloc, &[word(Opcode::Fill), Register(to), bit], text)
         }
-        Instr::And { to, left, right } => put_three(alloc, schema, "AND", [to, left, right], text),
-        Instr::Or { to, left, right } => put_three(alloc, schema, "OR", [to, left, right], text),
-        Instr::Xor { to, left, right } => put_three(alloc, schema, "XOR", [to, left, right], text),
+        Instr::And { to, left, right } => put_three(alloc, Opcode::And, [to, left, right], text),
+        Instr::Or { to, left, right } => put_three(alloc, Opcode::Or, [to, left, right], text),
+        Instr::Xor { to, left, right } => put_three(alloc, Opcode::Xor, [to, left, right], text),
         Instr::Not { to, from } => {
-            let words = [Register(to), Register(from)];
-            put_line(alloc, schema, "NOT", &words, text)
+            let pieces = [word(Opcode::Not), Register(to), Register(from)];
+            push_line(alloc, &pieces, text)
         }
         Instr::ByteLt {
             to,
             column,
             slice,
             below,
-        } => put_byte(alloc, schema, "BYTELT", to, column, slice, below, text),
+        } => {
+            let operands = (to, column, slice, below);
+            put_byte(alloc, schema, Opcode::ByteLt, operands, text)
+        }
         Instr::ByteEq {
             to,
             column,
             slice,
             byte,
-        } => put_byte(alloc, schema, "BYTEEQ", to, column, slice, byte, text),
+        } => {
+            let operands = (to, column, slice, byte);
+            put_byte(alloc, schema, Opcode::ByteEq, operands, text)
+        }
         Instr::Skip { if_zero, target } => {
-            let words = [Register(if_zero), Number(target as u64)];
-            put_line(alloc, schema, "SKIP", &words, text)
+            let target = Number(target as u64);
+            push_line(
+                alloc,
+                &[word(Opcode::Skip), Register(if_zero), target],
+                text,
+            )
         }
     }
 }
@@ -102,69 +104,53 @@ fn put_instr(
 /// Appends the line of a connective of registers.
 fn put_three(
     alloc: Global,
-    schema: &Schema,
-    keyword: &str,
+    opcode: Opcode,
     registers: [Register; 3],
     text: &mut Vec<u8>,
 ) -> Result<(), AllocError> {
     let [to, left, right] = registers;
-    let words = [
-        Word::Register(to),
-        Word::Register(left),
-        Word::Register(right),
-    ];
-    put_line(alloc, schema, keyword, &words, text)
+    let (to, left, right) = (
+        Piece::Register(to),
+        Piece::Register(left),
+        Piece::Register(right),
+    );
+    push_line(alloc, &[word(opcode), to, left, right], text)
 }
 
 /// Appends the line of a comparison of bytes.
 fn put_byte(
     alloc: Global,
     schema: &Schema,
-    keyword: &str,
-    to: Register,
-    column: ColumnIndex,
-    slice: SliceIndex,
-    byte: u8,
+    opcode: Opcode,
+    operands: (Register, ColumnIndex, SliceIndex, u8),
     text: &mut Vec<u8>,
 ) -> Result<(), AllocError> {
-    use Word::{Column, Number, Register};
-    let (slice, byte) = (Number(u64::from(slice)), Number(u64::from(byte)));
-    let words = [Register(to), Column(column), slice, byte];
-    put_line(alloc, schema, keyword, &words, text)
+    let (to, column, slice, byte) = operands;
+    let (slice, byte) = (
+        Piece::Number(u64::from(slice)),
+        Piece::Number(u64::from(byte)),
+    );
+    let pieces = [
+        word(opcode),
+        Piece::Register(to),
+        name_of(schema, column),
+        slice,
+        byte,
+    ];
+    push_line(alloc, &pieces, text)
 }
 
-/// Appends a line.
-fn put_line(
-    alloc: Global,
-    schema: &Schema,
-    keyword: &str,
-    words: &[Word],
-    text: &mut Vec<u8>,
-) -> Result<(), AllocError> {
-    text.extend_from_slice(keyword.as_bytes())?;
-    for word in words {
-        text.push(b' ')?;
-        match *word {
-            Word::Register(register) => {
-                text.push(b'r')?;
-                put_number(alloc, u64::from(register), text)?;
-            }
-            Word::Column(column) => {
-                if let Some(column) = schema.columns.get(column as usize) {
-                    text.extend_from_slice(column.name.as_bytes())?;
-                }
-            }
-            Word::Number(number) => put_number(alloc, number, text)?,
-        }
+/// An opcode, as the first piece of a line.
+fn word(opcode: Opcode) -> Piece<'static> {
+    Piece::Word(opcode.spelling())
+}
+
+/// The name of the column of a number, as a piece of a line; nothing where the schema has no such column.
+fn name_of(schema: &Schema, column: ColumnIndex) -> Piece<'_> {
+    match schema.columns.get(column as usize) {
+        Some(column) => Piece::Word(column.name.as_bytes()),
+        None => Piece::Word(b""),
     }
-    text.push(b'\n')?;
-    Ok(())
-}
-
-/// Appends a number's decimal digits.
-fn put_number(alloc: Global, number: u64, text: &mut Vec<u8>) -> Result<(), AllocError> {
-    let digits = number.to_string(alloc)?;
-    text.extend_from_slice(digits.as_bytes())
 }
 
 /// The certificate of facts and lines, whose lines have the numbers that they have in a program
