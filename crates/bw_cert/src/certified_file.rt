@@ -35,8 +35,8 @@ pub fn certify(
     file: &[u8],
 ) -> Result<CertifiedFile, Fault>
     requires { IsTrue (names_within (length schema.now.columns.items) condition.now) }
-    // What is accepted is spelled and valid, and what is spelled and valid is accepted, be it so for another condition of
-    // the same tree.
+    // What is accepted is spelled and valid, and what is spelled and valid is accepted, be it so for another condition
+    // of the same tree.
     ensures valid { IfOk result (λ found. (certificate : CertificateShape)
         × Certifies schema.now.columns.items condition.now file.now found.certified.program certificate
         × (found.accepted ≡ counted found.certified.program certificate)) }

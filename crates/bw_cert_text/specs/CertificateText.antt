@@ -50,8 +50,8 @@ with_part (Body body) c = record {
 abbrev pub end_alone : EndLine → CertificateFields
 end_alone end = record { nodes = []; chains = []; products = []; body = []; end = end }
 
--- Lines spell a certificate, none of them being of a section before this one: END is the last line, and each line before
--- it is of this section or a later one, as the lines after it are of that section or a later one.
+-- Lines spell a certificate, none of them being of a section before this one: END is the last line, and each line
+-- before it is of this section or a later one, as the lines after it are of that section or a later one.
 pub data SpellsFrom : ℕ → List NumberedWords → CertificateFields → Type 0 where
   before_end : {section : ℕ} {line : NumberedWords}
       (part : Part) {lines : List NumberedWords} {rest : CertificateFields} →

@@ -1,5 +1,5 @@
--- The canonical text of a certificate: words of the language in capitals, single blanks, names in the schema's spelling,
--- numbers without leading zeros, and one line feed after each line.
+-- The canonical text of a certificate: words of the language in capitals, single blanks, names in the schema's
+-- spelling, numbers without leading zeros, and one line feed after each line.
 use Rattle.std.specs.Prelude.{ℕ, List, [], ◌∷◌, ◌++◌, map, Option, Some, None, codes, slice_index_or}
 use Rattle.std.specs.Fmt.{decimal}
 use Rattle.bw_model.specs.declared.column.Column as column

@@ -5,8 +5,8 @@
 //! text, which spells it where its chains name columns of the schema and its registers are r0 to r63. Nothing here
 //! judges what a line states.
 //!
-//! `specs/Token.antt` is the table of how the lines of `bw_cert_lines` are written, and `specs/CertificateText.antt` says in
-//! which order they stand: read these first.
+//! `specs/Token.antt` is the table of how the lines of `bw_cert_lines` are written, and `specs/CertificateText.antt`
+//! says in which order they stand: read these first.
 #![tactic(auto)]
 
 mod connective;

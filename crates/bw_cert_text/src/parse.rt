@@ -38,8 +38,8 @@ pub fn parse_certificate(alloc: Global, first_line: u64, text: &[u8]) -> Result<
     read_certificate(alloc, first_line, text)
 }
 
-/// A law: a text is read as a certificate exactly where its lines spell it. So it spells at most one, and then it has no
-/// fault.
+/// A law: a text is read as a certificate exactly where its lines spell it. So it spells at most one, and then it has
+/// no fault.
 pub fn certificates_are_read_as_spelled()
     ensures read { (first : ℕ) (text : List ℕ) (certificate : CertificateFields)
         → IsCertificateText first text certificate → certificate_of first text ≡ Ok certificate }

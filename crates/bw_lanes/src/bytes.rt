@@ -62,8 +62,8 @@ pub fn bytes_none(slices: &[u8], count: usize) -> Plane
     words
 }
 
-/// Whether a row among some has a byte that isn't 0 in so many slices, one after the other. Byte i of a slice is row i's. Of 64
-/// rows of which none is among them no byte is read.
+/// Whether a row among some has a byte that isn't 0 in so many slices, one after the other. Byte i of a slice is row
+/// i's. Of 64 rows of which none is among them no byte is read.
 #[tactic(auto, using(crate::proofs::AnyLemmas::any_steps))]
 #[inline(always)]
 pub fn bytes_any(slices: &[u8], count: usize, rows: &Plane) -> bool

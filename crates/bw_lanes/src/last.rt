@@ -24,7 +24,8 @@ pub fn last_between(plane: &Plane, first: usize, end: usize) -> Option<usize>
     None
 }
 
-/// How many lanes are 0, from one of a word down to the next below it that is 1; more than are left in the word where none is.
+/// How many lanes are 0, from one of a word down to the next below it that is 1; more than are left in the word where
+/// none is.
 #[tactic(auto, using(crate::proofs::LastLemmas::lanes_below))]
 fn clear_below(plane: &Plane, top: usize) -> usize
     requires { top < 512 }

@@ -22,7 +22,8 @@ const BIT_OF_ROW: [u8; 64] = [
     32, 64, 128, 1, 2, 4, 8, 16, 32, 64, 128,
 ];
 
-// Inline, after a loop that makes the plane, it was compiled to take each byte by itself: a sum took seven times as long.
+// Inline, after a loop that makes the plane, it was compiled to take each byte by itself: a sum took seven times as
+// long.
 /// A byte a row: 255 where its lane is 1, and else 0.
 #[tactic(auto, using(crate::proofs::WordLemmas::put_bytes))]
 #[inline(never)]
@@ -57,8 +58,8 @@ pub(crate) fn bytes_of_word(word: u64) -> u8x64
         .select(u8x64::splat(255), u8x64::splat(0))
 }
 
-/// The sum of the bytes of some rows, which are given as [`bytes_of_plane`] spreads a plane: 255 for a row that counts, 0 for
-/// another.
+/// The sum of the bytes of some rows, which are given as [`bytes_of_plane`] spreads a plane: 255 for a row that counts,
+/// 0 for another.
 #[tactic(auto, using(std::proofs::lemmas::Simd::adds_fit, std::proofs::lemmas::Simd::sum_fits))]
 pub fn sum_in(bytes: &[u8; LANES], rows: &[u8; LANES]) -> u32
     ensures sum { (lanes : List Bool) → rows.now ≡ map as_byte lanes

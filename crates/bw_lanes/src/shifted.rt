@@ -10,8 +10,8 @@ use crate::plane::Plane;
 use std::simd::prelude::*;
 
 /// Shifts one more bit into a byte of each lane: each byte becomes its double, and 1 more where the plane's lane is 1,
-/// modulo 256. Byte i is row i's. So the planes of numbers' bits, as BitWeaving's vertical layout has them, become bytes
-/// of the numbers, from the most significant bit down.
+/// modulo 256. Byte i is row i's. So the planes of numbers' bits, as BitWeaving's vertical layout has them, become
+/// bytes of the numbers, from the most significant bit down.
 #[tactic(auto, using(crate::proofs::WordLemmas::parts_written))]
 pub fn push_bit(bytes: &mut [u8; LANES], plane: &Plane)
     ensures { bytes.new ≡ zip2 with_bit bytes.old (lanes_of_words plane.now) }

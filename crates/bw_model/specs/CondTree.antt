@@ -1,5 +1,5 @@
--- A condition as plain data: its tree, without where its parts lie in memory. Two conditions are equal where their trees
--- are.
+-- A condition as plain data: its tree, without where its parts lie in memory. Two conditions are equal where their
+-- trees are.
 use Rattle.std.specs.Prelude.{ℕ, suc, zero, Bool, true, List, [], ◌∷◌, map, length, ◌&&◌, nat_le}
 use Rattle.std.specs.List.{list_all}
 use Rattle.bw_model.specs.declared.cond.Truth.{Truth}

@@ -19,7 +19,8 @@ number_spelled columns column start count bits = spelled bits
 abbrev pub byte_of : ℕ → ℕ → ℕ
 byte_of slice n = n / 2 ^ (8 * slice) % 256
 
--- how many bits of a column lie in the byte `slice` of its codes, of which byte 0 is the least: 8 or, in the last byte, fewer
+-- how many bits of a column lie in the byte `slice` of its codes, of which byte 0 is the least: 8 or, in the last byte,
+-- fewer
 abbrev pub bits_in_slice : List Column → ℕ → ℕ → ℕ
 bits_in_slice columns column slice = min 8 (width_at columns column - 8 * slice)
 

@@ -1,4 +1,5 @@
--- What an aggregate of rows is, after SQL-92: nulls are dropped first, and over nothing COUNT is 0 and the others are null.
+-- What an aggregate of rows is, after SQL-92: nulls are dropped first, and over nothing COUNT is 0 and the others are
+-- null.
 use Rattle.std.specs.Prelude.{ℕ, ℤ, pos, ◌+ℤ◌, List, length, Option, Some, None, Bool, true, false, nat_lt}
 use Rattle.std.specs.List.{filter_map, reduce}
 use Rattle.std.specs.Int.{int_min, int_max}

@@ -10,8 +10,8 @@ use crate::column::Column;
 use crate::schema::Schema;
 
 impl Schema {
-    /// A law: the names of a schema, its table's and its columns', are names, 64 bits hold each column's bounds, and these
-    /// are in order and less than 2^63 apart. It looks at each column.
+    /// A law: the names of a schema, its table's and its columns', are names, 64 bits hold each column's bounds, and
+    /// these are in order and less than 2^63 apart. It looks at each column.
     pub fn has_names_and_bounds(&self)
         ensures schema { IsSchema (schema_shape self.now) }
         ensures names { IsTrue (list_all is_name (names_of self.now.columns.items)) }

@@ -29,7 +29,8 @@ impl Schema {
         self.columns[col].nullable.then_some(first)
     }
 
-    /// The variable of a column's bit, which is below the column's width. Bit 0 is the least, and the top one comes first.
+    /// The variable of a column's bit, which is below the column's width. Bit 0 is the least, and the top one comes
+    /// first.
     pub fn var_bit(&self, col: usize, bit: u32) -> u32
         requires column { col < length self.now.columns.items }
         requires bit { bit < width_at self.now.columns.items col }

@@ -64,9 +64,11 @@ not_on line words = Err (at_line PROGRAM_FORM line)
 
 abbrev pub byte_on : List Column → ℕ → List (List ℕ) → Result (ℕ × ℕ × ℕ × ℕ) Fault
 byte_on columns line (r ∷ c ∷ s ∷ b ∷ []) =
-    natural_on line s >>= λ slice. natural_on line b >>= λ byte. refused_if (nat_lt 255 byte) (at_line PROGRAM_FORM line)
-    (register_on line r >>= λ register. column_on columns line c >>= λ column.
-    refused_if (not (nat_lt slice (slices_at columns column))) (at_line COLUMN_OR_BIT line) (Ok (register, column, slice, byte)))
+    natural_on line s >>= λ slice. natural_on line b
+    >>= λ byte. refused_if (nat_lt 255 byte) (at_line PROGRAM_FORM line)
+    (register_on line r >>= λ register. column_on columns line c
+    >>= λ column. refused_if (not (nat_lt slice (slices_at columns column))) (at_line COLUMN_OR_BIT line)
+    (Ok (register, column, slice, byte)))
 byte_on columns line words = Err (at_line PROGRAM_FORM line)
 
 abbrev pub skip_on : ℕ → ℕ → List (List ℕ) → Result Instr Fault
@@ -137,7 +139,8 @@ goes_past end (Skip x target) = nat_lt end target
 
 unfoldable pub within_end : {A : Type 0} → ℕ → List Placed → A → Result A Fault
 within_end end [] x = Ok x
-within_end end (p ∷ placed) x = refused_if (goes_past end p.instr) (at_line SKIP_TARGET p.line) (within_end end placed x)
+within_end end (p ∷ placed) x =
+    refused_if (goes_past end p.instr) (at_line SKIP_TARGET p.line) (within_end end placed x)
 
 abbrev pub ended : List Placed → ℕ → Result ProgramShape Fault
 ended placed result = within_end (length placed) placed (record { instrs = instrs_of placed; result = result })

@@ -22,7 +22,8 @@ inferred_text table csv = inferred table csv >>= λ schema. Ok (schema_text sche
 abbrev pub text_from : List ℕ → Result (Option (List ℕ)) Fault → Result (List ℕ) Fault
 text_from table csv = refused_if (not (is_name table)) (nowhere SCHEMA_NAME) (csv_from csv >>= inferred_text table)
 
--- an error of the reader's own stands at the heading, or at a record after a heading of names and records that have rows
+-- an error of the reader's own stands at the heading, or at a record after a heading of names and records that have
+-- rows
 abbrev pub StopsInferring : List ℕ → Fault → Type 0
 StopsInferring csv =
     Stops (λ heading more fault. (names : List (List ℕ)) × (heading_names heading ≡ Ok names)

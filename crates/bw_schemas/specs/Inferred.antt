@@ -48,8 +48,8 @@ table_of table columns = record { name = table; columns = columns }
 abbrev pub schema_over : List ℕ → List (List ℕ) → List (List Value) → Result SchemaShape Fault
 schema_over table names rows = ranged (columns_over rows 0 names) >>= λ columns. Ok (table_of table columns)
 
--- the schema of records, the first of which is the heading and has number 0, or the first fault in them: the heading, the
--- records after it, and then the bounds
+-- the schema of records, the first of which is the heading and has number 0, or the first fault in them: the heading,
+-- the records after it, and then the bounds
 unfoldable pub inferred_after : List ℕ → List (List (List ℕ)) → Result SchemaShape Fault
 inferred_after table [] = Err (at_record NO_HEADING 0)
 inferred_after table (heading ∷ more) =

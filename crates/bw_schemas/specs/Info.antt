@@ -47,7 +47,8 @@ facts_text version layout schema rows =
 unfoldable pub info_text : ℕ → Layout → Schema → ℕ → List ℕ
 info_text version layout schema rows = schema_text (schema_shape schema) ++ facts_text version layout schema rows
 
--- The header of a file was read, and this is the text of what it says; it's a schema text, which spells the table's schema.
+-- The header of a file was read, and this is the text of what it says; it's a schema text, which spells the table's
+-- schema.
 pub record TellsHeader (start now : State) (text : List ℕ) : Type 0 where
   pub told : HeaderShape
   pub schema : Schema

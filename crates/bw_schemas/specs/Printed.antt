@@ -1,5 +1,5 @@
--- The text that a schema is written as: keywords in capitals, words one blank apart, names in the schema's spelling, bounds
--- in decimal without leading zeros, and one line feed after each line.
+-- The text that a schema is written as: keywords in capitals, words one blank apart, names in the schema's spelling,
+-- bounds in decimal without leading zeros, and one line feed after each line.
 use Rattle.std.specs.Prelude.{◌≡◌, ℕ, Bool, true, false, FitsSigned, List, [], ◌∷◌, ◌++◌, codes}
 use Rattle.std.specs.Fmt.{signed_decimal}
 use Rattle.std.specs.Int.{w64}

@@ -58,7 +58,7 @@ columns_seen [] columns = []
 columns_seen (name ∷ names) [] = []
 columns_seen (name ∷ names) (s ∷ columns) = column_seen name s ∷ columns_seen names columns
 
--- the columns of these names over the rows of records, the first of which has number 1; or the first fault in them, and then
--- in the bounds
+-- the columns of these names over the rows of records, the first of which has number 1; or the first fault in them, and
+-- then in the bounds
 abbrev pub columns_after : List (List ℕ) → List (List (List ℕ)) → Result (List ColumnShape) Fault
 columns_after names more = bare_rows (length names) 1 more >>= λ rows. ranged (columns_over rows 0 names)

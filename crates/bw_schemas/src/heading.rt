@@ -13,9 +13,9 @@ use bw_csv::Records;
 use bw_model::{Fault, MAX_COLUMNS, Name, code, is_name};
 use std::alloc::Global;
 
-/// The names that the fields of the record that was read last are, without the spaces and tabs at their ends. Refuses at
-/// the first field from the left, each at record 0: the 65th column (105), what isn't a name (102), and the name of an
-/// earlier column, ignoring case (104).
+/// The names that the fields of the record that was read last are, without the spaces and tabs at their ends. Refuses
+/// at the first field from the left, each at record 0: the 65th column (105), what isn't a name (102), and the name of
+/// an earlier column, ignoring case (104).
 #[tactic(auto, unfolding(crate::specs::Heading::heading_names))]
 pub(crate) fn heading_names(alloc: Global, records: &Records<'_>) -> Result<Vec<Name>, Fault>
     ensures names { GivesButAside (λ names. names.items) result (heading_names (fields_in records.now)) }

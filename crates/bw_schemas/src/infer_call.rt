@@ -18,12 +18,12 @@ use std::alloc::Global;
 /// Writes a schema text for a CSV text: a table of this name, and a column for each heading, from the least to the
 /// greatest number that stands in it, with `NOT NULL` where no field is null. A column without a number has `0 0`.
 ///
-/// Refuses in this order: a table's name that isn't one (102, at no place, and the CSV's source isn't read), the CSV's source
-/// (701) and length (208), its first record that is wrong (201; a heading that makes no columns, 105, 102 and 104 at record
-/// 0; 203, 207, 204 and 205, and 209), a column whose values are 2^63 or more apart (103, at record 0), and the sink (702);
-/// out of memory (801) wherever it comes. Nothing is written before all else has succeeded. Beside the CSV text, which is
-/// read whole, up to 1 GiB, a row and three values a column are in memory. That each device's count of failures can rise is
-/// the caller's condition.
+/// Refuses in this order: a table's name that isn't one (102, at no place, and the CSV's source isn't read), the CSV's
+/// source (701) and length (208), its first record that is wrong (201; a heading that makes no columns, 105, 102 and
+/// 104 at record 0; 203, 207, 204 and 205, and 209), a column whose values are 2^63 or more apart (103, at record 0),
+/// and the sink (702); out of memory (801) wherever it comes. Nothing is written before all else has succeeded. Beside
+/// the CSV text, which is read whole, up to 1 GiB, a row and three values a column are in memory. That each device's
+/// count of failures can rise is the caller's condition.
 pub fn infer<C: Source, K: Sink>(
     alloc: Global,
     table: &[u8],
@@ -33,16 +33,17 @@ pub fn infer<C: Source, K: Sink>(
     requires csv { C.failures csv_source.old < 2 ^ 64 - 1 }
     requires sink { K.failures sink.old < 2 ^ 64 - 1 }
 
-    // What went out is the text of the schema that is inferred from what came of the source, or nothing, where that is a
-    // fault. A source that wasn't reached, or whose text found no memory, stands as one that found no memory.
+    // What went out is the text of the schema that is inferred from what came of the source, or nothing, where that is
+    // a fault. A source that wasn't reached, or whose text found no memory, stands as one that found no memory.
     ensures schema { (csv : Result (Option (List ℕ)) Fault) × (given : Result (List ℕ) Fault)
         × Came longest_csv (C.to_come csv_source.old) (C.to_come csv_source.new)
         (C.failures csv_source.old) (C.failures csv_source.new) csv
         × (given ≡ text_from table.now csv)
-        × Wrote is_aside (K.taken sink.old) (K.taken sink.new) (K.failures sink.old) (K.failures sink.new) given result }
+        × Wrote is_aside (K.taken sink.old) (K.taken sink.new)
+        (K.failures sink.old) (K.failures sink.new) given result }
 
-    // Where the bytes to come are known: the text that went out spells a schema under which they have their rows without a
-    // fault, and no column of it could be narrower.
+    // Where the bytes to come are known: the text that went out spells a schema under which they have their rows
+    // without a fault, and no column of it could be narrower.
     ensures exact { (csv : List ℕ) → C.to_come csv_source.old ≡ Some csv
         → OnOk result (InfersExactly csv (K.taken sink.old) (K.taken sink.new)) }
 
@@ -53,8 +54,8 @@ pub fn infer<C: Source, K: Sink>(
         (C.failures csv_source.old) (C.failures csv_source.new) (Ok (Some csv))
         × StopsInferring csv fault) }
 
-    // Where a device failed, the call ends with that; of the source no more is taken than one byte past its limit; and where
-    // the call refuses, but for a write that failed, it has written nothing.
+    // Where a device failed, the call ends with that; of the source no more is taken than one byte past its limit; and
+    // where the call refuses, but for a write that failed, it has written nothing.
     ensures csv { LeavesSource (longest_csv + 1) (C.to_come csv_source.old) (C.to_come csv_source.new)
         (C.failures csv_source.old) (C.failures csv_source.new) result }
     ensures sink { LeavesSink (K.taken sink.old) (K.taken sink.new) (K.failures sink.old) (K.failures sink.new) result }

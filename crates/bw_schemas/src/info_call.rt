@@ -20,12 +20,12 @@ use bw_model::Fault;
 use std::alloc::Global;
 
 /// Writes what the header of a table file says: the schema text that spells the table's schema, and then the numbers of
-/// its rows and segments, its layout, its version and the length of the whole file, a comment line each. The header alone
-/// is read, and nothing after it.
+/// its rows and segments, its layout, its version and the length of the whole file, a comment line each. The header
+/// alone is read, and nothing after it.
 ///
-/// Refuses in this order: the header (301 to 305, 310) and the sink (702); 701 where a read fails, and out of memory (801)
-/// wherever it comes. Nothing is written before the header was found good. That each device's count of failures can rise is
-/// the caller's condition.
+/// Refuses in this order: the header (301 to 305, 310) and the sink (702); 701 where a read fails, and out of memory
+/// (801) wherever it comes. Nothing is written before the header was found good. That each device's count of failures
+/// can rise is the caller's condition.
 pub fn info<S: Source, K: Sink>(alloc: Global, table: &mut S, sink: &mut K) -> Result<(), Fault>
     requires table { S.failures table.old < 2 ^ 64 - 1 }
     requires sink { K.failures sink.old < 2 ^ 64 - 1 }
@@ -35,8 +35,8 @@ pub fn info<S: Source, K: Sink>(alloc: Global, table: &mut S, sink: &mut K) -> R
         × Wrote none_aside (K.taken sink.old) (K.taken sink.new) (K.failures sink.old) (K.failures sink.new) given
         result }
 
-    // Where the bytes to come are a table file's: its schema, its rows and its length are reported, and it's only a device or
-    // memory that can fail.
+    // Where the bytes to come are a table file's: its schema, its rows and its length are reported, and it's only a
+    // device or memory that can fail.
     ensures file { (bytes : List ℕ) (layout : Layout) (schema : Schema) (rows : List (List Value))
         → S.to_come table.old ≡ Some bytes → IsFileBytes bytes layout schema rows
         → OnOk result (TellsFile bytes layout schema rows (K.taken sink.old) (K.taken sink.new)) }

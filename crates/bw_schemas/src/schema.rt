@@ -22,10 +22,10 @@ use std::alloc::{AllocError, Global};
 
 /// The schema of this name that is inferred from a CSV text. That the table's name is a name is the caller's condition.
 ///
-/// Refuses at the first record that is wrong: a text without one (201); a heading that makes no columns (105, 102, 104);
-/// then for each record its number of fields (203), a row past 2^24 (207), and its fields from the left: no whole number
-/// (204), or one that 64 bits don't hold (205); and at last a column whose values are 2^63 or more apart (103, at record
-/// 0). 209 is any other error of the reader.
+/// Refuses at the first record that is wrong: a text without one (201); a heading that makes no columns (105, 102,
+/// 104); then for each record its number of fields (203), a row past 2^24 (207), and its fields from the left: no whole
+/// number (204), or one that 64 bits don't hold (205); and at last a column whose values are 2^63 or more apart (103,
+/// at record 0). 209 is any other error of the reader.
 #[tactic(auto, unfolding(crate::specs::Inferred::inferred_after))]
 pub(crate) fn infer_schema(alloc: Global, table: &[u8], text: &[u8]) -> Result<Schema, Fault>
     requires { IsTrue (is_name table.now) }

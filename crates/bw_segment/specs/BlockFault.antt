@@ -18,7 +18,9 @@ padding_fault null code = if null || not (code == 0) then Some PADDING else None
 
 -- the fault of a row's, in a column with this greatest code
 abbrev pub row_fault : ℕ → Bool → ℕ → Option ℕ
-row_fault span null code = if null && not (code == 0) then Some NULL_WITH_CODE else (if nat_lt span code then Some CODE_TOO_LARGE else None)
+row_fault span null code =
+    if null && not (code == 0) then Some NULL_WITH_CODE
+    else (if nat_lt span code then Some CODE_TOO_LARGE else None)
 
 -- the first fault among so many rows: that of the rows before the last one, or else the last one's
 abbrev pub first_fault : (ℕ → Option ℕ) → ℕ → Option ℕ

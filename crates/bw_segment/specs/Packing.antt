@@ -1,5 +1,5 @@
--- Segments as bytes: for each column one block, of its null plane, in 64 bytes, where it is nullable, and then its codes,
--- in one of two layouts.
+-- Segments as bytes: for each column one block, of its null plane, in 64 bytes, where it is nullable, and then its
+-- codes, in one of two layouts.
 use Rattle.std.specs.Prelude.{◌≡◌, ℕ, zero, suc, ◌+◌, ◌-◌, ◌<◌, ◌^◌, Bool, false, List, [], ◌++◌, length, map, take, drop, replicate, slice_index, slice_index_or, Some, None, if◌then◌else◌, All}
 use Rattle.std.specs.List.{flat_map, range_with_len}
 use Rattle.bw_lanes.specs.Lanes.{bytes_of_lanes, lanes_of_bytes}
@@ -23,12 +23,12 @@ pub record Packing : Type 0 where
 pub record IsPacking (packing : Packing) : Type 0 where
   pub bytes_length : (width : ℕ) (codes : List ℕ) → length codes ≡ group_size → length (packing.bytes width codes)
       ≡ packing.size width
-  pub codes_length : (width : ℕ) (bytes : List ℕ) → length bytes ≡ packing.size width → length (packing.codes width bytes)
-      ≡ group_size
+  pub codes_length : (width : ℕ) (bytes : List ℕ) → length bytes ≡ packing.size width
+      → length (packing.codes width bytes) ≡ group_size
   pub text_spells : (width : ℕ) (codes : List ℕ) → length codes ≡ group_size → All (λ code. code < 2 ^ width) codes
       → packing.codes width (packing.bytes width codes) ≡ codes
-  pub codes_spelled : (width : ℕ) (bytes : List ℕ) → length bytes ≡ packing.size width → All (λ byte. byte < 2 ^ 8) bytes
-      → packing.bytes width (packing.codes width bytes) ≡ bytes
+  pub codes_spelled : (width : ℕ) (bytes : List ℕ) → length bytes ≡ packing.size width
+      → All (λ byte. byte < 2 ^ 8) bytes → packing.bytes width (packing.codes width bytes) ≡ bytes
 
 -- in each of the 512 lanes whether the row there is null in a column; past the last row none is
 unfoldable pub null_bits : List (List Value) → ℕ → List Bool
@@ -72,7 +72,8 @@ block_nulls columns column block = if is_nullable columns column then lanes_of_b
     (take 64 block) else replicate group_size false
 
 unfoldable pub block_codes : Packing → List Column → ℕ → List ℕ → List ℕ
-block_codes packing columns column block = packing.codes (width_at columns column) (drop (null_size columns column) block)
+block_codes packing columns column block =
+    packing.codes (width_at columns column) (drop (null_size columns column) block)
 
 -- the value that a null bit and a code are
 abbrev pub value_held : List Column → ℕ → Bool → ℕ → Value

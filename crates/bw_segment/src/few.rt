@@ -7,7 +7,8 @@ ghost use Rattle.bw_model.specs.Selection.{picked};
 use crate::layout::CodeLayout;
 use bw_lanes::{LANES, Selection, count, last_between};
 
-/// Up to how many rows the least and the greatest code are found one row after the other, in place of over all 512 lanes.
+/// Up to how many rows the least and the greatest code are found one row after the other, in place of over all 512
+/// lanes.
 const FEW: u32 = 4;
 
 /// The least of the codes in some lanes; none where there are no lanes.

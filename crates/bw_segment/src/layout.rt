@@ -11,8 +11,8 @@ ghost use Rattle.bw_segment.specs.Packing.{Packing, IsPacking};
 use bw_lanes::{LANES, Plane, Selection};
 use bw_model::Fault;
 
-/// How the codes of 512 lanes are kept as bytes. Each method but `size` and `push_codes` is given the bytes of such codes, of
-/// so many binary digits each, 1 to 63, and answers from the codes that these spell alone. Lane i is row i's.
+/// How the codes of 512 lanes are kept as bytes. Each method but `size` and `push_codes` is given the bytes of such
+/// codes, of so many binary digits each, 1 to 63, and answers from the codes that these spell alone. Lane i is row i's.
 pub trait CodeLayout {
     ghost packing: { Packing };
 

@@ -2,17 +2,17 @@
 //!
 //! The contract that the crates above use: a [`Segment`] means the columns of a schema and 1 to 512 rows that
 //! they admit, and each of its methods answers from that meaning alone, whatever the layout. Bit i of
-//! `plane(v)` is row i's bit of the variable v, and 0 past the last row. `codes` and [`values_in_lanes`] give a column in all
-//! 512 lanes at once.
+//! `plane(v)` is row i's bit of the variable v, and 0 past the last row. `codes` and [`values_in_lanes`] give a column
+//! in all 512 lanes at once.
 //!
-//! A [`PackedSegment`] is kept as the bytes of its blocks, in a [`CodeLayout`], which says how the codes of one column are kept:
-//! bit planes, after BitWeaving's vertical layout (Li and Patel), in `bw_planes`, and byte slices, after ByteSlice (Feng, Lo,
-//! Kao and Xu), in `bw_slices`. Segments as bytes, and the first fault of such bytes, are said once for any layout in
-//! `specs/Packing.antt` and `specs/BlockFault.antt`. What variables, codes and lanes are stands in the `specs/` of `bw_model`.
-//! Read `segment.rt` first, and then `layout.rt` and `packed.rt`.
+//! A [`PackedSegment`] is kept as the bytes of its blocks, in a [`CodeLayout`], which says how the codes of one column
+//! are kept: bit planes, after BitWeaving's vertical layout (Li and Patel), in `bw_planes`, and byte slices, after
+//! ByteSlice (Feng, Lo, Kao and Xu), in `bw_slices`. Segments as bytes, and the first fault of such bytes, are said
+//! once for any layout in `specs/Packing.antt` and `specs/BlockFault.antt`. What variables, codes and lanes are stands
+//! in the `specs/` of `bw_model`. Read `segment.rt` first, and then `layout.rt` and `packed.rt`.
 //!
-//! [`is_group`] is for those who build segments of rows in memory: whether rows are 1 to 512 that a schema admits, which
-//! `build` in either layout demands:
+//! [`is_group`] is for those who build segments of rows in memory: whether rows are 1 to 512 that a schema admits,
+//! which `build` in either layout demands:
 //!
 //! ```
 //! if is_group(&schema, &rows) {

@@ -17,7 +17,8 @@ use std::marker::PhantomData;
 use std::rc::Rc;
 
 /// A segment kept as bytes: for each column one block, of its null plane, if it is nullable, in 64 bytes, of which bit
-/// i mod 8, the least first, of byte i / 8 is row i's, and then its codes in a layout. Past the last row there are zeros.
+/// i mod 8, the least first, of byte i / 8 is row i's, and then its codes in a layout. Past the last row there are
+/// zeros.
 #[derive(Drop)]
 pub struct PackedSegment<L: CodeLayout> {
     pub placement: Rc<Placement>,

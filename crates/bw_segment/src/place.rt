@@ -38,7 +38,8 @@ impl Placement {
         })
     }
 
-    /// The first byte of a column's block in a segment of a layout. For the number of columns, it is the number of bytes.
+    /// The first byte of a column's block in a segment of a layout. For the number of columns, it is the number of
+    /// bytes.
     #[inline(always)]
     pub(crate) fn start<L: CodeLayout>(&self, col: usize) -> usize
         requires placed { IsPlaced L.packing self.now }

@@ -5,9 +5,9 @@ ghost use Rattle.bw_model.specs.Code.{width_at};
 
 use bw_model::Schema;
 
-/// A schema, how wide the codes of its columns are, and where the columns' blocks begin in a segment of one layout, found once
-/// for all segments of a table, which share it by an `Rc`. [`Placement::of`] makes it for a layout, and the calls of that layout's
-/// segments alone take it where they need the blocks' places.
+/// A schema, how wide the codes of its columns are, and where the columns' blocks begin in a segment of one layout,
+/// found once for all segments of a table, which share it by an `Rc`. [`Placement::of`] makes it for a layout, and the
+/// calls of that layout's segments alone take it where they need the blocks' places.
 #[derive(Drop)]
 pub struct Placement {
     pub schema: Schema,

@@ -26,8 +26,8 @@ pub trait Segment {
         ensures count { result ≡ length (meaning self.now).rows }
         ensures bounds { (1 ≤ result) × (result ≤ group_size) };
 
-    /// The rows in which a bit of a column's code is 1. Bit 0 is the least. The rows past the last one count as code 0, as
-    /// null does.
+    /// The rows in which a bit of a column's code is 1. Bit 0 is the least. The rows past the last one count as code 0,
+    /// as null does.
     fn bit(&self, col: usize, bit: u32) -> Plane
         requires column { col < length (meaning self.now).columns }
         requires bit { bit < width_at (meaning self.now).columns col }
@@ -75,8 +75,8 @@ pub trait Segment {
             ≡ reduce max (codes_in (meaning self.now) col (lanes_of_words rows.now)) }
         ensures bound { IfSome result (λ code. code < 2 ^ 63) };
 
-    /// The codes of a column in the 512 lanes, as they are stored: that of row i in lane i, and 0 where the row is null and
-    /// past the last row.
+    /// The codes of a column in the 512 lanes, as they are stored: that of row i in lane i, and 0 where the row is null
+    /// and past the last row.
     fn codes(&self, col: usize, codes: &mut [u64; LANES])
         requires { col < length (meaning self.now).columns }
         ensures { codes.new ≡ code_lanes (meaning self.now) col };

@@ -22,8 +22,8 @@ unfoldable pub cut_lines : List ℕ → List (List ℕ)
 cut_lines [] = []
 cut_lines (c ∷ cs) = if is_line_feed c then [] ∷ cut_lines cs else with_first c (cut_lines cs)
 
--- A line stands first in a text, and the rest after its line feed, which is byte 10; or it is the whole text, and nothing
--- is left.
+-- A line stands first in a text, and the rest after its line feed, which is byte 10; or it is the whole text, and
+-- nothing is left.
 abbrev pub IsFirstLine : List ℕ → List ℕ → List ℕ → Type 0
 IsFirstLine text line rest =
     (list_all (λ c. not (is_line_feed c)) line ≡ true)

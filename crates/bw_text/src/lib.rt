@@ -1,10 +1,10 @@
 //! What texts are made of: words, numbers and lines, read and written.
 //!
-//! Schemas, programs and certificates are texts of lines of words; statements and CSV fields have the same words and numbers.
-//! The contract that the crates above use: a text is cut into the lines that say something ([`Lines`]), with their numbers; a
-//! word of a table ([`Keyword`], [`Opcode`], [`LineKind`], [`Form`]) is found by its spelling, ignoring case; digits are read
-//! to the number that they spell, or refused; and a line that is written ([`push_line`]) is cut into its words again
-//! ([`written_lines_are_read`]).
+//! Schemas, programs and certificates are texts of lines of words; statements and CSV fields have the same words and
+//! numbers. The contract that the crates above use: a text is cut into the lines that say something ([`Lines`]), with
+//! their numbers; a word of a table ([`Keyword`], [`Opcode`], [`LineKind`], [`Form`]) is found by its spelling,
+//! ignoring case; digits are read to the number that they spell, or refused; and a line that is written ([`push_line`])
+//! is cut into its words again ([`written_lines_are_read`]).
 //!
 //! Read `specs/Lines.antt` first, and then `specs/Printed.antt`.
 #![tactic(auto)]

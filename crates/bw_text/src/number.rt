@@ -150,8 +150,8 @@ fn with_digit(magnitude: u64, units: u64) -> u64
     }
 }
 
-/// The number of a sign and digits of this magnitude, which 63 bits hold. Both sides are so short that they are compiled
-/// without a branch: no processor foresees a sign.
+/// The number of a sign and digits of this magnitude, which 63 bits hold. Both sides are so short that they are
+/// compiled without a branch: no processor foresees a sign.
 #[inline(always)]
 #[tactic(auto, unfolding(crate::specs::Number::number_of))]
 pub fn with_sign(is_negative: bool, magnitude: u64) -> i64

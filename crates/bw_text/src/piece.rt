@@ -14,8 +14,8 @@ pub enum Piece<'a> {
     Register(u8),
 }
 
-/// Appends a line to a text: its pieces, one blank apart, and a line feed. Refused is out of memory alone, and then a part of
-/// the line may be there.
+/// Appends a line to a text: its pieces, one blank apart, and a line feed. Refused is out of memory alone, and then a
+/// part of the line may be there.
 pub fn push_line(alloc: Global, pieces: &[Piece<'_>], text: &mut Vec<u8>) -> Result<(), AllocError>
     ensures { OnOk result (text.new.items ≡ text.old.items ++ line_text (map piece_text pieces.now)) }
 {
@@ -27,7 +27,8 @@ pub fn push_line(alloc: Global, pieces: &[Piece<'_>], text: &mut Vec<u8>) -> Res
     Ok(())
 }
 
-/// Appends more pieces of a line, each after a blank. Refused is out of memory alone, and then a part of them may be there.
+/// Appends more pieces of a line, each after a blank. Refused is out of memory alone, and then a part of them may be
+/// there.
 pub fn push_spaced(
     alloc: Global,
     pieces: &[Piece<'_>],
