@@ -1,7 +1,6 @@
 -- The numbers of what a text spells are below 2^64, and its registers are of the 64.
-use Rattle.std.proofs.Common.{◌≡◌, refl, ℕ, ◌^◌, Bool, true, false, ◌&&◌, ◌==◌, cond, List, drop, Option, Some, None, nat_lt}
+use Rattle.std.proofs.Common.{◌≡◌, refl, ℕ, ◌^◌, Bool, true, false, ◌&&◌, cond, List, Some, None, nat_lt}
 use Rattle.std.specs.List.{list_all}
-use Rattle.std.specs.Prelude.{slice_index, ◌||◌}
 use Rattle.bw_text.specs.Lines.{NumberedWords, lines_in, from_line}
 use Rattle.bw_text.specs.Number.{natural_of, are_digits, digits_value, where_64_bits_hold}
 use Rattle.bw_cert_lines.specs.CertificateFields.{CertificateFields}

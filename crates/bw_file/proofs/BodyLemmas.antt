@@ -1,5 +1,5 @@
 -- Reading segments block by block.
-use Rattle.std.proofs.Common.{◌≡◌, true, false, ℕ, zero, suc, ◌+◌, ◌-◌, ◌*◌, ◌<◌, ◌≤◌, Bool, ◌&&◌, ◌||◌, ◌==◌, nat_le, List, [], ◌++◌, length, take, Option, Some, None, refl, subst, ◌∙◌, arith}
+use Rattle.std.proofs.Common.{◌≡◌, true, false, ℕ, zero, suc, ◌+◌, ◌-◌, ◌*◌, ◌<◌, ◌≤◌, Bool, ◌&&◌, ◌||◌, ◌==◌, nat_le, List, [], ◌++◌, length, Option, Some, None, refl, subst, ◌∙◌, arith}
 use Rattle.std.specs.Int.{bit_at}
 use Rattle.std.specs.List.{list_any, range_with_len}
 use Rattle.bw_model.specs.declared.column.Column.{Column}
@@ -9,8 +9,6 @@ use Rattle.bw_file.specs.declared.layout.Layout.{Layout}
 use Rattle.std.proofs.Common.{inl, inr, drop, get_or}
 use Rattle.std.proofs.lemmas.List.{drop_all, drop_more}
 use Rattle.std.proofs.lemmas.Bool.{cases_lt}
-use Rattle.std.proofs.lemmas.Slice.{take-put_mid}
-use borrow.Rule.Slice.PartMut.{put_mid}
 use Rattle.bw_segment.proofs.LayoutLemmas.{block_added}
 use Rattle.bw_file.specs.Blocks.{form_of, bytes_before, block_size, block_fault, AreSound, rows_spelled}
 use Rattle.bw_file.specs.Reading.{◌>>=◌, give, field, State, Took, GoesOn, Fails, HasByteMore}

@@ -1,9 +1,7 @@
 -- The bytes of a segment that a source keeps, and those that are copied.
 use Rattle.std.proofs.Common.{◌≡◌, ◌∙◌, ℕ, ◌+◌, ◌-◌, ◌≤◌, ◌++◌, List, length, take, drop, take-take, drop-drop, take-add, sym, ap, ap₂, arith}
 use Rattle.std.proofs.lemmas.List.{drop-take}
-use Rattle.std.specs.Prelude.{slice_range, Result, Ok, Err}
-use Rattle.bw_model.specs.declared.fault.Fault.{Fault}
-use Rattle.bw_file.specs.Reading.{State, Reading, Reads}
+use Rattle.std.specs.Prelude.{slice_range}
 
 module _ (bytes kept : List ℕ) (start size : ℕ) (within : start + size ≤ length bytes) (next : drop start bytes ≡ take (length bytes - start) kept) where
   -- the next ones are the first that the source keeps

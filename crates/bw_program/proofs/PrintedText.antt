@@ -18,9 +18,8 @@ use Rattle.bw_text.specs.Text.{same_text}
 use Rattle.bw_model.specs.Variable.{is_nullable}
 use Rattle.bw_program.specs.declared.instr.Instr.{Instr}
 use Rattle.bw_program.specs.declared.instr.Instr.TheVariants.{Load, Nulls, Fill, And, Or, Xor, Not, ByteLt, ByteEq, Skip}
-use Rattle.bw_text.specs.declared.opcode.Opcode.{Opcode}
 use Rattle.bw_text.specs.declared.opcode.Opcode.TheVariants as op
-use Rattle.bw_text.specs.Opcode.{opcode_spelling, opcode_of}
+use Rattle.bw_text.specs.Opcode.{opcode_spelling}
 use Rattle.bw_program.specs.PrintText.{column_text, instr_words, result_words, lines_text, print_text}
 use Rattle.bw_program.specs.Program.{ProgramShape, is_program, is_sound, are_sound, instr_fits, fits}
 use Rattle.bw_program.specs.ProgramText.{SpellsInstr, load, nulls, fill, conjunction, disjunction, difference, negation, below, same, skip, SpellsLines, result_line, instr_line, IsProgramText}
@@ -30,7 +29,7 @@ use Rattle.bw_text.proofs.RegisterLemmas.{plain_register, register_of-text}
 use Rattle.bw_text.proofs.SpacedWords.{line_said}
 use Rattle.bw_text.proofs.WordSpelling.{opcode_of-spelling}
 use Rattle.bw_text.specs.Printed.{is_plain_word, line_text}
-use Rattle.bw_text.specs.Register.{is_register, register_of, register_text}
+use Rattle.bw_text.specs.Register.{is_register, register_text}
 use Rattle.bw_model.proofs.NameLemmas.{plain_name}
 
 -- columns as a schema has them

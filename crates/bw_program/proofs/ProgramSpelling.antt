@@ -1,16 +1,13 @@
 -- What is read of a program text is spelled by it, and what is spelled is read; what is spelled is a program that fits.
-use Rattle.std.proofs.Common.{◌≡◌, ◌∙◌, refl, sym, ap, subst, ℕ, suc, ◌+◌, ◌<◌, ◌≤◌, Bool, true, false, ◌&&◌, cond, List, [], ◌∷◌, ◌++◌, length, drop, Option, Some, None, Result, Ok, Err, nat_le, nat_lt, arith, append_assoc, length-append, add-one}
-use Rattle.std.specs.List.{list_all, position_or_len}
-use Rattle.std.specs.Prelude.{slice_index, ◌||◌, ◌==◌, IfOk, IsTrue}
+use Rattle.std.proofs.Common.{◌≡◌, ◌∙◌, refl, sym, ap, subst, ℕ, suc, ◌+◌, ◌<◌, ◌≤◌, Bool, true, false, ◌&&◌, cond, List, [], ◌∷◌, ◌++◌, length, drop, Option, Some, None, Result, Ok, Err, nat_le, arith, append_assoc, length-append, add-one}
+use Rattle.std.specs.List.{list_all}
+use Rattle.std.specs.Prelude.{IfOk, IsTrue}
 use Rattle.std.proofs.lemmas.Bool.{lt-ltb, le-leb, leb-false, lt-leb}
 use Rattle.std.proofs.lemmas.List.{append-nil, length-map, map-append}
 use Rattle.bw_model.specs.declared.column.Column.{Column}
 use Rattle.bw_model.specs.declared.fault.Fault.{Fault}
-use Rattle.bw_model.specs.Column.{column_named}
 use Rattle.bw_model.specs.Fault.{Gives, at_line, ◌>>=◌, refused_if}
 use Rattle.bw_text.specs.Lines.{NumberedWords, lines_in, end_in, whole}
-use Rattle.bw_text.specs.Number.{natural_of}
-use Rattle.bw_text.specs.Text.{same_text}
 use Rattle.bw_program.specs.declared.instr.Instr.{Instr}
 use Rattle.bw_program.specs.declared.parse.Placed.{Placed}
 use Rattle.bw_text.specs.declared.opcode.Opcode.{Opcode}
@@ -21,7 +18,7 @@ use Rattle.bw_text.specs.Register.{is_register}
 use Rattle.bw_text.proofs.RegisterLemmas.{register_is}
 use Rattle.bw_model.proofs.NameLemmas.{named_column_is_there}
 use Rattle.bw_program.specs.ProgramText.{found_on, names_result, opcode_in, is_result_line, result_after, last_line, within_end, goes_past, instrs_of, ended, finished, instr_on, program_on, program_of, SpellsInstr, SpellsLines, result_line, instr_line, IsProgramText}
-use Rattle.bw_text.specs.Register.{register_of, register_below}
+use Rattle.bw_text.specs.Register.{register_of}
 use Rattle.bw_program.specs.ProgramText as text
 use Rattle.bw_program.proofs.InstrSpelling.{instr_spelled, spelled_instr}
 

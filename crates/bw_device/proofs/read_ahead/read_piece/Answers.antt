@@ -1,4 +1,4 @@
-use Rattle.std.proofs.Common.{sym, subst, drop, List, ℕ}
+use Rattle.std.proofs.Common.{sym, subst, List, ℕ}
 use Rattle.std.specs.Io.{ReadsAtMost}
 use Rattle.std.specs.Io.KnownBytes.{ReadConsumes}
 use Rattle.bw_device.proofs.PieceBytes.{after_front}

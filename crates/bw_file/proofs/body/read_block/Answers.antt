@@ -1,7 +1,5 @@
-use Rattle.std.proofs.Common.{◌≡◌, ◌∙◌, ◌+◌, ◌-◌, ℕ, take, drop, ap, sym, arith}
+use Rattle.std.proofs.Common.{sym, arith}
 use Rattle.std.proofs.lemmas.Result.{err_from_is_err_and}
-use Rattle.bw_file.specs.Blocks.{block_from}
-use Rattle.bw_file.specs.SegmentBytes.{bytes_held}
 use Rattle.bw_file.proofs.BodyLemmas.{block_good, block_bad, block_stops}
 use Rattle.bw_file.proofs.body.read_block.Goals as goal
 

@@ -1,4 +1,3 @@
-use Rattle.std.proofs.Common.{◌≡◌}
 use Rattle.std.proofs.lemmas.Result.{err_from_is_err_and}
 use Rattle.bw_segment.proofs.SoundLemmas.{length-rows_spelled}
 use Rattle.bw_file.specs.Blocks.{form_of}

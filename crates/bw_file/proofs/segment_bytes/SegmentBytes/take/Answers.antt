@@ -1,8 +1,7 @@
-use Rattle.std.proofs.Common.{◌≡◌, ◌∙◌, ℕ, ◌+◌, ◌-◌, ◌≤◌, length, length-take, length-take-le, length-drop, take, drop, ap, sym, subst, arith}
-use Rattle.std.proofs.lemmas.Slice.{between-put_mid}
+use Rattle.std.proofs.Common.{◌≡◌, ◌+◌, ◌-◌, ◌≤◌, length, length-take, length-drop, take, drop, subst, arith}
 use Rattle.std.specs.Prelude.{slice_range}
 use Rattle.bw_device.specs.Shared.{bytes_in}
-use Rattle.bw_file.specs.Reading.{Reads, Took, state, field}
+use Rattle.bw_file.specs.Reading.{Took, state}
 use Rattle.bw_file.specs.SegmentBytes.{bytes_held, AreNext}
 use Rattle.bw_file.specs.declared.segment_bytes.SegmentBytes.{SegmentBytes}
 use Rattle.bw_file.proofs.ReadingLemmas.{field_taken}
