@@ -150,7 +150,12 @@ def calls(page):
     return found
 
 
-def ended(name, passed, failed):
+def skip(what, install):
+    """Says that something can't be tried here, and what to install so that it can."""
+    print(f"skipped: {what}: install {install}")
+
+
+def ended(name, passed, failed, skipped=0):
     """Prints a script's last line, and gives its status."""
-    print(f"{name}: {passed} passed, {failed} failed")
+    print(f"{name}: {passed} passed, {failed} failed" + (f", {skipped} skipped" if skipped else ""))
     return 1 if failed else 0
