@@ -7,8 +7,8 @@ use bw_file::Layout;
 use clap::{Arg, ArgAction, ArgMatches, Command, Error};
 use std::alloc::{AllocError, Global};
 
-/// The version of this program and, below it, the kit's that proved and built it, as `rt version` prints it.
-const VERSION: &str = "0.1.0\nrattle-kit-13f logic dac8208d650f15bf";
+/// The version of this program and, below it, the sum of the logic by which it was proved, as `rt version` prints it.
+const VERSION: &str = "0.2.0\nRattle logic dac8208d650f15bf";
 
 /// A word or an option that a command takes.
 #[derive(Clone, Copy)]
