@@ -1,9 +1,7 @@
 //! A certificate of 1,048,576 product rows, each of which but two follows from two earlier ones, read and checked.
 //! Standard output says what was accepted, and standard error how long each part took, in microseconds.
 use crate::failure::Failure;
-use bw_cert::check;
-use bw_cert_lines::Certificate;
-use bw_cert_text::parse_certificate;
+use bw_cert::{Certificate, check};
 use bw_model::{Cond, Fault, Schema};
 use bw_program::Program;
 use std::alloc::{AllocError, Global};
@@ -31,7 +29,7 @@ fn measure_text(
     text: &[u8],
 ) -> Result<(), Failure> {
     let start = Instant::now(rt)?;
-    let certificate = parse_certificate(rt.alloc(), 4, text)?;
+    let certificate = Certificate::parse(rt.alloc(), 4, text)?;
     measure_check(rt, schema, start, &certificate)
 }
 
@@ -48,7 +46,7 @@ fn measure_check(
     let checked = start.elapsed(rt)?.as_micros();
     eprintln!(rt; "parse {parsed}\ncheck {checked}")?;
     match fault {
-        None => println!(rt; "accepted: {} rows", certificate.products())?,
+        None => println!(rt; "accepted: {} rows", certificate.rows())?,
         Some(fault) => println!(rt; "{fault}")?,
     }
     Ok(())

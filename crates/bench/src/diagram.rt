@@ -80,7 +80,7 @@ fn add_chains(alloc: Global, diagram: &mut Diagram<'_>) -> Result<(), Fault> {
 fn add_cited_rows(diagram: &mut Diagram<'_>) -> Result<(), Fault> {
     for n in 0..CITED_ROWS {
         let x = n % 2;
-        diagram.add_product(n, Connective::And, x, x, x, Reason::Shortcut)?;
+        diagram.add_row(n, Connective::And, x, x, x, Reason::Shortcut)?;
     }
     Ok(())
 }
@@ -95,7 +95,7 @@ fn add_products(diagram: &mut Diagram<'_>) -> Result<(), Fault> {
             i: cited,
             j: cited + 1,
         };
-        diagram.add_product(n, Connective::And, x, x, x, reason)?;
+        diagram.add_row(n, Connective::And, x, x, x, reason)?;
     }
     Ok(())
 }

@@ -2,9 +2,9 @@
 ghost use Rattle.std.specs.Prelude.{IsTrue};
 ghost use Rattle.bw_model.specs.Total.{is_aggregate, item_within};
 
+use bw_aggregate::{Totals, first_rows_are_within};
 use bw_lanes::{Plane, and, mask};
 use bw_model::Item;
-use bw_rows::{Totals, first_rows_are_within};
 use bw_segment::Segment;
 
 /// A total of a segment's picked rows.

@@ -1,10 +1,9 @@
 //! The calls of `bw` without what they promise, which nothing here rests on: so what calls them is proved sooner.
 ghost use Rattle.std.specs.Prelude.{◌-◌, ◌^◌, ◌<◌};
 
-use bw_device::{Sink, Source};
-use bw_file::Layout;
+use bw_file::{Layout, Sink, Source};
 use bw_model::Fault;
-use bw_report::{Accepted, Served};
+use bw_shell::{Accepted, Served};
 use std::alloc::Global;
 
 pub fn direct<S: Source, C: Source, K: Sink>(
@@ -30,7 +29,7 @@ pub fn infer<C: Source, K: Sink>(
     requires csv { C.failures csv.old < 2 ^ 64 - 1 }
     requires out { K.failures out.old < 2 ^ 64 - 1 }
 {
-    bw_schemas::infer(alloc, name.as_bytes(), csv, out)
+    bw_shell::infer(alloc, name.as_bytes(), csv, out)
 }
 
 pub fn load<S: Source, C: Source, K: Sink>(
@@ -57,29 +56,29 @@ pub fn answer<S: Source, K: Sink>(
     requires table { S.failures table.old < 2 ^ 64 - 1 }
     requires out { K.failures out.old < 2 ^ 64 - 1 }
 {
-    bw_query::answer(alloc, table, sql.as_bytes(), program, out)
+    bw_shell::answer(alloc, table, sql.as_bytes(), program, out)
 }
 
 pub fn info<S: Source, K: Sink>(alloc: Global, table: &mut S, out: &mut K) -> Result<(), Fault>
     requires table { S.failures table.old < 2 ^ 64 - 1 }
     requires out { K.failures out.old < 2 ^ 64 - 1 }
 {
-    bw_schemas::info(alloc, table, out)
+    bw_shell::info(alloc, table, out)
 }
 
 pub fn dump<S: Source, K: Sink>(alloc: Global, table: &mut S, out: &mut K) -> Result<(), Fault>
     requires table { S.failures table.old < 2 ^ 64 - 1 }
     requires out { K.failures out.old < 2 ^ 64 - 1 }
 {
-    bw_query::dump(alloc, table, out)
+    bw_shell::dump(alloc, table, out)
 }
 
 pub fn plan<K: Sink>(alloc: Global, schema: &[u8], sql: &str, out: &mut K) -> Result<(), Fault>
     requires { K.failures out.old < 2 ^ 64 - 1 }
 {
-    bw_query::plan_text(alloc, schema, sql.as_bytes(), out)
+    bw_shell::plan_text(alloc, schema, sql.as_bytes(), out)
 }
 
 pub fn check(alloc: Global, schema: &[u8], sql: &str, file: &[u8]) -> Result<Accepted, Fault> {
-    bw_cert::check_text(alloc, schema, sql.as_bytes(), file)
+    bw_shell::check_text(alloc, schema, sql.as_bytes(), file)
 }

@@ -1,9 +1,10 @@
 //! A file that is created at the first write.
 ghost use Rattle.std.specs.Prelude.{◌≡◌, None};
 
-use bw_device::{Failed, Sink};
+use bw_file::{Failed, Sink};
 use std::fs::{self, File};
 use std::io::Write;
+use std::os::unix::fs::MetadataExt;
 
 /// A file to write to. It's created, or emptied, at the first write, so that a call that writes nothing leaves it as it
 /// was. That it can't be is a failed write.
@@ -28,13 +29,13 @@ impl<'a> OutFile<'a> {
     }
 }
 
-/// Whether two names are of one regular file, by the whole paths that they stand for.
+/// Whether two names are of one regular file, by its device and its number there. So links of both kinds are seen
+/// through.
 pub fn is_same_file(rt: &HostRuntime, one: &str, other: &str) -> bool {
-    if !fs::metadata(rt, one).is_ok_and(|found| found.is_file()) {
-        return false;
-    }
-    match (fs::canonicalize(rt, one), fs::canonicalize(rt, other)) {
-        (Ok(one), Ok(other)) => one == other,
+    match (fs::metadata(rt, one), fs::metadata(rt, other)) {
+        (Ok(one), Ok(other)) => {
+            one.is_file() && one.dev() == other.dev() && one.ino() == other.ino()
+        }
         _ => false,
     }
 }

@@ -4,11 +4,12 @@ ghost use Rattle.bw_device.specs.ReadAhead.{read_failures};
 
 use crate::calls::{answer, check, direct, dump, infer, info, load, plan};
 use crate::out_file::{OutFile, is_same_file};
-use bw_cert::MAX_PROGRAM_FILE_LEN;
-use bw_device::{FromRead, Input, ReadAhead, Source, ToWrite, read_limited};
-use bw_file::Layout;
+use bw_device::ReadAhead;
+use bw_file::{FromRead, Layout, Source, ToWrite};
 use bw_model::{Fault, MAX_SCHEMA_LEN, code};
-use bw_report::{By, Served, accepted_line, report, stats_line};
+use bw_shell::{
+    By, Input, MAX_PROGRAM_FILE_LEN, Served, accepted_line, read_limited, report, stats_line,
+};
 use bw_tell::{Ended, explain, explain_rows};
 use bw_words::{Asked, USAGE, Words, asked_by, words_given};
 use std::fs::File;

@@ -7,7 +7,7 @@ use Rattle.bw_model.specs.declared.query.Item.TheVariants.{Plain, CountAll, Coun
 use Rattle.bw_model.specs.declared.query.Query.{Query}
 use Rattle.bw_model.specs.Row.{Value}
 use Rattle.bw_model.specs.Total.{is_aggregate, total}
-use Rattle.bw_rows.specs.Accumulator.{Tally, tally_of}
+use Rattle.bw_rowwise.specs.Accumulator.{Tally, tally_of}
 use Rattle.bw_sql.specs.Items.{AreOfOneKind}
 use Rattle.bw_model.specs.Selection.{kept}
 use Rattle.bw_answer.specs.Answer.{csv_text, heading_of, listed, lists_rows, meaning, record_text, value_text, totalled}

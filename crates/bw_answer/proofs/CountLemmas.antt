@@ -9,7 +9,7 @@ use Rattle.bw_model.specs.Cond.{is_kept}
 use Rattle.bw_model.specs.Row.{Value}
 use Rattle.bw_model.specs.Selection.{kept}
 use Rattle.bw_model.specs.Total.{is_aggregate, item_within}
-use Rattle.bw_rows.specs.Accumulator.{Tally, tally_of, counted}
+use Rattle.bw_rowwise.specs.Accumulator.{Tally, tally_of, counted}
 use Rattle.bw_answer.specs.Answer.{is_count_all, lists_rows}
 use Rattle.bw_answer.specs.Totals.{is_of}
 use Rattle.bw_answer.proofs.TotalsLemmas.{and_true, both}

@@ -9,12 +9,12 @@ use Rattle.bw_model.specs.Cond.{is_kept}
 use Rattle.bw_model.specs.Row.{Value}
 use Rattle.bw_model.specs.Selection.{kept, picked, selection}
 use Rattle.bw_model.specs.Total.{item_within, joined, total}
-use Rattle.bw_rows.specs.Accumulator.{Tally, tally_of}
-use Rattle.bw_rows.specs.Prepared.{IsPreparedFrom, prepared_truth}
-use Rattle.bw_rows.specs.declared.prepared.Prepared.{Prepared}
+use Rattle.bw_rowwise.specs.Accumulator.{Tally, tally_of}
+use Rattle.bw_rowwise.specs.Prepared.{IsPreparedFrom, prepared_truth}
+use Rattle.bw_rowwise.specs.declared.prepared.Prepared.{Prepared}
 use Rattle.bw_model.specs.Truth.{is_truth}
-use Rattle.bw_model.specs.declared.cond.Truth.TheVariants.{True}
-use Rattle.bw_rows.specs.Picked.{with_picked}
+use Rattle.bw_model.specs.declared.cond.Truth.TheVariants.{Yes}
+use Rattle.bw_aggregate.specs.Picked.{with_picked}
 use Rattle.bw_answer.specs.Totals.{is_of}
 use Rattle.bw_answer.proofs.TotalsLemmas.{and_true, both}
 
@@ -85,6 +85,6 @@ pub few_kept : (c : Cond) (rows : List (List Value)) → length (kept c rows) �
 few_kept c rows = let some = count_by-le-length (is_kept c) rows in omega (arith, length-filter (is_kept c) rows, some)
 
 -- a condition that is made ready keeps the rows that the condition keeps
-pub kept_alike : (c : Cond) (prepared : Prepared) (rows : List (List Value)) → IsPreparedFrom c prepared → map (λ row. is_truth (prepared_truth row prepared) True) rows ≡ selection c rows
+pub kept_alike : (c : Cond) (prepared : Prepared) (rows : List (List Value)) → IsPreparedFrom c prepared → map (λ row. is_truth (prepared_truth row prepared) Yes) rows ≡ selection c rows
 kept_alike c prepared [] same = refl
-kept_alike c prepared (row ∷ rows) same = λ i. is_truth (same row i) True ∷ kept_alike c prepared rows same i
+kept_alike c prepared (row ∷ rows) same = λ i. is_truth (same row i) Yes ∷ kept_alike c prepared rows same i

@@ -4,7 +4,7 @@ use Rattle.std.specs.List.{list_all}
 use Rattle.bw_model.specs.declared.query.Item.{Item}
 use Rattle.bw_model.specs.Row.{Value}
 use Rattle.bw_model.specs.Total.{item_within, is_aggregate}
-use Rattle.bw_rows.specs.Accumulator.{Tally, tally_of, tally_with}
+use Rattle.bw_rowwise.specs.Accumulator.{Tally, tally_of, tally_with}
 use Rattle.bw_model.specs.declared.query.Query.{Query}
 use Rattle.bw_model.specs.Cond.{is_kept}
 use Rattle.bw_model.specs.Selection.{kept}

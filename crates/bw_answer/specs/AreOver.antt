@@ -6,7 +6,7 @@ use Rattle.bw_model.specs.Cond.{is_kept}
 use Rattle.bw_model.specs.Row.{Value}
 use Rattle.bw_model.specs.Selection.{kept}
 use Rattle.bw_model.specs.Total.{is_aggregate}
-use Rattle.bw_rows.specs.Accumulator.{Tally, tally_of}
+use Rattle.bw_rowwise.specs.Accumulator.{Tally, tally_of}
 use Rattle.bw_answer.specs.Answer.{csv_text, heading_of, is_count_all, listed, lists_rows, record_text}
 
 -- the heading record of a query over columns of these names, and after it the records of the rows that are kept, where

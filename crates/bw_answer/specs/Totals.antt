@@ -2,7 +2,7 @@
 use Rattle.std.specs.Prelude.{ℕ, Bool, ◌&&◌, nat_le, nat_lt}
 use Rattle.bw_model.specs.Limits.{most_rows}
 use Rattle.bw_model.specs.Total.{item_within}
-use Rattle.bw_rows.specs.Accumulator.{Tally}
+use Rattle.bw_rowwise.specs.Accumulator.{Tally}
 
 -- the total is of one of the first so many columns, and of at most so many rows
 abbrev pub is_of : ℕ → ℕ → Tally → Bool

@@ -10,7 +10,7 @@ ghost use Rattle.bw_model.specs.Row.{Value, values_of};
 ghost use Rattle.bw_model.specs.Selection.{selection as selected_by};
 ghost use Rattle.bw_model.specs.Total.{is_aggregate, item_within};
 ghost use Rattle.bw_model.specs.declared.query.Item.{Item};
-ghost use Rattle.bw_rows.specs.Prepared.{IsPreparedFrom};
+ghost use Rattle.bw_rowwise.specs.Prepared.{IsPreparedFrom};
 ghost use Rattle.bw_sql.specs.Items.{AreOfOneKind};
 ghost use Rattle.bw_answer.specs.Answer.{csv_text, is_count_all, lists_rows, meaning};
 ghost use Rattle.bw_answer.specs.AreOver.{AreOver, CountsRows};
@@ -26,7 +26,7 @@ use bw_lanes::Selection;
 use bw_model::{
     Fault, Item, Query, Row, RowTaker, Schema, admitted_rows_have_each_value, totals_join,
 };
-use bw_rows::{Accumulator, Prepared, keeps_all};
+use bw_rowwise::{Accumulator, Prepared, keeps_all};
 use bw_segment::Segment;
 use std::alloc::Global;
 

@@ -3,15 +3,15 @@ ghost use Rattle.std.specs.Prelude.{◌≡◌};
 ghost use Rattle.bw_model.specs.declared.cond.Cond.{Cond};
 ghost use Rattle.bw_model.specs.Cond.{is_kept};
 ghost use Rattle.bw_model.specs.Row.{values_of};
-ghost use Rattle.bw_rows.specs.Prepared.{IsPreparedFrom};
+ghost use Rattle.bw_rowwise.specs.Prepared.{IsPreparedFrom};
 
 use bw_model::{Row, Truth};
-use bw_rows::Prepared;
+use bw_rowwise::Prepared;
 
 /// Whether a condition is TRUE on a row: neither FALSE nor UNKNOWN will do.
 pub(crate) fn is_kept(cond: &Prepared, row: &Row) -> bool
     ensures { (asked : Cond) → IsPreparedFrom asked cond.now
         → result ≡ is_kept asked (values_of row.now) }
 {
-    cond.truth(row) == Truth::True
+    cond.truth(row) == Truth::Yes
 }

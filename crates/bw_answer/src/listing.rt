@@ -1,7 +1,7 @@
 //! The rows that a query lists, as records of the columns that its items name.
 ghost use Rattle.std.specs.Prelude.{◌≡◌, ◌+◌, ◌*◌, ◌<◌, ◌≤◌, ◌++◌, All, IsTrue, IfErr, IfOk, OnOk, length, map, vec_len};
 ghost use Rattle.std.specs.List.{list_all};
-ghost use Rattle.bw_rows.specs.Picked.{IsWithin, picked_rows};
+ghost use Rattle.bw_aggregate.specs.Picked.{IsWithin, picked_rows};
 ghost use Rattle.bw_lanes.specs.Lanes.{lanes_of_words};
 ghost use Rattle.bw_model.specs.Fault.{no_memory};
 ghost use Rattle.bw_model.specs.Row.{values_of};

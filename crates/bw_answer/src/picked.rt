@@ -3,10 +3,11 @@ ghost use Rattle.std.specs.Prelude.{◌≡◌, ◌+◌, ◌≤◌, IsTrue, All, 
 ghost use Rattle.bw_lanes.specs.Lanes.{lanes_of_words};
 ghost use Rattle.bw_model.specs.Limits.{most_rows};
 ghost use Rattle.bw_model.specs.Total.{item_within};
-ghost use Rattle.bw_rows.specs.Picked.{IsWithin, picked_rows, with_picked};
+ghost use Rattle.bw_aggregate.specs.Picked.{IsWithin, picked_rows, with_picked};
 
+use bw_aggregate::add_picked;
 use bw_lanes::Selection;
-use bw_rows::{Accumulator, add_picked};
+use bw_rowwise::Accumulator;
 use bw_segment::Segment;
 
 /// Adds the rows of a segment that a selection picks to each total.

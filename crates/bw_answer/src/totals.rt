@@ -7,8 +7,8 @@ ghost use Rattle.bw_model.specs.Limits.{most_rows};
 ghost use Rattle.bw_model.specs.Row.{Value, values_of};
 ghost use Rattle.bw_model.specs.Selection.{kept};
 ghost use Rattle.bw_model.specs.Total.{is_aggregate};
-ghost use Rattle.bw_rows.specs.Accumulator.{counted, tally_of};
-ghost use Rattle.bw_rows.specs.Prepared.{IsPreparedFrom};
+ghost use Rattle.bw_rowwise.specs.Accumulator.{counted, tally_of};
+ghost use Rattle.bw_rowwise.specs.Prepared.{IsPreparedFrom};
 ghost use Rattle.bw_answer.specs.Answer.{record_text, value_text};
 ghost use Rattle.bw_answer.specs.Draft.{Holds};
 ghost use Rattle.bw_answer.specs.Totals.{is_of, has_room};
@@ -16,7 +16,7 @@ ghost use Rattle.bw_answer.specs.Totals.{is_of, has_room};
 use crate::csv_text::CsvText;
 use crate::kept::is_kept;
 use bw_model::{Fault, Item, Query, Row};
-use bw_rows::{Accumulator, Prepared};
+use bw_rowwise::{Accumulator, Prepared};
 use std::alloc::Global;
 
 /// The totals over no rows, one for each aggregate among the items.

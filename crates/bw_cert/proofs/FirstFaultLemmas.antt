@@ -7,8 +7,8 @@ use Rattle.bw_model.specs.declared.fault.Fault.{Fault}
 use Rattle.bw_model.specs.Fault.{at_line, ◌>>=◌, refused_if}
 use Rattle.bw_diagram.specs.Facts.{Facts}
 use Rattle.bw_program.specs.declared.instr.Instr.{Instr}
-use Rattle.bw_cert_lines.specs.declared.lines.BodyLine.{BodyLine}
-use Rattle.bw_cert_lines.specs.declared.lines.Entry.TheVariants as line_of
+use Rattle.bw_cert_text.specs.declared.lines.BodyLine.{BodyLine}
+use Rattle.bw_cert_text.specs.declared.lines.Entry.TheVariants as line_of
 use Rattle.bw_cert_parts.specs.declared.edge.Edge.{Edge}
 use Rattle.bw_cert_parts.specs.Accepted.{KeepLine, JoinLines, Part, keep_line, join_lines, lines_of, before, edges_before, edge_at, fallen, past, known_past, kept_by, are_kept, obeys_join, Obeys}
 use Rattle.bw_cert_parts.specs.Instruction.{after}

@@ -3,8 +3,8 @@ use Rattle.std.proofs.Common.{◌≡◌, ◌∙◌, refl, sym, ap, ap₂, subst,
 use Rattle.std.proofs.lemmas.Option.{slice_get_within}
 use Rattle.bw_diagram.specs.Facts.{Facts}
 use Rattle.bw_program.specs.declared.instr.Instr.{Instr}
-use Rattle.bw_cert_lines.specs.declared.lines.BodyLine.{BodyLine}
-use Rattle.bw_cert_lines.specs.declared.lines.Entry.TheVariants as line_of
+use Rattle.bw_cert_text.specs.declared.lines.BodyLine.{BodyLine}
+use Rattle.bw_cert_text.specs.declared.lines.Entry.TheVariants as line_of
 use Rattle.bw_cert_parts.specs.declared.edge.Edge.{Edge}
 use Rattle.bw_cert_parts.specs.Accepted.{Part, join_lines, lines_of, before, edges_before, edge_at, fallen, known_or_nothing, past, known_past, obeys_join, Obeys}
 use Rattle.bw_cert_parts.specs.Instruction.{after}

@@ -8,10 +8,10 @@ use Rattle.bw_diagram.specs.declared.chain.ChainColumns.{ChainColumns}
 use Rattle.bw_diagram.specs.declared.chain.ChainColumns.TheVariants as words
 use Rattle.bw_diagram.specs.Chain.{chain_named, one_named, two_named}
 use Rattle.bw_diagram.specs.Facts.{Facts, no_facts, with_chain}
-use Rattle.bw_cert_lines.specs.declared.lines.BodyLine.{BodyLine}
-use Rattle.bw_cert_lines.specs.declared.lines.ChainLine.{ChainLine}
-use Rattle.bw_cert_lines.specs.CertificateFields.{CertificateFields, ChainFields, ColumnFields, BodyFields, One, Two, chain_fields, column_fields, body_fields, certificate_fields}
-use Rattle.bw_cert_lines.specs.CertificateShape.{CertificateShape}
+use Rattle.bw_cert_text.specs.declared.lines.BodyLine.{BodyLine}
+use Rattle.bw_cert_text.specs.declared.lines.ChainLine.{ChainLine}
+use Rattle.bw_cert_text.specs.CertificateFields.{CertificateFields, ChainFields, ColumnFields, BodyFields, One, Two, chain_fields, column_fields, body_fields, certificate_fields}
+use Rattle.bw_cert_text.specs.CertificateShape.{CertificateShape}
 use Rattle.bw_cert_parts.specs.declared.nodes.Pair.{Pair}
 use Rattle.bw_cert_parts.specs.Pair as pairs
 use Rattle.bw_cert_parts.specs.Known.{Known}

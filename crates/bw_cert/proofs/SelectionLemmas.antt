@@ -7,7 +7,7 @@ use Rattle.std.proofs.lemmas.List.{map-append}
 use Rattle.bw_model.proofs.BitsLemmas.{both}
 use Rattle.bw_model.specs.declared.column.Column.{Column}
 use Rattle.bw_model.specs.declared.cond.Cond.{Cond}
-use Rattle.bw_model.specs.declared.cond.Truth.TheVariants.{True}
+use Rattle.bw_model.specs.declared.cond.Truth.TheVariants.{Yes}
 use Rattle.bw_model.specs.Column.{admits_values}
 use Rattle.bw_model.specs.Cond.{truth_of, is_kept}
 use Rattle.bw_model.specs.Groups.{group_size, lanes_of, together}
@@ -25,14 +25,14 @@ Spelled columns = (values : List Value) → IsTrue (admits_values columns values
 
 -- whether a condition is TRUE on an assignment's row
 abbrev pub on_lane : List Column → Cond → Assignment → Bool
-on_lane columns cond assignment = is_truth (truth_of (row_of columns assignment) cond) True
+on_lane columns cond assignment = is_truth (truth_of (row_of columns assignment) cond) Yes
 
 rows_kept : (columns : List Column) (cond : Cond) (rows : List (List Value)) → Spelled columns → list_all (admits_values columns) rows ≡ true →
     map (on_lane columns cond) (map (λ row. assignment_of (bits_of columns row)) rows) ≡ map (is_kept cond) rows
 rows_kept columns cond [] spelled admitted = refl
 rows_kept columns cond (row ∷ rows) spelled admitted =
     let each = both (admits_values columns row) (list_all (admits_values columns) rows) admitted in
-    ap₂ (λ (b : Bool) (bs : List Bool). b ∷ bs) (ap (λ row. is_truth (truth_of row cond) True) (spelled row each.0)) (rows_kept columns cond rows spelled each.1)
+    ap₂ (λ (b : Bool) (bs : List Bool). b ∷ bs) (ap (λ row. is_truth (truth_of row cond) Yes) (spelled row each.0)) (rows_kept columns cond rows spelled each.1)
 
 -- the result register's lanes on a group: those of its rows, and others
 pub register_is : (columns : List Column) (cond : Cond) (program : ProgramShape) (rows : List (List Value)) → Selects columns cond program → Spelled columns → list_all (admits_values columns) rows ≡ true →

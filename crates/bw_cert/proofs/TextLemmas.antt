@@ -9,7 +9,7 @@ use Rattle.bw_model.specs.CondTree.{tree_of}
 use Rattle.bw_model.specs.Fault.{Gives}
 use Rattle.bw_model.specs.SchemaText.{SchemaShape, schema_shape, IsSchemaText}
 use Rattle.bw_program.specs.Program.{ProgramShape}
-use Rattle.bw_cert_lines.specs.CertificateShape.{CertificateShape}
+use Rattle.bw_cert_text.specs.CertificateShape.{CertificateShape}
 use Rattle.bw_sql.specs.Asked.{Asked, asked}
 use Rattle.bw_sql.specs.Statement.{Spells}
 use Rattle.bw_report.specs.declared.accepted.Accepted.{Accepted}

@@ -21,9 +21,9 @@ use Rattle.bw_diagram.specs.declared.product.Product.{Product}
 use Rattle.bw_diagram.specs.declared.product.Reason.{Reason}
 use Rattle.bw_program.specs.Program.{instr_fits}
 use Rattle.bw_program.specs.ProgramText.{found_on}
-use Rattle.bw_cert_lines.specs.declared.lines.BodyLine.{BodyLine}
-use Rattle.bw_cert_lines.specs.declared.lines.InstructionEntry.{InstructionEntry}
-use Rattle.bw_cert_lines.specs.CertificateShape.{CertificateShape}
+use Rattle.bw_cert_text.specs.declared.lines.BodyLine.{BodyLine}
+use Rattle.bw_cert_text.specs.declared.lines.InstructionEntry.{InstructionEntry}
+use Rattle.bw_cert_text.specs.CertificateShape.{CertificateShape}
 use Rattle.bw_cert_parts.specs.Instruction.{after, loaded_node, byte_chain, plane_on, byte_on}
 use Rattle.bw_cert_parts.specs.Join.{is_zero}
 use Rattle.bw_cert_parts.specs.Known.{Known, node_of}

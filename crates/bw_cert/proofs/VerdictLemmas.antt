@@ -9,8 +9,8 @@ use Rattle.bw_model.specs.Fault.{Gives, is_memory}
 use Rattle.bw_text.specs.Lines.{numbered_from}
 use Rattle.bw_program.specs.Program.{ProgramShape, is_skip}
 use Rattle.bw_program.specs.ProgramText.{program_on, program_of, IsProgramText}
-use Rattle.bw_cert_lines.specs.CertificateFields.{CertificateFields, chain_fields, certificate_fields}
-use Rattle.bw_cert_lines.specs.CertificateShape.{CertificateShape}
+use Rattle.bw_cert_text.specs.CertificateFields.{CertificateFields, chain_fields, certificate_fields}
+use Rattle.bw_cert_text.specs.CertificateShape.{CertificateShape}
 use Rattle.bw_cert_text.specs.CertificateText.{certificate_from, certificate_of, IsCertificateText}
 use Rattle.bw_cert.specs.Valid.{Valid, checked}
 use Rattle.bw_report.specs.declared.accepted.Accepted.{Accepted}

@@ -5,7 +5,7 @@ use Rattle.bw_model.specs.declared.query.Query.{Query}
 use Rattle.bw_model.specs.declared.schema.Schema.{Schema}
 use Rattle.bw_model.specs.SchemaText.{schema_of, schema_shape, IsSchemaText}
 use Rattle.bw_program.specs.Program.{ProgramShape}
-use Rattle.bw_cert_lines.specs.CertificateShape.{CertificateShape}
+use Rattle.bw_cert_text.specs.CertificateShape.{CertificateShape}
 use Rattle.bw_sql.specs.Statement.{IsReadAs}
 use Rattle.bw_report.specs.declared.accepted.Accepted.{Accepted}
 use Rattle.bw_cert.specs.Judged.{Certifies, IsFileFault, counted}

@@ -1,14 +1,14 @@
 -- The first fault in the lines of a program's instructions and joins, by what stands before it: the lines of parts that
 -- obey. No walk over the lines is in `FirstFault`; `StandsOn` says of the walk that it looks no further.
 use Rattle.std.specs.Prelude.{◌≡◌, ◌<◌, ◌⊎◌, ℕ, suc, false, IsTrue, List, [], ◌∷◌, ◌++◌, length, map, Some, None, Ok, Err, slice_get, ⊤}
-use Rattle.bw_model.specs.declared.fault.code.TheConstants.{INSTRUCTION_LINE, JOIN}
+use Rattle.bw_model.specs.FaultTable.{INSTRUCTION_LINE, JOIN}
 use Rattle.bw_model.specs.declared.fault.Fault.{Fault}
 use Rattle.bw_model.specs.Fault.{at_line}
 use Rattle.bw_diagram.specs.Facts.{Facts}
 use Rattle.bw_program.specs.declared.instr.Instr.{Instr}
-use Rattle.bw_cert_lines.specs.declared.lines.BodyLine.{BodyLine}
-use Rattle.bw_cert_lines.specs.declared.lines.Entry.TheVariants as line_of
-use Rattle.bw_cert_lines.specs.declared.lines.InstructionEntry.{InstructionEntry}
+use Rattle.bw_cert_text.specs.declared.lines.BodyLine.{BodyLine}
+use Rattle.bw_cert_text.specs.declared.lines.Entry.TheVariants as line_of
+use Rattle.bw_cert_text.specs.declared.lines.InstructionEntry.{InstructionEntry}
 use Rattle.bw_cert_parts.specs.declared.edge.Edge.{Edge}
 use Rattle.bw_cert_parts.specs.Accepted.{KeepLine, JoinLines, Part, Obeys, keep_line, lines_of, before, edges_before, are_kept}
 use Rattle.bw_cert_parts.specs.Instruction.{after}

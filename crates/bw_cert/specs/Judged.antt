@@ -1,14 +1,14 @@
 -- What a program file is judged as, under a schema's columns and for a condition.
 use Rattle.std.specs.Prelude.{◌≡◌, ◌≤◌, ◌<◌, ℕ, List, length, count_by, Err, Bool, ◌&&◌, ◌||◌, nat_le}
-use Rattle.bw_model.specs.declared.fault.code.TheConstants.{PROGRAM_FORM, PROGRAM_FILE_TOO_LONG, NODE, END}
+use Rattle.bw_model.specs.FaultTable.{PROGRAM_FORM, PROGRAM_FILE_TOO_LONG, NODE, END}
 use Rattle.bw_model.specs.declared.column.Column.{Column}
 use Rattle.bw_model.specs.declared.cond.Cond.{Cond}
 use Rattle.bw_model.specs.declared.fault.Fault.{Fault}
 use Rattle.bw_model.specs.Fault.{is_memory, nowhere}
 use Rattle.bw_program.specs.Program.{ProgramShape, is_skip}
 use Rattle.bw_program.specs.ProgramText.{program_of, IsProgramText}
-use Rattle.bw_cert_lines.specs.CertificateFields.{certificate_fields}
-use Rattle.bw_cert_lines.specs.CertificateShape.{CertificateShape}
+use Rattle.bw_cert_text.specs.CertificateFields.{certificate_fields}
+use Rattle.bw_cert_text.specs.CertificateShape.{CertificateShape}
 use Rattle.bw_cert_text.specs.CertificateText.{certificate_of, IsCertificateText}
 use Rattle.bw_cert.specs.Valid.{Valid, checked}
 use Rattle.bw_report.specs.declared.accepted.Accepted.{Accepted}

@@ -3,7 +3,7 @@ use Rattle.std.specs.Prelude.{◌≡◌, Bool, List, map, take, length}
 use Rattle.std.specs.List.{flat_map}
 use Rattle.bw_model.specs.declared.column.Column.{Column}
 use Rattle.bw_model.specs.declared.cond.Cond.{Cond}
-use Rattle.bw_model.specs.declared.cond.Truth.TheVariants.{True}
+use Rattle.bw_model.specs.declared.cond.Truth.TheVariants.{Yes}
 use Rattle.bw_model.specs.Cond.{truth_of}
 use Rattle.bw_model.specs.Groups.{groups_of, lanes_of}
 use Rattle.bw_model.specs.Row.{Value}
@@ -17,7 +17,7 @@ use Rattle.bw_program.specs.Program.{ProgramShape}
 abbrev pub Selects : List Column → Cond → ProgramShape → Type 0
 Selects columns cond program =
     (lanes : List Assignment) → (end_state columns lanes program).registers program.result
-    ≡ map (λ assignment. is_truth (truth_of (row_of columns assignment) cond) True) lanes
+    ≡ map (λ assignment. is_truth (truth_of (row_of columns assignment) cond) Yes) lanes
 
 -- whether a program selects each row of a group: the first lanes of its result register, by the segment machine on the
 -- group's lanes

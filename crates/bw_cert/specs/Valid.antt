@@ -1,7 +1,7 @@
 -- When a certificate shows that a scan program selects what a condition does, and which line is the first that breaks a
 -- rule.
 use Rattle.std.specs.Prelude.{◌≡◌, ℕ, List, [], ◌∷◌, length, false, Some, Result, Ok, Err, not, IsTrue, Bool, ◌&&◌, ◌||◌, nat_le}
-use Rattle.bw_model.specs.declared.fault.code.TheConstants.{CONDITION_LINE, REGISTER_UNKNOWN, END}
+use Rattle.bw_model.specs.FaultTable.{CONDITION_LINE, REGISTER_UNKNOWN, END}
 use Rattle.bw_model.specs.declared.column.Column.{Column}
 use Rattle.bw_model.specs.declared.cond.Cond.{Cond}
 use Rattle.bw_model.specs.declared.fault.Fault.{Fault}
@@ -11,8 +11,8 @@ use Rattle.bw_diagram.specs.Cited.{cited}
 use Rattle.bw_diagram.specs.Facts.{Facts, is_diagram_fault}
 use Rattle.bw_program.specs.Program.{ProgramShape}
 use Rattle.bw_program.specs.ProgramText.{found_on}
-use Rattle.bw_cert_lines.specs.declared.lines.BodyLine.{BodyLine}
-use Rattle.bw_cert_lines.specs.CertificateShape.{CertificateShape}
+use Rattle.bw_cert_text.specs.declared.lines.BodyLine.{BodyLine}
+use Rattle.bw_cert_text.specs.CertificateShape.{CertificateShape}
 use Rattle.bw_cert_parts.specs.declared.nodes.Pair.{Pair}
 use Rattle.bw_cert_parts.specs.Pair.{pair_of}
 use Rattle.bw_cert_parts.specs.Accepted.{Part, Obeys, before, lines_of}

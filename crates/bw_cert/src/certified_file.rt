@@ -4,14 +4,14 @@ ghost use Rattle.bw_model.specs.Cond.{names_within};
 ghost use Rattle.bw_model.specs.CondTree.{tree_of};
 ghost use Rattle.bw_model.specs.Fault.{Gives, is_memory};
 ghost use Rattle.bw_program.specs.Program.{ProgramShape};
-ghost use Rattle.bw_cert_lines.specs.CertificateShape.{CertificateShape};
+ghost use Rattle.bw_cert_text.specs.CertificateShape.{CertificateShape};
 ghost use Rattle.bw_cert.specs.Judged.{Certifies, IsFileFault, counted, is_file_fault, told, told_of};
 
 use crate::certified::Certified;
 use crate::checker::check;
 use crate::file_laws::one_verdict;
 use crate::program_file::{MAX_PROGRAM_FILE_LEN, split_file};
-use bw_cert_text::parse_certificate;
+use bw_cert_text::Certificate;
 use bw_model::{Cond, Fault, Schema, code};
 use bw_program::Program;
 use bw_report::Accepted;
@@ -85,7 +85,7 @@ fn judge_file(
     }
     let parts = split_file(file);
     let program = Program::parse(alloc, schema, parts.program)?;
-    let certificate = parse_certificate(alloc, parts.first_line, parts.certificate)?;
+    let certificate = Certificate::parse(alloc, parts.first_line, parts.certificate)?;
     match check(alloc, schema, condition, program, &certificate) {
         Ok(certified) => {
             let accepted = Accepted {
@@ -93,7 +93,7 @@ fn judge_file(
                 skips: certified.program().skips(),
                 nodes: certificate.nodes(),
                 chains: certificate.chains(),
-                rows: certificate.products(),
+                rows: certificate.rows(),
             };
             Ok(CertifiedFile {
                 certified,

@@ -4,7 +4,7 @@ ghost use Rattle.bw_model.specs.Cond.{names_within};
 ghost use Rattle.bw_model.specs.CondTree.{tree_of};
 ghost use Rattle.bw_model.specs.Fault.{Gives, is_memory};
 ghost use Rattle.bw_program.specs.Program.{ProgramShape};
-ghost use Rattle.bw_cert_lines.specs.CertificateShape.{CertificateShape};
+ghost use Rattle.bw_cert_text.specs.CertificateShape.{CertificateShape};
 ghost use Rattle.bw_cert.specs.CheckText.{IsAccepted, IsCheckFault};
 ghost use Rattle.bw_report.specs.declared.accepted.Accepted.{Accepted as Numbers};
 ghost use Rattle.bw_cert.specs.Judged.{Certifies, IsFileFault, counted};

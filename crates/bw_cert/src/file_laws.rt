@@ -5,8 +5,8 @@ ghost use Rattle.bw_model.specs.declared.cond.Cond.{Cond};
 ghost use Rattle.bw_model.specs.declared.fault.Fault.{Fault};
 ghost use Rattle.bw_model.specs.CondTree.{tree_of};
 ghost use Rattle.bw_program.specs.Program.{ProgramShape};
-ghost use Rattle.bw_cert_lines.specs.CertificateFields.{certificate_fields};
-ghost use Rattle.bw_cert_lines.specs.CertificateShape.{CertificateShape};
+ghost use Rattle.bw_cert_text.specs.CertificateFields.{certificate_fields};
+ghost use Rattle.bw_cert_text.specs.CertificateShape.{CertificateShape};
 ghost use Rattle.bw_cert.specs.Judged.{Certifies, IsFileFault};
 
 use crate::laws::{certificates_are_judged_by_what_they_say, valid_exactly_where_checked};

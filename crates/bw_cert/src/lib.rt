@@ -2,7 +2,8 @@
 //! which its condition is TRUE, on every table of the schema, early skips included.
 //!
 //! The contract that the crates above use: [`check`] answers a [`Certified`] exactly where a
-//! certificate is valid, as `specs/Valid.antt` says, and else the first line that breaks a rule;
+//! [`Certificate`], which `bw_cert_text` reads and prints, is valid, as `specs/Valid.antt` says,
+//! and else the first line that breaks a rule;
 //! [`Certified::run_segment`] gives, for each row of a segment, whether the condition is TRUE on
 //! it. Of a program file, which is the text of both, [`certify`] answers the same exactly where the
 //! file spells a program and a certificate that is valid for it and the condition, and else the
@@ -22,6 +23,7 @@ mod laws;
 mod program_file;
 mod stated;
 
+pub use bw_cert_text::Certificate;
 pub use certified::Certified;
 pub use certified_file::{CertifiedFile, certify};
 pub use check_call::check_text;

@@ -1,5 +1,5 @@
 //! The parts of a program file.
-ghost use Rattle.std.specs.Prelude.{◌≡◌, ◌≤◌, ◌<◌, ◌^◌, ◌+◌, length};
+ghost use Rattle.std.specs.Prelude.{◌≡◌, ◌≤◌, ◌+◌, length};
 ghost use Rattle.bw_cert.specs.ProgramFile.{IsCut, divides};
 
 use bw_text::{Lines, is_same_text, only_word};
@@ -20,7 +20,6 @@ pub struct ProgramFile<'a> {
 /// is the program text, and the certificate text is empty, its first line being the one after the last. It takes no
 /// memory.
 pub fn split_file(file: &[u8]) -> ProgramFile<'_>
-    requires { length file.now < 2 ^ 63 }
     ensures cut { IsCut file.now result.program.now result.certificate.now result.first_line }
     ensures first { (1 ≤ result.first_line) × (result.first_line ≤ length file.now + 1) }
     ensures shorter { length result.program.now ≤ length file.now }

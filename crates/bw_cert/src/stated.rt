@@ -5,7 +5,7 @@ ghost use Rattle.bw_model.specs.Fault.{Gives, is_memory, at_line, no_memory};
 ghost use Rattle.bw_diagram.specs.Facts.{is_diagram_fault};
 ghost use Rattle.bw_cert.specs.Stated.{facts_stated, with_lines, with_node_line, with_chain_line, with_product_line};
 
-use bw_cert_lines::{Certificate, ChainLine, NodeLine, ProductLine};
+use bw_cert_text::{Certificate, ChainLine, NodeLine, ProductLine};
 use bw_diagram::Diagram;
 use bw_model::{Fault, Place, Schema, code};
 use std::alloc::Global;
@@ -70,7 +70,7 @@ fn add_products(diagram: &mut Diagram<'_>, lines: &[ProductLine]) -> Result<(), 
     ensures code { IfErr result (λ fault. IsTrue (is_diagram_fault fault)) }
 {
     for line in lines {
-        match diagram.add_product(line.n, line.op, line.a, line.b, line.c, line.reason) {
+        match diagram.add_row(line.n, line.op, line.a, line.b, line.c, line.reason) {
             Ok(()) => {}
             Err(fault) => return Err(placed(fault, line.line)),
         }

@@ -10,7 +10,7 @@ use Rattle.bw_model.specs.declared.cond.Op.TheVariants.{Eq, Ne, Lt, Gt, Le, Ge}
 use Rattle.bw_model.specs.declared.cond.Operand.{Operand}
 use Rattle.bw_model.specs.declared.cond.Operand.TheVariants.{Col, Lit, Null}
 use Rattle.bw_model.specs.declared.cond.Truth.{Truth}
-use Rattle.bw_model.specs.declared.cond.Truth.TheVariants.{False, Unknown, True}
+use Rattle.bw_model.specs.declared.cond.Truth.TheVariants.{No, Unknown, Yes}
 use Rattle.bw_model.specs.Code.{width_at, value_at}
 use Rattle.bw_model.specs.Cond.{operand_value, is_within}
 use Rattle.bw_model.specs.Row.{Value, value_in}
@@ -26,8 +26,8 @@ use Rattle.bw_diagram.specs.Chain.{compares, padded_number, first_node}
 use Rattle.bw_diagram.specs.Cited.{AreWorth, cited, chain_cited, two_cited}
 use Rattle.bw_diagram.specs.Facts.{Facts}
 use Rattle.bw_diagram.proofs.ChainLemmas.{padded_number-whole, number_spelled-whole}
-use Rattle.bw_cert_lines.specs.declared.lines.ConditionEntry.{ConditionEntry}
-use Rattle.bw_cert_lines.specs.declared.lines.ConditionEntry.TheVariants.{Compare, CompareColumns, Fixed}
+use Rattle.bw_cert_text.specs.declared.lines.ConditionEntry.{ConditionEntry}
+use Rattle.bw_cert_text.specs.declared.lines.ConditionEntry.TheVariants.{Compare, CompareColumns, Fixed}
 use Rattle.bw_cert_parts.specs.declared.nodes.Pair.{Pair}
 use Rattle.bw_cert_parts.specs.declared.comparison.Bound.{Bound}
 use Rattle.bw_cert_parts.specs.declared.comparison.Order.{Order}
@@ -38,27 +38,27 @@ use Rattle.bw_cert_parts.proofs.NumberLemmas.{compares_to, turned_bit, lt_low, l
 use Rattle.bw_cert_parts.proofs.RowLemmas.{Worth, zero_worth, one_worth, worth_so, if_both-is, cited-worth, has_value, value_node-worth}
 
 -- a pair whose nodes are worth this tells it
-pub tells_by : (nodes : List Node) (truth : Assignment → Truth) (pair : Pair) → Worth nodes (λ assignment. is_truth (truth assignment) True) pair.yes → Worth nodes (λ assignment. is_truth (truth assignment) False) pair.no → Tells nodes truth pair
+pub tells_by : (nodes : List Node) (truth : Assignment → Truth) (pair : Pair) → Worth nodes (λ assignment. is_truth (truth assignment) Yes) pair.yes → Worth nodes (λ assignment. is_truth (truth assignment) No) pair.no → Tells nodes truth pair
 tells_by nodes truth pair t f = record { yes_node = t.is_node; no_node = f.is_node; yes = t.worth; no = f.worth }
 
-pub tells_yes : (nodes : List Node) (truth : Assignment → Truth) (pair : Pair) → Tells nodes truth pair → Worth nodes (λ assignment. is_truth (truth assignment) True) pair.yes
+pub tells_yes : (nodes : List Node) (truth : Assignment → Truth) (pair : Pair) → Tells nodes truth pair → Worth nodes (λ assignment. is_truth (truth assignment) Yes) pair.yes
 tells_yes nodes truth pair t = record { is_node = t.yes_node; worth = t.yes }
 
-pub tells_no : (nodes : List Node) (truth : Assignment → Truth) (pair : Pair) → Tells nodes truth pair → Worth nodes (λ assignment. is_truth (truth assignment) False) pair.no
+pub tells_no : (nodes : List Node) (truth : Assignment → Truth) (pair : Pair) → Tells nodes truth pair → Worth nodes (λ assignment. is_truth (truth assignment) No) pair.no
 tells_no nodes truth pair t = record { is_node = t.no_node; worth = t.no }
 
 pub tells_so : (nodes : List Node) (truth other : Assignment → Truth) (pair : Pair) → ((assignment : Assignment) → truth assignment ≡ other assignment) → Tells nodes truth pair → Tells nodes other pair
 tells_so nodes truth other pair same t = record {
   yes_node = t.yes_node;
   no_node = t.no_node;
-  yes = λ assignment. t.yes assignment ∙ ap (λ v. is_truth v True) (same assignment);
-  no = λ assignment. t.no assignment ∙ ap (λ v. is_truth v False) (same assignment);
+  yes = λ assignment. t.yes assignment ∙ ap (λ v. is_truth v Yes) (same assignment);
+  no = λ assignment. t.no assignment ∙ ap (λ v. is_truth v No) (same assignment);
 }
 
 -- a step with one truth
 constant_tells : (nodes : List Node) (truth : Truth) → Tells nodes (λ assignment. truth) (constant_pair truth)
-constant_tells nodes True = tells_by nodes (λ assignment. True) (constant_pair True) (one_worth nodes) (zero_worth nodes)
-constant_tells nodes False = tells_by nodes (λ assignment. False) (constant_pair False) (zero_worth nodes) (one_worth nodes)
+constant_tells nodes Yes = tells_by nodes (λ assignment. Yes) (constant_pair Yes) (one_worth nodes) (zero_worth nodes)
+constant_tells nodes No = tells_by nodes (λ assignment. No) (constant_pair No) (zero_worth nodes) (one_worth nodes)
 constant_tells nodes Unknown = tells_by nodes (λ assignment. Unknown) (constant_pair Unknown) (zero_worth nodes) (zero_worth nodes)
 
 -- the same by its line
@@ -184,22 +184,22 @@ module _ (facts : Facts) (are_worth : AreWorth facts) where
       f_worth : (made : Pair) → if_both (cited facts And m e p) (cited facts Diff m e q) ≡ Some made → Worth facts.nodes (λ assignment. there assignment && not (bit assignment)) made.no
       f_worth made is = cited-worth facts are_worth Diff m e made.no q there bit (m_worth m refl) (e_worth e refl) (if_both-is _ _ made is).1
 
-      both_yes : (there bit : Bool) → (there && bit) ≡ is_truth (split_truth false there bit) True
+      both_yes : (there bit : Bool) → (there && bit) ≡ is_truth (split_truth false there bit) Yes
       both_yes true true = refl
       both_yes true false = refl
       both_yes false bit = refl
 
-      both_no : (there bit : Bool) → (there && not bit) ≡ is_truth (split_truth false there bit) False
+      both_no : (there bit : Bool) → (there && not bit) ≡ is_truth (split_truth false there bit) No
       both_no true true = refl
       both_no true false = refl
       both_no false bit = refl
 
-      turned_yes : (there bit : Bool) → (there && not bit) ≡ is_truth (split_truth true there bit) True
+      turned_yes : (there bit : Bool) → (there && not bit) ≡ is_truth (split_truth true there bit) Yes
       turned_yes true true = refl
       turned_yes true false = refl
       turned_yes false bit = refl
 
-      turned_no : (there bit : Bool) → (there && bit) ≡ is_truth (split_truth true there bit) False
+      turned_no : (there bit : Bool) → (there && bit) ≡ is_truth (split_truth true there bit) No
       turned_no true true = refl
       turned_no true false = refl
       turned_no false bit = refl

@@ -2,7 +2,7 @@
 use Rattle.std.proofs.Common.{◌≡◌, ◌∙◌, ℕ, List, [], ◌∷◌, map, Vec, Box, Global, sym, ap}
 use Rattle.bw_model.specs.declared.column.Column.{Column}
 use Rattle.bw_model.specs.declared.cond.Truth.{Truth}
-use Rattle.bw_model.specs.declared.cond.Truth.TheVariants.{True}
+use Rattle.bw_model.specs.declared.cond.Truth.TheVariants.{Yes}
 use Rattle.bw_model.specs.declared.cond.Op.{Op}
 use Rattle.bw_model.specs.declared.cond.Op.TheVariants.{Le, Ge}
 use Rattle.bw_model.specs.declared.cond.Operand.{Operand}
@@ -10,13 +10,13 @@ use Rattle.bw_model.specs.declared.cond.Cond.{Cond, Cond-F, fold-roll-Cond}
 use Rattle.bw_model.specs.declared.cond.Cond.TheVariants.{Always, Cmp, Between, Among, IsNull, And, Or, Not, Test, rolls-Always, rolls-Cmp, rolls-Between, rolls-Among, rolls-IsNull, rolls-And, rolls-Or, rolls-Not, rolls-Test}
 use Rattle.bw_model.specs.Fault.{◌>>=◌}
 use Rattle.bw_diagram.specs.Facts.{Facts}
-use Rattle.bw_cert_lines.specs.declared.lines.BodyLine.{BodyLine}
+use Rattle.bw_cert_text.specs.declared.lines.BodyLine.{BodyLine}
 use Rattle.bw_cert_parts.specs.declared.steps.Junction.TheVariants.{All, Any}
 use Rattle.bw_cert_parts.specs.Comparison.{fixed, comparison}
 use Rattle.bw_cert_parts.specs.Pair.{Reading, by_line, is_null_test, negated_pair, tested_pair, joined_parts, equations, pair_step, pair_of}
 
 module _ (columns : List Column) (facts : Facts) (end : ℕ) where
-  pub pair_of-Always : (lines : List BodyLine) → pair_of columns facts end Always lines ≡ by_line end (fixed True) lines
+  pub pair_of-Always : (lines : List BodyLine) → pair_of columns facts end Always lines ≡ by_line end (fixed Yes) lines
   unfolding pair_of
   pair_of-Always lines = ap (λ cond. pair_of columns facts end cond lines) (sym rolls-Always) ∙ ap (λ reader. reader lines) (fold-roll-Cond (List BodyLine → Reading) (pair_step columns facts end) Cond-F.Always)
 

@@ -8,12 +8,12 @@ use Rattle.bw_diagram.specs.Facts.{Facts}
 use Rattle.bw_diagram.specs.Cited.{cited}
 use Rattle.bw_program.specs.declared.instr.Instr.{Instr}
 use Rattle.bw_text.specs.Register.{is_register}
-use Rattle.bw_cert_lines.specs.declared.lines.BodyLine.{BodyLine}
-use Rattle.bw_cert_lines.specs.declared.lines.EdgeProducts.{EdgeProducts}
-use Rattle.bw_cert_lines.specs.declared.lines.Entry.{Entry}
-use Rattle.bw_cert_lines.specs.declared.lines.Entry.TheVariants as entry
-use Rattle.bw_cert_lines.specs.declared.lines.Keep.{Keep}
-use Rattle.bw_cert_lines.specs.CertificateFields.{BodyFields, EntryFields, KeepFields, Condition, Instruction, Join, Kept, body_fields, entry_fields, keep_fields}
+use Rattle.bw_cert_text.specs.declared.lines.BodyLine.{BodyLine}
+use Rattle.bw_cert_text.specs.declared.lines.EdgeProducts.{EdgeProducts}
+use Rattle.bw_cert_text.specs.declared.lines.Entry.{Entry}
+use Rattle.bw_cert_text.specs.declared.lines.Entry.TheVariants as entry
+use Rattle.bw_cert_text.specs.declared.lines.Keep.{Keep}
+use Rattle.bw_cert_text.specs.CertificateFields.{BodyFields, EntryFields, KeepFields, Condition, Instruction, Join, Kept, body_fields, entry_fields, keep_fields}
 use Rattle.bw_cert_parts.specs.declared.edge.Edge.{Edge}
 use Rattle.bw_cert_parts.specs.Instruction.{after}
 use Rattle.bw_cert_parts.specs.Join.{edge_of, with_edge, edges_into, is_zero, keeps_by_skip, keeps_by_skips, is_kept}

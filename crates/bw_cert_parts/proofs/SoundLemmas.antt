@@ -16,8 +16,8 @@ use Rattle.bw_program.specs.declared.instr.Instr.{Instr}
 use Rattle.bw_program.specs.declared.instr.Instr.TheVariants.{Load, Nulls, Fill, And, Or, Xor, Not, ByteLt, ByteEq, Skip}
 use Rattle.bw_program.specs.Machine.{State, step, step_of, state_after, steps_from, after_skip, is_zero_in_all, end_state}
 use Rattle.bw_program.specs.Program.{ProgramShape, is_sound, are_sound, is_program}
-use Rattle.bw_cert_lines.specs.declared.lines.EdgeProducts.{EdgeProducts}
-use Rattle.bw_cert_lines.specs.declared.lines.Keep.{Keep}
+use Rattle.bw_cert_text.specs.declared.lines.EdgeProducts.{EdgeProducts}
+use Rattle.bw_cert_text.specs.declared.lines.Keep.{Keep}
 use Rattle.bw_cert_parts.specs.declared.edge.Edge.{Edge}
 use Rattle.bw_cert_parts.specs.Accepted.{KeepLine, JoinLines, Part, before, edges_before, edge_at, fallen, past, known_past, kept_by, are_kept, obeys_join, Obeys}
 use Rattle.bw_cert_parts.specs.Join.{with_edge, edges_into, is_zero, is_kept, keeps_through, keeps_by_skip, keeps_by_skips}

@@ -20,7 +20,7 @@ use Rattle.bw_program.specs.declared.instr.Instr.TheVariants.{Load, Nulls, Fill,
 use Rattle.bw_program.specs.Machine.{State, in_lanes, differ, step, after_skip, is_zero_in_all}
 use Rattle.bw_program.specs.Program.{instr_fits}
 use Rattle.bw_program.specs.ProgramText.{found_on}
-use Rattle.bw_cert_lines.specs.declared.lines.InstructionEntry.{InstructionEntry}
+use Rattle.bw_cert_text.specs.declared.lines.InstructionEntry.{InstructionEntry}
 use Rattle.bw_cert_parts.specs.Instruction.{loaded_node, operation_row, byte_chain, is_fill, is_skip_line, terminal, plane_on, operation_on, read_on, joined_on, opposite_on, past_node, byte_node, byte_on, after}
 use Rattle.bw_cert_parts.specs.Known.{Known}
 use Rattle.bw_cert_parts.specs.Sound.{Hold}

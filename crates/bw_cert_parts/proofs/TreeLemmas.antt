@@ -2,7 +2,7 @@
 use Rattle.std.proofs.Common.{◌≡◌, ◌∙◌, refl, sym, ap, ap₂, ℕ, List, [], ◌∷◌, map, Option, Some, None, Ok, Err}
 use Rattle.std.specs.Option.{option_and_then}
 use Rattle.bw_model.specs.declared.column.Column.{Column}
-use Rattle.bw_model.specs.declared.cond.Truth.TheVariants.{True}
+use Rattle.bw_model.specs.declared.cond.Truth.TheVariants.{Yes}
 use Rattle.bw_model.specs.declared.cond.Op.TheVariants.{Eq, Le, Ge}
 use Rattle.bw_model.specs.declared.cond.Operand.{Operand}
 use Rattle.bw_model.specs.declared.cond.Cond.{Cond, Cond-F, fold-Cond}
@@ -12,11 +12,11 @@ use Rattle.bw_model.specs.CondTree as tree
 use Rattle.bw_model.specs.Fault.{at_line, ◌>>=◌}
 use Rattle.bw_model.proofs.SameLemmas.{Known, bare, of_tree}
 use Rattle.bw_diagram.specs.Facts.{Facts}
-use Rattle.bw_cert_lines.specs.declared.lines.BodyLine.{BodyLine}
-use Rattle.bw_cert_lines.specs.declared.lines.ConditionEntry.{ConditionEntry}
-use Rattle.bw_cert_lines.specs.declared.lines.Entry.{Entry}
-use Rattle.bw_cert_lines.specs.declared.lines.Entry.TheVariants as entry
-use Rattle.bw_cert_lines.specs.CertificateFields.{BodyFields, EntryFields, Condition, Instruction, Join, Kept, body_fields, entry_fields}
+use Rattle.bw_cert_text.specs.declared.lines.BodyLine.{BodyLine}
+use Rattle.bw_cert_text.specs.declared.lines.ConditionEntry.{ConditionEntry}
+use Rattle.bw_cert_text.specs.declared.lines.Entry.{Entry}
+use Rattle.bw_cert_text.specs.declared.lines.Entry.TheVariants as entry
+use Rattle.bw_cert_text.specs.CertificateFields.{BodyFields, EntryFields, Condition, Instruction, Join, Kept, body_fields, entry_fields}
 use Rattle.bw_cert_parts.specs.declared.nodes.Pair.{Pair}
 use Rattle.bw_cert_parts.specs.declared.steps.Junction.{Junction}
 use Rattle.bw_cert_parts.specs.declared.steps.Junction.TheVariants.{All, Any}
@@ -118,7 +118,7 @@ module _ (columns : List Column) (facts : Facts) (end : ℕ) where
   -- what a condition's lines are read as, by its tree
   abbrev mutual
     pub tree_pair : CondTree → List BodyLine → Reading
-    tree_pair tree.Always lines = by_line end (fixed True) lines
+    tree_pair tree.Always lines = by_line end (fixed Yes) lines
     tree_pair (tree.Cmp op x y) lines = by_line end (comparison columns facts op x y) lines
     tree_pair (tree.Between x y z) lines =
         joined_parts columns facts end All (by_line end (comparison columns facts Ge x y) ∷ by_line end (comparison columns facts Le x z) ∷ []) lines
@@ -135,7 +135,7 @@ module _ (columns : List Column) (facts : Facts) (end : ℕ) where
 
   mutual
     pub tree-steady : (t : CondTree) → Steady (tree_pair t)
-    tree-steady tree.Always = by_line-steady end (fixed True)
+    tree-steady tree.Always = by_line-steady end (fixed Yes)
     tree-steady (tree.Cmp op x y) = by_line-steady end (comparison columns facts op x y)
     tree-steady (tree.Between x y z) =
         joined-steady All (by_line end (comparison columns facts Ge x y) ∷ by_line end (comparison columns facts Le x z) ∷ [])

@@ -7,7 +7,7 @@ use Rattle.bw_model.specs.declared.cond.Op.{Op}
 use Rattle.bw_model.specs.declared.cond.Op.TheVariants.{Eq, Le, Ge}
 use Rattle.bw_model.specs.declared.cond.Operand.{Operand}
 use Rattle.bw_model.specs.declared.cond.Truth.{Truth}
-use Rattle.bw_model.specs.declared.cond.Truth.TheVariants.{True}
+use Rattle.bw_model.specs.declared.cond.Truth.TheVariants.{Yes}
 use Rattle.bw_model.specs.declared.cond.Cond.{Cond, Cond-F, fold-roll-Cond, roll-Cond, ind-Cond}
 use Rattle.bw_model.specs.declared.cond.Cond.TheFolds.{map-Cond}
 use Rattle.bw_model.specs.Cond.{operand_value, is_within, truth_of, truth_step, names_within, within_step}
@@ -17,7 +17,7 @@ use Rattle.bw_model.specs.Variable.{Assignment, row_of}
 use Rattle.bw_model.proofs.BitsLemmas.{both}
 use Rattle.bw_diagram.specs.Cited.{AreWorth}
 use Rattle.bw_diagram.specs.Facts.{Facts}
-use Rattle.bw_cert_lines.specs.declared.lines.BodyLine.{BodyLine}
+use Rattle.bw_cert_text.specs.declared.lines.BodyLine.{BodyLine}
 use Rattle.bw_cert_parts.specs.declared.nodes.Pair.{Pair}
 use Rattle.bw_cert_parts.specs.declared.steps.Junction.{Junction}
 use Rattle.bw_cert_parts.specs.declared.steps.Junction.TheVariants.{All, Any}
@@ -27,13 +27,13 @@ use Rattle.bw_cert_parts.specs.Pair.{Reading, by_line, is_null_test, negated_pai
 use Rattle.bw_cert_parts.proofs.ComparisonLemmas.{tells_so, fixed-tells, comparison-tells}
 use Rattle.bw_cert_parts.proofs.TruthStepLemmas.{IsSound, truth_of_all, by_line-sound, after_part-sound, joined_parts-sound, negated_pair-tells, tested_pair-tells, is_null_test-tells}
 
-least-yes : (a b : Truth) → least a (least b True) ≡ least a b
+least-yes : (a b : Truth) → least a (least b Yes) ≡ least a b
 least-yes a b = ap (least a) (by_truth b)
   where
-    by_truth : (b : Truth) → least b True ≡ b
-    by_truth Truth.False = refl
+    by_truth : (b : Truth) → least b Yes ≡ b
+    by_truth Truth.No = refl
     by_truth Truth.Unknown = refl
-    by_truth Truth.True = refl
+    by_truth Truth.Yes = refl
 
 module _ (facts : Facts) (are_worth : AreWorth facts) (end : ℕ) where
   abbrev row : Assignment → List Value
@@ -98,7 +98,7 @@ module _ (facts : Facts) (are_worth : AreWorth facts) (end : ℕ) where
   -- a condition, from its parts
   layer-sound : (layer : Cond-F Known) → within_step (length facts.columns) (map-Cond Cond Bool names (bare layer)) ≡ true →
       IsSound facts are_worth (pair_step facts.columns facts end (map-Cond Cond (List BodyLine → Reading) reader (bare layer))) (λ assignment. truth_step (row assignment) (map-Cond Cond Truth (truth_of (row assignment)) (bare layer)))
-  layer-sound Cond-F.Always pass = by_line-sound facts are_worth end (fixed True) _ (λ entry pair is. fixed-tells facts.nodes True pair entry is)
+  layer-sound Cond-F.Always pass = by_line-sound facts are_worth end (fixed Yes) _ (λ entry pair is. fixed-tells facts.nodes Yes pair entry is)
   layer-sound (Cond-F.Cmp op x y) pass = let inside = both _ _ pass in compared-sound op x y inside.0 inside.1
   layer-sound (Cond-F.Between x y z) pass = between-sound x y z pass
   layer-sound (Cond-F.Among x items) pass = among-sound x items.items pass

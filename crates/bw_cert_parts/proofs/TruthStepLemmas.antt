@@ -8,7 +8,7 @@ use Rattle.bw_model.specs.declared.column.Column.{Column}
 use Rattle.bw_model.specs.declared.cond.Operand.{Operand}
 use Rattle.bw_model.specs.declared.cond.Operand.TheVariants.{Col, Lit, Null}
 use Rattle.bw_model.specs.declared.cond.Truth.{Truth}
-use Rattle.bw_model.specs.declared.cond.Truth.TheVariants.{False, Unknown, True}
+use Rattle.bw_model.specs.declared.cond.Truth.TheVariants.{No, Unknown, Yes}
 use Rattle.bw_model.specs.declared.fault.Fault.{Fault}
 use Rattle.bw_model.specs.Cond.{operand_value, is_within}
 use Rattle.bw_model.specs.Fault.{◌>>=◌}
@@ -19,9 +19,9 @@ use Rattle.bw_model.proofs.BitsLemmas.{both}
 use Rattle.bw_diagram.specs.declared.product.Connective.TheVariants as connective
 use Rattle.bw_diagram.specs.Cited.{AreWorth, cited}
 use Rattle.bw_diagram.specs.Facts.{Facts}
-use Rattle.bw_cert_lines.specs.declared.lines.BodyLine.{BodyLine}
-use Rattle.bw_cert_lines.specs.declared.lines.ConditionEntry.{ConditionEntry}
-use Rattle.bw_cert_lines.specs.declared.lines.ConditionEntry.TheVariants.{NullTest, And, Or, Not, Is, IsUnknown}
+use Rattle.bw_cert_text.specs.declared.lines.BodyLine.{BodyLine}
+use Rattle.bw_cert_text.specs.declared.lines.ConditionEntry.{ConditionEntry}
+use Rattle.bw_cert_text.specs.declared.lines.ConditionEntry.TheVariants.{NullTest, And, Or, Not, Is, IsUnknown}
 use Rattle.bw_cert_parts.specs.declared.nodes.Pair.{Pair}
 use Rattle.bw_cert_parts.specs.declared.steps.Junction.{Junction}
 use Rattle.bw_cert_parts.specs.declared.steps.Junction.TheVariants.{All, Any}
@@ -59,90 +59,90 @@ truth_of_all All truths = all_of truths
 truth_of_all Any truths = any_of truths
 
 joined-assoc : (junction : Junction) (a b c : Truth) → joined_truth junction (joined_truth junction a b) c ≡ joined_truth junction a (joined_truth junction b c)
-joined-assoc All False b c = refl
-joined-assoc All True b c = refl
-joined-assoc All Unknown False c = refl
-joined-assoc All Unknown True c = refl
-joined-assoc All Unknown Unknown False = refl
+joined-assoc All No b c = refl
+joined-assoc All Yes b c = refl
+joined-assoc All Unknown No c = refl
+joined-assoc All Unknown Yes c = refl
+joined-assoc All Unknown Unknown No = refl
 joined-assoc All Unknown Unknown Unknown = refl
-joined-assoc All Unknown Unknown True = refl
-joined-assoc Any True b c = refl
-joined-assoc Any False b c = refl
-joined-assoc Any Unknown True c = refl
-joined-assoc Any Unknown False c = refl
-joined-assoc Any Unknown Unknown False = refl
+joined-assoc All Unknown Unknown Yes = refl
+joined-assoc Any Yes b c = refl
+joined-assoc Any No b c = refl
+joined-assoc Any Unknown Yes c = refl
+joined-assoc Any Unknown No c = refl
+joined-assoc Any Unknown Unknown No = refl
 joined-assoc Any Unknown Unknown Unknown = refl
-joined-assoc Any Unknown Unknown True = refl
+joined-assoc Any Unknown Unknown Yes = refl
 
 joined-none : (junction : Junction) (a : Truth) → a ≡ joined_truth junction a (truth_of_all junction [])
-joined-none All False = refl
+joined-none All No = refl
 joined-none All Unknown = refl
-joined-none All True = refl
-joined-none Any False = refl
+joined-none All Yes = refl
+joined-none Any No = refl
 joined-none Any Unknown = refl
-joined-none Any True = refl
+joined-none Any Yes = refl
 
 joined-more : (junction : Junction) (t : Truth) (ts : List Truth) → joined_truth junction t (truth_of_all junction ts) ≡ truth_of_all junction (t ∷ ts)
 joined-more All t ts = refl
 joined-more Any t ts = refl
 
 -- AND is TRUE where both are, and FALSE where one is; OR the other way round
-all-yes : (a b : Truth) → (is_truth a True && is_truth b True) ≡ is_truth (least a b) True
-all-yes False b = refl
-all-yes Unknown False = refl
+all-yes : (a b : Truth) → (is_truth a Yes && is_truth b Yes) ≡ is_truth (least a b) Yes
+all-yes No b = refl
+all-yes Unknown No = refl
 all-yes Unknown Unknown = refl
-all-yes Unknown True = refl
-all-yes True b = refl
+all-yes Unknown Yes = refl
+all-yes Yes b = refl
 
-all-no : (a b : Truth) → (is_truth a False || is_truth b False) ≡ is_truth (least a b) False
-all-no False b = refl
-all-no Unknown False = refl
+all-no : (a b : Truth) → (is_truth a No || is_truth b No) ≡ is_truth (least a b) No
+all-no No b = refl
+all-no Unknown No = refl
 all-no Unknown Unknown = refl
-all-no Unknown True = refl
-all-no True b = refl
+all-no Unknown Yes = refl
+all-no Yes b = refl
 
-any-yes : (a b : Truth) → (is_truth a True || is_truth b True) ≡ is_truth (greatest a b) True
-any-yes True b = refl
-any-yes Unknown False = refl
+any-yes : (a b : Truth) → (is_truth a Yes || is_truth b Yes) ≡ is_truth (greatest a b) Yes
+any-yes Yes b = refl
+any-yes Unknown No = refl
 any-yes Unknown Unknown = refl
-any-yes Unknown True = refl
-any-yes False b = refl
+any-yes Unknown Yes = refl
+any-yes No b = refl
 
-any-no : (a b : Truth) → (is_truth a False && is_truth b False) ≡ is_truth (greatest a b) False
-any-no True b = refl
-any-no Unknown False = refl
+any-no : (a b : Truth) → (is_truth a No && is_truth b No) ≡ is_truth (greatest a b) No
+any-no Yes b = refl
+any-no Unknown No = refl
 any-no Unknown Unknown = refl
-any-no Unknown True = refl
-any-no False b = refl
+any-no Unknown Yes = refl
+any-no No b = refl
 
-negation-yes : (a : Truth) → is_truth a False ≡ is_truth (negation a) True
-negation-yes False = refl
+negation-yes : (a : Truth) → is_truth a No ≡ is_truth (negation a) Yes
+negation-yes No = refl
 negation-yes Unknown = refl
-negation-yes True = refl
+negation-yes Yes = refl
 
-negation-no : (a : Truth) → is_truth a True ≡ is_truth (negation a) False
-negation-no False = refl
+negation-no : (a : Truth) → is_truth a Yes ≡ is_truth (negation a) No
+negation-no No = refl
 negation-no Unknown = refl
-negation-no True = refl
+negation-no Yes = refl
 
-truth_from-yes : (b : Bool) → b ≡ is_truth (truth_from b) True
+truth_from-yes : (b : Bool) → b ≡ is_truth (truth_from b) Yes
 truth_from-yes true = refl
 truth_from-yes false = refl
 
-truth_from-no : (b : Bool) → not b ≡ is_truth (truth_from b) False
+truth_from-no : (b : Bool) → not b ≡ is_truth (truth_from b) No
 truth_from-no true = refl
 truth_from-no false = refl
 
 -- UNKNOWN is what is neither TRUE nor FALSE
-unknown-yes : (a : Truth) → not (is_truth a True || is_truth a False) ≡ is_truth (truth_from (is_truth a Unknown)) True
-unknown-yes False = refl
+unknown-yes : (a : Truth) → not (is_truth a Yes || is_truth a No) ≡ is_truth (truth_from (is_truth a Unknown)) Yes
+unknown-yes No = refl
 unknown-yes Unknown = refl
-unknown-yes True = refl
+unknown-yes Yes = refl
 
-unknown-no : (a : Truth) → (is_truth a True || is_truth a False) ≡ is_truth (truth_from (is_truth a Unknown)) False
-unknown-no False = refl
+unknown-no : (a : Truth) → (is_truth a Yes || is_truth a No) ≡ is_truth (truth_from (is_truth a Unknown)) No
+unknown-no No = refl
 unknown-no Unknown = refl
-unknown-no True = refl
+unknown-no Yes = refl
 
 module _ (facts : Facts) (are_worth : AreWorth facts) where
   -- AND and OR
@@ -187,14 +187,14 @@ module _ (facts : Facts) (are_worth : AreWorth facts) where
       let worth = cited-worth facts are_worth connective.Or a.yes a.no known i _ _ (tells_yes facts.nodes t a told) (tells_no facts.nodes t a told) cites in
       tells_by facts.nodes _ pair
       (worth_so facts.nodes _ _ pair.yes (λ assignment. unknown-yes (t assignment)) (cited-worth facts are_worth connective.Diff 1 known pair.yes j (λ assignment. true) _ (one_worth facts.nodes) worth made.0))
-      (worth_so facts.nodes _ _ pair.no (λ assignment. unknown-no (t assignment)) (subst (Worth facts.nodes (λ assignment. is_truth (t assignment) True || is_truth (t assignment) False)) (cc) worth))
+      (worth_so facts.nodes _ _ pair.no (λ assignment. unknown-no (t assignment)) (subst (Worth facts.nodes (λ assignment. is_truth (t assignment) Yes || is_truth (t assignment) No)) (cc) worth))
 
   -- IS TRUE, IS FALSE and IS UNKNOWN
   pub tested_pair-tells : (wanted : Truth) (a pair : Pair) (t : Assignment → Truth) (entry : ConditionEntry) → Tells facts.nodes t a → tested_pair facts wanted a entry ≡ Some pair →
       Tells facts.nodes (λ assignment. truth_from (is_truth (t assignment) wanted)) pair
   unfolding tested_pair
-  tested_pair-tells True a pair t (Is i) told is = opposite-tells a.yes i pair (λ assignment. is_truth (t assignment) True) (tells_yes facts.nodes t a told) is
-  tested_pair-tells False a pair t (Is i) told is = opposite-tells a.no i pair (λ assignment. is_truth (t assignment) False) (tells_no facts.nodes t a told) is
+  tested_pair-tells Yes a pair t (Is i) told is = opposite-tells a.yes i pair (λ assignment. is_truth (t assignment) Yes) (tells_yes facts.nodes t a told) is
+  tested_pair-tells No a pair t (Is i) told is = opposite-tells a.no i pair (λ assignment. is_truth (t assignment) No) (tells_no facts.nodes t a told) is
   tested_pair-tells Unknown a pair t (IsUnknown i j) told is = unknown-tells a pair t (cited facts connective.Or a.yes a.no i) i j told refl is
   tested_pair-tells _ a pair t _ told is = cc
 
@@ -211,7 +211,7 @@ module _ (facts : Facts) (are_worth : AreWorth facts) where
 
       by_nullable : (nullable : Bool) → null_test facts (cond nullable (Some (first_variable facts.columns col)) None) entry ≡ Some pair →
           Tells facts.nodes (λ assignment. truth_from (nullable && assignment (first_variable facts.columns col))) pair
-      by_nullable false is = fixed-tells facts.nodes False pair entry is
+      by_nullable false is = fixed-tells facts.nodes No pair entry is
       by_nullable true is = by_entry entry is
         where
           by_entry : (entry : ConditionEntry) → null_test facts (Some (first_variable facts.columns col)) entry ≡ Some pair → Tells facts.nodes (λ assignment. truth_from (assignment (first_variable facts.columns col))) pair
@@ -226,8 +226,8 @@ module _ (facts : Facts) (are_worth : AreWorth facts) where
       Tells facts.nodes (λ assignment. truth_from (is_null (operand_value (row_of facts.columns assignment) x))) pair
   unfolding is_null_test
   is_null_test-tells (Col col) entry pair inside is = null_test-tells col entry pair (ltb-true col (length facts.columns) inside) is
-  is_null_test-tells (Lit n) entry pair inside is = fixed-tells facts.nodes False pair entry is
-  is_null_test-tells Null entry pair inside is = fixed-tells facts.nodes True pair entry is
+  is_null_test-tells (Lit n) entry pair inside is = fixed-tells facts.nodes No pair entry is
+  is_null_test-tells Null entry pair inside is = fixed-tells facts.nodes Yes pair entry is
 
   -- a reader of lines whose pairs tell a truth
   abbrev pub IsSound : (List BodyLine → Reading) → (Assignment → Truth) → Type 0

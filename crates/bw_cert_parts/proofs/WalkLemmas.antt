@@ -5,7 +5,7 @@ use Rattle.bw_model.specs.declared.fault.Fault.{Fault}
 use Rattle.bw_model.specs.Fault.{◌>>=◌}
 use Rattle.bw_diagram.specs.Facts.{Facts}
 use Rattle.bw_program.specs.declared.instr.Instr.{Instr}
-use Rattle.bw_cert_lines.specs.declared.lines.BodyLine.{BodyLine}
+use Rattle.bw_cert_text.specs.declared.lines.BodyLine.{BodyLine}
 use Rattle.bw_cert_parts.specs.declared.edge.Edge.{Edge}
 use Rattle.bw_cert_parts.specs.Edges.{Holds}
 use Rattle.bw_cert_parts.specs.Join.{edge_of, with_edge, edges_into}

@@ -3,10 +3,10 @@ use Rattle.std.specs.Prelude.{◌≡◌, ℕ, zero, suc, Bool, true, false, ◌&
 use Rattle.bw_model.specs.declared.fault.Fault.{Fault}
 use Rattle.bw_diagram.specs.Facts.{Facts}
 use Rattle.bw_program.specs.declared.instr.Instr.{Instr}
-use Rattle.bw_cert_lines.specs.declared.lines.BodyLine.{BodyLine}
-use Rattle.bw_cert_lines.specs.declared.lines.Entry.TheVariants as line_of
-use Rattle.bw_cert_lines.specs.declared.lines.InstructionEntry.{InstructionEntry}
-use Rattle.bw_cert_lines.specs.declared.lines.Keep.{Keep}
+use Rattle.bw_cert_text.specs.declared.lines.BodyLine.{BodyLine}
+use Rattle.bw_cert_text.specs.declared.lines.Entry.TheVariants as line_of
+use Rattle.bw_cert_text.specs.declared.lines.InstructionEntry.{InstructionEntry}
+use Rattle.bw_cert_text.specs.declared.lines.Keep.{Keep}
 use Rattle.bw_cert_parts.specs.declared.edge.Edge.{Edge}
 use Rattle.bw_cert_parts.specs.Known.{Known, nothing_known, with_node}
 use Rattle.bw_cert_parts.specs.Instruction.{after}

@@ -8,7 +8,7 @@ use Rattle.bw_model.specs.declared.cond.Op.TheVariants.{Eq, Ne, Lt, Gt, Le, Ge}
 use Rattle.bw_model.specs.declared.cond.Operand.{Operand}
 use Rattle.bw_model.specs.declared.cond.Operand.TheVariants.{Col, Lit}
 use Rattle.bw_model.specs.declared.cond.Truth.{Truth}
-use Rattle.bw_model.specs.declared.cond.Truth.TheVariants.{False, Unknown, True}
+use Rattle.bw_model.specs.declared.cond.Truth.TheVariants.{No, Unknown, Yes}
 use Rattle.bw_model.specs.Code.{width_at}
 use Rattle.bw_model.specs.Truth.{truth_from, holds, turned}
 use Rattle.bw_model.specs.Variable.{null_variable}
@@ -18,8 +18,8 @@ use Rattle.bw_diagram.specs.declared.product.Connective.TheVariants.{And, Diff}
 use Rattle.bw_diagram.specs.Chain.{first_node}
 use Rattle.bw_diagram.specs.Cited.{cited, chain_cited, two_cited}
 use Rattle.bw_diagram.specs.Facts.{Facts}
-use Rattle.bw_cert_lines.specs.declared.lines.ConditionEntry.{ConditionEntry}
-use Rattle.bw_cert_lines.specs.declared.lines.ConditionEntry.TheVariants.{Compare, CompareColumns, Fixed}
+use Rattle.bw_cert_text.specs.declared.lines.ConditionEntry.{ConditionEntry}
+use Rattle.bw_cert_text.specs.declared.lines.ConditionEntry.TheVariants.{Compare, CompareColumns, Fixed}
 use Rattle.bw_cert_parts.specs.declared.nodes.Pair.{Pair}
 use Rattle.bw_cert_parts.specs.declared.comparison.Bound.{Bound}
 use Rattle.bw_cert_parts.specs.declared.comparison.Order.{Order}
@@ -31,8 +31,8 @@ lo_at columns column = slice_index_or (map (λ c. c.lo) columns) column (pos 0)
 
 -- the pair of a step with one truth on every row
 abbrev pub constant_pair : Truth → Pair
-constant_pair True = pair_of_nodes 1 0
-constant_pair False = pair_of_nodes 0 1
+constant_pair Yes = pair_of_nodes 1 0
+constant_pair No = pair_of_nodes 0 1
 constant_pair Unknown = pair_of_nodes 0 0
 
 -- FIXED: such a step

@@ -1,6 +1,6 @@
 -- The rules of the lines of instructions: what is known of the registers after an instruction, by its line.
 use Rattle.std.specs.Prelude.{ℕ, ◌*◌, ◌^◌, Bool, true, false, not, Option, Some, None, Result, Ok, if◌then◌else◌, nat_le}
-use Rattle.bw_model.specs.declared.fault.code.TheConstants.{INSTRUCTION_LINE, REGISTER_UNKNOWN}
+use Rattle.bw_model.specs.FaultTable.{INSTRUCTION_LINE, REGISTER_UNKNOWN}
 use Rattle.bw_model.specs.declared.fault.Fault.{Fault}
 use Rattle.bw_model.specs.Fault.{at_line, ◌>>=◌, refused_if}
 use Rattle.bw_model.specs.Stored.{bits_in_slice}
@@ -15,8 +15,8 @@ use Rattle.bw_program.specs.declared.instr.Instr.{Instr}
 use Rattle.bw_program.specs.declared.instr.Instr.TheVariants.{Load, Nulls, Fill, And, Or, Xor, Not, ByteLt, ByteEq, Skip}
 use Rattle.bw_program.specs.Program.{instr_fits}
 use Rattle.bw_program.specs.ProgramText.{found_on}
-use Rattle.bw_cert_lines.specs.declared.lines.InstructionEntry.{InstructionEntry}
-use Rattle.bw_cert_lines.specs.declared.lines.InstructionEntry.TheVariants as entry
+use Rattle.bw_cert_text.specs.declared.lines.InstructionEntry.{InstructionEntry}
+use Rattle.bw_cert_text.specs.declared.lines.InstructionEntry.TheVariants as entry
 use Rattle.bw_cert_parts.specs.Known.{Known, node_of, with_node}
 
 -- what a line of each kind gives: the node of a plane, the row of an operation, the chain of a byte comparison, if it

@@ -4,8 +4,8 @@ use Rattle.std.specs.Option.{option_and_then}
 use Rattle.bw_diagram.specs.declared.product.Connective.TheVariants as connective
 use Rattle.bw_diagram.specs.Facts.{Facts}
 use Rattle.bw_diagram.specs.Cited.{cited}
-use Rattle.bw_cert_lines.specs.declared.lines.EdgeProducts.{EdgeProducts}
-use Rattle.bw_cert_lines.specs.declared.lines.Keep.{Keep}
+use Rattle.bw_cert_text.specs.declared.lines.EdgeProducts.{EdgeProducts}
+use Rattle.bw_cert_text.specs.declared.lines.Keep.{Keep}
 use Rattle.bw_program.specs.declared.instr.Instr.{Instr}
 use Rattle.bw_program.specs.declared.instr.Instr.TheVariants.{Load, Nulls, Fill, And, Or, Xor, Not, ByteLt, ByteEq, Skip}
 use Rattle.bw_text.specs.Register.{is_register}

@@ -1,7 +1,7 @@
 -- What a pair of nodes says of a condition.
 use Rattle.std.specs.Prelude.{◌≡◌, List}
 use Rattle.bw_model.specs.declared.cond.Truth.{Truth}
-use Rattle.bw_model.specs.declared.cond.Truth.TheVariants.{False, True}
+use Rattle.bw_model.specs.declared.cond.Truth.TheVariants.{No, Yes}
 use Rattle.bw_model.specs.Truth.{is_truth}
 use Rattle.bw_model.specs.Variable.{Assignment}
 use Rattle.bw_diagram.specs.declared.node.Node.{Node}
@@ -13,5 +13,5 @@ use Rattle.bw_cert_parts.specs.declared.nodes.Pair.{Pair}
 pub record Tells (nodes : List Node) (truth : Assignment → Truth) (pair : Pair) : Type 0 where
   pub yes_node : IsNode nodes pair.yes
   pub no_node : IsNode nodes pair.no
-  pub yes : (assignment : Assignment) → node_value nodes assignment pair.yes ≡ is_truth (truth assignment) True
-  pub no : (assignment : Assignment) → node_value nodes assignment pair.no ≡ is_truth (truth assignment) False
+  pub yes : (assignment : Assignment) → node_value nodes assignment pair.yes ≡ is_truth (truth assignment) Yes
+  pub no : (assignment : Assignment) → node_value nodes assignment pair.no ≡ is_truth (truth assignment) No

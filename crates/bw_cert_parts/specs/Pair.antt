@@ -3,7 +3,7 @@
 use Rattle.std.specs.Prelude.{◌≡◌, ℕ, List, [], ◌∷◌, map, Option, Some, None, Result, Ok, Err}
 use Rattle.std.specs.Borrow.{Bor}
 use Rattle.std.specs.Option.{option_and_then}
-use Rattle.bw_model.specs.declared.fault.code.TheConstants.{CONDITION_LINE}
+use Rattle.bw_model.specs.FaultTable.{CONDITION_LINE}
 use Rattle.bw_model.specs.declared.column.Column.{Column}
 use Rattle.bw_model.specs.declared.cond.Truth.{Truth}
 use Rattle.bw_model.specs.declared.cond.Truth.TheVariants as truth
@@ -18,12 +18,12 @@ use Rattle.bw_model.specs.Variable.{null_variable}
 use Rattle.bw_diagram.specs.declared.product.Connective.TheVariants as connective
 use Rattle.bw_diagram.specs.Cited.{cited}
 use Rattle.bw_diagram.specs.Facts.{Facts}
-use Rattle.bw_cert_lines.specs.declared.lines.BodyLine.{BodyLine}
-use Rattle.bw_cert_lines.specs.declared.lines.Entry.{Entry}
-use Rattle.bw_cert_lines.specs.declared.lines.Entry.TheVariants.{Condition}
-use Rattle.bw_cert_lines.specs.declared.lines.ConditionEntry.{ConditionEntry}
-use Rattle.bw_cert_lines.specs.CertificateFields.{BodyFields, body_fields}
-use Rattle.bw_cert_lines.specs.declared.lines.ConditionEntry.TheVariants.{NullTest, And, Or, Not, Is, IsUnknown}
+use Rattle.bw_cert_text.specs.declared.lines.BodyLine.{BodyLine}
+use Rattle.bw_cert_text.specs.declared.lines.Entry.{Entry}
+use Rattle.bw_cert_text.specs.declared.lines.Entry.TheVariants.{Condition}
+use Rattle.bw_cert_text.specs.declared.lines.ConditionEntry.{ConditionEntry}
+use Rattle.bw_cert_text.specs.CertificateFields.{BodyFields, body_fields}
+use Rattle.bw_cert_text.specs.declared.lines.ConditionEntry.TheVariants.{NullTest, And, Or, Not, Is, IsUnknown}
 use Rattle.bw_cert_parts.specs.declared.nodes.Pair.{Pair}
 use Rattle.bw_cert_parts.specs.declared.steps.Junction.{Junction}
 use Rattle.bw_cert_parts.specs.declared.steps.Junction.TheVariants.{All, Any}
@@ -70,15 +70,15 @@ by_line end rule lines = taken end (option_and_then rule (next_entry lines)) lin
 
 -- IS NULL of a column that has this null variable, or none
 abbrev pub null_test : Facts → Option ℕ → ConditionEntry → Option Pair
-null_test facts None entry = fixed truth.False entry
+null_test facts None entry = fixed truth.No entry
 null_test facts (Some variable) (NullTest number) = null_cited facts variable number
 null_test facts (Some variable) _ = None
 
 -- IS NULL
 unfoldable pub is_null_test : List Column → Facts → Operand → ConditionEntry → Option Pair
 is_null_test columns facts (Col column) entry = null_test facts (null_variable columns column) entry
-is_null_test columns facts (Lit n) entry = fixed truth.False entry
-is_null_test columns facts Null entry = fixed truth.True entry
+is_null_test columns facts (Lit n) entry = fixed truth.No entry
+is_null_test columns facts Null entry = fixed truth.Yes entry
 
 -- AND is TRUE where both parts are, and FALSE where one of them is; OR the other way round.
 unfoldable pub joined_pair : Facts → Junction → Pair → Pair → ConditionEntry → Option Pair
@@ -104,8 +104,8 @@ unknown_pair facts None number = None
 
 -- IS TRUE, IS FALSE and IS UNKNOWN
 unfoldable pub tested_pair : Facts → Truth → Pair → ConditionEntry → Option Pair
-tested_pair facts truth.True pair (Is i) = with_opposite facts pair.yes i
-tested_pair facts truth.False pair (Is i) = with_opposite facts pair.no i
+tested_pair facts truth.Yes pair (Is i) = with_opposite facts pair.yes i
+tested_pair facts truth.No pair (Is i) = with_opposite facts pair.no i
 tested_pair facts truth.Unknown pair (IsUnknown i j) =
     unknown_pair facts (cited facts connective.Or pair.yes pair.no i) j
 tested_pair facts _ pair _ = None
@@ -133,7 +133,7 @@ module _ (columns : List Column) (facts : Facts) (end : ℕ) where
 
   -- the lines of a condition, from those of its parts
   abbrev pub pair_step : Cond-F (List BodyLine → Reading) → List BodyLine → Reading
-  pair_step layer.Always lines = by_line end (fixed truth.True) lines
+  pair_step layer.Always lines = by_line end (fixed truth.Yes) lines
   pair_step (layer.Cmp op x y) lines = by_line end (comparison columns facts op x y) lines
   pair_step (layer.Between x y z) lines =
       let low = by_line end (comparison columns facts Ge x y) in

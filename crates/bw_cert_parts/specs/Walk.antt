@@ -1,16 +1,16 @@
 -- The lines of a program's instructions and joins, judged one after another: what is known at the end, or the first
 -- fault.
 use Rattle.std.specs.Prelude.{ℕ, suc, Bool, false, not, ◌==◌, List, [], ◌∷◌, map, Option, Some, None, Result, Ok, Err}
-use Rattle.bw_model.specs.declared.fault.code.TheConstants.{INSTRUCTION_LINE, JOIN}
+use Rattle.bw_model.specs.FaultTable.{INSTRUCTION_LINE, JOIN}
 use Rattle.bw_model.specs.declared.fault.Fault.{Fault}
 use Rattle.bw_model.specs.Fault.{at_line, ◌>>=◌, refused_if}
 use Rattle.bw_diagram.specs.Facts.{Facts}
 use Rattle.bw_program.specs.declared.instr.Instr.{Instr}
-use Rattle.bw_cert_lines.specs.declared.lines.BodyLine.{BodyLine}
-use Rattle.bw_cert_lines.specs.declared.lines.Entry.{Entry}
-use Rattle.bw_cert_lines.specs.declared.lines.Entry.TheVariants as line_of
-use Rattle.bw_cert_lines.specs.declared.lines.Keep.{Keep}
-use Rattle.bw_cert_lines.specs.CertificateFields.{BodyFields, body_fields}
+use Rattle.bw_cert_text.specs.declared.lines.BodyLine.{BodyLine}
+use Rattle.bw_cert_text.specs.declared.lines.Entry.{Entry}
+use Rattle.bw_cert_text.specs.declared.lines.Entry.TheVariants as line_of
+use Rattle.bw_cert_text.specs.declared.lines.Keep.{Keep}
+use Rattle.bw_cert_text.specs.CertificateFields.{BodyFields, body_fields}
 use Rattle.bw_cert_parts.specs.declared.edge.Edge.{Edge}
 use Rattle.bw_cert_parts.specs.Known.{Known, with_node, nothing_known}
 use Rattle.bw_cert_parts.specs.Instruction.{after}

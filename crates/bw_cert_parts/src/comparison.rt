@@ -8,7 +8,7 @@ ghost use Rattle.bw_diagram.specs.Chain.{first_node};
 ghost use Rattle.bw_cert_parts.specs.Comparison.{lo_at, fixed, split, turned_if, bound_of, terminal_of, bound_node, with_literal, order_of, order_node, both_node, with_column, comparison};
 
 use crate::nodes::{Pair, value_node};
-use bw_cert_lines::ConditionEntry;
+use bw_cert_text::ConditionEntry;
 use bw_diagram::{ChainKind, Connective, Diagram};
 use bw_model::{Op, Operand, Schema, Truth};
 

@@ -68,9 +68,9 @@ impl Edges {
         ensures room { length self.new ≡ length self.old }
     {
         match instr {
-            Instr::Skip { if_zero, target } => self.push(Edge {
+            Instr::Skip(register, target) => self.push(Edge {
                 target,
-                register: if_zero,
+                register,
                 known: *known,
             }),
             _ => Ok(()),

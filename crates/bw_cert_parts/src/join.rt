@@ -7,7 +7,7 @@ ghost use Rattle.bw_cert_parts.specs.Walk.{is_join, joined, keeps_taken};
 use crate::edge::Edge;
 use crate::judge::Judge;
 use crate::known::Known;
-use bw_cert_lines::{BodyLine, EdgeProducts, Entry, Keep};
+use bw_cert_text::{BodyLine, EdgeProducts, Entry, Keep};
 use bw_diagram::Connective;
 use bw_model::{Fault, code};
 

@@ -1,6 +1,6 @@
 //! The lines of instructions, each judged by its rule.
 ghost use Rattle.std.specs.Prelude.{◌≡◌, ◌<◌, ◌≤◌, ◌&&◌, IsTrue, IfOk, IfErr, Ok, Err, length, nat_lt};
-ghost use Rattle.bw_model.specs.declared.fault.code.TheConstants.{INSTRUCTION_LINE};
+ghost use Rattle.bw_model.specs.FaultTable.{INSTRUCTION_LINE};
 ghost use Rattle.bw_model.specs.Code.{width_at, slices_at};
 ghost use Rattle.bw_model.specs.Fault.{at_line};
 ghost use Rattle.bw_model.specs.Variable.{first_variable, bit_variable, is_nullable};
@@ -10,7 +10,7 @@ ghost use Rattle.bw_cert_parts.specs.Instruction.{after, put, fill, look, plane_
 ghost use Rattle.bw_cert_parts.specs.Known.{is_known_fault};
 
 use crate::known::Known;
-use bw_cert_lines::InstructionEntry;
+use bw_cert_text::InstructionEntry;
 use bw_diagram::{ChainKind, Connective, Diagram};
 use bw_model::{Fault, Schema, code};
 use bw_program::{BitIndex, ColumnIndex, Instr, Register, SliceIndex};
@@ -96,46 +96,34 @@ impl Judge<'_> {
         ensures code { IfErr result (λ fault. IsTrue (is_known_fault fault)) }
     {
         match instr {
-            Instr::Load { to, column, bit } => {
-                put(known, to, self.plane(line, column, bit, given))
+            Instr::Load(r, col, bit) => put(known, r, self.plane(line, col, bit, given)),
+            Instr::Nulls(r, col) => put(known, r, self.nulls(line, col, given)),
+            Instr::Fill(r, bit) => fill(known, line, r, bit, given),
+            Instr::And(r, x, y) => {
+                let node = self.joined(known, line, Connective::And, x, y, given);
+                put(known, r, node)
             }
-            Instr::Nulls { to, column } => put(known, to, self.nulls(line, column, given)),
-            Instr::Fill { to, bit } => fill(known, line, to, bit, given),
-            Instr::And { to, left, right } => {
-                let node = self.joined(known, line, Connective::And, left, right, given);
-                put(known, to, node)
+            Instr::Or(r, x, y) => {
+                let node = self.joined(known, line, Connective::Or, x, y, given);
+                put(known, r, node)
             }
-            Instr::Or { to, left, right } => {
-                let node = self.joined(known, line, Connective::Or, left, right, given);
-                put(known, to, node)
+            Instr::Xor(r, x, y) => {
+                let node = self.joined(known, line, Connective::Xor, x, y, given);
+                put(known, r, node)
             }
-            Instr::Xor { to, left, right } => {
-                let node = self.joined(known, line, Connective::Xor, left, right, given);
-                put(known, to, node)
+            Instr::Not(r, x) => {
+                let node = self.opposite(known, line, x, given);
+                put(known, r, node)
             }
-            Instr::Not { to, from } => {
-                let node = self.opposite(known, line, from, given);
-                put(known, to, node)
+            Instr::ByteLt(r, col, slice, k) => {
+                let node = self.byte(line, ChainKind::Less, col, slice, k, given);
+                put(known, r, node)
             }
-            Instr::ByteLt {
-                to,
-                column,
-                slice,
-                below,
-            } => {
-                let node = self.byte(line, ChainKind::Less, column, slice, below, given);
-                put(known, to, node)
+            Instr::ByteEq(r, col, slice, k) => {
+                let node = self.byte(line, ChainKind::Equal, col, slice, k, given);
+                put(known, r, node)
             }
-            Instr::ByteEq {
-                to,
-                column,
-                slice,
-                byte,
-            } => {
-                let node = self.byte(line, ChainKind::Equal, column, slice, byte, given);
-                put(known, to, node)
-            }
-            Instr::Skip { if_zero, .. } => look(known, line, if_zero, given),
+            Instr::Skip(x, _) => look(known, line, x, given),
         }
     }
 

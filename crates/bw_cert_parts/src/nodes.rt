@@ -26,8 +26,8 @@ impl Pair {
         ensures { result ≡ constant_pair truth }
     {
         match truth {
-            Truth::True => Pair::new(1, 0),
-            Truth::False => Pair::new(0, 1),
+            Truth::Yes => Pair::new(1, 0),
+            Truth::No => Pair::new(0, 1),
             Truth::Unknown => Pair::new(0, 0),
         }
     }
@@ -58,7 +58,7 @@ impl Pair {
 pub(crate) fn null_cited(diagram: &Diagram<'_>, variable: u32, number: u64) -> Option<Pair>
     ensures { result ≡ null_cited diagram.now variable number }
 {
-    let null = u64::from(diagram.product(number)?.b);
+    let null = u64::from(diagram.row(number)?.b);
     Pair::of_both(
         diagram.variable_cited(variable, null),
         diagram.cited(Connective::Diff, 1, null, number),

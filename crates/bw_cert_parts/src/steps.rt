@@ -1,7 +1,7 @@
 //! The steps of a condition, operands first: each takes the next line.
 ghost use Rattle.std.specs.Prelude.{◌≡◌, [], ◌∷◌, Some, IsTrue, IfErr, length, map};
 ghost use Rattle.std.specs.List.{list_all};
-ghost use Rattle.bw_model.specs.declared.fault.code.TheConstants.{CONDITION_LINE};
+ghost use Rattle.bw_model.specs.FaultTable.{CONDITION_LINE};
 ghost use Rattle.bw_model.specs.Cond.{names_within, is_within};
 ghost use Rattle.bw_model.specs.declared.cond.Op.TheVariants.{Eq, Le, Ge};
 ghost use Rattle.bw_model.specs.Fault.{at_line};
@@ -11,7 +11,7 @@ ghost use Rattle.bw_cert_parts.specs.Pair.{Answers, next_entry, next_number, tak
 
 use crate::comparison::{comparison, fixed};
 use crate::nodes::{Pair, null_cited};
-use bw_cert_lines::{BodyLine, ConditionEntry, Entry};
+use bw_cert_text::{BodyLine, ConditionEntry, Entry};
 use bw_diagram::{Connective, Diagram};
 use bw_model::{Cond, Fault, Op, Operand, Schema, Truth, code};
 
@@ -45,7 +45,7 @@ pub fn pair<'a>(
     ensures code { IfErr result (λ fault. fault.code ≡ CONDITION_LINE) }
 {
     match cond {
-        Cond::Always => constant(Truth::True, lines, end),
+        Cond::Always => constant(Truth::Yes, lines, end),
         Cond::Cmp(op, x, y) => compared(schema, diagram, *op, *x, *y, lines, end),
         Cond::Between(x, y, z) => between(schema, diagram, *x, *y, *z, lines, end),
         Cond::Among(x, items) => among(schema, diagram, *x, items, lines, end),
@@ -232,10 +232,10 @@ fn is_null_test(
     match x {
         Operand::Col(column) => match schema.var_null(column) {
             Some(variable) => null_test(diagram, variable, entry),
-            None => fixed(Truth::False, entry),
+            None => fixed(Truth::No, entry),
         },
-        Operand::Lit(_) => fixed(Truth::False, entry),
-        Operand::Null => fixed(Truth::True, entry),
+        Operand::Lit(_) => fixed(Truth::No, entry),
+        Operand::Null => fixed(Truth::Yes, entry),
     }
 }
 
@@ -338,8 +338,8 @@ fn tested_pair(
     ensures { result ≡ tested_pair diagram.now wanted pair entry }
 {
     match (wanted, entry) {
-        (Truth::True, ConditionEntry::Is(i)) => with_opposite(diagram, pair.yes, i),
-        (Truth::False, ConditionEntry::Is(i)) => with_opposite(diagram, pair.no, i),
+        (Truth::Yes, ConditionEntry::Is(i)) => with_opposite(diagram, pair.yes, i),
+        (Truth::No, ConditionEntry::Is(i)) => with_opposite(diagram, pair.no, i),
         (Truth::Unknown, ConditionEntry::IsUnknown(i, j)) => {
             let known = diagram.cited(Connective::Or, pair.yes, pair.no, i)?;
             Pair::of_both(diagram.cited(Connective::Diff, 1, known, j), Some(known))

@@ -9,7 +9,7 @@ ghost use Rattle.bw_cert_parts.specs.Known.{is_known_fault};
 use crate::edge::Edges;
 use crate::judge::Judge;
 use crate::known::Known;
-use bw_cert_lines::{BodyLine, Entry};
+use bw_cert_text::{BodyLine, Entry};
 use bw_diagram::Diagram;
 use bw_model::{Fault, Schema, code};
 use bw_program::{Instr, Program};

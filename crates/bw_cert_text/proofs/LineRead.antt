@@ -14,14 +14,14 @@ use Rattle.bw_text.specs.declared.line_kind.InstructionKind.{InstructionKind}
 use Rattle.bw_text.specs.declared.line_kind.InstructionKind.TheVariants as instruction
 use Rattle.bw_text.specs.declared.form.Form.{Form}
 use Rattle.bw_text.specs.declared.form.Form.TheVariants as form
-use Rattle.bw_cert_lines.specs.declared.lines.NodeLine.{NodeLine}
-use Rattle.bw_cert_lines.specs.declared.lines.ProductLine.{ProductLine}
-use Rattle.bw_cert_lines.specs.declared.lines.ConditionEntry.{ConditionEntry}
-use Rattle.bw_cert_lines.specs.declared.lines.ConditionEntry.TheVariants.{Compare, CompareColumns, Fixed, NullTest, And, Or, Not, Is, IsUnknown}
-use Rattle.bw_cert_lines.specs.declared.lines.InstructionEntry.{InstructionEntry}
-use Rattle.bw_cert_lines.specs.declared.lines.InstructionEntry.TheVariants.{Load, Fill, Op, Byte, Skip}
-use Rattle.bw_cert_lines.specs.declared.lines.EdgeProducts.{EdgeProducts}
-use Rattle.bw_cert_lines.specs.CertificateFields.{ColumnFields, One, Two, ChainFields, KeepFields, Condition, Instruction, Join, Kept}
+use Rattle.bw_cert_text.specs.declared.lines.NodeLine.{NodeLine}
+use Rattle.bw_cert_text.specs.declared.lines.ProductLine.{ProductLine}
+use Rattle.bw_cert_text.specs.declared.lines.ConditionEntry.{ConditionEntry}
+use Rattle.bw_cert_text.specs.declared.lines.ConditionEntry.TheVariants.{Compare, CompareColumns, Fixed, NullTest, And, Or, Not, Is, IsUnknown}
+use Rattle.bw_cert_text.specs.declared.lines.InstructionEntry.{InstructionEntry}
+use Rattle.bw_cert_text.specs.declared.lines.InstructionEntry.TheVariants.{Load, Fill, Op, Byte, Skip}
+use Rattle.bw_cert_text.specs.declared.lines.EdgeProducts.{EdgeProducts}
+use Rattle.bw_cert_text.specs.CertificateFields.{ColumnFields, One, Two, ChainFields, KeepFields, Condition, Instruction, Join, Kept}
 use Rattle.bw_cert_text.specs.LineText.{Node, Chain, Row, Body, Said, Before, End, node_in, one_column_in, two_columns_in, columns_after, chain_in, reason_in, row_in, compare_in, compare_columns_in, is_in, condition_in, instruction_in, edges_in, keep_in, said_after, said_by}
 use Rattle.bw_cert_text.specs.Operand.{◌>?◌, optional_of, nothing_in, number_in, two_in}
 use Rattle.bw_text.specs.Register.{register_of}

@@ -9,14 +9,14 @@ use Rattle.bw_text.specs.declared.line_kind.ConditionKind.TheVariants as conditi
 use Rattle.bw_text.specs.declared.line_kind.InstructionKind.TheVariants as instruction
 use Rattle.bw_text.specs.declared.form.Form.{Form}
 use Rattle.bw_text.specs.declared.form.Form.TheVariants as form
-use Rattle.bw_cert_lines.specs.declared.lines.NodeLine.{NodeLine}
-use Rattle.bw_cert_lines.specs.declared.lines.ProductLine.{ProductLine}
-use Rattle.bw_cert_lines.specs.declared.lines.ConditionEntry.{ConditionEntry}
-use Rattle.bw_cert_lines.specs.declared.lines.ConditionEntry.TheVariants.{Compare, CompareColumns, Fixed, NullTest, And, Or, Not, Is, IsUnknown}
-use Rattle.bw_cert_lines.specs.declared.lines.InstructionEntry.{InstructionEntry}
-use Rattle.bw_cert_lines.specs.declared.lines.InstructionEntry.TheVariants.{Load, Fill, Op, Byte, Skip}
-use Rattle.bw_cert_lines.specs.declared.lines.EdgeProducts.{EdgeProducts}
-use Rattle.bw_cert_lines.specs.CertificateFields.{ColumnFields, One, Two, ChainFields, EntryFields, Condition, Instruction, Join, Kept}
+use Rattle.bw_cert_text.specs.declared.lines.NodeLine.{NodeLine}
+use Rattle.bw_cert_text.specs.declared.lines.ProductLine.{ProductLine}
+use Rattle.bw_cert_text.specs.declared.lines.ConditionEntry.{ConditionEntry}
+use Rattle.bw_cert_text.specs.declared.lines.ConditionEntry.TheVariants.{Compare, CompareColumns, Fixed, NullTest, And, Or, Not, Is, IsUnknown}
+use Rattle.bw_cert_text.specs.declared.lines.InstructionEntry.{InstructionEntry}
+use Rattle.bw_cert_text.specs.declared.lines.InstructionEntry.TheVariants.{Load, Fill, Op, Byte, Skip}
+use Rattle.bw_cert_text.specs.declared.lines.EdgeProducts.{EdgeProducts}
+use Rattle.bw_cert_text.specs.CertificateFields.{ColumnFields, One, Two, ChainFields, EntryFields, Condition, Instruction, Join, Kept}
 use Rattle.bw_cert_text.specs.LineText.{Node, Chain, Row, Body, Said, Before, End, columns_after, reason_in, edges_in, said_by}
 use Rattle.bw_cert_text.specs.Token.{AreSpelled, none, next, node_tokens, column_tokens, chain_tokens, reason_tokens, row_tokens, condition_tokens, instruction_tokens, edge_tokens, end_tokens, entry_tokens}
 use Rattle.bw_text.specs.LineKind.{kind_of}

@@ -1,13 +1,16 @@
 -- Canonical texts, one line and one place at a time.
-use Rattle.std.proofs.Common.{◌≡◌, ◌∙◌, refl, sym, ap, ℕ, suc, ◌+◌, ◌<◌, ◌≤◌, List, [], ◌∷◌, ◌++◌, map, length, drop, get_or, add-one, append_assoc}
-use Rattle.std.proofs.lemmas.List.{append-nil, drop_all}
+use Rattle.std.proofs.Common.{◌≡◌, ◌∙◌, refl, sym, ap, ℕ, suc, ◌+◌, ◌^◌, ◌<◌, ◌≤◌, Bool, true, false, ◌&&◌, List, [], ◌∷◌, ◌++◌, map, length, take, drop, get_or, nat_lt, add-one, append_assoc}
+use Rattle.std.specs.List.{list_all}
+use Rattle.std.proofs.lemmas.List.{append-nil, drop_all, take_all}
+use Rattle.std.proofs.lemmas.List.Folds.{list_all_more, list_all-map}
 use Rattle.std.proofs.Math.Seq.{drop-cons}
 use Rattle.bw_model.specs.declared.column.Column.{Column}
-use Rattle.bw_cert_lines.specs.declared.lines.EdgeProducts.{EdgeProducts}
-use Rattle.bw_cert_lines.specs.CertificateFields.{chain_fields, body_fields, certificate_fields, ChainFields}
-use Rattle.bw_cert_lines.specs.CertificateShape.{CertificateShape}
+use Rattle.bw_cert_text.specs.declared.lines.EdgeProducts.{EdgeProducts}
+use Rattle.bw_cert_text.specs.CertificateFields.{chain_fields, body_fields, certificate_fields, ChainFields, BodyFields}
+use Rattle.bw_cert_text.specs.CertificateShape.{CertificateShape}
 use Rattle.bw_cert_text.specs.PrintText.{token_text, token_words, token_line, lines_text, body_tokens, respelled_chain, print_text}
 use Rattle.bw_text.specs.Printed.{spaced}
+use Rattle.bw_cert_text.specs.Reprint.{are_small, numbers_fit}
 use Rattle.bw_cert_text.specs.Token.{Token, Number, edge_tokens, node_tokens, chain_tokens, row_tokens, end_tokens}
 
 pub lines-next : {A : Type 0} (tokens : A → List Token) (xs : List A) (i : ℕ) (d : A) → i < length xs →
@@ -70,3 +73,41 @@ shape_text columns shape =
       lines-map (λ (chain : ChainFields). chain_tokens (respelled_chain columns chain)) chain_fields shape.chains,
       lines-map body_tokens body_fields shape.body,
     ) refl
+
+-- what passes so far, and one more
+pub fit-next : {A : Type 0} (p : A → Bool) (xs : List A) (i : ℕ) (d : A) → i < length xs → list_all p (take i xs) ≡ true → p (get_or xs i d) ≡ true → list_all p (take (i + 1) xs) ≡ true
+fit-next p xs i d lt before here = rw (list_all_more p xs i d lt, before) here
+
+pub fit-found : {A : Type 0} (p : A → Bool) (xs : List A) (i : ℕ) (x : A) → i < length xs → x ≡ get_or xs i x → list_all p (take i xs) ≡ true → p x ≡ true → list_all p (take (i + 1) xs) ≡ true
+fit-found p xs i x lt is before here = fit-next p xs i x lt before (ap p (sym is) ∙ here)
+
+pub fit-all : {A : Type 0} (p : A → Bool) (xs : List A) (i : ℕ) → length xs ≤ i → list_all p (take i xs) ≡ true → list_all p xs ≡ true
+fit-all p xs i le before = ap (list_all p) (sym (take_all i xs le)) ∙ before
+
+-- pairs whose numbers are below 2^64, as they are written
+abbrev pub is_small_edge : EdgeProducts → Bool
+is_small_edge edge = are_small (Number edge.differs ∷ Number edge.within ∷ [])
+
+edges_fit-by : (a b r : Bool) → ((a && (b && true)) && r) ≡ (a && (b && r))
+edges_fit-by true true r = refl
+edges_fit-by true false r = refl
+edges_fit-by false b r = refl
+
+pub edges_fit : (edges : List EdgeProducts) → list_all is_small_edge edges ≡ are_small (edge_tokens edges)
+unfolding edge_tokens
+edges_fit [] = refl
+edges_fit (edge ∷ edges) = rw (edges_fit edges) (edges_fit-by (nat_lt edge.differs (2 ^ 64)) (nat_lt edge.within (2 ^ 64)) (are_small (edge_tokens edges)))
+
+-- all lines of a certificate, as a program holds them
+pub shape_fits : (shape : CertificateShape) → list_all (λ node. are_small (node_tokens node)) shape.nodes ≡ true → list_all (λ chain. are_small (chain_tokens (chain_fields chain))) shape.chains ≡ true →
+    list_all (λ row. are_small (row_tokens row)) shape.products ≡ true → list_all (λ line. are_small (body_tokens (body_fields line))) shape.body ≡ true → are_small (end_tokens shape.end) ≡ true →
+    numbers_fit (certificate_fields shape) ≡ true
+shape_fits shape nodes chains rows body end =
+    rw (
+      nodes,
+      list_all-map (λ (chain : ChainFields). are_small (chain_tokens chain)) chain_fields shape.chains,
+      chains,
+      rows,
+      list_all-map (λ (line : BodyFields). are_small (body_tokens line)) body_fields shape.body,
+      body,
+    ) end

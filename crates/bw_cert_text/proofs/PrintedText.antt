@@ -15,16 +15,16 @@ use Rattle.bw_model.specs.Column.{names_of, column_named}
 use Rattle.bw_text.specs.Lines.{NumberedWords, begins_comment, cut_lines, numbered, numbered_from}
 use Rattle.bw_model.specs.Name.{is_name}
 use Rattle.bw_text.specs.Text.{same_text}
-use Rattle.bw_cert_lines.specs.declared.lines.NodeLine.{NodeLine}
-use Rattle.bw_cert_lines.specs.declared.lines.ProductLine.{ProductLine}
-use Rattle.bw_cert_lines.specs.declared.lines.EndLine.{EndLine}
-use Rattle.bw_cert_lines.specs.declared.lines.EdgeProducts.{EdgeProducts}
-use Rattle.bw_cert_lines.specs.declared.lines.ConditionEntry.{ConditionEntry}
-use Rattle.bw_cert_lines.specs.declared.lines.ConditionEntry.TheVariants.{Compare, CompareColumns, Fixed, NullTest, And, Or, Not, Is, IsUnknown}
-use Rattle.bw_cert_lines.specs.declared.lines.InstructionEntry.{InstructionEntry}
-use Rattle.bw_cert_lines.specs.declared.lines.InstructionEntry.TheVariants.{Load, Fill, Op, Byte, Skip}
-use Rattle.bw_cert_lines.specs.CertificateFields.{ColumnFields, One, Two, ChainFields, EntryFields, Condition, Instruction, Join, Kept, BodyFields, CertificateFields}
-use Rattle.bw_cert_lines.specs.Columns.{is_found, are_columns, has_columns}
+use Rattle.bw_cert_text.specs.declared.lines.NodeLine.{NodeLine}
+use Rattle.bw_cert_text.specs.declared.lines.ProductLine.{ProductLine}
+use Rattle.bw_cert_text.specs.declared.lines.EndLine.{EndLine}
+use Rattle.bw_cert_text.specs.declared.lines.EdgeProducts.{EdgeProducts}
+use Rattle.bw_cert_text.specs.declared.lines.ConditionEntry.{ConditionEntry}
+use Rattle.bw_cert_text.specs.declared.lines.ConditionEntry.TheVariants.{Compare, CompareColumns, Fixed, NullTest, And, Or, Not, Is, IsUnknown}
+use Rattle.bw_cert_text.specs.declared.lines.InstructionEntry.{InstructionEntry}
+use Rattle.bw_cert_text.specs.declared.lines.InstructionEntry.TheVariants.{Load, Fill, Op, Byte, Skip}
+use Rattle.bw_cert_text.specs.CertificateFields.{ColumnFields, One, Two, ChainFields, EntryFields, Condition, Instruction, Join, Kept, BodyFields, CertificateFields}
+use Rattle.bw_cert_text.specs.Columns.{is_found, are_columns, has_columns}
 use Rattle.bw_cert_text.specs.CertificateText.{section_of, with_part, end_alone, SpellsFrom, before_end, at_end, IsCertificateText}
 use Rattle.bw_cert_text.specs.LineText.{Part, Node, Chain, Row, Body}
 use Rattle.bw_cert_text.specs.PrintText.{token_text, token_line, lines_text, body_tokens, schema_spelling, spelling_at, respelled_columns, respelled_chain, respelled, certificate_text, print_text}

@@ -3,7 +3,7 @@ use Rattle.std.proofs.Common.{◌≡◌, refl, ℕ, ◌^◌, Bool, true, false, 
 use Rattle.std.specs.List.{list_all}
 use Rattle.bw_text.specs.Lines.{NumberedWords, lines_in, from_line}
 use Rattle.bw_text.specs.Number.{natural_of, are_digits, digits_value, where_64_bits_hold}
-use Rattle.bw_cert_lines.specs.CertificateFields.{CertificateFields}
+use Rattle.bw_cert_text.specs.CertificateFields.{CertificateFields}
 use Rattle.bw_cert_text.specs.CertificateText.{SpellsFrom, before_end, at_end, IsCertificateText}
 use Rattle.bw_cert_text.specs.LineText.{Node, Chain, Row, Body}
 use Rattle.bw_text.proofs.RegisterLemmas.{register_is}

@@ -3,8 +3,8 @@ use Rattle.std.proofs.Common.{◌≡◌, ◌∙◌, refl, sym, ap, ℕ, List, []
 use Rattle.bw_model.specs.declared.fault.Fault.{Fault}
 use Rattle.bw_model.specs.Fault.{◌>>=◌}
 use Rattle.bw_text.specs.Lines.{NumberedWords}
-use Rattle.bw_cert_lines.specs.declared.lines.EndLine.{EndLine}
-use Rattle.bw_cert_lines.specs.CertificateFields.{CertificateFields}
+use Rattle.bw_cert_text.specs.declared.lines.EndLine.{EndLine}
+use Rattle.bw_cert_text.specs.CertificateFields.{CertificateFields}
 use Rattle.bw_cert_text.specs.LineText.{Part, Said, Before, End}
 use Rattle.bw_cert_text.specs.CertificateText.{section_of, with_part, end_alone, form_fault, said_on, last_line, followed, certificate_from}
 

@@ -5,9 +5,9 @@ use Rattle.std.proofs.lemmas.Bool.{ltb-false, le-ltb}
 use Rattle.bw_model.specs.declared.fault.Fault.{Fault}
 use Rattle.bw_model.specs.Fault.{Gives, ◌>>=◌, refused_if}
 use Rattle.bw_text.specs.Lines.{NumberedWords, lines_in, end_in, from_line}
-use Rattle.bw_cert_lines.specs.declared.lines.EndLine.{EndLine}
-use Rattle.bw_cert_lines.specs.CertificateShape.{CertificateShape}
-use Rattle.bw_cert_lines.specs.CertificateFields.{CertificateFields, certificate_fields}
+use Rattle.bw_cert_text.specs.declared.lines.EndLine.{EndLine}
+use Rattle.bw_cert_text.specs.CertificateShape.{CertificateShape}
+use Rattle.bw_cert_text.specs.CertificateFields.{CertificateFields, certificate_fields}
 use Rattle.bw_cert_text.specs.LineText.{Part, Said, Before, End, said_in}
 use Rattle.bw_cert_text.specs.CertificateText.{section_of, with_part, end_alone, SpellsFrom, before_end, at_end, IsCertificateText, form_fault, is_before, ordered, last_line, followed, certificate_from, certificate_of}
 use Rattle.bw_cert_text.specs.Reprint.{numbers_fit}

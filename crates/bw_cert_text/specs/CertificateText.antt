@@ -1,11 +1,11 @@
 -- Certificate texts: what a text says, or the first fault in it.
 use Rattle.std.specs.Prelude.{◌≤◌, ℕ, Bool, false, ◌||◌, ◌==◌, List, [], ◌∷◌, Option, Some, None, Result, Ok, Err, IsTrue, nat_lt}
-use Rattle.bw_model.specs.declared.fault.code.TheConstants.{CERTIFICATE_FORM}
+use Rattle.bw_model.specs.FaultTable.{CERTIFICATE_FORM}
 use Rattle.bw_model.specs.declared.fault.Fault.{Fault}
 use Rattle.bw_model.specs.Fault.{at_line, is_memory, ◌>>=◌, refused_if}
 use Rattle.bw_text.specs.Lines.{NumberedWords, lines_in, end_in, from_line}
-use Rattle.bw_cert_lines.specs.declared.lines.EndLine.{EndLine}
-use Rattle.bw_cert_lines.specs.CertificateFields.{CertificateFields}
+use Rattle.bw_cert_text.specs.declared.lines.EndLine.{EndLine}
+use Rattle.bw_cert_text.specs.CertificateFields.{CertificateFields}
 use Rattle.bw_cert_text.specs.LineText.{Part, Node, Chain, Row, Body, Said, Before, End, said_in}
 use Rattle.bw_cert_text.specs.Token.{Says, part_line, part_tokens, end_tokens}
 

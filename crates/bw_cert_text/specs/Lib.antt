@@ -1,4 +1,7 @@
+pub mod CertificateFields
+pub mod CertificateShape
 pub mod CertificateText
+pub mod Columns
 pub mod Connective
 pub mod LineText
 pub mod Operand

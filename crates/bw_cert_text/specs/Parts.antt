@@ -1,7 +1,7 @@
 -- The lines of a certificate that were read before its end.
 use Rattle.std.specs.Prelude.{◌++◌, map}
 use Rattle.bw_cert_text.specs.declared.parse.Parts.{Parts}
-use Rattle.bw_cert_lines.specs.CertificateFields.{CertificateFields, chain_fields, body_fields}
+use Rattle.bw_cert_text.specs.CertificateFields.{CertificateFields, chain_fields, body_fields}
 
 -- these, and then those of a certificate that stand after them
 abbrev pub joined : Parts → CertificateFields → CertificateFields

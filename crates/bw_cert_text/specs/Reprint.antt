@@ -1,9 +1,9 @@
 -- What a canonical text is read as: the certificate in the schema's spelling, its lines numbered one after another.
 use Rattle.std.specs.Prelude.{ℕ, ◌+◌, ◌^◌, Bool, true, ◌&&◌, List, [], ◌∷◌, length, Some, None, nat_lt}
 use Rattle.std.specs.List.{list_all}
-use Rattle.bw_cert_lines.specs.declared.lines.NodeLine.{NodeLine}
-use Rattle.bw_cert_lines.specs.declared.lines.ProductLine.{ProductLine}
-use Rattle.bw_cert_lines.specs.CertificateFields.{ChainFields, BodyFields, CertificateFields}
+use Rattle.bw_cert_text.specs.declared.lines.NodeLine.{NodeLine}
+use Rattle.bw_cert_text.specs.declared.lines.ProductLine.{ProductLine}
+use Rattle.bw_cert_text.specs.CertificateFields.{ChainFields, BodyFields, CertificateFields}
 use Rattle.bw_cert_text.specs.PrintText.{body_tokens}
 use Rattle.bw_cert_text.specs.Token.{Token, Key, Number, Perhaps, Column, Register, node_tokens, chain_tokens, row_tokens, end_tokens}
 
@@ -39,15 +39,6 @@ renumbered first c =
       end = record { line = body + length c.body; row = c.end.row };
     }
 
--- every place of every line passes a test
-abbrev pub all_tokens : (Token → Bool) → CertificateFields → Bool
-all_tokens test c =
-    list_all (λ node. list_all test (node_tokens node)) c.nodes
-    && (list_all (λ chain. list_all test (chain_tokens chain)) c.chains
-    && (list_all (λ row. list_all test (row_tokens row)) c.products
-    && (list_all (λ body. list_all test (body_tokens body)) c.body
-    && list_all test (end_tokens c.end))))
-
 -- a number is below 2^64, and a register is one of the 64
 abbrev pub is_small : Token → Bool
 is_small (Key key) = true
@@ -57,6 +48,15 @@ is_small (Perhaps (Some n)) = nat_lt n (2 ^ 64)
 is_small (Column word) = true
 is_small (Register r) = nat_lt r 64
 
--- so with each place of a certificate
+-- so with each place of a line
+abbrev pub are_small : List Token → Bool
+are_small tokens = list_all is_small tokens
+
+-- and of each line of a certificate
 abbrev pub numbers_fit : CertificateFields → Bool
-numbers_fit c = all_tokens is_small c
+numbers_fit c =
+    list_all (λ node. are_small (node_tokens node)) c.nodes
+    && (list_all (λ chain. are_small (chain_tokens chain)) c.chains
+    && (list_all (λ row. are_small (row_tokens row)) c.products
+    && (list_all (λ body. are_small (body_tokens body)) c.body
+    && are_small (end_tokens c.end))))

@@ -3,7 +3,7 @@ use Rattle.bw_cert_text.specs.declared.line.Part.TheVariants as part
 use Rattle.bw_cert_text.specs.declared.line.Said.TheVariants as said
 use Rattle.bw_cert_text.specs.declared.line.Part as declared_part
 use Rattle.bw_cert_text.specs.declared.line.Said as declared_said
-use Rattle.bw_cert_lines.specs.CertificateFields.{chain_fields, body_fields}
+use Rattle.bw_cert_text.specs.CertificateFields.{chain_fields, body_fields}
 use Rattle.bw_cert_text.specs.LineText.{Part, Node, Chain, Row, Body, Said, Before, End}
 
 abbrev pub part_fields : declared_part.Part → Part

@@ -1,19 +1,27 @@
-//! Certificate texts, read and printed line by line.
+//! Certificates as their lines, read from a text and printed line by line: the nodes, chains and product rows that one
+//! states, and the lines that say which of them a condition, a program's instructions and its joins rest on.
 //!
-//! The contract that the crates above use: a text is read exactly where its lines spell a certificate, and to that
-//! certificate; else the first line that is wrong is reported, by 605 alone. A certificate is printed as its canonical
-//! text, which spells it where its chains name columns of the schema and its registers are r0 to r63. Nothing here
-//! judges what a line states.
+//! The contract that the crates above use: [`Certificate::parse`] reads a text exactly where its lines spell a
+//! certificate, and to that certificate; else the first line that is wrong is reported, by 605 alone.
+//! [`Certificate::print`] gives its canonical text, which spells it, under a schema that has the columns that its
+//! chains name. A planner makes one by [`Certificate::new`]. Nothing here judges what a line states.
 //!
-//! `specs/Token.antt` is the table of how the lines of `bw_cert_lines` are written, and `specs/CertificateText.antt`
-//! says in which order they stand: read these first.
+//! Read `lines.rt` first: a line of each kind. `specs/Token.antt` is the table of how these lines are written, and
+//! `specs/CertificateText.antt` says in which order they stand.
 #![tactic(auto)]
 
+mod certificate;
 mod connective;
 mod line;
+mod lines;
 mod operand;
 mod parse;
 mod print;
 
-pub use parse::{certificates_are_read_as_spelled, parse_certificate};
-pub use print::{canonical_texts_spell_certificates, print_certificate, spelled_numbers_fit};
+pub use certificate::Certificate;
+pub use lines::{
+    BodyLine, ChainLine, ConditionEntry, EdgeProducts, EndLine, Entry, InstructionEntry, Keep,
+    NodeLine, ProductLine,
+};
+pub use parse::certificates_are_read_as_spelled;
+pub use print::{canonical_texts_spell_certificates, spelled_numbers_fit};

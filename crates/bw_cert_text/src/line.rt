@@ -1,17 +1,17 @@
 //! What a line of a certificate text says.
 ghost use Rattle.std.specs.Prelude.{◌≡◌, List, ℕ, map, option_map, IfOk};
 ghost use Rattle.bw_text.specs.Lines.{line_of};
-ghost use Rattle.bw_cert_lines.specs.CertificateFields.{column_fields, chain_fields, keep_fields, entry_fields};
+ghost use Rattle.bw_cert_text.specs.CertificateFields.{column_fields, chain_fields, keep_fields, entry_fields};
 ghost use Rattle.bw_cert_text.specs.LineText.{node_in, one_column_in, two_columns_in, columns_after, chain_in, reason_in, row_in, compare_in, compare_columns_in, is_in, condition_in, byte_in, instruction_in, edges_in, keep_in, body_at, said_after, said_in};
 ghost use Rattle.bw_cert_text.specs.declared.line.Said.TheVariants as said;
 ghost use Rattle.bw_cert_text.specs.SaidFields.{part_fields, said_fields};
 
 use crate::connective::connective_of;
-use crate::operand::{nothing_in, number_in, optional_of, two_in};
-use bw_cert_lines::{
+use crate::lines::{
     BodyLine, ChainLine, ConditionEntry, EdgeProducts, EndLine, Entry, InstructionEntry, Keep,
     NodeLine, ProductLine,
 };
+use crate::operand::{nothing_in, number_in, optional_of, two_in};
 use bw_diagram::{ChainColumns, ChainKind, Reason};
 use bw_text::{
     ConditionKind, Form, InstructionKind, Line, LineKind, is_same_text, natural_number, register_of,

@@ -2,40 +2,43 @@
 ghost use Rattle.std.specs.Prelude.{◌≡◌, ◌≤◌, ◌^◌, ℕ, List, Ok, Err, false, option_map, IfOk, IfErr, OnOk, IsTrue};
 ghost use Rattle.bw_model.specs.Fault.{Gives, is_memory};
 ghost use Rattle.bw_text.specs.Lines.{lines_in, end_in, line_of};
-ghost use Rattle.bw_cert_lines.specs.CertificateFields.{CertificateFields, certificate_fields};
+ghost use Rattle.bw_cert_text.specs.CertificateFields.{CertificateFields, certificate_fields};
 ghost use Rattle.bw_cert_text.specs.CertificateText.{certificate_of, certificate_from, said_on, section_of, with_part, end_alone, last_line, is_before, IsCertificateText, IsCertificateFault};
 ghost use Rattle.bw_cert_text.specs.Parts.{joined};
 ghost use Rattle.bw_cert_text.specs.Reprint.{numbers_fit};
 ghost use Rattle.bw_cert_text.specs.SaidFields.{part_fields, said_fields};
 
+use crate::certificate::Certificate;
 use crate::line::{Part, Said, said_in};
-use bw_cert_lines::{BodyLine, Certificate, ChainLine, EndLine, NodeLine, ProductLine};
+use crate::lines::{BodyLine, ChainLine, EndLine, NodeLine, ProductLine};
 use bw_model::{Fault, code};
 use bw_text::{Line, Lines};
 use std::alloc::{AllocError, Global};
 
-/// Reads a certificate text, the first line of which has this number, 1 to 2^32.
-///
-/// Refused, by 605 alone, is the first line that has another form, that is a node, chain or product row after a
-/// line of a later section, or that stands after `END`. At the end of the text, one line after the last, an `END`
-/// that is missing is 605 too.
-pub fn parse_certificate(alloc: Global, first_line: u64, text: &[u8]) -> Result<Certificate, Fault>
-    requires numbered { 1 ≤ first_line }
-    requires few { first_line ≤ 2 ^ 32 }
-    // What is read is spelled so, and what is spelled so is read.
-    ensures spelled { IfOk result
-        (λ certificate. IsCertificateText first_line text.now (certificate_fields certificate)) }
-    ensures accepted { (certificate : CertificateFields) → IsCertificateText first_line text.now certificate
-        → Gives certificate_fields result (Ok certificate) }
+impl Certificate {
+    /// Reads a certificate text, the first line of which has this number, 1 to 2^32.
+    ///
+    /// Refused, by 605 alone, is the first line that has another form, that is a node, chain or product row after a
+    /// line of a later section, or that stands after `END`. At the end of the text, one line after the last, an `END`
+    /// that is missing is 605 too.
+    pub fn parse(alloc: Global, first_line: u64, text: &[u8]) -> Result<Self, Fault>
+        requires numbered { 1 ≤ first_line }
+        requires few { first_line ≤ 2 ^ 32 }
+        // What is read is spelled so, and what is spelled so is read.
+        ensures spelled { IfOk result
+            (λ certificate. IsCertificateText first_line text.now (certificate_fields certificate)) }
+        ensures accepted { (certificate : CertificateFields) → IsCertificateText first_line text.now certificate
+            → Gives certificate_fields result (Ok certificate) }
 
-    // Which fault it is.
-    ensures fault { Gives certificate_fields result (certificate_of first_line text.now) }
-    ensures code { IfErr result IsCertificateFault }
+        // Which fault it is.
+        ensures fault { Gives certificate_fields result (certificate_of first_line text.now) }
+        ensures code { IfErr result IsCertificateFault }
 
-    // Its numbers are below 2^64, and its registers r0 to r63.
-    ensures fits { IfOk result (λ certificate. IsTrue (numbers_fit (certificate_fields certificate))) }
-{
-    read_certificate(alloc, first_line, text)
+        // Its numbers are below 2^64, and its registers r0 to r63.
+        ensures fits { IfOk result (λ certificate. IsTrue (numbers_fit (certificate_fields certificate))) }
+    {
+        read_certificate(alloc, first_line, text)
+    }
 }
 
 /// A law: a text is read as a certificate exactly where its lines spell it. So it spells at most one, and then it has

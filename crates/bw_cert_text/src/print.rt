@@ -7,16 +7,17 @@ ghost use Rattle.bw_model.specs.Column.{names_of};
 ghost use Rattle.bw_model.specs.Fault.{no_memory};
 ghost use Rattle.bw_model.specs.Name.{is_name};
 ghost use Rattle.bw_cert_text.specs.CertificateText.{IsCertificateText};
-ghost use Rattle.bw_cert_lines.specs.Columns.{has_columns};
-ghost use Rattle.bw_cert_text.specs.Reprint.{numbers_fit, renumbered};
-ghost use Rattle.bw_cert_lines.specs.CertificateFields.{CertificateFields, certificate_fields, chain_fields, keep_fields, entry_fields, body_fields};
+ghost use Rattle.bw_cert_text.specs.Columns.{are_columns, has_columns};
+ghost use Rattle.bw_cert_text.specs.Reprint.{is_small, are_small, numbers_fit, renumbered};
+ghost use Rattle.bw_cert_text.specs.CertificateFields.{CertificateFields, certificate_fields, column_fields, chain_fields, keep_fields, entry_fields, body_fields};
 ghost use Rattle.bw_cert_text.specs.PrintText.{token_text, token_words, token_line, lines_text, body_tokens, schema_spelling, respelled_chain, respelled, print_text};
 ghost use Rattle.bw_text.specs.Printed.{piece_text, spaced};
-ghost use Rattle.bw_cert_text.specs.Token.{Key, Perhaps, one_key, two_key, node_tokens, chain_tokens, row_tokens, condition_tokens, instruction_tokens, edge_tokens, keep_tokens, entry_tokens, end_tokens};
+ghost use Rattle.bw_cert_text.specs.Token.{Key, Number, Perhaps, one_key, two_key, node_tokens, chain_tokens, row_tokens, condition_tokens, instruction_tokens, edge_tokens, keep_tokens, entry_tokens, end_tokens};
 
+use crate::certificate::Certificate;
 use crate::connective::connective_spelling;
-use bw_cert_lines::{
-    BodyLine, Certificate, ChainLine, ConditionEntry, EdgeProducts, Entry, InstructionEntry, Keep,
+use crate::lines::{
+    BodyLine, ChainLine, ConditionEntry, EdgeProducts, EndLine, Entry, InstructionEntry, Keep,
     NodeLine, ProductLine,
 };
 use bw_diagram::{ChainColumns, ChainKind, Reason};
@@ -24,33 +25,56 @@ use bw_model::{Fault, Schema};
 use bw_text::{Piece, push_line, push_spaced};
 use std::alloc::{AllocError, Global};
 
-/// A certificate's canonical text: words of the language in capitals, single blanks, columns
-/// in the schema's spelling, numbers without leading zeros, `-` for none, and one line feed
-/// after each line. A word that names no column of the schema stands as it is; where each names
-/// one and the registers are r0 to r63, the text spells the certificate, its lines numbered one
-/// after another from any number on. Refuses only where memory runs out (801).
-pub fn print_certificate(
-    alloc: Global,
-    schema: &Schema,
-    certificate: &Certificate,
-) -> Result<Vec<u8>, Fault>
-    ensures text { IfOk result
-        (λ text. text.items ≡ print_text schema.now.columns.items (certificate_fields certificate.now)) }
-    ensures spelled { IsTrue (numbers_fit (certificate_fields certificate.now))
-        → IsTrue (has_columns schema.now.columns.items (certificate_fields certificate.now))
-        → IfOk result (λ text. (first : ℕ) → IsCertificateText first text.items
-        (renumbered first (respelled schema.now.columns.items (certificate_fields certificate.now)))) }
-    ensures only_memory { IsOkUnless result no_memory }
+impl Certificate {
+    /// Its canonical text, under a schema that has the columns that its chains name: words of the
+    /// language in capitals, single blanks, columns in the schema's spelling, numbers without
+    /// leading zeros, `-` for none, and one line feed after each line. It spells the certificate,
+    /// its lines numbered one after another from any number on. Refuses only where memory runs out
+    /// (801).
+    pub fn print(&self, alloc: Global, schema: &Schema) -> Result<Vec<u8>, Fault>
+        requires { IsTrue (has_columns schema.now.columns.items (certificate_fields self.now)) }
+        ensures text { IfOk result
+            (λ text. text.items ≡ print_text schema.now.columns.items (certificate_fields self.now)) }
+        ensures spelled { IfOk result (λ text. (first : ℕ) → IsCertificateText first text.items
+            (renumbered first (respelled schema.now.columns.items (certificate_fields self.now)))) }
+        ensures only_memory { IsOkUnless result no_memory }
+    {
+        schema.has_names_and_bounds();
+        let mut text = Vec::new(alloc);
+        put_nodes(alloc, self.node_lines(), &mut text)?;
+        put_chains(alloc, schema, self.chain_lines(), &mut text)?;
+        put_rows(alloc, self.product_lines(), &mut text)?;
+        put_body(alloc, self.body(), &mut text)?;
+        put_end(alloc, self.end(), &mut text)?;
+        Ok(text)
+    }
+
+    /// Whether a schema has the columns that its chains name.
+    pub fn has_columns(&self, schema: &Schema) -> bool
+        ensures { result ≡ has_columns schema.now.columns.items (certificate_fields self.now) }
+    {
+        are_all_named(schema, self.chain_lines())
+    }
+}
+
+/// Whether a schema has the columns that chains name.
+fn are_all_named(schema: &Schema, chains: &[ChainLine]) -> bool
+    ensures { result ≡ list_all
+        (λ chain. are_columns schema.now.columns.items (column_fields chain.columns)) chains.now }
 {
-    schema.has_names_and_bounds();
-    let mut text = Vec::new(alloc);
-    put_nodes(alloc, certificate.node_lines(), &mut text)?;
-    put_chains(alloc, schema, certificate.chain_lines(), &mut text)?;
-    put_rows(alloc, certificate.product_lines(), &mut text)?;
-    put_body(alloc, certificate.body(), &mut text)?;
-    let end = [Piece::Word(b"END"), Piece::Number(certificate.end().row)];
-    push_line(alloc, &end, &mut text)?;
-    Ok(text)
+    chains.iter().all(|chain| is_named(schema, chain))
+}
+
+/// Whether a schema has the columns that a chain names.
+fn is_named(schema: &Schema, chain: &ChainLine) -> bool
+    ensures { result ≡ are_columns schema.now.columns.items (column_fields chain.now.columns) }
+{
+    match &chain.columns {
+        ChainColumns::One { column, .. } => schema.column_named(column).is_some(),
+        ChainColumns::Two { left, right, .. } => {
+            schema.column_named(left).is_some() && schema.column_named(right).is_some()
+        }
+    }
 }
 
 /// A law: the canonical text of a certificate spells it, in the schema's spelling and with its lines
@@ -73,19 +97,28 @@ pub fn spelled_numbers_fit()
 
 /// Appends the lines of nodes.
 fn put_nodes(alloc: Global, nodes: &[NodeLine], text: &mut Vec<u8>) -> Result<(), AllocError>
-    ensures { OnOk result (text.new.items ≡ text.old.items ++ lines_text node_tokens nodes.now) }
+    ensures text { OnOk result (text.new.items ≡ text.old.items ++ lines_text node_tokens nodes.now) }
+    ensures fit { OnOk result (IsTrue (list_all (λ node. are_small (node_tokens node)) nodes.now)) }
 {
     for node in nodes {
-        let pieces = [
-            Piece::Word(b"NODE"),
-            Piece::Number(node.n),
-            Piece::Number(node.v),
-            Piece::Number(node.low),
-            Piece::Number(node.high),
-        ];
-        push_line(alloc, &pieces, text)?;
+        put_node(alloc, *node, text)?;
     }
     Ok(())
+}
+
+/// Appends the line of a node.
+fn put_node(alloc: Global, node: NodeLine, text: &mut Vec<u8>) -> Result<(), AllocError>
+    ensures text { OnOk result (text.new.items ≡ text.old.items ++ token_line (node_tokens node)) }
+    ensures fit { IsTrue (are_small (node_tokens node)) }
+{
+    let pieces = [
+        Piece::Word(b"NODE"),
+        Piece::Number(node.n),
+        Piece::Number(node.v),
+        Piece::Number(node.low),
+        Piece::Number(node.high),
+    ];
+    push_line(alloc, &pieces, text)
 }
 
 /// Appends the lines of chains.
@@ -95,9 +128,11 @@ fn put_chains(
     chains: &[ChainLine],
     text: &mut Vec<u8>,
 ) -> Result<(), AllocError>
-    ensures { OnOk result (text.new.items ≡ text.old.items
+    ensures text { OnOk result (text.new.items ≡ text.old.items
         ++ lines_text (λ chain. chain_tokens (respelled_chain
         schema.now.columns.items (chain_fields chain))) chains.now) }
+    ensures fit { OnOk result
+        (IsTrue (list_all (λ chain. are_small (chain_tokens (chain_fields chain))) chains.now)) }
 {
     for chain in chains {
         put_chain(alloc, schema, chain, text)?;
@@ -112,8 +147,9 @@ fn put_chain<'a>(
     chain: &'a ChainLine,
     text: &mut Vec<u8>,
 ) -> Result<(), AllocError>
-    ensures { OnOk result (text.new.items ≡ text.old.items
+    ensures text { OnOk result (text.new.items ≡ text.old.items
         ++ token_line (chain_tokens (respelled_chain schema.now.columns.items (chain_fields chain.now)))) }
+    ensures fit { IsTrue (are_small (chain_tokens (chain_fields chain.now))) }
 {
     match &chain.columns {
         ChainColumns::One {
@@ -127,13 +163,13 @@ fn put_chain<'a>(
         } => {
             let pieces = [
                 Piece::Word(b"CHAIN"),
-                Piece::Number(chain.n),
+                number(chain.n),
                 Piece::Word(one_key(*kind)),
                 Piece::Word(name_of(schema, column)),
-                Piece::Number(*start),
-                Piece::Number(*len),
-                Piece::Number(*bound),
-                Piece::Number(*node),
+                number(*start),
+                number(*len),
+                number(*bound),
+                number(*node),
                 perhaps(*prev),
             ];
             push_line(alloc, &pieces, text)
@@ -148,12 +184,12 @@ fn put_chain<'a>(
         } => {
             let pieces = [
                 Piece::Word(b"CHAIN"),
-                Piece::Number(chain.n),
+                number(chain.n),
                 Piece::Word(two_key(*kind)),
                 Piece::Word(name_of(schema, left)),
                 Piece::Word(name_of(schema, right)),
-                Piece::Number(*len),
-                Piece::Number(*node),
+                number(*len),
+                number(*node),
                 perhaps(*prev),
             ];
             push_line(alloc, &pieces, text)
@@ -193,17 +229,19 @@ fn name_of<'a>(schema: &'a Schema, word: &'a [u8]) -> &'a [u8]
 
 /// Appends the lines of product rows.
 fn put_rows(alloc: Global, rows: &[ProductLine], text: &mut Vec<u8>) -> Result<(), AllocError>
-    ensures { OnOk result (text.new.items ≡ text.old.items ++ lines_text row_tokens rows.now) }
+    ensures text { OnOk result (text.new.items ≡ text.old.items ++ lines_text row_tokens rows.now) }
+    ensures fit { OnOk result (IsTrue (list_all (λ row. are_small (row_tokens row)) rows.now)) }
 {
     for row in rows {
-        put_row(alloc, row, text)?;
+        put_row(alloc, *row, text)?;
     }
     Ok(())
 }
 
 /// Appends the line of a product row.
-fn put_row(alloc: Global, row: &ProductLine, text: &mut Vec<u8>) -> Result<(), AllocError>
-    ensures { OnOk result (text.new.items ≡ text.old.items ++ token_line (row_tokens row.now)) }
+fn put_row(alloc: Global, row: ProductLine, text: &mut Vec<u8>) -> Result<(), AllocError>
+    ensures text { OnOk result (text.new.items ≡ text.old.items ++ token_line (row_tokens row)) }
+    ensures fit { IsTrue (are_small (row_tokens row)) }
 {
     let op = connective_spelling(row.op);
     match row.reason {
@@ -239,8 +277,10 @@ fn put_row(alloc: Global, row: &ProductLine, text: &mut Vec<u8>) -> Result<(), A
 
 /// Appends the lines of conditions, instructions and joins.
 fn put_body(alloc: Global, body: &[BodyLine], text: &mut Vec<u8>) -> Result<(), AllocError>
-    ensures { OnOk result (text.new.items ≡ text.old.items
+    ensures text { OnOk result (text.new.items ≡ text.old.items
         ++ lines_text (λ line. body_tokens (body_fields line)) body.now) }
+    ensures fit { OnOk result
+        (IsTrue (list_all (λ line. are_small (body_tokens (body_fields line))) body.now)) }
 {
     for line in body {
         put_entry(alloc, &line.entry, text)?;
@@ -250,8 +290,9 @@ fn put_body(alloc: Global, body: &[BodyLine], text: &mut Vec<u8>) -> Result<(), 
 
 /// Appends such a line.
 fn put_entry(alloc: Global, entry: &Entry, text: &mut Vec<u8>) -> Result<(), AllocError>
-    ensures { OnOk result (text.new.items ≡ text.old.items
+    ensures text { OnOk result (text.new.items ≡ text.old.items
         ++ token_line (entry_tokens (entry_fields entry.now))) }
+    ensures fit { OnOk result (IsTrue (are_small (entry_tokens (entry_fields entry.now)))) }
 {
     match entry {
         Entry::Condition(entry) => put_condition(alloc, *entry, text),
@@ -267,7 +308,8 @@ fn put_entry(alloc: Global, entry: &Entry, text: &mut Vec<u8>) -> Result<(), All
 
 /// Appends the line of a condition's step.
 fn put_condition(alloc: Global, entry: ConditionEntry, text: &mut Vec<u8>) -> Result<(), AllocError>
-    ensures { OnOk result (text.new.items ≡ text.old.items ++ token_line (condition_tokens entry)) }
+    ensures text { OnOk result (text.new.items ≡ text.old.items ++ token_line (condition_tokens entry)) }
+    ensures fit { IsTrue (are_small (condition_tokens entry)) }
 {
     use Piece::{Number, Word};
     match entry {
@@ -320,7 +362,8 @@ fn put_instruction(
     entry: InstructionEntry,
     text: &mut Vec<u8>,
 ) -> Result<(), AllocError>
-    ensures { OnOk result (text.new.items ≡ text.old.items ++ token_line (instruction_tokens entry)) }
+    ensures text { OnOk result (text.new.items ≡ text.old.items ++ token_line (instruction_tokens entry)) }
+    ensures fit { IsTrue (are_small (instruction_tokens entry)) }
 {
     use Piece::{Number, Word};
     match entry {
@@ -334,13 +377,14 @@ fn put_instruction(
 
 /// Appends the line of a register that a join keeps.
 fn put_keep(alloc: Global, keep: &Keep, text: &mut Vec<u8>) -> Result<(), AllocError>
-    ensures { OnOk result (text.new.items ≡ text.old.items
+    ensures text { OnOk result (text.new.items ≡ text.old.items
         ++ token_line (keep_tokens (keep_fields keep.now))) }
+    ensures fit { OnOk result (IsTrue (are_small (keep_tokens (keep_fields keep.now)))) }
 {
     let pieces = [
         Piece::Register(keep.register),
-        Piece::Number(keep.node),
-        Piece::Number(keep.through),
+        number(keep.node),
+        number(keep.through),
     ];
     text.extend_from_slice(b"KEEP")?;
     push_spaced(alloc, &pieces, text)?;
@@ -351,18 +395,46 @@ fn put_keep(alloc: Global, keep: &Keep, text: &mut Vec<u8>) -> Result<(), AllocE
 
 /// Appends pairs of numbers, each number after a blank.
 fn put_edges(alloc: Global, edges: &[EdgeProducts], text: &mut Vec<u8>) -> Result<(), AllocError>
-    ensures { OnOk result (text.new.items ≡ text.old.items ++ spaced (token_words (edge_tokens edges.now))) }
+    ensures text { OnOk result (text.new.items ≡ text.old.items ++ spaced (token_words (edge_tokens edges.now))) }
+    ensures fit { OnOk result (IsTrue (are_small (edge_tokens edges.now))) }
 {
     for edge in edges {
-        let pieces = [Piece::Number(edge.differs), Piece::Number(edge.within)];
-        push_spaced(alloc, &pieces, text)?;
+        put_edge(alloc, *edge, text)?;
     }
     Ok(())
 }
 
+/// Appends a pair of numbers, each after a blank.
+fn put_edge(alloc: Global, edge: EdgeProducts, text: &mut Vec<u8>) -> Result<(), AllocError>
+    ensures text { OnOk result (text.new.items ≡ text.old.items
+        ++ spaced (token_words (Number edge.differs ∷ Number edge.within ∷ []))) }
+    ensures fit { IsTrue (are_small (Number edge.differs ∷ Number edge.within ∷ [])) }
+{
+    let pieces = [Piece::Number(edge.differs), Piece::Number(edge.within)];
+    push_spaced(alloc, &pieces, text)
+}
+
+/// A number, as a piece of a line.
+fn number(number: u64) -> Piece<'static>
+    ensures text { piece_text result ≡ token_text (Number number) }
+    ensures fit { IsTrue (is_small (Number number)) }
+{
+    Piece::Number(number)
+}
+
+/// Appends the last line.
+fn put_end(alloc: Global, end: EndLine, text: &mut Vec<u8>) -> Result<(), AllocError>
+    ensures text { OnOk result (text.new.items ≡ text.old.items ++ token_line (end_tokens end)) }
+    ensures fit { IsTrue (are_small (end_tokens end)) }
+{
+    let pieces = [Piece::Word(b"END"), Piece::Number(end.row)];
+    push_line(alloc, &pieces, text)
+}
+
 /// A number, or `-` for none, as a piece of a line.
 fn perhaps(number: Option<u64>) -> Piece<'static>
-    ensures { piece_text result ≡ token_text (Perhaps number) }
+    ensures text { piece_text result ≡ token_text (Perhaps number) }
+    ensures fit { IsTrue (is_small (Perhaps number)) }
 {
     match number {
         Some(number) => Piece::Number(number),

@@ -1,5 +1,5 @@
 //! Certificates that are read and printed. What is refused, and where, is in `cases/certificate_lines.md`.
-use bw_cert_text::{parse_certificate, print_certificate};
+use bw_cert::Certificate;
 use bw_model::Schema;
 use std::test::Fail;
 
@@ -33,8 +33,9 @@ fn canonical_texts(rt: HostRuntime) -> Result<(), Fail> {
             "LOAD 1\nFILL\nOP 2\nBYTE 3\nBYTE -\nSKIP\nJOIN 4\nKEEP r7 1 2\nKEEP r8 1 2 3 4 5 6\nEND 0\n",
         ),
     ] {
-        let certificate = parse_certificate(alloc, 1, text.as_bytes())?;
-        let printed = print_certificate(alloc, &schema, &certificate)?;
+        let certificate = Certificate::parse(alloc, 1, text.as_bytes())?;
+        assert!(rt; certificate.has_columns(&schema), "of {text}");
+        let printed = certificate.print(alloc, &schema)?;
         assert_eq!(rt; printed.as_slice(), want.as_bytes(), "of {text}");
     }
     Ok(())

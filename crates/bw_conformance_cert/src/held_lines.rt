@@ -66,7 +66,7 @@ fn add(
         }
         Kind::Row => {
             let product = u64::from(obeys);
-            diagram.add_product(before, Connective::And, 1, 1, product, Reason::Shortcut)
+            diagram.add_row(before, Connective::And, 1, 1, product, Reason::Shortcut)
         }
     }
 }

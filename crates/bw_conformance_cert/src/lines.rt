@@ -2,7 +2,7 @@
 //! known.
 use bw_device::ToWrite;
 use bw_model::{Fault, Place};
-use bw_report::{Accepted, By, Scanned, Served, accepted_line, report, stats_line};
+use bw_report::{Accepted, By, Served, accepted_line, report, stats_line};
 use std::test::Fail;
 
 #[test]
@@ -23,15 +23,35 @@ fn faults_are_reported(rt: HostRuntime) -> Result<(), Fail> {
     Ok(())
 }
 
+/// A fault is shown as its line has it: by its number, its words and its place.
+#[test]
+fn faults_are_shown_as_reported(rt: HostRuntime) -> Result<(), Fail> {
+    let alloc = rt.alloc();
+    for code in 100..=802 {
+        for place in [
+            Place::Nowhere,
+            Place::Byte(0),
+            Place::Line(12),
+            Place::Rec(7),
+        ] {
+            let fault = Fault { code, place };
+            let mut sink = ToWrite::new(Vec::new(alloc));
+            report(&fault, &mut sink);
+            let text = sink.into_inner();
+            let shown = format!(in alloc; "bw: {fault}\n")?;
+            assert_eq!(rt; text.as_slice(), shown.as_bytes());
+        }
+    }
+    Ok(())
+}
+
 #[test]
 fn served_queries_are_reported(rt: HostRuntime) -> Result<(), Fail> {
     let served = Served {
         by: By::Program,
-        scanned: Scanned {
-            segments: u32::MAX,
-            loads: u64::MAX,
-            skips: u64::MAX,
-        },
+        segments: u32::MAX,
+        loads: u64::MAX,
+        skips: u64::MAX,
     };
     let line =
         "served program segments 4294967295 loads 18446744073709551615 skips 18446744073709551615\n";

@@ -6,7 +6,7 @@ ghost use Rattle.bw_model.specs.Row.{values_of};
 ghost use Rattle.bw_model.specs.Total.{item_within};
 
 use bw_model::{Item, Query, Row, Schema, Truth, Value};
-use bw_rows::{aggregate, select, truth};
+use bw_rowwise::{aggregate, select, truth};
 use bw_sql::parse;
 use std::alloc::Global;
 use std::process::Abort;
@@ -60,7 +60,7 @@ fn check_truth(
         };
         let truth = truth(&query.cond, &row);
         assert_eq!(rt; truth, expected[i], "row {i} of {condition}");
-        if truth == Truth::True {
+        if truth == Truth::Yes {
             last = Some([*a, *b]);
         }
     }
@@ -77,30 +77,30 @@ fn check_truth(
 
 #[test]
 fn conditions_are_three_valued(rt: HostRuntime) -> Result<(), Fail> {
-    use Truth::{False, Unknown, True};
+    use Truth::{No, Unknown, Yes};
     for (condition, expected) in [
-        ("b < 1", [True, False, Unknown, Unknown, True]),
-        ("NOT (b < 1)", [False, True, Unknown, Unknown, False]),
+        ("b < 1", [Yes, No, Unknown, Unknown, Yes]),
+        ("NOT (b < 1)", [No, Yes, Unknown, Unknown, No]),
         (
             "b NOT IN (0, NULL)",
-            [Unknown, Unknown, Unknown, Unknown, False],
+            [Unknown, Unknown, Unknown, Unknown, No],
         ),
-        ("(b < 1) IS UNKNOWN", [False, False, True, True, False]),
-        ("(b < 1) IS NOT UNKNOWN", [True, True, False, False, True]),
-        ("a < 300", [True, True, True, True, True]),
-        ("a >= 256", [False, False, False, False, False]),
-        ("b <> 1000", [True, True, Unknown, Unknown, True]),
-        ("192 <= a", [False, True, False, False, False]),
-        ("a = b", [False, False, Unknown, Unknown, False]),
+        ("(b < 1) IS UNKNOWN", [No, No, Yes, Yes, No]),
+        ("(b < 1) IS NOT UNKNOWN", [Yes, Yes, No, No, Yes]),
+        ("a < 300", [Yes, Yes, Yes, Yes, Yes]),
+        ("a >= 256", [No, No, No, No, No]),
+        ("b <> 1000", [Yes, Yes, Unknown, Unknown, Yes]),
+        ("192 <= a", [No, Yes, No, No, No]),
+        ("a = b", [No, No, Unknown, Unknown, No]),
         (
             "a NOT BETWEEN 1 AND 8 OR b IS NULL",
-            [True, True, True, True, False],
+            [Yes, Yes, Yes, Yes, No],
         ),
         (
             "b NOT BETWEEN 1 AND NULL",
-            [True, Unknown, Unknown, Unknown, True],
+            [Yes, Unknown, Unknown, Unknown, Yes],
         ),
-        ("b IS NULL IS NOT FALSE", [False, False, True, True, False]),
+        ("b IS NULL IS NOT FALSE", [No, No, Yes, Yes, No]),
     ] {
         check_truth(&rt, condition, expected)?;
     }

@@ -7,7 +7,7 @@ use bw_cert::certify;
 use bw_lanes::Plane;
 use bw_model::{Cond, Row, Schema, Truth, admitted_rows_have_each_value};
 use bw_planes::PlaneSegment;
-use bw_rows::truth;
+use bw_rowwise::truth;
 use bw_run::Counts;
 use bw_segment::is_group;
 use bw_slices::SliceSegment;
@@ -36,7 +36,7 @@ fn assert_truth(rt: &impl Abort, schema: &Schema, cond: &Cond, rows: &[Row], pla
         let bit = plane[i / 64] >> (i % 64) & 1 == 1;
         let expected = match rows.get(i) {
             None => false,
-            Some(row) => schema.admits(row) && truth(cond, row) == Truth::True,
+            Some(row) => schema.admits(row) && truth(cond, row) == Truth::Yes,
         };
         assert_eq!(rt; bit, expected, "row {i}");
     }

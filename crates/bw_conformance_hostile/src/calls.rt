@@ -2,14 +2,9 @@
 ghost use Rattle.std.specs.Prelude.{◌<◌, ◌-◌, ◌^◌};
 
 use crate::devices::{Calls, Pieces, Taker};
-use bw_cert::check_text;
-use bw_device::{FromRead, ToWrite};
-use bw_file::Layout;
+use bw_file::{FromRead, Layout, ToWrite};
 use bw_model::Fault;
-use bw_query::{answer, dump, plan_text};
-use bw_report::By;
-use bw_schemas::{infer, info};
-use bw_shell::{direct, load};
+use bw_shell::{By, answer, check_text, direct, dump, infer, info, load, plan_text};
 use std::alloc::Global;
 
 /// A table of bytes and of small numbers, some of them null.

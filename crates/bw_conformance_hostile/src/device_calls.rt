@@ -6,13 +6,12 @@ use crate::calls::{
     table_file,
 };
 use crate::devices::{Calls, Endless, Taker};
-use bw_device::{FromRead, Input, ToWrite, read_limited};
-use bw_file::Layout;
+use bw_file::{FromRead, Layout, ToWrite};
 use bw_model::{Fault, MAX_CSV_LEN, code};
-use bw_query::{answer, dump};
-use bw_report::{Accepted, By, Scanned, Served, accepted_line, report, stats_line};
-use bw_schemas::infer;
-use bw_shell::{direct, load};
+use bw_shell::{
+    Accepted, By, Input, Served, accepted_line, answer, direct, dump, infer, load, read_limited,
+    report, stats_line,
+};
 use std::process::Abort;
 use std::test::Fail;
 
@@ -281,11 +280,9 @@ impl Line {
     {
         let served = Served {
             by: By::Program,
-            scanned: Scanned {
-                segments: 2,
-                loads: 3,
-                skips: 1,
-            },
+            segments: 2,
+            loads: 3,
+            skips: 1,
         };
         let accepted = Accepted {
             instructions: 4,

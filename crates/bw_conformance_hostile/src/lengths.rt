@@ -1,12 +1,9 @@
 //! Texts that are as long or as deep as they may be, or longer.
 use crate::calls::{Call, LAYOUTS, Reads, SCHEMA, table_file};
 use crate::devices::{Calls, Taker};
-use bw_cert::check_text;
-use bw_device::{FromRead, ToWrite};
-use bw_file::Layout;
+use bw_file::{FromRead, Layout, ToWrite};
 use bw_model::{Fault, code};
-use bw_query::{answer, plan_text};
-use bw_shell::{direct, load};
+use bw_shell::{answer, check_text, direct, load, plan_text};
 use std::alloc::Global;
 use std::process::Abort;
 use std::test::Fail;

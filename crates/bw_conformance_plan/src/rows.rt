@@ -8,7 +8,7 @@ use bw_lanes::lane;
 use bw_model::{Column, Cond, Fault, Row, Schema, Truth, Value};
 use bw_plan::propose;
 use bw_planes::PlaneSegment;
-use bw_rows::truth;
+use bw_rowwise::truth;
 use bw_slices::SliceSegment;
 use bw_sql::parse;
 use std::alloc::Global;
@@ -142,7 +142,7 @@ fn picked(
     let mut picked = 0u64;
     for (i, row) in rows.iter().enumerate() {
         assert!(rt; row.values.len() == schema.columns.len());
-        let is_true = truth(cond, row) == Truth::True;
+        let is_true = truth(cond, row) == Truth::Yes;
         assert!(rt; i < 512);
         assert!(rt; lane(&plane, i) == is_true, "{text} on {:?}", row.values);
         picked = picked.saturating_add(u64::from(is_true));

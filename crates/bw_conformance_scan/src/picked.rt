@@ -2,13 +2,13 @@
 ghost use Rattle.std.specs.Prelude.{◌≡◌, IsTrue, length};
 ghost use Rattle.bw_lanes.specs.Lanes.{lanes_of_words};
 ghost use Rattle.bw_model.specs.Total.{is_aggregate, item_within};
-ghost use Rattle.bw_rows.specs.Picked.{IsWithin};
+ghost use Rattle.bw_aggregate.specs.Picked.{IsWithin};
 
 use crate::segments::rows_of;
+use bw_aggregate::Totals;
 use bw_lanes::{Plane, lane};
 use bw_model::{Item, Schema, Value};
 use bw_planes::PlaneSegment;
-use bw_rows::Totals;
 use bw_segment::{Segment, is_group};
 use bw_slices::SliceSegment;
 use std::alloc::Global;

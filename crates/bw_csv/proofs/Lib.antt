@@ -9,3 +9,4 @@ pub mod PlainRows
 pub mod RecordLemmas
 pub mod RestLemmas
 pub mod RowLemmas
+pub mod StandingLemmas

@@ -2,7 +2,7 @@
 -- number that 64 bits hold.
 use Rattle.std.specs.Prelude.{ℕ, ℤ, ◌+◌, Bool, List, [], ◌∷◌, not, ◌==◌, length, Option, Some, None, Result, Ok, Err, if◌then◌else◌, nat_lt}
 use Rattle.csv.specs.Reading.{records, strip_bom, default_config}
-use Rattle.bw_model.specs.declared.fault.code.TheConstants.{RECORD_LENGTH, NOT_A_NUMBER, OUT_OF_RANGE, TOO_MANY_ROWS}
+use Rattle.bw_model.specs.FaultTable.{RECORD_LENGTH, NOT_A_NUMBER, OUT_OF_RANGE, TOO_MANY_ROWS}
 use Rattle.bw_model.specs.declared.fault.Fault.{Fault}
 use Rattle.bw_model.specs.Fault.{at_record, ◌>>=◌, refused_if}
 use Rattle.bw_model.specs.Limits.{most_rows}

@@ -1,7 +1,7 @@
 -- The bytes of a CSV text, by what came of its source.
 use Rattle.std.specs.Prelude.{◌≡◌, ◌||◌, ◌==◌, Bool, ℕ, List, Option, Some, None, Result, Ok, Err, MatchBool, Vec}
 use Rattle.std.specs.declared.alloc.Global.{Global}
-use Rattle.bw_model.specs.declared.fault.code.TheConstants.{CSV_TOO_LONG}
+use Rattle.bw_model.specs.FaultTable.{CSV_TOO_LONG}
 use Rattle.bw_model.specs.declared.fault.Fault.{Fault}
 use Rattle.bw_model.specs.Fault.{nowhere, no_memory, is_memory}
 use Rattle.bw_device.specs.Source.{is_input_fault}

@@ -28,4 +28,4 @@ pub use bare::{bare_rows_are_rows, bare_value_of, read_bare_row};
 pub use field::{value_of, without_blanks};
 pub use input::read_csv;
 pub use records::Records;
-pub use rows::{read_rows, rows_are_admitted};
+pub use rows::{faults_stand_as_listed, read_rows, rows_are_admitted};

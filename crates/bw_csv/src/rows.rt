@@ -4,13 +4,15 @@
 //! after it is a row. Spaces and tabs at both ends of a field are dropped; what is then empty, or `NULL` in
 //! any case, is null, and anything else must be a sign or none and one digit or more. How the bytes are cut
 //! into records and fields is the `csv` crate's, which drops one byte order mark at the start.
-ghost use Rattle.std.specs.Prelude.{◌≡◌, ◌+◌, ◌<◌, ◌≤◌, ℕ, List, [], ◌∷◌, ◌++◌, Bool, true, OnOk, IfOk, IfErr, IsTrue, length};
+ghost use Rattle.std.specs.Prelude.{◌≡◌, ◌+◌, ◌<◌, ◌≤◌, ℕ, List, [], ◌∷◌, ◌++◌, Bool, true, OnOk, IfOk, Err, IfErr, IsTrue, length};
 ghost use Rattle.std.specs.List.{list_all};
 ghost use Rattle.bw_model.specs.Column.{admits_values};
 ghost use Rattle.bw_model.specs.declared.column.Column.{Column};
+ghost use Rattle.bw_model.specs.declared.fault.Fault.{Fault};
 ghost use Rattle.bw_model.specs.Fault.{no_memory};
 ghost use Rattle.bw_model.specs.Limits.{most_rows};
 ghost use Rattle.bw_model.specs.Row.{Value, values_of};
+ghost use Rattle.bw_model.specs.Standing.{StandsAsListed};
 ghost use Rattle.bw_csv.specs.Rest.{IsReadable, to_come};
 ghost use Rattle.bw_csv.specs.Bare.{records_of};
 ghost use Rattle.bw_csv.specs.Rows.{rows_of, rows_from, is_reader_fault, Hands, IsRowsFault, StopsAfter, StopsUnder, stands_at, stands_after};
@@ -86,4 +88,11 @@ pub fn rows_are_admitted()
         → IfOk (rows_of columns text) (λ rows. IsTrue (list_all (admits_values columns) rows)) }
     ensures few { (columns : List Column) (text : List ℕ) → IfOk (rows_of columns text)
         (λ rows. length rows ≤ most_rows) }
+{}
+
+/// A law: the fault of a CSV text stands as the table of faults lists it: at a record.
+#[tactic(auto, using(crate::proofs::StandingLemmas::fault_listed))]
+pub fn faults_stand_as_listed()
+    ensures { (columns : List Column) (text : List ℕ) (fault : Fault) → rows_of columns text ≡ Err fault
+        → StandsAsListed fault }
 {}

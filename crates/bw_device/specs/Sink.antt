@@ -1,7 +1,7 @@
 -- What of a text went out to a sink.
 use Rattle.std.specs.Prelude.{◌≡◌, ◌==◌, ℕ, ◌+◌, ◌<◌, Bool, true, false, List, length, take, Option, Result, Ok, Err, IfErr, IsOkAnd, OnOk}
 use Rattle.std.specs.Io.KnownBytes.{Appends, Keeps}
-use Rattle.bw_model.specs.declared.fault.code.TheConstants.{WRITE_FAILED}
+use Rattle.bw_model.specs.FaultTable.{WRITE_FAILED}
 use Rattle.bw_model.specs.declared.fault.Fault.{Fault}
 use Rattle.bw_model.specs.Fault.{nowhere}
 use Rattle.bw_device.specs.Source.{EndsWith}

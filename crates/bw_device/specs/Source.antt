@@ -1,7 +1,7 @@
 -- What came of a source that a call read to its end, or until it passed a limit.
 use Rattle.std.specs.Prelude.{◌≡◌, ◌==◌, ◌&&◌, ◌||◌, Bool, ℕ, ◌+◌, ◌<◌, ◌≤◌, List, length, Option, Some, None, IfSome, Result, Ok, Err, MatchBool}
 use Rattle.std.specs.Io.KnownBytes.{Consumes, IsAtEnd}
-use Rattle.bw_model.specs.declared.fault.code.TheConstants.{READ_FAILED}
+use Rattle.bw_model.specs.FaultTable.{READ_FAILED}
 use Rattle.bw_model.specs.declared.fault.Fault.{Fault}
 use Rattle.bw_model.specs.Fault.{nowhere, no_memory, is_memory, stands_nowhere}
 

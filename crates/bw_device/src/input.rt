@@ -1,6 +1,6 @@
 //! Whole inputs, read from a source up to a limit.
 ghost use Rattle.std.specs.Prelude.{◌+◌, ◌-◌, ◌^◌, ◌<◌, IfErr, IsTrue};
-ghost use Rattle.bw_model.specs.declared.fault.code.TheConstants.{READ_FAILED};
+ghost use Rattle.bw_model.specs.FaultTable.{READ_FAILED};
 ghost use Rattle.bw_model.specs.Fault.{nowhere};
 ghost use Rattle.bw_device.specs.Source.{Came, TookAtMost, EndsWith, is_input_fault};
 ghost use Rattle.bw_device.specs.Input.{arrival};

@@ -1,6 +1,6 @@
 -- What a diagram holds, what it says of every assignment, and what each line makes of it.
 use Rattle.std.specs.Prelude.{◌≡◌, ℕ, Bool, not, ◌&&◌, ◌||◌, List, [], ◌∷◌, ◌++◌, length, Option, Some, None, Result, Ok, Err, slice_get, nat_le}
-use Rattle.bw_model.specs.declared.fault.code.TheConstants.{NODE, PRODUCT_ROW, CHAIN_ROW, LIMIT}
+use Rattle.bw_model.specs.FaultTable.{NODE, PRODUCT_ROW, CHAIN_ROW, LIMIT}
 use Rattle.bw_model.specs.declared.column.Column.{Column}
 use Rattle.bw_model.specs.declared.fault.Fault.{Fault}
 use Rattle.bw_model.specs.Fault.{is_memory, nowhere, refused_if, ◌>>=◌}

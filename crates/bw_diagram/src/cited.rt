@@ -14,7 +14,7 @@ impl Diagram<'_> {
     pub fn cited(&self, op: Connective, a: u64, b: u64, number: u64) -> Option<u64>
         ensures { result ≡ cited self.now op a b number }
     {
-        let row = self.product(number)?;
+        let row = self.row(number)?;
         if row.op == op && u64::from(row.a) == a && u64::from(row.b) == b {
             Some(u64::from(row.c))
         } else {

@@ -93,7 +93,7 @@ impl<'a> Diagram<'a> {
 
     /// Adds product row `n`: 604 where there is no room, 602 where `n` isn't the next number, `a`, `b` or `c`
     /// no node, or the reason none.
-    pub fn add_product(
+    pub fn add_row(
         &mut self,
         n: u64,
         op: Connective,
@@ -107,7 +107,7 @@ impl<'a> Diagram<'a> {
         ensures refused { OnErr result (self.new ≡ self.old) }
         ensures code { IfErr result (λ fault. IsTrue (is_diagram_fault fault)) }
     {
-        let row = self.accepted_product(n, op, a, b, c, reason)?;
+        let row = self.accepted_row(n, op, a, b, c, reason)?;
         self.products.push(row)?;
         Ok(())
     }
@@ -152,7 +152,7 @@ impl<'a> Diagram<'a> {
 
     /// The product row of these fields, if it may come next.
     #[tactic(auto, unfolding(crate::specs::Facts::judged_product, crate::specs::Product::obeys_product))]
-    fn accepted_product(
+    fn accepted_row(
         &self,
         n: u64,
         op: Connective,
@@ -198,7 +198,7 @@ impl<'a> Diagram<'a> {
     }
 
     /// The product row of a number.
-    pub fn product(&self, n: u64) -> Option<Product>
+    pub fn row(&self, n: u64) -> Option<Product>
         ensures { result ≡ slice_get self.now.products n }
     {
         self.products.get(n as usize).copied()

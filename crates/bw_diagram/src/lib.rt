@@ -2,7 +2,7 @@
 //! assignment of bits to the variables of a schema.
 //!
 //! The contract that the crates above use: what a [`Diagram`] holds is a list of nodes, one of chains and one
-//! of product rows. [`Diagram::add_node`], [`Diagram::add_chain`] and [`Diagram::add_product`] take a line exactly
+//! of product rows. [`Diagram::add_node`], [`Diagram::add_chain`] and [`Diagram::add_row`] take a line exactly
 //! where it obeys the rule that `specs/Facts.antt` states on those lists, and what they hold is true: the laws
 //! [`Diagram::chains_are_true`] and [`Diagram::products_are_true`] say so for every assignment. No order of
 //! variables is asked for.

@@ -1,7 +1,7 @@
 -- Reading bytes field by field: what is read of them, and the bytes after it, or the first fault.
 use Rattle.std.specs.Prelude.{◌≡◌, ℕ, ◌+◌, true, false, List, [], ◌++◌, length, take, drop, Option, IfSome, Result, Ok, Err, if◌then◌else◌, nat_lt, ◌<◌, slice_index}
 use Rattle.std.specs.Io.KnownBytes.{Consumes}
-use Rattle.bw_model.specs.declared.fault.code.TheConstants.{TRUNCATED, BYTES_AFTER_END}
+use Rattle.bw_model.specs.FaultTable.{TRUNCATED, BYTES_AFTER_END}
 use Rattle.bw_model.specs.declared.fault.Fault.{Fault}
 use Rattle.bw_model.specs.Fault.{at_byte, refused_if}
 use Rattle.bw_device.specs.Source.{is_read_fault, is_input_fault}

@@ -1,7 +1,7 @@
 -- What a reader of a table file knows, and what the bytes that came so far say.
 use Rattle.std.specs.Prelude.{◌≡◌, ℕ, ◌-◌, true, false, List, [], ◌∷◌, ◌++◌, ◌+◌, ◌<◌, ◌⊎◌, length, take, min, Option, Some, None, IfSome, IfOk, IfErr, Result, Ok, Err}
 use Rattle.std.specs.Io.KnownBytes.{IsAtEnd}
-use Rattle.bw_model.specs.declared.fault.code.TheConstants.{TRUNCATED, BYTES_AFTER_END}
+use Rattle.bw_model.specs.FaultTable.{TRUNCATED, BYTES_AFTER_END}
 use Rattle.bw_model.specs.declared.fault.Fault.{Fault}
 use Rattle.bw_model.specs.declared.schema.Schema.{Schema}
 use Rattle.bw_model.specs.Fault.{at_byte}

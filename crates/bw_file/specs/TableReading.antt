@@ -4,7 +4,7 @@ use Rattle.std.specs.Prelude.{◌≡◌, ℕ, ℤ, zero, suc, ◌+◌, ◌-◌, 
 use Rattle.std.specs.Int.{w16, w32, w64, bit_at, from_le_bytes, cast_signed}
 use Rattle.std.specs.List.{list_any, range_with_len}
 use Rattle.std.specs.Str.{bytes_eq}
-use Rattle.bw_model.specs.declared.fault.code.TheConstants.{MAGIC, VERSION, LAYOUT, HEADER, PADDING, BYTES_AFTER_END, ROW_COUNT}
+use Rattle.bw_model.specs.FaultTable.{MAGIC, VERSION, LAYOUT, HEADER, PADDING, BYTES_AFTER_END, ROW_COUNT}
 use Rattle.bw_model.specs.declared.column.Column.{Column}
 use Rattle.bw_model.specs.declared.fault.Fault.{Fault}
 use Rattle.bw_model.specs.declared.schema.Schema.{Schema}

@@ -1,7 +1,7 @@
 //! A table file's header, read field by field from a source.
 ghost use Rattle.std.specs.Prelude.{◌≡◌, ◌+◌, ◌-◌, ◌*◌, ◌^◌, ◌<◌, ◌≤◌, ◌≤ℤ◌, ◌<ℤ◌, ◌-ℤ◌, pos, [], map, length, false, true, Ok, Err, if◌then◌else◌, OnOk, IfOk, IsTrue};
 ghost use Rattle.std.specs.List.{list_any};
-ghost use Rattle.bw_model.specs.declared.fault.code.TheConstants.{HEADER};
+ghost use Rattle.bw_model.specs.FaultTable.{HEADER};
 ghost use Rattle.bw_model.specs.Column.{names_of};
 ghost use Rattle.bw_model.specs.Limits.{most_rows};
 ghost use Rattle.bw_model.specs.Name.{is_name, are_apart};

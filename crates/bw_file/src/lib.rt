@@ -33,6 +33,7 @@ mod table;
 mod table_reader;
 mod take;
 
+pub use bw_device::{Failed, FromRead, Sink, Source, ToWrite};
 pub use encoder::Encoder;
 pub use laws::{
     a_file_is_of_one_table, a_schema_has_names_and_bounds, bytes_are_read_in_one_way,

@@ -1,7 +1,8 @@
 -- The lanes of words, of words that are joined and of those whose first lanes are 1, and the parts of 64 rows, one a word.
-use Rattle.std.proofs.Common.{get_or, ◌≡◌, ◌∙◌, refl, sym, ap, ap₂, ℕ, zero, suc, ◌+◌, ◌-◌, ◌*◌, ◌/◌, ◌%◌, ◌^◌, ◌<◌, ◌≤◌, Bool, true, false, not, cond, ◌==◌, ◌&&◌, ◌||◌, List, [], ◌∷◌, ◌++◌, map, flat_map, replicate, length, take, set, length-set, count_by, Fits, arith, w64, max, length-append, append_assoc, append-nil, min, add-zero, zero-add, drop, take_all, bit_or, count_ones, bit_xor, bit_and, eq-eqb}
+use Rattle.std.proofs.Common.{get_or, ◌≡◌, ◌∙◌, refl, sym, ap, ap₂, ℕ, zero, suc, ◌+◌, ◌-◌, ◌*◌, ◌/◌, ◌%◌, ◌^◌, ◌<◌, ◌≤◌, Bool, true, false, not, cond, ◌==◌, ◌&&◌, ◌||◌, List, [], ◌∷◌, ◌++◌, map, flat_map, replicate, length, take, set, length-set, count_by, Fits, arith, w64, max, length-append, append_assoc, append-nil, min, add-zero, zero-add, drop, take_all, bit_or, count_ones, bit_xor, bit_and, eq-eqb, ltb, eqb}
 use Rattle.std.proofs.Math.Nat.{two-pow-succ}
 use Rattle.std.proofs.Math.Bool.{and-true, and_assoc}
+use Rattle.std.proofs.lemmas.Bool.{eqb-true, eqb-false, ltb-true, ltb-false}
 use Rattle.std.proofs.lemmas.Nat.{le_or_l, ones_le_self, one_shl, pow_pos}
 use Rattle.std.proofs.lemmas.List.{map-append, length-map, length-take, take_more, take_more_set, replicate-append-replicate, take-append-drop, take-take, length-drop, drop_all}
 use Rattle.std.proofs.lemmas.List.Folds.{list_all-append}
@@ -11,12 +12,12 @@ use Rattle.std.proofs.lemmas.List.Sums.{sum_by-append, sum_by-cons, count_by-le-
 use Rattle.std.specs.Int.{bit_at, bit_not}
 use Rattle.std.specs.Int.Bits.{or_zero_l}
 use Rattle.std.specs.Int.Count.{ones_step}
-use lib.Lanes.{zip2, Each1, fold_l, mask_l, put_chunk}
-use Rattle.std.specs.List.{list_all}
+use lib.Lanes.{zip2, Each1, Steps, fold_l, mask_l, put_chunk, sel_l, sum_l, top}
+use Rattle.std.specs.List.{list_all, range_with_len}
 use Rattle.bw_lanes.specs.Lanes.{bits_from_least, lanes_of_words, lanes_of_bytes, differ}
 use Rattle.std.proofs.lemmas.Nat.Bits.{shr_and_one, bit_at_or, bit_at_xor}
 use Rattle.bw_lanes.proofs.BitLemmas.{bit_in_numbers, length-bits_of_numbers, length-bits_from_least, bits_from_least_more, bits_of_not, bits_of_and, bits_joined, of_bit, bits_of_flags}
-use Rattle.std.proofs.lemmas.Simd.{length-put_chunk, get_or-zip2, length-replicate, length-zip2, put_chunk_is, take_more_put_chunk}
+use Rattle.std.proofs.lemmas.Simd.{fold-sum, sum_fits, tops_compared, length-put_chunk, get_or-zip2, length-replicate, length-zip2, put_chunk_is, take_more_put_chunk}
 use Rattle.std.proofs.Math.Seq.{take-add, drop-cons, drop-append_seam, take-append_seam, drop-drop}
 
 pub zip2-append : {A B C : Type 0} (f : A → B → C) (xs xs' : List A) (ys ys' : List B) → length xs ≡ length ys → zip2 f (xs ++ xs') (ys ++ ys') ≡ zip2 f xs ys ++ zip2 f xs' ys'
@@ -127,21 +128,27 @@ pub lanes_set : (word : ℕ) (words : List ℕ) (made : ℕ) → length words �
 lanes_set word words made eight lt =
     ap lanes_of_words (take_more_set words word made (omega arith)) ∙ lanes_of_words-append (take word words) (made ∷ []) ∙ ap (λ l. lanes_of_words (take word words) ++ l) (lanes_of_word made)
 
--- the ones of a plane's words so far
-pub ones_more : (word : ℕ) (words : List ℕ) → length words ≡ 8 → word < 8
-    → count_by (λ lane. lane) (lanes_of_words (take (word + 1) words))
-    ≡ count_by (λ lane. lane) (lanes_of_words (take word words)) + count_by (λ lane. lane) (bits_from_least 64 (get_or words word 0))
-ones_more word words eight lt = ap (count_by (λ lane. lane)) (lanes_more word words eight lt) ∙ sum_by-append (λ lane. cond lane 1 0) (lanes_of_words (take word words)) (bits_from_least 64 (get_or words word 0))
+-- the ones of words, added up
+abbrev ones_of : List ℕ → List ℕ
+ones_of words = map (λ (n : ℕ). n) (map count_ones words)
 
-pub few_ones : (n : ℕ) → count_by (λ lane. lane) (bits_from_least 64 n) ≤ 64
-few_ones n = omega (arith, count_by-le-length (λ lane. lane) (bits_from_least 64 n), length-bits_from_least 64 n)
+ones_in_words : (words : List ℕ) → Each1 (Fits w64) words → sum_l (ones_of words) ≡ count_by (λ lane. lane) (lanes_of_words words)
+unfolding lanes_of_words
+ones_in_words [] small = refl
+ones_in_words (word ∷ words) small =
+    ap₂ ◌+◌ (ones_in_bits 64 word small.0.fits) (ones_in_words words small.1) ∙ sym (sum_by-append (λ lane. cond lane 1 0) (bits_from_least 64 word) (lanes_of_words words))
 
-pub word_of_both : (a b : List ℕ) (word : ℕ) → length a ≡ 8 → length b ≡ 8 → word < 8 → get_or (zip2 bit_and a b) word 0 ≡ bit_and (get_or a word 0) (get_or b word 0)
-word_of_both a b word here there lt = get_or-zip2 bit_and a b word 0 0 0 (omega arith) (omega arith)
+few_lanes : (words : List ℕ) → length words ≡ 8 → count_by (λ lane. lane) (lanes_of_words words) ≤ 512
+few_lanes words eight = omega (arith, count_by-le-length (λ lane. lane) (lanes_of_words words), length-lanes_of_words words)
 
-pub ruleset ones_so_far = (no_lanes, ones_more, few_ones)
+pub ones_counted : (words : List ℕ) → Each1 (Fits w64) words → fold_l (λ s x. s + x) 0 (ones_of words) ≡ count_by (λ lane. lane) (lanes_of_words words)
+ones_counted words small = omega (arith, fold-sum 0 (ones_of words), ones_in_words words small)
 
-pub ruleset ones_of_both = (no_lanes, ones_more, few_ones, word_of_both, length-zip2, take_all, lanes_of_and)
+pub few_ones : (words : List ℕ) → length words ≡ 8 → Each1 (Fits w64) words → fold_l (λ s x. s + x) 0 (ones_of words) ≤ 512
+few_ones words eight small = omega (arith, ones_counted words small, few_lanes words eight)
+
+pub ones_fit : (words : List ℕ) → length words ≡ 8 → Each1 (Fits w64) words → Steps (λ s x. Fits w64 (s + x)) (λ s x. s + x) 0 (ones_of words)
+ones_fit words eight small = sum_fits w64 0 (ones_of words) (omega (arith, ones_in_words words small, few_lanes words eight))
 
 pub length-first : (word : ℕ) (words : List ℕ) → length words ≡ 8 → word ≤ 8 → length (lanes_of_words (take word words)) ≡ 64 * word
 length-first word words eight le = omega (arith, length-lanes_of_words (take word words), length-take word words)
@@ -169,14 +176,61 @@ first_run n lt = bits_of_run _ _ _ (grind (arith, one_shl n 64 lt, pow_pos n)) (
 pub whole_run : (n : ℕ) → 64 ≤ n → bits_from_least 64 (2 ^ 64 - 1) ≡ run (min n 64) (64 - n)
 whole_run n le = bits_of_run _ _ _ (ap (λ k. 2 ^ k) {x = 64} (omega arith)) (omega arith)
 
-pub ruleset runs = (first_run, whole_run)
-
-pub joined : (a b c d : ℕ) → min b c ≡ 0 → run a b ++ run c d ≡ run (a + c) (b + d)
+joined : (a b c d : ℕ) → min b c ≡ 0 → run a b ++ run c d ≡ run (a + c) (b + d)
 joined a zero c d none = simp (append-nil, zero-add, ← append_assoc, replicate-append-replicate)
 joined a (suc b) zero d none = simp (append_assoc, replicate-append-replicate, add-zero)
 joined a (suc b) (suc c) d none = absurd (omega arith)
 
-pub ruleset masked = (no_lanes, lanes_set, length-set, joined)
+-- a word by its number: ones in all lanes before a number, a given word at it, and zeros after it
+abbrev pub word_at : ℕ → ℕ → ℕ → ℕ
+word_at whole last word = cond (ltb word whole) (2 ^ 64 - 1) (cond (word == whole) last 0)
+
+chosen : (whole last : ℕ) (words : List ℕ) →
+    sel_l (zip2 ltb words (replicate (length words) whole)) (replicate (length words) (2 ^ 64 - 1)) (sel_l (zip2 eqb words (replicate (length words) whole)) (replicate (length words) last) (replicate (length words) 0))
+    ≡ map (word_at whole last) words
+chosen whole last [] = refl
+chosen whole last (word ∷ words) = ap (λ l. word_at whole last word ∷ l) (chosen whole last words)
+
+pub chosen_computed : (whole last : ℕ) →
+    sel_l (map (top 63) (zip2 (λ a b. cond (ltb a b) (2 ^ 64 - 1) 0) (range_with_len 0 8) (replicate 8 whole))) (replicate 8 (2 ^ 64 - 1))
+    (sel_l (map (top 63) (zip2 (λ a b. cond (eqb a b) (2 ^ 64 - 1) 0) (range_with_len 0 8) (replicate 8 whole))) (replicate 8 last) (replicate 8 0))
+    ≡ map (word_at whole last) (range_with_len 0 8)
+chosen_computed whole last =
+    ap₂ (λ less same. sel_l less (replicate 8 (2 ^ 64 - 1)) (sel_l same (replicate 8 last) (replicate 8 0)))
+    (tops_compared w64 ltb (range_with_len 0 8) (replicate 8 whole)) (tops_compared w64 eqb (range_with_len 0 8) (replicate 8 whole))
+    ∙ chosen whole last (range_with_len 0 8)
+
+-- the last word of the first rows that has some of them
+abbrev pub last_of : ℕ → ℕ
+last_of rows = 1 * 2 ^ (rows % 64) % 2 ^ 64 - 1
+
+word_of_run : (rows at : ℕ) → bits_from_least 64 (word_at (rows / 64) (last_of rows) at) ≡ run (min (rows - 64 * at) 64) (64 - (rows - 64 * at))
+word_of_run rows at = by_less (ltb at (rows / 64)) refl
+  where
+    left : ℕ
+    left = rows - 64 * at
+
+    by_same : (same : Bool) → (at == rows / 64) ≡ same → ltb at (rows / 64) ≡ false → bits_from_least 64 (cond same (last_of rows) 0) ≡ run (min left 64) (64 - left)
+    by_same true is more =
+        let some : rows % 64 ≡ left = omega (arith, eqb-true at (rows / 64) is) in
+        ap (λ k. bits_from_least 64 (1 * 2 ^ k % 2 ^ 64 - 1)) some ∙ first_run left (omega arith)
+    by_same false is more =
+        let none : 0 ≡ left = omega (arith, eqb-false at (rows / 64) is, ltb-false at (rows / 64) more) in
+        bits_of_run 0 0 64 refl refl ∙ ap (λ k. run (min k 64) (64 - k)) none
+
+    by_less : (less : Bool) → ltb at (rows / 64) ≡ less → bits_from_least 64 (cond less (2 ^ 64 - 1) (cond (at == rows / 64) (last_of rows) 0)) ≡ run (min left 64) (64 - left)
+    by_less true is = whole_run left (omega (arith, ltb-true at (rows / 64) is))
+    by_less false is = by_same (at == rows / 64) refl is
+
+words_of_run : (rows at n : ℕ) → lanes_of_words (map (word_at (rows / 64) (last_of rows)) (range_with_len at n)) ≡ run (min (rows - 64 * at) (64 * n)) (64 * n - (rows - 64 * at))
+unfolding lanes_of_words
+words_of_run rows at zero = let ones : 0 ≡ min (rows - 64 * at) (64 * zero) = omega arith in let zeros : 0 ≡ 64 * zero - (rows - 64 * at) = omega arith in ap₂ run ones zeros
+words_of_run rows at (suc n) =
+    ap₂ ◌++◌ (word_of_run rows at) (words_of_run rows (at + 1) n) ∙ joined (min (rows - 64 * at) 64) (64 - (rows - 64 * at)) (min (rows - 64 * (at + 1)) (64 * n)) (64 * n - (rows - 64 * (at + 1))) (omega arith)
+    ∙ ap₂ run (omega arith) (omega arith)
+
+pub masked : (rows : ℕ) → rows ≤ 512 → lanes_of_words (map (word_at (rows / 64) (last_of rows)) (range_with_len 0 8)) ≡ replicate rows true ++ replicate (512 - rows) false
+masked rows few = words_of_run rows 0 8 ∙ ap₂ run (omega arith) (omega arith)
 
 -- the part of a word
 abbrev pub part : {A : Type 0} → ℕ → List A → List A

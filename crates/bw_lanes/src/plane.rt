@@ -1,6 +1,6 @@
 //! Planes: one bit of each of 512 rows, and the operations on them, by vectors of words.
-ghost use Rattle.std.specs.Prelude.{◌≡◌, ◌-◌, ◌<◌, ◌≤◌, ◌++◌, ◌&&◌, ◌||◌, true, false, not, map, count_by, replicate, min, slice_index_or};
-ghost use Rattle.std.specs.List.{flat_map, list_all};
+ghost use Rattle.std.specs.Prelude.{◌≡◌, ◌-◌, ◌<◌, ◌≤◌, ◌^◌, ◌==◌, ◌++◌, ◌&&◌, ◌||◌, true, false, not, if◌then◌else◌, map, count_by, nat_lt, replicate, slice_index_or};
+ghost use Rattle.std.specs.List.{flat_map, list_all, range_with_len};
 ghost use lib.Lanes.{zip2};
 ghost use Rattle.bw_lanes.specs.Lanes.{bits_from_least, lanes_of_words, differ};
 
@@ -62,38 +62,21 @@ pub fn lane(plane: &Plane, row: usize) -> bool
 }
 
 /// How many lanes are 1.
-#[tactic(auto, using(crate::proofs::WordLemmas::ones_so_far))]
 pub fn count(plane: &Plane) -> u32
     ensures ones { result ≡ count_by (λ lane. lane) (lanes_of_words plane.now) }
     ensures bound { result ≤ 512 }
 {
-    let mut ones = 0;
-    for word in 0..8 {
-        ones += ones_of(plane[word]);
-    }
-    ones
+    ones_in(u64x8::from_array(*plane))
 }
 
 /// How many lanes are 1 in both.
-#[tactic(auto, using(crate::proofs::WordLemmas::ones_of_both))]
+#[tactic(auto, using(crate::proofs::WordLemmas::lanes_of_and))]
 pub fn count_and(a: &Plane, b: &Plane) -> u32
     ensures ones { result ≡ count_by (λ lane. lane)
         (zip2 (λ x y. x && y) (lanes_of_words a.now) (lanes_of_words b.now)) }
     ensures bound { result ≤ 512 }
 {
-    let mut ones = 0;
-    for word in 0..8 {
-        ones += ones_of(a[word] & b[word]);
-    }
-    ones
-}
-
-/// How many bits of a word are 1.
-#[tactic(auto, using(crate::proofs::WordLemmas::ones_in_bits))]
-fn ones_of(word: u64) -> u32
-    ensures { result ≡ count_by (λ lane. lane) (bits_from_least 64 word) }
-{
-    word.count_ones()
+    ones_in(u64x8::from_array(*a) & u64x8::from_array(*b))
 }
 
 /// The plane in which the first rows, so many, are 1, and the others 0.
@@ -102,24 +85,31 @@ pub fn mask(rows: u32) -> Plane
     requires { rows ≤ 512 }
     ensures { lanes_of_words result ≡ replicate rows true ++ replicate (512 - rows) false }
 {
-    let mut words = [0; 8];
-    for word in 0..8 {
-        words[word] = first_ones(rows.saturating_sub(64 * word as u32));
-    }
-    words
+    ones_and_last(u64::from(rows / 64), (1 << (rows % 64)) - 1).to_array()
 }
 
-/// A word whose lowest bits, so many and at most all, are 1, and the others 0.
-#[tactic(auto, using(crate::proofs::WordLemmas::runs))]
-fn first_ones(count: u32) -> u64
-    ensures { bits_from_least 64 result
-        ≡ replicate (min count 64) true ++ replicate (64 - count) false }
+/// How many lanes are 1.
+fn ones_in(words: u64x8) -> u32
+    ensures ones { result ≡ count_by (λ lane. lane) (lanes_of_words words) }
+    ensures bound { result ≤ 512 }
 {
-    if count < 64 {
-        (1 << count) - 1
-    } else {
-        u64::MAX
-    }
+    words.count_ones().strict_reduce_sum() as u32
+}
+
+/// The numbers of a plane's words.
+const NUMBERS: [u64; 8] = [0, 1, 2, 3, 4, 5, 6, 7];
+
+/// A plane whose first words, so many, are 1 in all lanes; the next one is given, and those after it are 0.
+fn ones_and_last(whole: u64, last: u64) -> u64x8
+    ensures { result ≡ map (λ word. if nat_lt word whole then 2 ^ 64 - 1 else if word == whole then last else 0)
+        (range_with_len 0 8) }
+{
+    let numbers = u64x8::from_array(NUMBERS);
+    let whole = u64x8::splat(whole);
+    let rest = numbers
+        .simd_eq(whole)
+        .select(u64x8::splat(last), u64x8::splat(0));
+    numbers.simd_lt(whole).select(u64x8::splat(u64::MAX), rest)
 }
 
 /// The lanes that are 0.

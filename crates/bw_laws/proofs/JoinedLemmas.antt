@@ -17,7 +17,7 @@ use Rattle.bw_file.specs.declared.layout.Layout.{Layout}
 use Rattle.bw_file.specs.FileBytes.{IsFileBytes, IsSchema, file_bytes}
 use Rattle.bw_file.specs.TableReading.{Found, found_as}
 use Rattle.bw_laws.specs.Joined.{AnswersCsv}
-use Rattle.bw_shell.specs.Load.{file_of}
+use Rattle.bw_csv_calls.specs.Load.{file_of}
 
 abbrev Rows : Type 0
 Rows = List (List Value)

@@ -3,7 +3,7 @@ use Rattle.std.specs.Prelude.{◌≡◌, ℕ, List, Option, Ok}
 use Rattle.std.specs.Io.KnownBytes.{Appends}
 use Rattle.bw_model.specs.declared.query.Query.{Query}
 use Rattle.bw_model.specs.declared.schema.Schema.{Schema}
-use Rattle.bw_shell.specs.Direct.{answer_of}
+use Rattle.bw_csv_calls.specs.Direct.{answer_of}
 
 -- a sink took the text of the answer, over the rows that a CSV text spells under a schema, to a query that is asked
 pub record AnswersCsv (asks : Query → Type 0) (schema : Schema) (csv : List ℕ)

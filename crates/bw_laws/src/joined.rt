@@ -4,7 +4,7 @@ ghost use Rattle.bw_file.specs.declared.layout.Layout.{Layout};
 ghost use Rattle.bw_query.specs.TableAnswer.{AnswersFile, IsEveryRow, by_dump, by_statement};
 ghost use Rattle.bw_sql.specs.Statement.{IsReadAs};
 ghost use Rattle.bw_laws.specs.Joined.{AnswersCsv};
-ghost use Rattle.bw_shell.specs.Load.{file_of};
+ghost use Rattle.bw_csv_calls.specs.Load.{file_of};
 
 use bw_csv::rows_are_admitted;
 use bw_file::{a_file_is_of_one_table, a_schema_has_names_and_bounds};

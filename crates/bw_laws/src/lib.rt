@@ -1,8 +1,37 @@
-//! A law that joins calls of several crates: what is loaded is answered. Nothing stands on it.
+//! Laws that join definitions of several crates, for those who use the store: a statement over a CSV text has one
+//! answer, what is loaded is answered as `direct` answers, a dump is a backup, a plan that was kept is used, a table file
+//! that is cut is refused, a schema text spells one schema or has one fault, and an inferred schema is spelled by its
+//! text. Nothing stands on them.
 //!
-//! Read `specs/Joined.antt` first.
+//! Read `joined.rt` with `specs/Joined.antt` first, and then `as_direct.rt` with `specs/AsDirect.antt`.
 #![tactic(auto)]
 
+mod as_direct;
+mod backup;
+mod cut_file;
+mod inferred_text;
 mod joined;
+mod kept_plan;
+mod one_answer;
+mod one_file;
+mod one_meaning;
+mod one_table;
+mod printed_plan;
+mod schema_text;
+mod sound_schema;
 
+pub use as_direct::what_is_loaded_is_answered_as_direct;
+pub use backup::{
+    a_dump_is_a_backup, a_file_is_restored, a_load_is_restored, what_is_dumped_is_loaded,
+};
+pub use cut_file::a_cut_file_is_refused;
+pub use inferred_text::an_inferred_schema_text_spells_its_schema;
 pub use joined::what_is_loaded_is_answered;
+pub use kept_plan::a_kept_plan_is_used;
+pub use one_answer::{one_reading_under_one_shape, there_is_one_answer};
+pub use one_file::there_is_one_file;
+pub use one_meaning::one_meaning_of_what_is_asked;
+pub use one_table::a_table_has_one_answer;
+pub use printed_plan::a_plan_prints_its_program;
+pub use schema_text::a_schema_text_spells_one_schema_or_has_one_fault;
+pub use sound_schema::a_schema_text_spells_names_and_bounds;

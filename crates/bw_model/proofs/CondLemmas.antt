@@ -3,7 +3,7 @@ use Rattle.std.proofs.Common.{◌≡◌, ◌∙◌, ℕ, Bool, true, ◌&&◌, L
 use Rattle.std.specs.List.{list_all}
 use Rattle.std.proofs.lemmas.List.Folds.{list_all-map}
 use Rattle.bw_model.specs.declared.cond.Truth.{Truth}
-use Rattle.bw_model.specs.declared.cond.Truth.TheVariants.{True}
+use Rattle.bw_model.specs.declared.cond.Truth.TheVariants.{Yes}
 use Rattle.bw_model.specs.declared.cond.Op.{Op}
 use Rattle.bw_model.specs.declared.cond.Operand.{Operand}
 use Rattle.bw_model.specs.declared.cond.Cond.{Cond, Cond-F, fold-roll-Cond}
@@ -12,7 +12,7 @@ use Rattle.bw_model.specs.Row.{Value}
 use Rattle.bw_model.specs.Truth.{truth_from, all_of, any_of, negation, is_truth, compared, between, among, is_null}
 use Rattle.bw_model.specs.Cond.{truth_of, truth_step, names_within, within_step, operand_value, is_within}
 
-pub truth_of-Always : (row : List Value) → truth_of row Always ≡ True
+pub truth_of-Always : (row : List Value) → truth_of row Always ≡ Yes
 unfolding truth_of
 truth_of-Always row = ap (truth_of row) (sym rolls-Always) ∙ fold-roll-Cond Truth (truth_step row) Cond-F.Always
 

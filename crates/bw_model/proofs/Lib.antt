@@ -9,6 +9,7 @@ pub mod SameLemmas
 pub mod SchemaCodes
 pub mod SchemaLemmas
 pub mod SchemaSpelling
+pub mod StandingLemmas
 pub mod StoredLemmas
 pub mod TotalLemmas
 pub mod TreeLemmas

@@ -2,7 +2,7 @@
 use Rattle.std.specs.Prelude.{ℕ, Bool, true, List, map, Some, None, ◌&&◌, nat_lt, nat_le, length}
 use Rattle.std.specs.List.{list_all}
 use Rattle.bw_model.specs.declared.cond.Truth.{Truth}
-use Rattle.bw_model.specs.declared.cond.Truth.TheVariants.{True}
+use Rattle.bw_model.specs.declared.cond.Truth.TheVariants.{Yes}
 use Rattle.bw_model.specs.declared.cond.Operand.{Operand}
 use Rattle.bw_model.specs.declared.cond.Operand.TheVariants.{Col, Lit, Null}
 use Rattle.bw_model.specs.declared.cond.Cond.{Cond, Cond-F, fold-Cond}
@@ -18,7 +18,7 @@ operand_value row Null = None
 
 -- the truth of a condition on a row, from that of its parts
 abbrev pub truth_step : List Value → Cond-F Truth → Truth
-truth_step row Always = True
+truth_step row Always = Yes
 truth_step row (Cmp op x y) = compared op (operand_value row x) (operand_value row y)
 truth_step row (Between x y z) = between (operand_value row x) (operand_value row y) (operand_value row z)
 truth_step row (Among x items) = among (operand_value row x) (map (operand_value row) items.items)
@@ -34,7 +34,7 @@ truth_of row cond = fold-Cond Truth (truth_step row) cond
 
 -- a row is kept where the condition is TRUE: neither FALSE nor UNKNOWN will do
 abbrev pub is_kept : Cond → List Value → Bool
-is_kept cond row = is_truth (truth_of row cond) True
+is_kept cond row = is_truth (truth_of row cond) Yes
 
 -- the operand is a literal, NULL or one of so many columns
 abbrev pub is_within : ℕ → Operand → Bool

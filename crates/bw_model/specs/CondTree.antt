@@ -3,7 +3,7 @@
 use Rattle.std.specs.Prelude.{ℕ, suc, zero, Bool, true, List, [], ◌∷◌, map, length, ◌&&◌, nat_le}
 use Rattle.std.specs.List.{list_all}
 use Rattle.bw_model.specs.declared.cond.Truth.{Truth}
-use Rattle.bw_model.specs.declared.cond.Truth.TheVariants.{True}
+use Rattle.bw_model.specs.declared.cond.Truth.TheVariants.{Yes}
 use Rattle.bw_model.specs.declared.cond.Op.{Op}
 use Rattle.bw_model.specs.declared.cond.Operand.{Operand}
 use Rattle.bw_model.specs.declared.cond.Cond.{Cond, Cond-F, fold-Cond}
@@ -50,7 +50,7 @@ tree_of cond = fold-Cond CondTree tree_step cond
 -- the truth of a tree on a row, as that of the condition
 abbrev mutual
   pub tree_truth : List Value → CondTree → Truth
-  tree_truth row Always = True
+  tree_truth row Always = Yes
   tree_truth row (Cmp op x y) = compared op (operand_value row x) (operand_value row y)
   tree_truth row (Between x y z) = between (operand_value row x) (operand_value row y) (operand_value row z)
   tree_truth row (Among x items) = among (operand_value row x) (map (operand_value row) items)

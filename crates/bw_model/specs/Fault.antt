@@ -1,10 +1,10 @@
 -- Refusals: a fault, and what a call that may run out of memory gives.
 use Rattle.std.specs.Prelude.{◌≡◌, ℕ, Bool, ◌==◌, ◌&&◌, true, false, List, [], ◌++◌, codes, Result, Ok, Err}
 use Rattle.std.specs.Fmt.{decimal}
-use Rattle.bw_model.specs.declared.fault.code.TheConstants.{OUT_OF_MEMORY}
 use Rattle.bw_model.specs.declared.fault.Fault.{Fault}
 use Rattle.bw_model.specs.declared.fault.Place.{Place}
 use Rattle.bw_model.specs.declared.fault.Place.TheVariants.{Nowhere, Byte, Line, Rec}
+use Rattle.bw_model.specs.FaultTable.{OUT_OF_MEMORY, words_of}
 
 -- a fault that stands nowhere, at a byte, at a line or at a record
 abbrev pub nowhere : ℕ → Fault
@@ -25,6 +25,12 @@ place_text Nowhere = []
 place_text (Byte at) = codes " at byte " ++ decimal at
 place_text (Line at) = codes " at line " ++ decimal at
 place_text (Rec at) = codes " at record " ++ decimal at
+
+-- the line of a fault, as `bw: 404 unknown column at byte 7`, with its end: its number, its words and its place
+abbrev pub fault_line : Fault → List ℕ
+fault_line fault =
+    ((((codes "bw: " ++ decimal fault.code) ++ codes " ") ++ words_of fault.code) ++ place_text fault.place)
+    ++ codes "\n"
 
 -- out of memory
 abbrev pub no_memory : Fault

@@ -3,6 +3,7 @@ pub mod Column
 pub mod Cond
 pub mod CondTree
 pub mod Fault
+pub mod FaultTable
 pub mod Groups
 pub mod Limits
 pub mod Name
@@ -10,6 +11,7 @@ pub mod Row
 pub mod Schema
 pub mod SchemaText
 pub mod Selection
+pub mod Standing
 pub mod Stored
 pub mod Total
 pub mod Truth

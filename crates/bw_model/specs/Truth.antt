@@ -2,58 +2,58 @@
 use Rattle.std.specs.Prelude.{ℤ, Bool, true, false, List, [], ◌∷◌, Some, None, map, not, int_lt, int_le}
 use Rattle.std.specs.Ordering.{int_eq}
 use Rattle.bw_model.specs.declared.cond.Truth.{Truth}
-use Rattle.bw_model.specs.declared.cond.Truth.TheVariants.{False, Unknown, True}
+use Rattle.bw_model.specs.declared.cond.Truth.TheVariants.{No, Unknown, Yes}
 use Rattle.bw_model.specs.declared.cond.Op.{Op}
 use Rattle.bw_model.specs.declared.cond.Op.TheVariants.{Eq, Ne, Lt, Gt, Le, Ge}
 use Rattle.bw_model.specs.Row.{Value}
 
 -- TRUE or FALSE
 abbrev pub truth_from : Bool → Truth
-truth_from true = True
-truth_from false = False
+truth_from true = Yes
+truth_from false = No
 
 -- AND of two truth values is the least of them
 abbrev pub least : Truth → Truth → Truth
-least False t = False
-least Unknown False = False
+least No t = No
+least Unknown No = No
 least Unknown Unknown = Unknown
-least Unknown True = Unknown
-least True t = t
+least Unknown Yes = Unknown
+least Yes t = t
 
 -- OR of two is the greatest
 abbrev pub greatest : Truth → Truth → Truth
-greatest True t = True
-greatest Unknown True = True
+greatest Yes t = Yes
+greatest Unknown Yes = Yes
 greatest Unknown Unknown = Unknown
-greatest Unknown False = Unknown
-greatest False t = t
+greatest Unknown No = Unknown
+greatest No t = t
 
 -- AND and OR of a list
 abbrev pub all_of : List Truth → Truth
-all_of [] = True
+all_of [] = Yes
 all_of (t ∷ ts) = least t (all_of ts)
 
 abbrev pub any_of : List Truth → Truth
-any_of [] = False
+any_of [] = No
 any_of (t ∷ ts) = greatest t (any_of ts)
 
 -- NOT swaps TRUE and FALSE, and keeps UNKNOWN
 abbrev pub negation : Truth → Truth
-negation False = True
+negation No = Yes
 negation Unknown = Unknown
-negation True = False
+negation Yes = No
 
 -- the truth value is this one
 abbrev pub is_truth : Truth → Truth → Bool
-is_truth False False = true
+is_truth No No = true
 is_truth Unknown Unknown = true
-is_truth True True = true
-is_truth False Unknown = false
-is_truth False True = false
-is_truth Unknown False = false
-is_truth Unknown True = false
-is_truth True False = false
-is_truth True Unknown = false
+is_truth Yes Yes = true
+is_truth No Unknown = false
+is_truth No Yes = false
+is_truth Unknown No = false
+is_truth Unknown Yes = false
+is_truth Yes No = false
+is_truth Yes Unknown = false
 
 -- the comparison holds of two whole numbers
 abbrev pub holds : Op → ℤ → ℤ → Bool

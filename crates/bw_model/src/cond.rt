@@ -5,9 +5,9 @@ ghost use Rattle.bw_model.specs.Truth.{holds, truth_from, turned};
 /// A truth value of SQL-92: `No` is FALSE and `Yes` is TRUE.
 #[derive(Clone, Copy, Debug, PartialEq, Eq)]
 pub enum Truth {
-    False,
+    No,
     Unknown,
-    True,
+    Yes,
 }
 
 impl Truth {
@@ -15,7 +15,7 @@ impl Truth {
     pub const fn of(holds: bool) -> Self
         ensures { result ≡ truth_from holds }
     {
-        if holds { Truth::True } else { Truth::False }
+        if holds { Truth::Yes } else { Truth::No }
     }
 }
 

@@ -1,6 +1,8 @@
 //! Faults: what is wrong, by its number, and where.
-ghost use Rattle.std.specs.Prelude.{◌≡◌, Some};
+ghost use Rattle.std.specs.Prelude.{◌≡◌, ◌≤◌, Some, length};
 ghost use Rattle.bw_model.specs.Fault.{no_memory, nowhere, at_byte, at_line, at_record, place_text};
+ghost use Rattle.bw_model.specs.FaultTable.{words_of, SCHEMA_FORM, SCHEMA_NAME, SCHEMA_RANGE, NAME_TWICE, COLUMN_COUNT, SCHEMA_TOO_LONG, NO_HEADING, HEADING, RECORD_LENGTH, NOT_A_NUMBER, OUT_OF_RANGE, NULL_NOT_ALLOWED, TOO_MANY_ROWS, CSV_TOO_LONG, CSV_FAULT, MAGIC, VERSION, LAYOUT, HEADER, TRUNCATED, CODE_TOO_LARGE, NULL_WITH_CODE, PADDING, BYTES_AFTER_END, ROW_COUNT, CHARACTER, SYNTAX, UNKNOWN_TABLE, UNKNOWN_COLUMN, LITERAL, MIXED_ITEMS, STATEMENT_TOO_LONG, NESTING, PROGRAM_FORM, REGISTER, COLUMN_OR_BIT, SKIP_TARGET, PROGRAM_TOO_LONG, NO_RESULT, NO_NULLS, PROGRAM_FILE_TOO_LONG, NODE, PRODUCT_ROW, CHAIN_ROW, LIMIT, CERTIFICATE_FORM, CONDITION_LINE, INSTRUCTION_LINE, JOIN, REGISTER_UNKNOWN, END, NO_PROGRAM, READ_FAILED, WRITE_FAILED, OUT_OF_MEMORY};
+ghost use Rattle.bw_model.specs.declared.fault.code.TheConstants as constant;
 
 use std::alloc::{AllocError, AllocFailed};
 use std::fmt;
@@ -147,7 +149,7 @@ impl fmt::Display for Place {
 
 /// Why a call refused, and where: shown as `404 unknown column at byte 7`.
 #[derive(Clone, Copy, Debug, PartialEq, Eq, Error)]
-#[error("{code} {}{place}", text_of(*.code))]
+#[error("{code} {}{place}", words_of(*.code))]
 pub struct Fault {
     pub code: u16,
     pub place: Place,
@@ -211,8 +213,12 @@ impl<T: Drop> From<AllocFailed<T>> for Fault {
     }
 }
 
-/// What a fault's number means, in words.
-const fn text_of(code: u16) -> &'static str {
+/// What a fault of a number is called: `fault` if the number isn't in the table of faults.
+#[tactic(auto, unfolding(crate::specs::FaultTable::words_of))]
+pub const fn words_of(code: u16) -> &'static str
+    ensures words { result.now ≡ words_of code }
+    ensures short { length result.now ≤ 28 }
+{
     match code {
         code::SCHEMA_FORM => "line form",
         code::SCHEMA_NAME => "name",
@@ -272,3 +278,37 @@ const fn text_of(code: u16) -> &'static str {
         _ => "fault",
     }
 }
+
+/// A law: each constant of [`code`] is the number that the table of faults lists under its name.
+pub fn constants_are_listed()
+    ensures schema { (constant.SCHEMA_FORM ≡ SCHEMA_FORM) × (constant.SCHEMA_NAME ≡ SCHEMA_NAME)
+        × (constant.SCHEMA_RANGE ≡ SCHEMA_RANGE) × (constant.NAME_TWICE ≡ NAME_TWICE)
+        × (constant.COLUMN_COUNT ≡ COLUMN_COUNT) × (constant.SCHEMA_TOO_LONG ≡ SCHEMA_TOO_LONG) }
+    ensures csv { (constant.NO_HEADING ≡ NO_HEADING) × (constant.HEADING ≡ HEADING)
+        × (constant.RECORD_LENGTH ≡ RECORD_LENGTH) × (constant.NOT_A_NUMBER ≡ NOT_A_NUMBER)
+        × (constant.OUT_OF_RANGE ≡ OUT_OF_RANGE) × (constant.NULL_NOT_ALLOWED ≡ NULL_NOT_ALLOWED)
+        × (constant.TOO_MANY_ROWS ≡ TOO_MANY_ROWS) × (constant.CSV_TOO_LONG ≡ CSV_TOO_LONG)
+        × (constant.CSV_FAULT ≡ CSV_FAULT) }
+    ensures table { (constant.MAGIC ≡ MAGIC) × (constant.VERSION ≡ VERSION)
+        × (constant.LAYOUT ≡ LAYOUT) × (constant.HEADER ≡ HEADER)
+        × (constant.TRUNCATED ≡ TRUNCATED) × (constant.CODE_TOO_LARGE ≡ CODE_TOO_LARGE)
+        × (constant.NULL_WITH_CODE ≡ NULL_WITH_CODE) × (constant.PADDING ≡ PADDING)
+        × (constant.BYTES_AFTER_END ≡ BYTES_AFTER_END) × (constant.ROW_COUNT ≡ ROW_COUNT) }
+    ensures statement { (constant.CHARACTER ≡ CHARACTER) × (constant.SYNTAX ≡ SYNTAX)
+        × (constant.UNKNOWN_TABLE ≡ UNKNOWN_TABLE) × (constant.UNKNOWN_COLUMN ≡ UNKNOWN_COLUMN)
+        × (constant.LITERAL ≡ LITERAL) × (constant.MIXED_ITEMS ≡ MIXED_ITEMS)
+        × (constant.STATEMENT_TOO_LONG ≡ STATEMENT_TOO_LONG) × (constant.NESTING ≡ NESTING) }
+    ensures program { (constant.PROGRAM_FORM ≡ PROGRAM_FORM) × (constant.REGISTER ≡ REGISTER)
+        × (constant.COLUMN_OR_BIT ≡ COLUMN_OR_BIT) × (constant.SKIP_TARGET ≡ SKIP_TARGET)
+        × (constant.PROGRAM_TOO_LONG ≡ PROGRAM_TOO_LONG) × (constant.NO_RESULT ≡ NO_RESULT)
+        × (constant.NO_NULLS ≡ NO_NULLS) × (constant.PROGRAM_FILE_TOO_LONG ≡ PROGRAM_FILE_TOO_LONG) }
+    ensures certificate { (constant.NODE ≡ NODE) × (constant.PRODUCT_ROW ≡ PRODUCT_ROW)
+        × (constant.CHAIN_ROW ≡ CHAIN_ROW) × (constant.LIMIT ≡ LIMIT)
+        × (constant.CERTIFICATE_FORM ≡ CERTIFICATE_FORM)
+        × (constant.CONDITION_LINE ≡ CONDITION_LINE)
+        × (constant.INSTRUCTION_LINE ≡ INSTRUCTION_LINE) × (constant.JOIN ≡ JOIN)
+        × (constant.REGISTER_UNKNOWN ≡ REGISTER_UNKNOWN) × (constant.END ≡ END)
+        × (constant.NO_PROGRAM ≡ NO_PROGRAM) }
+    ensures device { (constant.READ_FAILED ≡ READ_FAILED) × (constant.WRITE_FAILED ≡ WRITE_FAILED) }
+    ensures memory { (constant.OUT_OF_MEMORY ≡ OUT_OF_MEMORY) }
+{}

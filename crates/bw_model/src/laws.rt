@@ -1,13 +1,22 @@
-//! What every schema has by its type, as laws.
-ghost use Rattle.std.specs.Prelude.{IsTrue};
+//! What every schema has by its type, and where the faults of a schema text stand, as laws.
+ghost use Rattle.std.specs.Prelude.{◌≡◌, ℕ, Err, IsTrue, List};
 ghost use Rattle.std.specs.List.{list_all};
 ghost use Rattle.bw_model.specs.Column.{names_of};
 ghost use Rattle.bw_model.specs.Name.{is_name};
 ghost use Rattle.bw_model.specs.Schema.{IsColumn, IsSchema};
-ghost use Rattle.bw_model.specs.SchemaText.{column_shape, schema_shape, is_range};
+ghost use Rattle.bw_model.specs.SchemaText.{column_shape, schema_of, schema_shape, is_range};
+ghost use Rattle.bw_model.specs.Standing.{StandsAsListed};
+ghost use Rattle.bw_model.specs.declared.fault.Fault.{Fault};
 
 use crate::column::Column;
 use crate::schema::Schema;
+
+/// A law: the fault of a schema text stands as the table of faults lists it: at a line, or nowhere if the text is too
+/// long.
+#[tactic(auto, using(crate::proofs::StandingLemmas::schema_of_listed))]
+pub fn schema_faults_stand_as_listed()
+    ensures { (text : List ℕ) (fault : Fault) → schema_of text ≡ Err fault → StandsAsListed fault }
+{}
 
 impl Schema {
     /// A law: the names of a schema, its table's and its columns', are names, 64 bits hold each column's bounds, and

@@ -28,11 +28,12 @@ mod variable;
 
 pub use column::Column;
 pub use cond::{Cond, Op, Operand, Truth};
-pub use fault::{Fault, Place, code};
+pub use fault::{Fault, Place, code, constants_are_listed, words_of};
 pub use groups::{
     admitted_rows_have_each_value, groups_make_the_table, kept_rows_are_selected,
     lanes_are_rows_and_zeros,
 };
+pub use laws::schema_faults_stand_as_listed;
 pub use limits::{MAX_COLUMNS, MAX_CSV_LEN, MAX_ROWS, MAX_SCHEMA_LEN};
 pub use name::{Name, is_name};
 pub use query::{Item, Query};

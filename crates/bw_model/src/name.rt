@@ -1,5 +1,5 @@
 //! Names of tables and columns.
-ghost use Rattle.std.specs.Prelude.{◌≡◌, IfOk, IsTrue};
+ghost use Rattle.std.specs.Prelude.{◌≡◌, false, IfErr, IfOk, IsTrue};
 ghost use Rattle.bw_model.specs.Name.{is_name};
 ghost use Rattle.bw_text.specs.Text.{same_text};
 
@@ -34,6 +34,26 @@ impl Name {
         Ok(Name {
             bytes: Vec::from_slice(alloc, bytes)?,
         })
+    }
+
+    /// The name of a spelling, which it keeps; gives the spelling back where it is no name. No memory is taken.
+    pub fn from_bytes(bytes: Vec<u8>) -> Result<Self, Vec<u8>>
+        ensures name { IfOk result (λ name. (name ≡ bytes.items) × IsTrue (is_name bytes.items)) }
+        ensures no_name { IfErr result (λ back. (back.items ≡ bytes.items) × (is_name bytes.items ≡ false)) }
+    {
+        if is_name(&bytes) {
+            Ok(Name { bytes })
+        } else {
+            Err(bytes)
+        }
+    }
+
+    /// Its spelling, in the memory that it was kept in.
+    pub fn into_bytes(self) -> Vec<u8>
+        ensures spelling { result.items ≡ self }
+        ensures name { IsTrue (is_name result.items) }
+    {
+        self.bytes
     }
 
     /// Its spelling.

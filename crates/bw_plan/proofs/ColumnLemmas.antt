@@ -2,10 +2,10 @@
 use Rattle.std.proofs.Common.{◌≡◌, refl, true, List, [], ◌∷◌, map}
 use Rattle.std.specs.List.{list_all}
 use Rattle.bw_model.specs.declared.column.Column as stored
-use Rattle.bw_cert_lines.specs.declared.lines.ChainLine.{ChainLine}
-use Rattle.bw_cert_lines.specs.CertificateFields.{chain_fields, certificate_fields}
-use Rattle.bw_cert_lines.specs.CertificateShape.{CertificateShape}
-use Rattle.bw_cert_lines.specs.Columns.{are_columns, has_columns}
+use Rattle.bw_cert_text.specs.declared.lines.ChainLine.{ChainLine}
+use Rattle.bw_cert_text.specs.CertificateFields.{chain_fields, certificate_fields}
+use Rattle.bw_cert_text.specs.CertificateShape.{CertificateShape}
+use Rattle.bw_cert_text.specs.Columns.{are_columns, has_columns}
 use Rattle.bw_plan.specs.Named.{are_chains_named}
 
 chains_named : (columns : List stored.Column) (chains : List ChainLine) → list_all (λ chain. are_columns columns chain.columns) (map chain_fields chains) ≡ are_chains_named columns chains

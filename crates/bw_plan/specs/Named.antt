@@ -2,9 +2,9 @@
 use Rattle.std.specs.Prelude.{Bool, List}
 use Rattle.std.specs.List.{list_all}
 use Rattle.bw_model.specs.declared.column.Column.{Column}
-use Rattle.bw_cert_lines.specs.declared.lines.ChainLine.{ChainLine}
-use Rattle.bw_cert_lines.specs.CertificateFields.{column_fields}
-use Rattle.bw_cert_lines.specs.Columns.{are_columns}
+use Rattle.bw_cert_text.specs.declared.lines.ChainLine.{ChainLine}
+use Rattle.bw_cert_text.specs.CertificateFields.{column_fields}
+use Rattle.bw_cert_text.specs.Columns.{are_columns}
 
 -- a chain names columns that are among these
 abbrev pub is_chain_named : List Column → ChainLine → Bool

@@ -1,6 +1,6 @@
 -- Why nothing is proposed.
 use Rattle.std.specs.Prelude.{Bool, IsTrue, ◌==◌, ◌||◌, ◌&&◌}
-use Rattle.bw_model.specs.declared.fault.code.TheConstants.{NO_PROGRAM, OUT_OF_MEMORY}
+use Rattle.bw_model.specs.FaultTable.{NO_PROGRAM, OUT_OF_MEMORY}
 use Rattle.bw_model.specs.declared.fault.Fault.{Fault}
 use Rattle.bw_model.specs.Fault.{stands_nowhere}
 

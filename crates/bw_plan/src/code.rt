@@ -5,8 +5,9 @@ use crate::facts::Facts;
 use crate::order::VariableOrder;
 use crate::products::Logic;
 use crate::refusal::Refusal;
-use bw_cert_lines::{EdgeProducts, Entry, InstructionEntry, Keep};
+use bw_cert_text::{EdgeProducts, Entry, InstructionEntry, Keep};
 use bw_program::{ColumnIndex, Instr, Register, SliceIndex};
+use bw_text::REGISTERS;
 use std::alloc::Global;
 
 /// A program has at most this many instructions.
@@ -171,7 +172,7 @@ impl<'a> Code<'a> {
     /// A register that holds one bit in every lane.
     pub(crate) fn fill(&mut self, bit: bool) -> Result<Register, Refusal> {
         let register = self.claim()?;
-        self.put(Instr::Fill { to: register, bit }, InstructionEntry::Fill)?;
+        self.put(Instr::Fill(register, bit), InstructionEntry::Fill)?;
         self.hold(register, u32::from(bit), false);
         Ok(register)
     }
@@ -184,12 +185,8 @@ impl<'a> Code<'a> {
         }
         let place = u8::try_from(bit).map_err(|_| Refusal::NoProgram)?;
         let register = self.claim()?;
-        let instr = Instr::Load {
-            to: register,
-            column,
-            bit: place,
-        };
-        self.put(instr, InstructionEntry::Load(u64::from(node)))?;
+        let entry = InstructionEntry::Load(u64::from(node));
+        self.put(Instr::Load(register, column, place), entry)?;
         self.hold(register, node, true);
         Ok(register)
     }
@@ -204,13 +201,7 @@ impl<'a> Code<'a> {
         }
         let register = self.claim()?;
         let entry = InstructionEntry::Load(u64::from(node));
-        self.put(
-            Instr::Nulls {
-                to: register,
-                column,
-            },
-            entry,
-        )?;
+        self.put(Instr::Nulls(register, column), entry)?;
         self.hold(register, node, true);
         Ok(Some(register))
     }
@@ -248,18 +239,8 @@ impl<'a> Code<'a> {
         }
         let register = self.claim()?;
         let instr = match kind {
-            Kind::Less => Instr::ByteLt {
-                to: register,
-                column,
-                slice,
-                below: byte,
-            },
-            Kind::Equal => Instr::ByteEq {
-                to: register,
-                column,
-                slice,
-                byte,
-            },
+            Kind::Less => Instr::ByteLt(register, column, slice, byte),
+            Kind::Equal => Instr::ByteEq(register, column, slice, byte),
         };
         let chain = Some(u64::from(cited.number));
         self.put(instr, InstructionEntry::Byte(chain))?;
@@ -279,9 +260,9 @@ impl<'a> Code<'a> {
         let (a, b) = (self.node(left)?, self.node(right)?);
         let row = self.facts.row(self.order, op, a, b)?;
         let instr = match op {
-            Logic::And => Instr::And { to, left, right },
-            Logic::Or => Instr::Or { to, left, right },
-            Logic::Xor => Instr::Xor { to, left, right },
+            Logic::And => Instr::And(to, left, right),
+            Logic::Or => Instr::Or(to, left, right),
+            Logic::Xor => Instr::Xor(to, left, right),
             Logic::Diff => return Err(Refusal::NoProgram),
         };
         self.put(instr, InstructionEntry::Op(u64::from(row.number)))?;
@@ -319,7 +300,7 @@ impl<'a> Code<'a> {
         let a = self.node(from)?;
         let row = self.facts.row(self.order, Logic::Diff, 1, a)?;
         let entry = InstructionEntry::Op(u64::from(row.number));
-        self.put(Instr::Not { to, from }, entry)?;
+        self.put(Instr::Not(to, from), entry)?;
         self.hold(to, row.node, false);
         Ok(())
     }
@@ -345,11 +326,7 @@ impl<'a> Code<'a> {
         self.meet()?;
         let tested = self.node(register)?;
         let (number, line) = (self.instrs.len(), self.lines.len());
-        let instr = Instr::Skip {
-            if_zero: register,
-            target: 0,
-        };
-        self.put(instr, InstructionEntry::Skip)?;
+        self.put(Instr::Skip(register, 0), InstructionEntry::Skip)?;
         let mut nodes = [None; 64];
         for (node, register) in nodes.iter_mut().zip(self.registers.iter()) {
             *node = register.node;
@@ -440,12 +417,9 @@ impl<'a> Code<'a> {
             }
         }
         for instr in self.instrs.iter_mut() {
-            if let Instr::Skip { if_zero, target } = *instr {
+            if let Instr::Skip(register, target) = *instr {
                 if target > number {
-                    *instr = Instr::Skip {
-                        if_zero,
-                        target: target - 1,
-                    };
+                    *instr = Instr::Skip(register, target - 1);
                 }
             }
         }
@@ -464,8 +438,8 @@ impl<'a> Code<'a> {
             return;
         };
         if let Some(instr) = self.instrs.get_mut(skip.number) {
-            if let Instr::Skip { if_zero, .. } = *instr {
-                *instr = Instr::Skip { if_zero, target };
+            if let Instr::Skip(register, _) = *instr {
+                *instr = Instr::Skip(register, target);
             }
         }
     }
@@ -490,12 +464,8 @@ impl<'a> Code<'a> {
             let edge = self.edge(register, node, at)?;
             edges.push(edge.ok_or(Refusal::NoProgram)?)?;
         }
-        self.lines.push(Entry::Keep(Keep {
-            register,
-            node: u64::from(node),
-            through: u64::from(through.number),
-            edges,
-        }))?;
+        let line = keep_line(register, node, through.number, edges).ok_or(Refusal::NoProgram)?;
+        self.lines.push(line)?;
         Ok(())
     }
 
@@ -545,7 +515,7 @@ impl<'a> Code<'a> {
     pub(crate) fn looks(&self) -> usize {
         self.instrs
             .iter()
-            .filter(|instr| matches!(instr, Instr::ByteLt { .. } | Instr::ByteEq { .. }))
+            .filter(|instr| matches!(instr, Instr::ByteLt(..) | Instr::ByteEq(..)))
             .count()
     }
 
@@ -554,6 +524,24 @@ impl<'a> Code<'a> {
         self.instrs
             .iter()
             .skip(number)
-            .any(|instr| matches!(instr, Instr::Skip { .. }))
+            .any(|instr| matches!(instr, Instr::Skip(..)))
     }
+}
+
+/// The line of a register that a join keeps; none where it isn't one of r0 to r63.
+fn keep_line(
+    register: Register,
+    node: u32,
+    through: u32,
+    edges: Vec<EdgeProducts>,
+) -> Option<Entry> {
+    if u64::from(register) >= REGISTERS {
+        return None;
+    }
+    Some(Entry::Keep(Keep {
+        register,
+        node: u64::from(node),
+        through: u64::from(through),
+        edges,
+    }))
 }

@@ -86,8 +86,8 @@ pub(crate) fn compare(
         (Operand::Col(left), Operand::Col(right)) => {
             Ok(Comparison::Columns(with_column(facts, op, left, right)?))
         }
-        (Operand::Lit(m), Operand::Lit(n)) if op.holds(m, n) => Ok(Comparison::Fixed(Truth::True)),
-        (Operand::Lit(_), Operand::Lit(_)) => Ok(Comparison::Fixed(Truth::False)),
+        (Operand::Lit(m), Operand::Lit(n)) if op.holds(m, n) => Ok(Comparison::Fixed(Truth::Yes)),
+        (Operand::Lit(_), Operand::Lit(_)) => Ok(Comparison::Fixed(Truth::No)),
         _ => Ok(Comparison::Fixed(Truth::Unknown)),
     }
 }

@@ -1,8 +1,8 @@
 //! Programs and certificates, from instructions, facts and lines.
 ghost use Rattle.std.specs.Prelude.{IsTrue, IfOk};
 ghost use Rattle.bw_program.specs.Program.{fits};
-ghost use Rattle.bw_cert_lines.specs.CertificateFields.{certificate_fields};
-ghost use Rattle.bw_cert_lines.specs.Columns.{has_columns, is_column};
+ghost use Rattle.bw_cert_text.specs.CertificateFields.{certificate_fields};
+ghost use Rattle.bw_cert_text.specs.Columns.{has_columns, is_column};
 ghost use Rattle.bw_plan.specs.Named.{is_chain_named, are_chains_named};
 
 use crate::chains::{Compared, Link};
@@ -10,7 +10,7 @@ use crate::facts::Facts;
 use crate::nodes::Branch;
 use crate::products::{Outcome, Question};
 use crate::refusal::Refusal;
-use bw_cert_lines::{BodyLine, Certificate, ChainLine, EndLine, Entry, NodeLine, ProductLine};
+use bw_cert_text::{BodyLine, Certificate, ChainLine, EndLine, Entry, NodeLine, ProductLine};
 use bw_diagram::{ChainColumns, Reason};
 use bw_model::{Schema, code};
 use bw_program::{ColumnIndex, Instr, Program, Register, SliceIndex};
@@ -49,54 +49,35 @@ fn put_instr(
 ) -> Result<(), AllocError> {
     use Piece::{Number, Register};
     match instr {
-        Instr::Load { to, column, bit } => {
-            let (column, bit) = (name_of(schema, column), Number(u64::from(bit)));
-            push_line(
-                alloc,
-                &[word(Opcode::Load), Register(to), column, bit],
-                text,
-            )
-        }
-        Instr::Nulls { to, column } => {
-            let column = name_of(schema, column);
-            push_line(alloc, &[word(Opcode::Nulls), Register(to), column], text)
-        }
-        Instr::Fill { to, bit } => {
-            let bit = Number(u64::from(bit));
-            push_line(alloc, &[word(Opcode::Fill), Register(to), bit], text)
-        }
-        Instr::And { to, left, right } => put_three(alloc, Opcode::And, [to, left, right], text),
-        Instr::Or { to, left, right } => put_three(alloc, Opcode::Or, [to, left, right], text),
-        Instr::Xor { to, left, right } => put_three(alloc, Opcode::Xor, [to, left, right], text),
-        Instr::Not { to, from } => {
-            let pieces = [word(Opcode::Not), Register(to), Register(from)];
+        Instr::Load(r, col, bit) => {
+            let (col, bit) = (name_of(schema, col), Number(u64::from(bit)));
+            let pieces = [word(Opcode::Load), Register(r), col, bit];
             push_line(alloc, &pieces, text)
         }
-        Instr::ByteLt {
-            to,
-            column,
-            slice,
-            below,
-        } => {
-            let operands = (to, column, slice, below);
-            put_byte(alloc, schema, Opcode::ByteLt, operands, text)
+        Instr::Nulls(r, col) => {
+            let pieces = [word(Opcode::Nulls), Register(r), name_of(schema, col)];
+            push_line(alloc, &pieces, text)
         }
-        Instr::ByteEq {
-            to,
-            column,
-            slice,
-            byte,
-        } => {
-            let operands = (to, column, slice, byte);
-            put_byte(alloc, schema, Opcode::ByteEq, operands, text)
+        Instr::Fill(r, bit) => {
+            let bit = Number(u64::from(bit));
+            push_line(alloc, &[word(Opcode::Fill), Register(r), bit], text)
         }
-        Instr::Skip { if_zero, target } => {
+        Instr::And(r, x, y) => put_three(alloc, Opcode::And, [r, x, y], text),
+        Instr::Or(r, x, y) => put_three(alloc, Opcode::Or, [r, x, y], text),
+        Instr::Xor(r, x, y) => put_three(alloc, Opcode::Xor, [r, x, y], text),
+        Instr::Not(r, x) => {
+            let pieces = [word(Opcode::Not), Register(r), Register(x)];
+            push_line(alloc, &pieces, text)
+        }
+        Instr::ByteLt(r, col, slice, k) => {
+            put_byte(alloc, schema, Opcode::ByteLt, (r, col, slice, k), text)
+        }
+        Instr::ByteEq(r, col, slice, k) => {
+            put_byte(alloc, schema, Opcode::ByteEq, (r, col, slice, k), text)
+        }
+        Instr::Skip(x, target) => {
             let target = Number(target as u64);
-            push_line(
-                alloc,
-                &[word(Opcode::Skip), Register(if_zero), target],
-                text,
-            )
+            push_line(alloc, &[word(Opcode::Skip), Register(x), target], text)
         }
     }
 }
@@ -108,13 +89,10 @@ fn put_three(
     registers: [Register; 3],
     text: &mut Vec<u8>,
 ) -> Result<(), AllocError> {
-    let [to, left, right] = registers;
-    let (to, left, right) = (
-        Piece::Register(to),
-        Piece::Register(left),
-        Piece::Register(right),
-    );
-    push_line(alloc, &[word(opcode), to, left, right], text)
+    use Piece::Register;
+    let [r, x, y] = registers;
+    let pieces = [word(opcode), Register(r), Register(x), Register(y)];
+    push_line(alloc, &pieces, text)
 }
 
 /// Appends the line of a comparison of bytes.
@@ -125,18 +103,10 @@ fn put_byte(
     operands: (Register, ColumnIndex, SliceIndex, u8),
     text: &mut Vec<u8>,
 ) -> Result<(), AllocError> {
-    let (to, column, slice, byte) = operands;
-    let (slice, byte) = (
-        Piece::Number(u64::from(slice)),
-        Piece::Number(u64::from(byte)),
-    );
-    let pieces = [
-        word(opcode),
-        Piece::Register(to),
-        name_of(schema, column),
-        slice,
-        byte,
-    ];
+    use Piece::{Number, Register};
+    let (r, col, slice, k) = operands;
+    let (slice, k) = (Number(u64::from(slice)), Number(u64::from(k)));
+    let pieces = [word(opcode), Register(r), name_of(schema, col), slice, k];
     push_line(alloc, &pieces, text)
 }
 

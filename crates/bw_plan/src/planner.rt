@@ -2,8 +2,8 @@
 ghost use Rattle.std.specs.Prelude.{IsTrue, IfOk, IfErr, length};
 ghost use Rattle.bw_model.specs.Cond.{names_within};
 ghost use Rattle.bw_program.specs.Program.{fits};
-ghost use Rattle.bw_cert_lines.specs.CertificateFields.{certificate_fields};
-ghost use Rattle.bw_cert_lines.specs.Columns.{has_columns};
+ghost use Rattle.bw_cert_text.specs.CertificateFields.{certificate_fields};
+ghost use Rattle.bw_cert_text.specs.Columns.{has_columns};
 ghost use Rattle.bw_plan.specs.Refused.{IsRefusal};
 
 use crate::code::Code;
@@ -14,7 +14,7 @@ use crate::products::Logic;
 use crate::refusal::Refusal;
 use crate::steps::steps_of;
 use crate::truths::Wanted;
-use bw_cert_lines::Certificate;
+use bw_cert_text::Certificate;
 use bw_model::{Cond, Fault, Schema};
 use bw_program::{Program, Register};
 use std::alloc::Global;

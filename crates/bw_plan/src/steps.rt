@@ -5,7 +5,7 @@ use crate::facts::Facts;
 use crate::order::VariableOrder;
 use crate::products::Logic;
 use crate::refusal::Refusal;
-use bw_cert_lines::{ConditionEntry, Entry};
+use bw_cert_text::{ConditionEntry, Entry};
 use bw_model::{Cond, Op, Operand, Truth};
 use bw_program::ColumnIndex;
 
@@ -20,8 +20,8 @@ impl TruthNodes {
     /// Those of a step with one truth on every row.
     fn constant(truth: Truth) -> Self {
         TruthNodes {
-            yes: u32::from(truth == Truth::True),
-            no: u32::from(truth == Truth::False),
+            yes: u32::from(truth == Truth::Yes),
+            no: u32::from(truth == Truth::No),
         }
     }
 
@@ -44,7 +44,7 @@ pub(crate) fn steps_of(
     cond: &Cond,
 ) -> Result<TruthNodes, Refusal> {
     match cond {
-        Cond::Always => constant(lines, Truth::True),
+        Cond::Always => constant(lines, Truth::Yes),
         Cond::Cmp(op, x, y) => compared(facts, lines, *op, *x, *y),
         Cond::Between(x, y, z) => {
             let lower = compared(facts, lines, Op::Ge, *x, *y)?;
@@ -154,8 +154,8 @@ fn tested(
     made: TruthNodes,
 ) -> Result<TruthNodes, Refusal> {
     let half = match wanted {
-        Truth::True => made.yes,
-        Truth::False => made.no,
+        Truth::Yes => made.yes,
+        Truth::No => made.no,
         Truth::Unknown => {
             let known = facts.row(VariableOrder::Whole, Logic::Or, made.yes, made.no)?;
             let other = facts.row(VariableOrder::Whole, Logic::Diff, 1, known.node)?;
@@ -183,11 +183,11 @@ fn null_tested(
 ) -> Result<TruthNodes, Refusal> {
     let column = match x {
         Operand::Col(column) => facts.column(column)?,
-        Operand::Lit(_) => return constant(lines, Truth::False),
-        Operand::Null => return constant(lines, Truth::True),
+        Operand::Lit(_) => return constant(lines, Truth::No),
+        Operand::Null => return constant(lines, Truth::Yes),
     };
     let Some(nulls) = facts.nulls(column)? else {
-        return constant(lines, Truth::False);
+        return constant(lines, Truth::No);
     };
     let values = facts.row(VariableOrder::Whole, Logic::Diff, 1, nulls)?;
     put(lines, ConditionEntry::NullTest(u64::from(values.number)))?;

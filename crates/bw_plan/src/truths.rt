@@ -62,7 +62,7 @@ impl Code<'_> {
     #[cycle(truths)]
     pub(crate) fn truths(&mut self, cond: &Cond, wanted: Wanted) -> Result<Halves, Refusal> {
         match cond {
-            Cond::Always => self.constant(Truth::True, wanted),
+            Cond::Always => self.constant(Truth::Yes, wanted),
             Cond::Cmp(op, x, y) => self.compared(*op, *x, *y, wanted),
             Cond::Between(x, y, z) => self.between(*x, *y, *z, wanted),
             Cond::Among(x, items) => self.among(*x, items, wanted),
@@ -72,8 +72,8 @@ impl Code<'_> {
             Cond::Not(part) => Ok(self.truths(part, wanted.exchanged())?.exchanged()),
             Cond::Test(part, truth) => {
                 let needed = Wanted {
-                    yes: *truth != Truth::False,
-                    no: *truth != Truth::True,
+                    yes: *truth != Truth::No,
+                    no: *truth != Truth::Yes,
                 };
                 let made = self.truths(part, needed)?;
                 self.tested(*truth, made, wanted)
@@ -144,10 +144,10 @@ impl Code<'_> {
             no: None,
         };
         if wanted.yes {
-            made.yes = Some(self.fill(truth == Truth::True)?);
+            made.yes = Some(self.fill(truth == Truth::Yes)?);
         }
         if wanted.no {
-            made.no = Some(self.fill(truth == Truth::False)?);
+            made.no = Some(self.fill(truth == Truth::No)?);
         }
         Ok(made)
     }
@@ -155,7 +155,7 @@ impl Code<'_> {
     /// The registers of `IS TRUE`, `IS FALSE` or `IS UNKNOWN`.
     fn tested(&mut self, truth: Truth, made: Halves, wanted: Wanted) -> Result<Halves, Refusal> {
         let (held, negated) = match (truth, made.yes, made.no) {
-            (Truth::True, Some(held), _) | (Truth::False, _, Some(held)) => (held, false),
+            (Truth::Yes, Some(held), _) | (Truth::No, _, Some(held)) => (held, false),
             (Truth::Unknown, Some(held), Some(other)) => {
                 self.join_into(Logic::Or, held, other)?;
                 (held, true)
@@ -172,8 +172,8 @@ impl Code<'_> {
     fn null_tested(&mut self, x: Operand, wanted: Wanted) -> Result<Halves, Refusal> {
         let column = match x {
             Operand::Col(column) => self.facts.column(column)?,
-            Operand::Lit(_) => return self.constant(Truth::False, wanted),
-            Operand::Null => return self.constant(Truth::True, wanted),
+            Operand::Lit(_) => return self.constant(Truth::No, wanted),
+            Operand::Null => return self.constant(Truth::Yes, wanted),
         };
         if !wanted.yes {
             return match self.values(column)? {
@@ -181,12 +181,12 @@ impl Code<'_> {
                     yes: None,
                     no: Some(values),
                 }),
-                None => self.constant(Truth::False, wanted),
+                None => self.constant(Truth::No, wanted),
             };
         }
         match self.nulls(column)? {
             Some(nulls) => self.sides(nulls, &[], false, wanted),
-            None => self.constant(Truth::False, wanted),
+            None => self.constant(Truth::No, wanted),
         }
     }
 

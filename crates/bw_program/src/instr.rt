@@ -12,66 +12,28 @@ pub type BitIndex = u8;
 /// The number of a slice of a column's codes, eight bits each, from 0, the least, to 7.
 pub type SliceIndex = u8;
 
-/// One instruction: what the register `to` becomes, in each of a segment's 512 lanes, or where a run goes on.
+/// One instruction: what its first register becomes, in each of a segment's 512 lanes, or where a run goes on.
 #[derive(Clone, Copy)]
 pub enum Instr {
-    /// The plane of a column's bit.
-    Load {
-        to: Register,
-        column: ColumnIndex,
-        bit: BitIndex,
-    },
-    /// The null plane of a column.
-    Nulls {
-        to: Register,
-        column: ColumnIndex,
-    },
-    /// The same bit in every lane.
-    Fill {
-        to: Register,
-        bit: bool,
-    },
-    /// The AND of two registers, lane by lane.
-    And {
-        to: Register,
-        left: Register,
-        right: Register,
-    },
-    /// Their OR.
-    Or {
-        to: Register,
-        left: Register,
-        right: Register,
-    },
-    /// Their XOR.
-    Xor {
-        to: Register,
-        left: Register,
-        right: Register,
-    },
-    /// The opposite of a register, in padding lanes too.
-    Not {
-        to: Register,
-        from: Register,
-    },
-    /// 1 in the lanes in which the byte of a column's slice is below one.
-    ByteLt {
-        to: Register,
-        column: ColumnIndex,
-        slice: SliceIndex,
-        below: u8,
-    },
-    /// 1 in those in which it is this byte.
-    ByteEq {
-        to: Register,
-        column: ColumnIndex,
-        slice: SliceIndex,
-        byte: u8,
-    },
-    /// The instruction of number `target` comes next where a register is 0 in all 512 lanes, else the following one.
-    /// The number after the last instruction is the end.
-    Skip {
-        if_zero: Register,
-        target: usize,
-    },
+    /// `(r, col, bit)`: register r becomes the plane of a bit of column col's codes.
+    Load(Register, ColumnIndex, BitIndex),
+    /// `(r, col)`: r becomes the null plane of column col.
+    Nulls(Register, ColumnIndex),
+    /// `(r, bit)`: r becomes the same bit in every lane.
+    Fill(Register, bool),
+    /// `(r, x, y)`: r becomes the AND of registers x and y, lane by lane.
+    And(Register, Register, Register),
+    /// `(r, x, y)`: r becomes their OR.
+    Or(Register, Register, Register),
+    /// `(r, x, y)`: r becomes their XOR.
+    Xor(Register, Register, Register),
+    /// `(r, x)`: r becomes the opposite of register x, in padding lanes too.
+    Not(Register, Register),
+    /// `(r, col, slice, k)`: r becomes 1 in the lanes in which the byte of a slice of column col's codes is below k.
+    ByteLt(Register, ColumnIndex, SliceIndex, u8),
+    /// `(r, col, slice, k)`: r becomes 1 in those in which that byte is k.
+    ByteEq(Register, ColumnIndex, SliceIndex, u8),
+    /// `(x, target)`: the instruction of number `target` comes next where register x is 0 in all 512 lanes, else the
+    /// following one. The number after the last instruction is the end.
+    Skip(Register, usize),
 }

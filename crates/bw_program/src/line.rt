@@ -42,35 +42,25 @@ fn instr_after(
         Opcode::Nulls => nulls_of(schema, line, words),
         Opcode::Fill => fill_of(line, words),
         Opcode::And => {
-            let (to, left, right) = three_of(line, words)?;
-            Ok(Instr::And { to, left, right })
+            let (r, x, y) = three_of(line, words)?;
+            Ok(Instr::And(r, x, y))
         }
         Opcode::Or => {
-            let (to, left, right) = three_of(line, words)?;
-            Ok(Instr::Or { to, left, right })
+            let (r, x, y) = three_of(line, words)?;
+            Ok(Instr::Or(r, x, y))
         }
         Opcode::Xor => {
-            let (to, left, right) = three_of(line, words)?;
-            Ok(Instr::Xor { to, left, right })
+            let (r, x, y) = three_of(line, words)?;
+            Ok(Instr::Xor(r, x, y))
         }
         Opcode::Not => not_of(line, words),
         Opcode::ByteLt => {
-            let (to, column, slice, below) = byte_of(schema, line, words)?;
-            Ok(Instr::ByteLt {
-                to,
-                column,
-                slice,
-                below,
-            })
+            let (r, col, slice, k) = byte_of(schema, line, words)?;
+            Ok(Instr::ByteLt(r, col, slice, k))
         }
         Opcode::ByteEq => {
-            let (to, column, slice, byte) = byte_of(schema, line, words)?;
-            Ok(Instr::ByteEq {
-                to,
-                column,
-                slice,
-                byte,
-            })
+            let (r, col, slice, k) = byte_of(schema, line, words)?;
+            Ok(Instr::ByteEq(r, col, slice, k))
         }
         Opcode::Skip => skip_of(number, line, words),
         Opcode::Result => Err(Fault::at_line(code::PROGRAM_FORM, line)),
@@ -90,11 +80,7 @@ fn load_of(schema: &Schema, line: u64, words: &[&[u8]]) -> Result<Instr, Fault>
     if bit >= u64::from(schema.width(column)) {
         return Err(Fault::at_line(code::COLUMN_OR_BIT, line));
     }
-    Ok(Instr::Load {
-        to,
-        column: column as u8,
-        bit: bit as u8,
-    })
+    Ok(Instr::Load(to, column as u8, bit as u8))
 }
 
 /// A number without sign, or 501.
@@ -137,10 +123,7 @@ fn nulls_of(schema: &Schema, line: u64, words: &[&[u8]]) -> Result<Instr, Fault>
     if !schema.columns[column].nullable {
         return Err(Fault::at_line(code::NO_NULLS, line));
     }
-    Ok(Instr::Nulls {
-        to,
-        column: column as u8,
-    })
+    Ok(Instr::Nulls(to, column as u8))
 }
 
 fn fill_of(line: u64, words: &[&[u8]]) -> Result<Instr, Fault>
@@ -155,7 +138,7 @@ fn fill_of(line: u64, words: &[&[u8]]) -> Result<Instr, Fault>
         return Err(Fault::at_line(code::PROGRAM_FORM, line));
     }
     let to = register_on(line, r)?;
-    Ok(Instr::Fill { to, bit: bit == 1 })
+    Ok(Instr::Fill(to, bit == 1))
 }
 
 /// Three registers.
@@ -181,7 +164,7 @@ fn not_of(line: u64, words: &[&[u8]]) -> Result<Instr, Fault>
     };
     let to = register_on(line, r)?;
     let from = register_on(line, x)?;
-    Ok(Instr::Not { to, from })
+    Ok(Instr::Not(to, from))
 }
 
 /// A register, a column, a slice of its codes and a byte.
@@ -217,14 +200,11 @@ fn skip_of(number: usize, line: u64, words: &[&[u8]]) -> Result<Instr, Fault>
         return Err(Fault::at_line(code::PROGRAM_FORM, line));
     };
     let target = natural_on(line, l)?;
-    let if_zero = register_on(line, x)?;
+    let register = register_on(line, x)?;
     if target <= number as u64 {
         return Err(Fault::at_line(code::SKIP_TARGET, line));
     }
-    Ok(Instr::Skip {
-        if_zero,
-        target: target as usize,
-    })
+    Ok(Instr::Skip(register, target as usize))
 }
 
 /// Whether a line names the result.

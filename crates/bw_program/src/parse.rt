@@ -148,7 +148,7 @@ fn goes_past(end: usize, instr: Instr) -> bool
     ensures { result ≡ goes_past end instr }
 {
     match instr {
-        Instr::Skip { target, .. } => target > end,
+        Instr::Skip(_, target) => target > end,
         _ => false,
     }
 }

@@ -64,54 +64,35 @@ fn put_instr(
 {
     use Piece::{Number, Register, Word};
     match instr {
-        Instr::Load { to, column, bit } => {
-            let (column, bit) = (Word(name_of(schema, column)), Number(bit as u64));
-            push_line(
-                alloc,
-                &[word(Opcode::Load), Register(to), column, bit],
-                text,
-            )
-        }
-        Instr::Nulls { to, column } => {
-            let column = Word(name_of(schema, column));
-            push_line(alloc, &[word(Opcode::Nulls), Register(to), column], text)
-        }
-        Instr::Fill { to, bit } => {
-            let bit = Number(bit as u64);
-            push_line(alloc, &[word(Opcode::Fill), Register(to), bit], text)
-        }
-        Instr::And { to, left, right } => put_three(alloc, Opcode::And, (to, left, right), text),
-        Instr::Or { to, left, right } => put_three(alloc, Opcode::Or, (to, left, right), text),
-        Instr::Xor { to, left, right } => put_three(alloc, Opcode::Xor, (to, left, right), text),
-        Instr::Not { to, from } => {
-            let pieces = [word(Opcode::Not), Register(to), Register(from)];
+        Instr::Load(r, col, bit) => {
+            let (col, bit) = (Word(name_of(schema, col)), Number(bit as u64));
+            let pieces = [word(Opcode::Load), Register(r), col, bit];
             push_line(alloc, &pieces, text)
         }
-        Instr::ByteLt {
-            to,
-            column,
-            slice,
-            below,
-        } => {
-            let operands = (to, column, slice, below);
-            put_byte(alloc, schema, Opcode::ByteLt, operands, text)
+        Instr::Nulls(r, col) => {
+            let col = Word(name_of(schema, col));
+            push_line(alloc, &[word(Opcode::Nulls), Register(r), col], text)
         }
-        Instr::ByteEq {
-            to,
-            column,
-            slice,
-            byte,
-        } => {
-            let operands = (to, column, slice, byte);
-            put_byte(alloc, schema, Opcode::ByteEq, operands, text)
+        Instr::Fill(r, bit) => {
+            let bit = Number(bit as u64);
+            push_line(alloc, &[word(Opcode::Fill), Register(r), bit], text)
         }
-        Instr::Skip { if_zero, target } => {
+        Instr::And(r, x, y) => put_three(alloc, Opcode::And, (r, x, y), text),
+        Instr::Or(r, x, y) => put_three(alloc, Opcode::Or, (r, x, y), text),
+        Instr::Xor(r, x, y) => put_three(alloc, Opcode::Xor, (r, x, y), text),
+        Instr::Not(r, x) => {
+            let pieces = [word(Opcode::Not), Register(r), Register(x)];
+            push_line(alloc, &pieces, text)
+        }
+        Instr::ByteLt(r, col, slice, k) => {
+            put_byte(alloc, schema, Opcode::ByteLt, (r, col, slice, k), text)
+        }
+        Instr::ByteEq(r, col, slice, k) => {
+            put_byte(alloc, schema, Opcode::ByteEq, (r, col, slice, k), text)
+        }
+        Instr::Skip(x, target) => {
             let target = Number(target as u64);
-            push_line(
-                alloc,
-                &[word(Opcode::Skip), Register(if_zero), target],
-                text,
-            )
+            push_line(alloc, &[word(Opcode::Skip), Register(x), target], text)
         }
     }
 }
@@ -126,13 +107,10 @@ fn put_three(
     ensures { OnOk result (text.new.items ≡ text.old.items ++ line_text (opcode_spelling opcode
         ∷ register_text registers.0 ∷ register_text registers.1 ∷ register_text registers.2 ∷ [])) }
 {
-    let (to, left, right) = registers;
-    let (to, left, right) = (
-        Piece::Register(to),
-        Piece::Register(left),
-        Piece::Register(right),
-    );
-    push_line(alloc, &[word(opcode), to, left, right], text)
+    use Piece::Register;
+    let (r, x, y) = registers;
+    let pieces = [word(opcode), Register(r), Register(x), Register(y)];
+    push_line(alloc, &pieces, text)
 }
 
 /// Appends the line of an instruction with a register, a column, a slice of its codes and a byte.
@@ -148,14 +126,12 @@ fn put_byte(
         ∷ register_text operands.0 ∷ column_text schema.now.columns.items operands.1
         ∷ decimal operands.2 ∷ decimal operands.3 ∷ [])) }
 {
-    let (to, column, slice, byte) = operands;
-    let column = Piece::Word(name_of(schema, column));
-    let (slice, byte) = (Piece::Number(slice as u64), Piece::Number(byte as u64));
-    push_line(
-        alloc,
-        &[word(opcode), Piece::Register(to), column, slice, byte],
-        text,
-    )
+    use Piece::{Number, Register, Word};
+    let (r, col, slice, k) = operands;
+    let col = Word(name_of(schema, col));
+    let (slice, k) = (Number(slice as u64), Number(k as u64));
+    let pieces = [word(opcode), Register(r), col, slice, k];
+    push_line(alloc, &pieces, text)
 }
 
 /// Appends the line of the result register.

@@ -11,7 +11,7 @@ use Rattle.bw_model.specs.Groups.{groups_of}
 use Rattle.bw_model.specs.Row.{Value}
 use Rattle.bw_query.specs.declared.scan.Scan.{Scan}
 use Rattle.bw_query.specs.declared.scan.Scan.TheVariants.{Program, Rows}
-use Rattle.bw_report.specs.declared.served.Scanned.{Scanned}
+use Rattle.bw_query.specs.declared.served.Scanned.{Scanned}
 use Rattle.bw_query.specs.Scan.{IsChosen, IsUsable, loads_in, skips_in}
 use Rattle.bw_query.specs.Served.{IsServed, report_of}
 use Rattle.bw_query.specs.TableText.{IsScanOf}

@@ -24,7 +24,7 @@ use Rattle.bw_file.specs.declared.table_reader.TableReader.{TableReader}
 use Rattle.bw_file.proofs.FileSpelling.{read_is_spelled_by}
 use Rattle.bw_query.specs.TableAnswer.{AnswersFile, HeaderRead, TableGave, TableText, is_no_verdict}
 use Rattle.bw_query.specs.declared.scan.Scan.{Scan}
-use Rattle.bw_report.specs.declared.served.Scanned.{Scanned}
+use Rattle.bw_query.specs.declared.served.Scanned.{Scanned}
 use Rattle.bw_query.specs.TableText.{IsScanOf, TextOver}
 
 abbrev pub Given : Type 0

@@ -1,6 +1,6 @@
 -- What a plan for a statement is: a program file that is accepted for it.
 use Rattle.std.specs.Prelude.{◌≡◌, ℕ, List, ◌++◌, codes, false, Result, Ok, Err}
-use Rattle.bw_model.specs.declared.fault.code.TheConstants.{NO_PROGRAM}
+use Rattle.bw_model.specs.FaultTable.{NO_PROGRAM}
 use Rattle.bw_model.specs.declared.column.Column.{Column}
 use Rattle.bw_model.specs.declared.fault.Fault.{Fault}
 use Rattle.bw_model.specs.declared.query.Query.{Query}
@@ -9,8 +9,8 @@ use Rattle.bw_model.specs.Fault.{is_memory, nowhere}
 use Rattle.bw_model.specs.SchemaText.{schema_of, schema_shape, IsSchemaText}
 use Rattle.bw_program.specs.PrintText as program_text
 use Rattle.bw_program.specs.Program.{ProgramShape}
-use Rattle.bw_cert_lines.specs.CertificateFields.{CertificateFields}
-use Rattle.bw_cert_lines.specs.CertificateShape.{CertificateShape}
+use Rattle.bw_cert_text.specs.CertificateFields.{CertificateFields}
+use Rattle.bw_cert_text.specs.CertificateShape.{CertificateShape}
 use Rattle.bw_cert_text.specs.PrintText as certificate_text
 use Rattle.bw_cert.specs.Judged.{Certifies}
 use Rattle.bw_sql.specs.Statement.{IsReadAs}

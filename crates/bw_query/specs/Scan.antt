@@ -10,7 +10,7 @@ use Rattle.bw_model.specs.Groups.{lanes_of}
 use Rattle.bw_model.specs.Row.{Value}
 use Rattle.bw_program.specs.Machine.{State, end_state}
 use Rattle.bw_program.specs.Program.{ProgramShape}
-use Rattle.bw_cert_lines.specs.CertificateShape.{CertificateShape}
+use Rattle.bw_cert_text.specs.CertificateShape.{CertificateShape}
 use Rattle.bw_cert.specs.declared.certified.Certified.{Certified}
 use Rattle.bw_cert.specs.Valid.{Valid}
 use Rattle.bw_cert.specs.Judged.{Certifies, IsFileFault}

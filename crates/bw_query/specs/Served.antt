@@ -8,14 +8,14 @@ use Rattle.bw_model.specs.declared.schema.Schema.{Schema}
 use Rattle.bw_model.specs.Groups.{groups_of}
 use Rattle.bw_model.specs.Row.{Value}
 use Rattle.bw_program.specs.Program.{ProgramShape}
-use Rattle.bw_cert_lines.specs.CertificateShape.{CertificateShape}
+use Rattle.bw_cert_text.specs.CertificateShape.{CertificateShape}
 use Rattle.bw_cert.specs.Valid.{Valid}
 use Rattle.bw_cert.specs.Judged.{Certifies}
 use Rattle.bw_query.specs.declared.scan.Scan.{Scan}
 use Rattle.bw_query.specs.declared.scan.Scan.TheVariants.{Program, Rows}
 use Rattle.bw_report.specs.declared.served.By.{By}
 use Rattle.bw_report.specs.declared.served.Served.{Served}
-use Rattle.bw_report.specs.declared.served.Scanned.{Scanned}
+use Rattle.bw_query.specs.declared.served.Scanned.{Scanned}
 use Rattle.bw_query.specs.Scan.{run_over}
 use Rattle.bw_query.specs.TableAnswer.{group_count}
 
@@ -23,14 +23,14 @@ use Rattle.bw_query.specs.TableAnswer.{group_count}
 pub record ByProgram (program : ProgramShape) (columns : List Column) (rows : List (List Value))
     (served : Served) : Type 0 where
   pub by : served.by ≡ By.Program
-  pub loads : served.scanned.loads ≡ sum_by (λ group. (run_over program columns group).loads) (groups_of rows)
-  pub skips : served.scanned.skips ≡ sum_by (λ group. (run_over program columns group).skips) (groups_of rows)
+  pub loads : served.loads ≡ sum_by (λ group. (run_over program columns group).loads) (groups_of rows)
+  pub skips : served.skips ≡ sum_by (λ group. (run_over program columns group).skips) (groups_of rows)
 
 -- row by row, with no load and no skip
 pub record ByRows (served : Served) : Type 0 where
   pub by : served.by ≡ By.Rows
-  pub loads : served.scanned.loads ≡ 0
-  pub skips : served.scanned.skips ≡ 0
+  pub loads : served.loads ≡ 0
+  pub skips : served.skips ≡ 0
 
 -- By the program of a program file, where there is one; its certificate is valid for the condition. Else by some
 -- program that with some certificate is, or row by row.
@@ -46,7 +46,7 @@ IsServedBy None columns cond rows served =
 -- over the groups of a table's rows
 pub record IsServed (file : Option (List ℕ)) (schema : Schema) (query : Query) (rows : List (List Value))
     (served : Served) : Type 0 where
-  pub segments : served.scanned.segments ≡ group_count rows
+  pub segments : served.segments ≡ group_count rows
   pub how : IsServedBy file schema.columns.items query.cond rows served
 
 -- who finds the rows
@@ -58,5 +58,7 @@ finder_of Rows = By.Rows
 abbrev pub report_of : Scan → Scanned → Served
 report_of scan scanned = record {
   by = finder_of scan;
-  scanned = scanned;
+  segments = scanned.segments;
+  loads = scanned.loads;
+  skips = scanned.skips;
 }

@@ -16,7 +16,7 @@ use Rattle.bw_file.specs.TableReading.{Found}
 use Rattle.bw_file.specs.TableReader.{ReadWhole, SoFar, found_so_far, schema_in}
 use Rattle.bw_file.specs.declared.table_reader.TableReader.{TableReader}
 use Rattle.bw_query.specs.declared.scan.Scan.{Scan}
-use Rattle.bw_report.specs.declared.served.Scanned.{Scanned}
+use Rattle.bw_query.specs.declared.served.Scanned.{Scanned}
 use Rattle.bw_query.specs.Scan.{loads_in, skips_in}
 
 -- so many segments were scanned, of these groups of rows, with the scan's loads and skips over each

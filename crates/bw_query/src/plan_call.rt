@@ -1,17 +1,18 @@
 //! Plans: program files that the planner writes.
 ghost use Rattle.std.specs.Prelude.{◌≡◌, ◌-◌, ◌^◌, ◌<◌, ℕ, List, Result, false, length, IfOk, IfErr, IsTrue};
-ghost use Rattle.bw_model.specs.declared.fault.code.TheConstants.{NO_PROGRAM};
+ghost use Rattle.bw_model.specs.FaultTable.{NO_PROGRAM};
 ghost use Rattle.bw_model.specs.declared.fault.Fault.{Fault};
 ghost use Rattle.bw_model.specs.Cond.{names_within};
 ghost use Rattle.bw_model.specs.Fault.{is_memory, nowhere};
 ghost use Rattle.bw_program.specs.Program.{ProgramShape, fits};
-ghost use Rattle.bw_cert_lines.specs.CertificateShape.{CertificateShape};
+ghost use Rattle.bw_cert_text.specs.CertificateFields.{certificate_fields};
+ghost use Rattle.bw_cert_text.specs.CertificateShape.{CertificateShape};
+ghost use Rattle.bw_cert_text.specs.Columns.{has_columns};
 ghost use Rattle.bw_cert.specs.Judged.{Certifies};
 ghost use Rattle.bw_device.specs.Sink.{LeavesSink, Wrote, none_aside};
 ghost use Rattle.bw_query.specs.Plan.{IsPlanned, IsPrinted};
 
 use bw_cert::certify;
-use bw_cert_text::print_certificate;
 use bw_device::{Sink, write_whole};
 use bw_model::{Cond, Fault, Place, Schema, code};
 use bw_plan::{Proposal, propose};
@@ -71,13 +72,14 @@ fn proposed_file(alloc: Global, schema: &Schema, cond: &Cond) -> Result<Vec<u8>,
 
 /// The text of a program, the line CERTIFICATE, and the text of a certificate.
 fn file_of(alloc: Global, schema: &Schema, proposal: &Proposal) -> Result<Vec<u8>, Fault>
-    requires { IsTrue (fits schema.now.columns.items proposal.now.program) }
+    requires program { IsTrue (fits schema.now.columns.items proposal.now.program) }
+    requires certificate { IsTrue (has_columns schema.now.columns.items (certificate_fields proposal.now.certificate)) }
     ensures printed { IfOk result (λ file. IsPrinted schema.now.columns.items file.items) }
     ensures only_memory { IfErr result (λ fault. IsTrue (is_memory fault)) }
 {
     let mut file = proposal.program.print(alloc, schema)?;
     file.extend_from_slice(b"CERTIFICATE\n")?;
-    file.extend_from_slice(&print_certificate(alloc, schema, &proposal.certificate)?)?;
+    file.extend_from_slice(&proposal.certificate.print(alloc, schema)?)?;
     Ok(file)
 }
 

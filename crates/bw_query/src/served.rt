@@ -3,7 +3,15 @@ ghost use Rattle.std.specs.Prelude.{◌≡◌};
 ghost use Rattle.bw_query.specs.Served.{report_of};
 
 use crate::scan::Scan;
-use bw_report::{By, Scanned, Served};
+use bw_report::{By, Served};
+
+/// How many segments were scanned, with how many loads of planes or bytes and how many skips that were taken.
+#[derive(Clone, Copy)]
+pub(crate) struct Scanned {
+    pub(crate) segments: u32,
+    pub(crate) loads: u64,
+    pub(crate) skips: u64,
+}
 
 /// What is reported of a scan.
 pub(crate) fn served_by(scan: &Scan, scanned: Scanned) -> Served
@@ -14,6 +22,8 @@ pub(crate) fn served_by(scan: &Scan, scanned: Scanned) -> Served
             Scan::Program(_) => By::Program,
             Scan::Rows => By::Rows,
         },
-        scanned,
+        segments: scanned.segments,
+        loads: scanned.loads,
+        skips: scanned.skips,
     }
 }

@@ -18,11 +18,11 @@ ghost use Rattle.bw_query.specs.Scan.{IsFor, loads_in, skips_in};
 ghost use Rattle.bw_query.specs.TableText.{TextOver, TookAll};
 
 use crate::scan::Scan;
+use crate::served::Scanned;
 use bw_answer::Answer;
 use bw_device::Source;
 use bw_file::{AnySegment, TableReader, bytes_were_taken};
 use bw_model::{Fault, Query};
-use bw_report::Scanned;
 use bw_run::Counts;
 use bw_segment::Segment;
 use std::alloc::Global;

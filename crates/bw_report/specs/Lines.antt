@@ -1,7 +1,6 @@
 -- What a refused call tells its caller.
-use Rattle.std.specs.Prelude.{◌≡◌, ◌==◌, ℕ, Bool, false, nat_lt, if◌then◌else◌, List, ◌++◌, codes, Option, Result}
+use Rattle.std.specs.Prelude.{ℕ, nat_lt, if◌then◌else◌, List, ◌++◌, codes, Option, Result}
 use Rattle.std.specs.Fmt.{decimal}
-use Rattle.std.specs.List.{list_any}
 use Rattle.bw_model.specs.declared.fault.Fault.{Fault}
 use Rattle.bw_report.specs.declared.accepted.Accepted.{Accepted}
 use Rattle.bw_device.specs.Sink.{GoesOut}
@@ -15,17 +14,9 @@ abbrev pub status_of : Fault → ℕ
 status_of fault =
     if nat_lt fault.code 600 then 3 else (if nat_lt fault.code 700 then 4 else (if nat_lt fault.code 800 then 5 else 6))
 
--- one line that begins with `bw: `: its only line feed, byte 10, is at its end
-abbrev pub has_line_feed : List ℕ → Bool
-has_line_feed text = list_any (λ c. c == 10) text
-
-abbrev pub IsLine : List ℕ → Type 0
-IsLine line = (words : List ℕ) × (has_line_feed words ≡ false) × (line ≡ codes "bw: " ++ (words ++ codes "\n"))
-
--- a line went out to a sink, or a part of it up to a failed write
-abbrev pub PrintsLine : Option (List ℕ) → Option (List ℕ) → ℕ → ℕ → Type 0
-PrintsLine old new before after =
-    (line : List ℕ) × IsLine line × ((outcome : Result (Unit {0}) Fault) × GoesOut old new before after line outcome)
+-- a text went out to a sink, whole, or up to a failed write
+abbrev pub IsWritten : Option (List ℕ) → Option (List ℕ) → ℕ → ℕ → List ℕ → Type 0
+IsWritten old new before after text = (outcome : Result (Unit {0}) Fault) × GoesOut old new before after text outcome
 
 -- who served a query
 abbrev pub by_text : By → List ℕ
@@ -40,9 +31,9 @@ with_count words count = words ++ decimal count
 abbrev pub stats_line : Served → List ℕ
 stats_line served =
     ((((codes "served " ++ by_text served.by)
-    ++ with_count (codes " segments ") served.scanned.segments)
-    ++ with_count (codes " loads ") served.scanned.loads)
-    ++ with_count (codes " skips ") served.scanned.skips)
+    ++ with_count (codes " segments ") served.segments)
+    ++ with_count (codes " loads ") served.loads)
+    ++ with_count (codes " skips ") served.skips)
     ++ codes "\n"
 
 -- The line that tells of an accepted program file, as `accepted: 4 instructions, 1 skips, 6 nodes, 9 chains, 17 rows`,

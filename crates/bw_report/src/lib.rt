@@ -10,4 +10,4 @@ mod served;
 
 pub use accepted::Accepted;
 pub use lines::{accepted_line, report, stats_line};
-pub use served::{By, Scanned, Served};
+pub use served::{By, Served};

@@ -1,13 +1,14 @@
 //! Lines that a call prints beside its result, put together without memory.
-ghost use Rattle.std.specs.Prelude.{◌≡◌, ◌+◌, ◌-◌, ◌^◌, ◌<◌, ◌≤◌, ◌++◌, false, length};
+ghost use Rattle.std.specs.Prelude.{◌≡◌, ◌+◌, ◌-◌, ◌^◌, ◌<◌, ◌≤◌, ◌++◌, length};
 ghost use Rattle.std.specs.Fmt.InlineText.{inline_text};
-ghost use Rattle.bw_report.specs.Lines.{status_of, has_line_feed, IsLine, PrintsLine, accepted_line, by_text, stats_line, with_count};
+ghost use Rattle.bw_model.specs.Fault.{fault_line, place_text};
+ghost use Rattle.bw_report.specs.Lines.{status_of, IsWritten, accepted_line, by_text, stats_line, with_count};
 ghost use Rattle.bw_device.specs.Sink.{GoesOut};
 
 use crate::accepted::Accepted;
 use crate::served::{By, Served};
 use bw_device::{Sink, write_whole};
-use bw_model::Fault;
+use bw_model::{Fault, Place, words_of};
 use itoa::Buffer;
 use std::fmt::InlineText;
 
@@ -16,9 +17,6 @@ const LINE: usize = 128;
 
 /// How many bytes the line of an accepted file has room for.
 const LONG_LINE: usize = 192;
-
-/// How many bytes of a line a fault may take: no fault is shown in as many.
-const WORDS: usize = 100;
 
 /// Gives the exit status of a fault: 3 for one of the schema, the CSV, the table file, the statement or the
 /// program text, 4 for one of the certificate, 5 for one of a device, 6 for out of memory.
@@ -35,34 +33,38 @@ fn status_of(fault: &Fault) -> u8
 
 /// Gives the line of a fault, as `bw: 404 unknown column at byte 7`, with its end.
 fn line_of(fault: &Fault) -> InlineText<LINE>
-    ensures { IsLine (inline_text result) }
+    ensures { inline_text result ≡ fault_line fault.now }
 {
-    let words = InlineText::<WORDS>::of(*fault);
-    InlineText::new()
-        .and_str("bw: ", 4)
-        .and_str(on_one_line(words.as_str()), WORDS)
-        .and_str("\n", 1)
+    let line = and_count(InlineText::new(), "bw: ", u64::from(fault.code));
+    let line = and_words(line, " ");
+    let line = and_words(line, words_of(fault.code));
+    let line = and_place(line, fault.place);
+    and_words(line, "\n")
 }
 
-/// A text that has no line feed as it is, and nothing of any other, of which no fault is shown.
-fn on_one_line(words: &str) -> &str
-    ensures feed { has_line_feed result.now ≡ false }
-    ensures shorter { length result.now ≤ length words.now }
+/// A line with a place more, as ` at byte 7`, which takes 31 bytes at most. That there is room for it is the caller's
+/// condition.
+fn and_place<const N: usize>(line: InlineText<N>, place: Place) -> InlineText<N>
+    requires { length (inline_text line) + 31 < N }
+    ensures text { inline_text result ≡ inline_text line.entry ++ place_text place }
+    ensures room { length (inline_text result) ≤ length (inline_text line.entry) + 31 }
 {
-    if words.as_bytes().contains(&b'\n') {
-        ""
-    } else {
-        words
+    match place {
+        Place::Nowhere => line,
+        Place::Byte(at) => and_count(line, " at byte ", at),
+        Place::Line(at) => and_count(line, " at line ", at),
+        Place::Rec(at) => and_count(line, " at record ", u64::from(at)),
     }
 }
 
-/// Writes the line of a fault, as `bw: 404 unknown column at byte 7`, and gives the exit status, which a
-/// failed write doesn't change. That the sink's count of failures can rise is the caller's condition.
+/// Writes the line of a fault, as `bw: 404 unknown column at byte 7`: its number, its words and its place, as the table
+/// of faults in `bw_model` has them. Gives the exit status, which a failed write doesn't change; the sink has then
+/// taken the beginning of the line. That the sink's count of failures can rise is the caller's condition.
 pub fn report<K: Sink>(fault: &Fault, sink: &mut K) -> u8
     requires { K.failures sink.old < 2 ^ 64 - 1 }
     ensures status { result ≡ status_of fault.now }
-    ensures line { PrintsLine (K.taken sink.old) (K.taken sink.new)
-        (K.failures sink.old) (K.failures sink.new) }
+    ensures line { IsWritten (K.taken sink.old) (K.taken sink.new) (K.failures sink.old) (K.failures sink.new)
+        (fault_line fault.now) }
 {
     let line = line_of(fault);
     let _ = write_whole(sink, line.as_str().as_bytes());
@@ -94,9 +96,9 @@ fn line_of_served(served: &Served) -> InlineText<LINE>
 {
     let line = and_words(InlineText::new(), "served ");
     let line = and_words(line, by_text(served.by));
-    let line = and_count(line, " segments ", u64::from(served.scanned.segments));
-    let line = and_count(line, " loads ", served.scanned.loads);
-    let line = and_count(line, " skips ", served.scanned.skips);
+    let line = and_count(line, " segments ", u64::from(served.segments));
+    let line = and_count(line, " loads ", served.loads);
+    let line = and_count(line, " skips ", served.skips);
     and_words(line, "\n")
 }
 

@@ -9,17 +9,12 @@ pub enum By {
     Rows,
 }
 
-/// How many segments were scanned, with how many loads of planes or bytes and how many skips that were taken.
-#[derive(Clone, Copy, Debug, PartialEq, Eq)]
-pub struct Scanned {
-    pub segments: u32,
-    pub loads: u64,
-    pub skips: u64,
-}
-
-/// How a query over a table file was served.
+/// How a query over a table file was served: by whom, over how many segments, with how many loads of planes or bytes
+/// and how many skips that were taken.
 #[derive(Clone, Copy, Debug, PartialEq, Eq)]
 pub struct Served {
     pub by: By,
-    pub scanned: Scanned,
+    pub segments: u32,
+    pub loads: u64,
+    pub skips: u64,
 }

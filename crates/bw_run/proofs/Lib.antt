@@ -1,3 +1,4 @@
 pub mod EndLemmas
 pub mod MachineLemmas
+pub mod RegisterLemmas
 pub mod RunLemmas

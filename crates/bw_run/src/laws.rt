@@ -1,10 +1,11 @@
-//! Laws: where a run of the segment machine goes.
-ghost use Rattle.std.specs.Prelude.{◌≡◌, ◌<◌, ◌≤◌, IsTrue, List, Some, length, slice_get};
+//! Laws of the segment machine: where a run goes, and what its registers hold at the places that it reaches.
+ghost use Rattle.std.specs.Prelude.{◌≡◌, ◌<◌, ◌≤◌, false, ℕ, IsTrue, List, Some, length, replicate, slice_get};
 ghost use Rattle.bw_model.specs.declared.column.Column.{Column};
 ghost use Rattle.bw_model.specs.Variable.{Assignment};
-ghost use Rattle.bw_program.specs.Machine.{State, end_state, step};
+ghost use Rattle.bw_program.specs.Machine.{FallsThrough, Reaches, SkipsTo, State, end_state, start, step};
 ghost use Rattle.bw_program.specs.Program.{ProgramShape, is_program};
 ghost use Rattle.bw_program.specs.declared.instr.Instr.{Instr};
+ghost use Rattle.bw_run.specs.Registers.{bits_written, written_by};
 
 /// A law: each instruction of a program raises the place, and no further than after the last instruction, and every
 /// run, over any lanes and whichever skips it takes, ends there.
@@ -17,4 +18,51 @@ pub fn runs_come_to_the_end()
     ensures ends { (columns : List Column) (lanes : List Assignment) (program : ProgramShape)
         → IsTrue (is_program program)
         → (end_state columns lanes program).place ≡ length program.instrs }
+{}
+
+/// A law: a run begins at place 0, and at this place every register is 0 in every lane.
+pub fn runs_begin_with_zeros()
+    ensures begins { (columns : List Column) (lanes : List Assignment) (program : ProgramShape)
+        → Reaches columns lanes program 0 (start lanes) }
+    ensures zeros { (columns : List Column) (lanes : List Assignment) (program : ProgramShape)
+        (state : State) (register : ℕ)
+        → IsTrue (is_program program) → Reaches columns lanes program 0 state
+        → state.registers register ≡ replicate (length lanes) false }
+{}
+
+/// A law: a run reaches the place that it falls through to. Of the instruction before this place, the register that it
+/// writes then holds the bits that it makes of what the registers held, and each other register holds what it held.
+pub fn instructions_write_their_registers()
+    ensures reached { (columns : List Column) (lanes : List Assignment) (program : ProgramShape)
+        (place : ℕ) (state : State)
+        → FallsThrough columns lanes program place state → Reaches columns lanes program place state }
+    ensures written { (columns : List Column) (lanes : List Assignment) (program : ProgramShape)
+        (place : ℕ) (state : State) (through : FallsThrough columns lanes program place state) (register : ℕ)
+        → written_by through.instr ≡ Some register
+        → state.registers register ≡ bits_written columns lanes through.instr through.before.registers }
+    ensures others { (columns : List Column) (lanes : List Assignment) (program : ProgramShape)
+        (place : ℕ) (state : State) (through : FallsThrough columns lanes program place state) (register : ℕ)
+        → ¬ (written_by through.instr ≡ Some register)
+        → state.registers register ≡ through.before.registers register }
+{}
+
+/// A law: a run reaches the place that it skips to. There each register holds what it held at the skip, and the one
+/// that the skip looks at is 0 in every lane.
+pub fn skips_leave_registers()
+    ensures reached { (columns : List Column) (lanes : List Assignment) (program : ProgramShape)
+        (place : ℕ) (state : State)
+        → SkipsTo columns lanes program place state → Reaches columns lanes program place state }
+    ensures same { (columns : List Column) (lanes : List Assignment) (program : ProgramShape)
+        (place : ℕ) (state : State) (skipped : SkipsTo columns lanes program place state) (register : ℕ)
+        → state.registers register ≡ skipped.before.registers register }
+    ensures zero { (columns : List Column) (lanes : List Assignment) (program : ProgramShape)
+        (place : ℕ) (state : State) (skipped : SkipsTo columns lanes program place state)
+        → state.registers skipped.register ≡ replicate (length lanes) false }
+{}
+
+/// A law: at each place that a run reaches, every register holds a bit for each of the run's lanes.
+pub fn registers_hold_all_lanes()
+    ensures { (columns : List Column) (lanes : List Assignment) (program : ProgramShape)
+        (place : ℕ) (state : State) (register : ℕ)
+        → Reaches columns lanes program place state → length (state.registers register) ≡ length lanes }
 {}

@@ -11,5 +11,8 @@ mod machine;
 mod planes;
 mod run;
 
-pub use laws::runs_come_to_the_end;
+pub use laws::{
+    instructions_write_their_registers, registers_hold_all_lanes, runs_begin_with_zeros,
+    runs_come_to_the_end, skips_leave_registers,
+};
 pub use run::{Counts, run_segment};

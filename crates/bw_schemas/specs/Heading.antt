@@ -1,7 +1,7 @@
 -- The names of the columns that a heading makes.
 use Rattle.std.specs.Prelude.{ℕ, List, [], ◌∷◌, ◌++◌, map, not, length, nat_le, Result, Ok}
 use Rattle.std.specs.List.{list_any}
-use Rattle.bw_model.specs.declared.fault.code.TheConstants.{SCHEMA_NAME, NAME_TWICE, COLUMN_COUNT}
+use Rattle.bw_model.specs.FaultTable.{SCHEMA_NAME, NAME_TWICE, COLUMN_COUNT}
 use Rattle.bw_model.specs.declared.fault.Fault.{Fault}
 use Rattle.bw_model.specs.Fault.{at_record, ◌>>=◌, refused_if}
 use Rattle.bw_model.specs.Limits.{most_columns}

@@ -1,7 +1,7 @@
 -- What a call that infers a schema is to write, by what came of the CSV's source.
 use Rattle.std.specs.Prelude.{◌≡◌, ◌||◌, ◌&&◌, Bool, ℕ, List, length, nat_le, not, Option, Result, Ok}
 use Rattle.std.specs.Io.KnownBytes.{Appends}
-use Rattle.bw_model.specs.declared.fault.code.TheConstants.{SCHEMA_NAME, COLUMN_COUNT}
+use Rattle.bw_model.specs.FaultTable.{SCHEMA_NAME, COLUMN_COUNT}
 use Rattle.bw_model.specs.declared.fault.Fault.{Fault}
 use Rattle.bw_model.specs.declared.schema.Schema.{Schema}
 use Rattle.bw_model.specs.Fault.{nowhere, ◌>>=◌, refused_if}

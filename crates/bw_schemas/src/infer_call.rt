@@ -42,10 +42,12 @@ pub fn infer<C: Source, K: Sink>(
         × Wrote is_aside (K.taken sink.old) (K.taken sink.new)
         (K.failures sink.old) (K.failures sink.new) given result }
 
-    // Where the bytes to come are known: the text that went out spells a schema under which they have their rows
-    // without a fault, and no column of it could be narrower.
-    ensures exact { (csv : List ℕ) → C.to_come csv_source.old ≡ Some csv
-        → OnOk result (InfersExactly csv (K.taken sink.old) (K.taken sink.new)) }
+    // The text that went out spells a schema under which the CSV text that came has its rows without a fault, and no
+    // column of it could be narrower.
+    ensures exact { OnOk result ((csv : List ℕ)
+        × Came longest_csv (C.to_come csv_source.old) (C.to_come csv_source.new)
+        (C.failures csv_source.old) (C.failures csv_source.new) (Ok (Some csv))
+        × InfersExactly csv (K.taken sink.old) (K.taken sink.new)) }
 
     // Where the reader has an error of its own, the CSV came whole, and its place is the heading, or the record after
     // those whose rows are good.

@@ -1,6 +1,6 @@
 //! The header of a table file, written as text.
 ghost use Rattle.std.specs.Prelude.{◌≡◌, ◌-◌, ◌^◌, ◌<◌, ℕ, List, Result, Some, length, IfErr, IsTrue, OnOk};
-ghost use Rattle.bw_model.specs.declared.fault.code.TheConstants.{READ_FAILED};
+ghost use Rattle.bw_model.specs.FaultTable.{READ_FAILED};
 ghost use Rattle.bw_model.specs.declared.fault.Fault.{Fault};
 ghost use Rattle.bw_model.specs.declared.schema.Schema.{Schema};
 ghost use Rattle.bw_model.specs.Fault.{nowhere};

@@ -1,7 +1,7 @@
 -- The first fault of a column's block, by its number: 308, a bit of a padding row is 1; 307, a row that is null has a
 -- code that isn't 0; 306, a code is above the column's greatest.
 use Rattle.std.specs.Prelude.{◌≡◌, ℕ, zero, suc, ◌+◌, ◌-◌, ◌<◌, ◌≤◌, Bool, true, false, not, ◌&&◌, ◌||◌, ◌==◌, nat_lt, List, length, slice_index, slice_index_or, Option, Some, None, if◌then◌else◌}
-use Rattle.bw_model.specs.declared.fault.code.TheConstants.{CODE_TOO_LARGE, NULL_WITH_CODE, PADDING}
+use Rattle.bw_model.specs.FaultTable.{CODE_TOO_LARGE, NULL_WITH_CODE, PADDING}
 use Rattle.bw_model.specs.declared.column.Column.{Column}
 use Rattle.bw_model.specs.Code.{span_at}
 use Rattle.bw_model.specs.Groups.{group_size}

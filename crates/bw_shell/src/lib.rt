@@ -1,14 +1,21 @@
-//! The calls of `bw` over a CSV text, from end to end over sources and sinks of bytes: [`direct`] and [`load`].
+//! The calls of `bw`, from end to end over sources and sinks of bytes, each offered here by the crate that has it:
 //!
-//! The other calls are those of `bw_query`, `bw_cert` and `bw_schemas`; a law of `bw_laws` joins what is loaded with
-//! what is answered. A fault that names a device is answered only where that device has counted a failure.
+//! - over a CSV text: [`load`], [`direct`]
+//! - over a table file: [`answer`], [`dump`]
+//! - over the texts of a schema, a statement and a program file: [`check_text`], [`plan_text`]
+//! - which write a schema text: [`infer`], [`info`]
 //!
-//! Read `specs/Direct.antt` first, and then `direct_call.rt`. Sources and sinks are those of `bw_device`.
+//! Beside them is what goes with all of these: an input that is read whole, up to a limit ([`read_limited`]), the parts
+//! of a program file ([`split_file`]), and the lines of a fault, of how a query was served and of an accepted program
+//! file ([`report`], [`stats_line`], [`accepted_line`]).
+//!
+//! The contract that a program uses is that of each call. Nothing is written by a refused call, a failed write apart,
+//! and a fault that names a device is answered only where that device has counted a failure.
 #![tactic(auto)]
 
-mod direct_call;
-mod inputs;
-mod load_call;
-
-pub use direct_call::direct;
-pub use load_call::load;
+pub use bw_cert::{MAX_PROGRAM_FILE_LEN, ProgramFile, check_text, split_file};
+pub use bw_csv_calls::{direct, load};
+pub use bw_device::{Input, read_limited};
+pub use bw_query::{answer, dump, plan_text};
+pub use bw_report::{Accepted, By, Served, accepted_line, report, stats_line};
+pub use bw_schemas::{infer, info};

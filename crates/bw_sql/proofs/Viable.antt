@@ -10,7 +10,7 @@ use Rattle.bw_model.specs.declared.column.Column.{Column}
 use Rattle.bw_model.specs.declared.cond.Operand.{Operand}
 use Rattle.bw_model.specs.declared.cond.Operand.TheVariants.{Null}
 use Rattle.bw_model.specs.declared.cond.Truth.{Truth}
-use Rattle.bw_model.specs.declared.cond.Truth.TheVariants.{True}
+use Rattle.bw_model.specs.declared.cond.Truth.TheVariants.{Yes}
 use Rattle.bw_text.specs.declared.keyword.Keyword.{Keyword}
 use Rattle.bw_text.specs.declared.keyword.Keyword.TheVariants as word
 use Rattle.bw_model.specs.declared.query.Item.{Item}
@@ -317,8 +317,8 @@ module _ (schema : Schema) (met : Demand → Bool) (weaker : (d : Demand) → is
   complete (APrimary depth) rest =
       (Reserved word.Null ∷ Reserved word.Is ∷ Reserved word.Null ∷ rest, (IsNull Null, predicate (compared null is_null)))
   complete TestTail rest = (rest, λ c. (c, untested))
-  complete TruthTail rest = (Reserved word.True ∷ rest, λ c. (Test c True, is true_word))
-  complete NotTruthTail rest = (Reserved word.True ∷ rest, λ c. (Not (Test c True), is_not true_word))
+  complete TruthTail rest = (Reserved word.True ∷ rest, λ c. (Test c Yes, is true_word))
+  complete NotTruthTail rest = (Reserved word.True ∷ rest, λ c. (Not (Test c Yes), is_not true_word))
   complete (PartTail by depth) rest = (rest, ([], last_part))
   complete ItemList rest = (Punct mark.Star ∷ rest, (every_column columns, star))
   complete (CommaTail (Some first)) rest = (rest, ([], no_more))

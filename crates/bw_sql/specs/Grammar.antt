@@ -7,7 +7,7 @@ use Rattle.bw_model.specs.declared.cond.Operand.{Operand}
 use Rattle.bw_model.specs.declared.cond.Operand.TheVariants.{Col, Lit, Null}
 use Rattle.bw_model.specs.declared.cond.Op.{Op}
 use Rattle.bw_model.specs.declared.cond.Truth.{Truth}
-use Rattle.bw_model.specs.declared.cond.Truth.TheVariants.{False, Unknown, True}
+use Rattle.bw_model.specs.declared.cond.Truth.TheVariants.{No, Unknown, Yes}
 use Rattle.bw_text.specs.declared.keyword.Keyword.TheVariants as word
 use Rattle.bw_model.specs.declared.query.Item.{Item}
 use Rattle.bw_model.specs.declared.query.Item.TheVariants.{Plain, CountAll}
@@ -24,8 +24,8 @@ use Rattle.bw_sql.specs.Token.{Lexeme, Name, Digits, Reserved, Compare, Punct}
 
 -- a truth value
 pub data TruthIs : List Lexeme → List Lexeme → Truth → Type 0 where
-  true_word : {rest : List Lexeme} → TruthIs (Reserved word.True ∷ rest) rest True
-  false_word : {rest : List Lexeme} → TruthIs (Reserved word.False ∷ rest) rest False
+  true_word : {rest : List Lexeme} → TruthIs (Reserved word.True ∷ rest) rest Yes
+  false_word : {rest : List Lexeme} → TruthIs (Reserved word.False ∷ rest) rest No
   unknown_word : {rest : List Lexeme} → TruthIs (Reserved word.Unknown ∷ rest) rest Unknown
 
 -- one part alone is that part, and several are joined

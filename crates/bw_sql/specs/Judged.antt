@@ -1,6 +1,6 @@
 -- What a text is read as by the reading functions, or the fault at which they stop.
 use Rattle.std.specs.Prelude.{◌≡◌, ℕ, ◌-◌, List, length, Option, Some, None, Result, Ok, Err, false, slice_get}
-use Rattle.bw_model.specs.declared.fault.code.TheConstants.{CHARACTER}
+use Rattle.bw_model.specs.FaultTable.{CHARACTER}
 use Rattle.bw_model.specs.declared.fault.Fault.{Fault}
 use Rattle.bw_model.specs.declared.query.Query.{Query}
 use Rattle.bw_model.specs.declared.schema.Schema.{Schema}

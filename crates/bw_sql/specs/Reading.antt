@@ -6,7 +6,7 @@ use Rattle.bw_model.specs.declared.cond.Op.{Op}
 use Rattle.bw_model.specs.declared.cond.Operand.{Operand}
 use Rattle.bw_model.specs.declared.cond.Operand.TheVariants.{Col, Lit, Null}
 use Rattle.bw_model.specs.declared.cond.Truth.{Truth}
-use Rattle.bw_model.specs.declared.cond.Truth.TheVariants.{False, Unknown, True}
+use Rattle.bw_model.specs.declared.cond.Truth.TheVariants.{No, Unknown, Yes}
 use Rattle.bw_text.specs.declared.keyword.Keyword.{Keyword}
 use Rattle.bw_text.specs.declared.keyword.Keyword.TheVariants as word
 use Rattle.bw_model.specs.declared.query.Item.{Item}
@@ -254,8 +254,8 @@ predicate_at schema tokens = do
 
 -- a truth value, and a test for it after IS
 abbrev pub after_true : Option (List Lexeme) → Option (List Lexeme) → Option (List Lexeme) → List Lexeme → Read Truth
-after_true (Some rest) second third tokens = Ok (True, rest)
-after_true None (Some rest) third tokens = Ok (False, rest)
+after_true (Some rest) second third tokens = Ok (Yes, rest)
+after_true None (Some rest) third tokens = Ok (No, rest)
 after_true None None (Some rest) tokens = Ok (Unknown, rest)
 after_true None None None tokens = refuse Syntax tokens
 

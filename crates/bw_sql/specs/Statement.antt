@@ -1,6 +1,6 @@
 -- What a text says: the query that it spells, or its fault.
 use Rattle.std.specs.Prelude.{◌≡◌, ℕ, ◌<◌, ◌≤◌, ◌⊎◌, List, map, length, Option, Some, None, Result, Ok, Err, false, slice_get}
-use Rattle.bw_model.specs.declared.fault.code.TheConstants.{CHARACTER, STATEMENT_TOO_LONG}
+use Rattle.bw_model.specs.FaultTable.{CHARACTER, STATEMENT_TOO_LONG}
 use Rattle.bw_model.specs.declared.fault.Fault.{Fault}
 use Rattle.bw_model.specs.declared.query.Query.{Query}
 use Rattle.bw_model.specs.declared.schema.Schema.{Schema}

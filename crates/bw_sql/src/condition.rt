@@ -217,10 +217,10 @@ fn truth_value<'t>(tokens: &'t [Placed<'t>]) -> Read<'t, Truth>
     ensures shorter { IfOk result (λ read. length read.1.now < length tokens.now) }
 {
     if let Some(rest) = after_keyword(Keyword::True, tokens) {
-        return Ok((Truth::True, rest));
+        return Ok((Truth::Yes, rest));
     }
     if let Some(rest) = after_keyword(Keyword::False, tokens) {
-        return Ok((Truth::False, rest));
+        return Ok((Truth::No, rest));
     }
     if let Some(rest) = after_keyword(Keyword::Unknown, tokens) {
         return Ok((Truth::Unknown, rest));

@@ -19,10 +19,11 @@
 
 ghost use Rattle.std.specs.Prelude.{List, ℕ, Option, ◌≡◌, ◌<◌, ◌≤◌, length, IfOk, IfErr, IsTrue, vec_len};
 ghost use Rattle.std.specs.List.{list_all};
-ghost use Rattle.bw_model.specs.declared.fault.code.TheConstants.{STATEMENT_TOO_LONG};
+ghost use Rattle.bw_model.specs.FaultTable.{STATEMENT_TOO_LONG};
 ghost use Rattle.bw_model.specs.Fault.{at_byte, is_memory};
 ghost use Rattle.bw_model.specs.Cond.{names_within, is_whole};
 ghost use Rattle.bw_model.specs.SchemaText.{schema_shape};
+ghost use Rattle.bw_model.specs.Standing.{StandsAsListed};
 ghost use Rattle.bw_model.specs.Total.{item_within};
 ghost use Rattle.bw_sql.specs.Asked.{Asked};
 ghost use Rattle.bw_sql.specs.Cut.{IsCut, Spot, spots};
@@ -147,6 +148,13 @@ pub fn one_fault()
         → IsFault schema text fault → IsFault schema text other → fault ≡ other }
     ensures none_spelled { (schema : Schema) (text : List ℕ) (query : Asked) (fault : Fault)
         → Spells schema text query → IsFault schema text fault → ⊥ }
+{}
+
+/// A text's fault stands as the table of faults lists it: at a byte.
+#[tactic(auto, using(crate::proofs::StandingLemmas::fault_listed))]
+pub fn faults_stand_as_listed()
+    ensures { (schema : Schema) (text : List ℕ) (fault : Fault)
+        → IsFault schema text fault → StandsAsListed fault }
 {}
 
 /// Every text spells a query or has a fault.

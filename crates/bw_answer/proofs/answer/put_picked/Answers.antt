@@ -8,8 +8,8 @@ use Rattle.bw_model.specs.Groups.{group_size}
 use Rattle.bw_model.specs.Row.{Value}
 use Rattle.bw_model.specs.Selection.{kept, picked}
 use Rattle.bw_model.specs.Total.{is_aggregate}
-use Rattle.bw_rows.specs.Accumulator.{Tally, tally_of}
-use Rattle.bw_rows.specs.Picked.{with_picked}
+use Rattle.bw_rowwise.specs.Accumulator.{Tally, tally_of}
+use Rattle.bw_aggregate.specs.Picked.{with_picked}
 use Rattle.bw_answer.specs.Answer.{csv_text, field_of}
 use Rattle.bw_answer.specs.AreOver.{text_over}
 use Rattle.bw_answer.specs.Columns.{fields_of}

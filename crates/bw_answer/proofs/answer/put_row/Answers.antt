@@ -2,7 +2,7 @@
 use Rattle.std.proofs.Common.{◌∙◌, ◌++◌, ◌∷◌, sym, ap, refl, List, [], map, filter, length, arith}
 use Rattle.bw_model.specs.Row.{Value, values_of}
 use Rattle.bw_model.specs.Total.{is_aggregate}
-use Rattle.bw_rows.specs.Accumulator.{tally_of}
+use Rattle.bw_rowwise.specs.Accumulator.{tally_of}
 use Rattle.bw_answer.specs.Answer.{record_text}
 use Rattle.bw_answer.specs.Columns.{fields_of}
 use Rattle.bw_answer.proofs.AnswerLemmas.{text_over_more, text_over_same}

@@ -2,8 +2,8 @@
 use Rattle.std.proofs.Common.{ap, get_or}
 use Rattle.std.proofs.lemmas.List.Edits.{map_over_more}
 use Rattle.bw_lanes.specs.Lanes.{lanes_of_words}
-use Rattle.bw_rows.specs.Accumulator.{Tally}
-use Rattle.bw_rows.specs.Picked.{picked_rows, with_picked}
+use Rattle.bw_rowwise.specs.Accumulator.{Tally}
+use Rattle.bw_aggregate.specs.Picked.{picked_rows, with_picked}
 use Rattle.bw_answer.proofs.picked.total_picked.Goals as goal
 
 pub loop-total-preserved : goal.loop-total-preserved

@@ -1,7 +1,7 @@
 use Rattle.std.proofs.Common.{◌≡◌, ◌++◌, map, take, drop}
 use Rattle.bw_lanes.specs.Lanes.{lanes_of_words}
-use Rattle.bw_rows.specs.Accumulator.{Tally}
-use Rattle.bw_rows.specs.Picked.{picked_rows, with_picked}
+use Rattle.bw_rowwise.specs.Accumulator.{Tally}
+use Rattle.bw_aggregate.specs.Picked.{picked_rows, with_picked}
 use Rattle.bw_answer.proofs.picked.total_picked.Given as goal
 
 -- the totals so far have the picked rows

@@ -1,7 +1,7 @@
 -- The total at hand is as it was; then it counts the rows.
 use Rattle.std.proofs.Common.{◌≡◌, ◌∙◌, List, ap, get_or, arith}
 use Rattle.std.proofs.lemmas.List.Edits.{map_over_more}
-use Rattle.bw_rows.specs.Accumulator.{Tally, counted}
+use Rattle.bw_rowwise.specs.Accumulator.{Tally, counted}
 use Rattle.bw_answer.proofs.TotalsLemmas.{all_added, untouched}
 use Rattle.bw_answer.proofs.totals.add_count.Goals as goal
 

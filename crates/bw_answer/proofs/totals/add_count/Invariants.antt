@@ -1,5 +1,5 @@
 use Rattle.std.proofs.Common.{◌≡◌, ◌++◌, map, take, drop}
-use Rattle.bw_rows.specs.Accumulator.{Tally, counted}
+use Rattle.bw_rowwise.specs.Accumulator.{Tally, counted}
 use Rattle.bw_answer.proofs.totals.add_count.Given as goal
 
 -- the totals so far count the rows

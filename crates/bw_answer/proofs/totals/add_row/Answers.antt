@@ -2,7 +2,7 @@
 use Rattle.std.proofs.Common.{◌∙◌, ap, get_or, sym, below_more, ℕ, length, arith}
 use Rattle.std.proofs.lemmas.List.Edits.{map_over_more}
 use Rattle.bw_model.specs.Row.{values_of}
-use Rattle.bw_rows.specs.Accumulator.{Tally, tally_with}
+use Rattle.bw_rowwise.specs.Accumulator.{Tally, tally_with}
 use Rattle.bw_answer.proofs.TotalsLemmas.{AddsRow, adds_at, all_added, is_of-with, room_at, rows_added}
 use Rattle.bw_answer.proofs.totals.add_row.Goals as goal
 

@@ -1,6 +1,6 @@
 use Rattle.std.proofs.Common.{◌≡◌, ◌<◌, ◌++◌, ℕ, get_or, map, take, drop}
 use Rattle.bw_model.specs.Row.{values_of}
-use Rattle.bw_rows.specs.Accumulator.{Tally, tally_with}
+use Rattle.bw_rowwise.specs.Accumulator.{Tally, tally_with}
 use Rattle.bw_answer.proofs.TotalsLemmas.{AddsRow}
 use Rattle.bw_answer.proofs.totals.add_row.Given as goal
 

@@ -2,7 +2,7 @@
 use Rattle.std.proofs.Common.{◌≡◌, List, map, take, subst, arith}
 use Rattle.std.proofs.lemmas.List.{take_all}
 use Rattle.std.proofs.lemmas.Result.{on_ok_weaker}
-use Rattle.bw_rows.specs.Accumulator.{Tally}
+use Rattle.bw_rowwise.specs.Accumulator.{Tally}
 use Rattle.bw_answer.specs.Answer.{value_text}
 use Rattle.bw_answer.specs.Draft.{Holds}
 use Rattle.bw_answer.proofs.PlainFields.{begun_map}

@@ -1,5 +1,5 @@
 use Rattle.std.proofs.Common.{ℕ, List, [], map, take}
-use Rattle.bw_rows.specs.Accumulator.{Tally}
+use Rattle.bw_rowwise.specs.Accumulator.{Tally}
 use Rattle.bw_answer.specs.Answer.{value_text}
 use Rattle.bw_answer.specs.Draft.{Holds}
 use Rattle.bw_answer.proofs.totals.push_totals.Given as goal

@@ -1,6 +1,6 @@
 use Rattle.std.proofs.Common.{◌≡◌, [], map, filter, take}
 use Rattle.bw_model.specs.Total.{is_aggregate}
-use Rattle.bw_rows.specs.Accumulator.{tally_of}
+use Rattle.bw_rowwise.specs.Accumulator.{tally_of}
 use Rattle.bw_answer.proofs.totals.totals_of.Given as goal
 
 -- the aggregates so far

@@ -4,9 +4,9 @@ use Rattle.bw_model.specs.declared.cond.Cond.{Cond}
 use Rattle.bw_model.specs.declared.fault.Fault.{Fault}
 use Rattle.bw_model.specs.Fault.{◌>>=◌}
 use Rattle.bw_diagram.specs.Facts.{Facts}
-use Rattle.bw_cert_lines.specs.declared.lines.BodyLine.{BodyLine}
-use Rattle.bw_cert_lines.specs.declared.lines.EndLine.{EndLine}
-use Rattle.bw_cert_lines.specs.CertificateFields.{CertificateFields}
+use Rattle.bw_cert_text.specs.declared.lines.BodyLine.{BodyLine}
+use Rattle.bw_cert_text.specs.declared.lines.EndLine.{EndLine}
+use Rattle.bw_cert_text.specs.CertificateFields.{CertificateFields}
 use Rattle.bw_cert_parts.specs.Pair.{pair_of}
 use Rattle.bw_cert_parts.specs.Walk.{judged}
 use Rattle.bw_cert.specs.Stated.{facts_stated}

@@ -1,7 +1,7 @@
 -- Where a certificate is valid, the program fits, and selects what the condition does.
 use Rattle.std.proofs.Common.{◌≡◌, ◌∙◌, refl, sym, ap, subst, true, List, length}
 use Rattle.bw_model.specs.declared.column.Column.{Column}
-use Rattle.bw_model.specs.declared.cond.Truth.TheVariants.{True}
+use Rattle.bw_model.specs.declared.cond.Truth.TheVariants.{Yes}
 use Rattle.bw_model.specs.Cond.{truth_of}
 use Rattle.bw_model.specs.Truth.{is_truth}
 use Rattle.bw_model.specs.Variable.{row_of}
@@ -44,5 +44,5 @@ returns-clause-selects c = λ columns cond program certificate named sound valid
     let tells = c.pairs_tell_truths.ensures columns valid.facts certificate.end.line cond certificate.body valid.rest valid.pair right are_true named valid.paired in
     ap (λ (columns : List Column). (end_state columns lanes program).registers program.result) (sym right)
     ∙ holds program.result valid.node valid.known
-    ∙ map_same (λ assignment. node_value valid.facts.nodes assignment valid.node) (λ assignment. is_truth (truth_of (row_of columns assignment) cond) True) lanes
+    ∙ map_same (λ assignment. node_value valid.facts.nodes assignment valid.node) (λ assignment. is_truth (truth_of (row_of columns assignment) cond) Yes) lanes
     (λ assignment. same_worth valid.facts valid.node valid.pair.yes certificate.end.row worth valid.ended assignment ∙ tells.yes assignment)

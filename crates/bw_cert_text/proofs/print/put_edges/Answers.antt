@@ -1,14 +1,21 @@
--- Each line that is written goes over from what is left.
-use Rattle.std.proofs.Common.{arith}
-use Rattle.bw_cert_text.proofs.PrintLemmas.{edges-next, edges-end}
+-- Each line that is written goes over from what is left, and its numbers are below 2^64.
+use Rattle.std.proofs.Common.{◌∙◌, sym, arith}
+use Rattle.bw_cert_text.proofs.PrintLemmas.{edges-next, edges-end, fit-next, fit-all, is_small_edge, edges_fit}
 use Rattle.bw_text.proofs.PieceLemmas.{written, all_written}
 use Rattle.bw_cert_text.proofs.print.put_edges.Goals as goal
 
 pub loop-edge-preserved : goal.loop-edge-preserved
 loop-edge-preserved c =
-    written c.loop-edge.text.items _ _ _ _ c.push_spaced.new.text.items c.in_ok-push_spaced.ensures
-    (edges-next c.args.edges.now c.loop-edge.edge-index _ (omega (arith, c.loop-edge-test.true))) c.loop-edge.invariant
+    record {
+      text = written c.loop-edge.text.items _ _ _ _ c.put_edge.new.text.items c.in_ok-put_edge.ensures.text
+          (edges-next c.args.edges.now c.loop-edge.edge-index _ (omega (arith, c.loop-edge-test.true))) c.loop-edge.invariant.text;
+      fit = fit-next is_small_edge c.args.edges.now c.loop-edge.edge-index _ (omega (arith, c.loop-edge-test.true)) c.loop-edge.invariant.fit c.put_edge.ensures.fit;
+    }
 
-pub returns : goal.returns
-returns c =
-    all_written c.loop-edge.text.items _ _ (edges-end c.args.edges.now c.loop-edge.edge-index (omega (arith, c.loop-edge-test.false))) c.loop-edge.invariant
+pub returns-clause-text : goal.returns-clause-text
+returns-clause-text c =
+    all_written c.loop-edge.text.items _ _ (edges-end c.args.edges.now c.loop-edge.edge-index (omega (arith, c.loop-edge-test.false))) c.loop-edge.invariant.text
+
+pub returns-clause-fit : goal.returns-clause-fit
+returns-clause-fit c =
+    sym (edges_fit c.args.edges.now) ∙ fit-all is_small_edge c.args.edges.now c.loop-edge.edge-index (omega (arith, c.loop-edge-test.false)) c.loop-edge.invariant.fit

@@ -1,11 +1,11 @@
 -- The file is what was printed.
 use Rattle.std.proofs.Common.{refl}
-use Rattle.bw_cert_lines.specs.CertificateFields.{certificate_fields}
+use Rattle.bw_cert_text.specs.CertificateFields.{certificate_fields}
 use Rattle.bw_query.proofs.plan_call.file_of.Goals as goal
 
 pub returns-clause-printed : goal.returns-clause-printed
 returns-clause-printed g = record {
   shown = g.args.proposal.now.program;
   stated = certificate_fields g.args.proposal.now.certificate;
-  is = rw (g.in_ok-extend_from_slice-2.ensures.items, g.in_ok-extend_from_slice.ensures.items, g.in_ok-file.ensures.text, g.deref.ensures.value, g.in_ok-print_certificate.ensures.text) refl;
+  is = rw (g.in_ok-extend_from_slice-2.ensures.items, g.in_ok-extend_from_slice.ensures.items, g.in_ok-file.ensures.text, g.deref.ensures.value, g.in_ok-print.ensures.text) refl;
 }

@@ -4,7 +4,7 @@ use Rattle.std.specs.List.{list_all}
 use Rattle.std.proofs.lemmas.List.{with_items_is}
 use Rattle.bw_model.specs.Selection.{kept}
 use Rattle.bw_model.specs.Total.{is_aggregate}
-use Rattle.bw_rows.specs.Accumulator.{Tally, counted, tally_of}
+use Rattle.bw_rowwise.specs.Accumulator.{Tally, counted, tally_of}
 use Rattle.bw_answer.specs.Answer.{is_count_all}
 use Rattle.bw_answer.specs.Totals.{is_of}
 use Rattle.bw_answer.proofs.AnswerLemmas.{text_over_same}

@@ -1,7 +1,7 @@
 -- The segment's rows, after those that the answer had taken.
 use Rattle.std.proofs.Common.{◌≡◌, ◌∙◌, List, ◌++◌, length, subst, sym, append_assoc}
 use Rattle.std.proofs.lemmas.List.{with_items_is}
-use Rattle.bw_rows.specs.Accumulator.{Tally}
+use Rattle.bw_rowwise.specs.Accumulator.{Tally}
 use Rattle.bw_answer.specs.AreOver.{AreOver}
 use Rattle.bw_answer.proofs.answer.Answer.take_picked.Goals as goal
 

@@ -2,7 +2,7 @@
 use Rattle.std.proofs.Common.{◌≡◌, ◌∙◌, List, [], ◌∷◌, ◌++◌, length, subst, sym, append_assoc}
 use Rattle.std.proofs.lemmas.List.{with_items_is}
 use Rattle.bw_model.specs.Row.{values_of}
-use Rattle.bw_rows.specs.Accumulator.{Tally}
+use Rattle.bw_rowwise.specs.Accumulator.{Tally}
 use Rattle.bw_answer.specs.AreOver.{AreOver}
 use Rattle.bw_answer.proofs.TotalsLemmas.{has_room-from}
 use Rattle.bw_answer.proofs.answer.Answer.take_row.Goals as goal

@@ -1,0 +1,3 @@
+pub mod ColumnLemmas
+pub mod PickedLemmas
+pub mod ValueLemmas

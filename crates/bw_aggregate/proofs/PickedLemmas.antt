@@ -1,0 +1,49 @@
+-- Lanes of which none is 1 past the first rows.
+use Rattle.std.proofs.Common.{◌≡◌, refl, ℕ, zero, suc, ◌≤◌, Bool, true, false, ◌&&◌, List, [], ◌∷◌, ◌++◌, replicate, get_or, length, append-nil, arith, ℤ, Option}
+use lib.Lanes.{zip2}
+use Rattle.std.proofs.lemmas.Int.{ints}
+use Rattle.bw_model.specs.Row.{Value}
+use Rattle.bw_model.specs.Selection.{picked}
+use Rattle.bw_model.specs.Total.{total}
+use Rattle.bw_rowwise.specs.Accumulator.{IsTotalOfRows, Tally, tally_joined}
+use Rattle.bw_aggregate.specs.Picked.{with_picked}
+
+-- no lane past the first rows is 1 among those of the first rows, and none where others have none
+pub first_within : (rows more row : ℕ) → rows ≤ row → get_or (replicate rows true ++ replicate more false) row false ≡ false
+first_within zero zero row le = refl
+first_within zero (suc more) zero le = refl
+first_within zero (suc more) (suc row) le = first_within zero more row (omega arith)
+first_within (suc rows) more zero le = absurd (omega arith)
+first_within (suc rows) more (suc row) le = first_within rows more row (omega arith)
+
+pub both_within : (lanes others : List Bool) (row : ℕ) → get_or others row false ≡ false → get_or (zip2 (λ a b. a && b) lanes others) row false ≡ false
+both_within [] others row within = refl
+both_within (lane ∷ lanes) [] row within = refl
+both_within (true ∷ lanes) (other ∷ others) zero within = within
+both_within (false ∷ lanes) (other ∷ others) zero within = refl
+both_within (lane ∷ lanes) (other ∷ others) (suc row) within = both_within lanes others row within
+
+-- no more are picked than there are
+pub few_picked : {A : Type 0} (lanes : List Bool) (items : List A) → length (picked lanes items) ≤ length items
+few_picked [] items = omega arith
+few_picked (lane ∷ lanes) [] = omega arith
+few_picked (true ∷ lanes) (item ∷ items) = let rest = few_picked lanes items in omega (arith, rest)
+few_picked (false ∷ lanes) (item ∷ items) = let rest = few_picked lanes items in omega (arith, rest)
+
+pub none_picked : (rows more : List (List Value)) → length more ≡ 0 → rows ++ more ≡ rows
+none_picked rows [] e = append-nil rows
+none_picked rows (row ∷ more) e = absurd (omega (arith, e))
+
+-- what is small for one row is so for more
+pub small_for_more : (count : ℕ) (others : Option ℤ) → 1 ≤ count → IsTotalOfRows 1 others → IsTotalOfRows count others
+small_for_more count others some small x is = let s = small x is in (omega (arith, ints, some), omega (arith, ints, some))
+
+-- a tally with what was picked
+pub joined_picked : (tally : Tally) (rows : List (List Value)) (number : ℕ) (others : Option ℤ) → number ≡ length rows → 1 ≤ number → others ≡ total tally.item rows
+    → tally_joined tally number others ≡ with_picked tally rows
+joined_picked tally [] number others e some is = absurd (omega (arith, e, some))
+joined_picked tally (row ∷ rows) number others e some is = λ i. tally_joined tally (e i) (is i)
+
+pub unpicked : (tally : Tally) (rows : List (List Value)) → length rows ≡ 0 → tally ≡ with_picked tally rows
+unpicked tally [] e = refl
+unpicked tally (row ∷ rows) e = absurd (omega (arith, e))

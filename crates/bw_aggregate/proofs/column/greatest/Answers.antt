@@ -1,0 +1,20 @@
+use Rattle.std.proofs.Common.{◌≡◌, ◌∙◌, sym, ap, pos, ◌+ℤ◌, Some, arith}
+use Rattle.std.specs.Option.{option_map}
+use Rattle.std.specs.List.{reduce}
+use Rattle.std.specs.Int.{int_max}
+use Rattle.std.proofs.lemmas.Int.{ints}
+use Rattle.bw_lanes.specs.Lanes.{lanes_of_words}
+use Rattle.bw_model.specs.Code.{value_at}
+use Rattle.bw_segment.specs.Picked.{codes_in}
+use Rattle.bw_aggregate.specs.Picked.{values_in}
+use Rattle.bw_aggregate.proofs.ValueLemmas.{greatest_value}
+use Rattle.bw_aggregate.proofs.column.greatest.Goals as goal
+
+pub returns-clause-greatest : goal.returns-clause-greatest
+returns-clause-greatest g c =
+    let meaning = g.S.Segment.meaning c.args.segment.now in
+    let rows = lanes_of_words c.args.rows.now in
+    let lo = c.lowest.result in
+    let value : Some (lo +ℤ pos c.in_ok-code.code) ≡ reduce int_max (values_in meaning c.args.col rows) =
+    ap (option_map (λ code. lo +ℤ pos code)) c.in_ok-code.ensures.greatest ∙ sym (greatest_value lo (value_at meaning.columns c.args.col) (codes_in meaning c.args.col rows) c.lowest.ensures) in
+    ap Some (omega (arith, ints)) ∙ value

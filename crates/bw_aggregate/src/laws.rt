@@ -1,0 +1,12 @@
+//! A law of picked rows, for the crates that say which rows are picked.
+ghost use Rattle.std.specs.Prelude.{◌≡◌, ◌++◌, ◌&&◌, ℕ, Bool, true, false, List, replicate};
+ghost use Rattle.std.specs.Simd.Lanes.{zip2};
+ghost use Rattle.bw_aggregate.specs.Picked.{IsWithin};
+
+/// A law: the lanes of the first rows have none past those rows, nor have lanes that are 1 only where such
+/// lanes are.
+pub fn first_rows_are_within()
+    ensures first { (rows more : ℕ) → IsWithin rows (replicate rows true ++ replicate more false) }
+    ensures both { (rows : ℕ) (lanes others : List Bool) → IsWithin rows others
+        → IsWithin rows (zip2 (λ a b. a && b) lanes others) }
+{}

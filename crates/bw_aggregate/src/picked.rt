@@ -1,0 +1,55 @@
+//! What the picked rows of a segment add to a total.
+ghost use Rattle.std.specs.Prelude.{◌≡◌, ◌+◌, ◌≤◌, ◌++◌, List, length, IsTrue};
+ghost use Rattle.bw_lanes.specs.Lanes.{lanes_of_words};
+ghost use Rattle.bw_model.specs.Limits.{most_rows};
+ghost use Rattle.bw_model.specs.Row.{Value};
+ghost use Rattle.bw_model.specs.Total.{total, item_within};
+ghost use Rattle.bw_rowwise.specs.Accumulator.{tally_of, IsTotalOfRows};
+ghost use Rattle.bw_aggregate.specs.Picked.{IsWithin, picked_rows, with_picked};
+
+use crate::column::{greatest, least, present, sum};
+use bw_lanes::{Selection, count};
+use bw_model::Item;
+use bw_rowwise::Accumulator;
+use bw_segment::Segment;
+
+/// Adds the rows of a segment that a selection picks to a total: row i is picked where lane i is 1. The selection has
+/// no bit past the segment's rows, the segment has the aggregate's column, and with the segment's rows the total is of
+/// at most 2^24. Where no row is picked, only the selection is looked at.
+pub fn add_picked<S: Segment>(total: &mut Accumulator, segment: &S, selection: &Selection)
+    requires column { IsTrue (item_within (length (S.meaning segment.now).columns) total.old.item) }
+    requires selection { IsWithin (length (S.meaning segment.now).rows) (lanes_of_words selection.now) }
+    requires room { total.old.count + length (S.meaning segment.now).rows ≤ most_rows }
+    ensures step { total.new ≡ with_picked total.old
+        (picked_rows (S.meaning segment.now) (lanes_of_words selection.now)) }
+    ensures item { total.new.item ≡ total.old.item }
+    ensures count { total.new.count
+        ≡ total.old.count + length (picked_rows (S.meaning segment.now) (lanes_of_words selection.now)) }
+    ensures total { (rows : List (List Value)) → total.old ≡ tally_of total.old.item rows
+        → total.new ≡ tally_of total.old.item
+        (rows ++ picked_rows (S.meaning segment.now) (lanes_of_words selection.now)) }
+{
+    let number = count(selection);
+    if number != 0 {
+        let others = total_of(total.item(), segment, selection);
+        total.add_total(number, others);
+    }
+}
+
+/// The total over the rows of a segment that a selection picks.
+fn total_of<S: Segment>(item: Item, segment: &S, selection: &Selection) -> Option<i128>
+    requires column { IsTrue (item_within (length (S.meaning segment.now).columns) item) }
+    requires selection { IsWithin (length (S.meaning segment.now).rows) (lanes_of_words selection.now) }
+    ensures total { result
+        ≡ total item (picked_rows (S.meaning segment.now) (lanes_of_words selection.now)) }
+    ensures small { IsTotalOfRows 1 result }
+{
+    match item {
+        Item::Plain(_) => None,
+        Item::CountAll => Some(i128::from(count(selection))),
+        Item::Count(col) => Some(i128::from(count(&present(segment, col, selection)))),
+        Item::Sum(col) => sum(segment, col, &present(segment, col, selection)),
+        Item::Min(col) => least(segment, col, &present(segment, col, selection)),
+        Item::Max(col) => greatest(segment, col, &present(segment, col, selection)),
+    }
+}

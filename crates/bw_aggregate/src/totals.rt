@@ -1,0 +1,86 @@
+//! The total of an aggregate over the picked rows of segments, one segment after another.
+ghost use Rattle.std.specs.Prelude.{◌≡◌, ◌+◌, ◌≤◌, List, [], ◌++◌, length, IsTrue};
+ghost use Rattle.bw_lanes.specs.Lanes.{lanes_of_words};
+ghost use Rattle.bw_model.specs.Limits.{most_rows};
+ghost use Rattle.bw_model.specs.Row.{Value};
+ghost use Rattle.bw_model.specs.Total.{is_aggregate, item_within};
+ghost use Rattle.bw_rowwise.specs.Accumulator.{tally_of};
+ghost use Rattle.bw_aggregate.specs.Picked.{IsWithin, picked_rows};
+
+use crate::picked::add_picked;
+use bw_lanes::Selection;
+use bw_model::Item;
+use bw_rowwise::Accumulator;
+use bw_segment::Segment;
+use std::marker::Model;
+
+/// The total of an aggregate over the picked rows of the segments so far, which have at most 2^24 rows together.
+#[derive(Clone, Copy)]
+pub struct Totals {
+    picked: Accumulator,
+    rows: u32,
+}
+
+impl Model for Totals {
+    ghost use Rattle.std.specs.Prelude.{◌≤◌};
+    ghost use Rattle.bw_model.specs.Limits.{most_rows};
+    ghost use Rattle.bw_aggregate.specs.Totals.{SoFar};
+
+    ghost Value = { SoFar };
+
+    ghost view = { λ t. record { picked = t.picked; rows = t.rows } };
+
+    ghost invariant = { λ t. (t.rows ≤ most_rows) × (t.picked.count ≤ t.rows) };
+
+    ghost inverse = { λ t. record { picked = t.picked; rows = t.rows } };
+}
+
+impl Totals {
+    /// The total of an aggregate over no rows.
+    pub fn new(item: &Item) -> Self
+        requires { IsTrue (is_aggregate item.now) }
+        ensures picked { result.picked ≡ tally_of item.now [] }
+        ensures rows { result.rows ≡ 0 }
+    {
+        Totals {
+            picked: Accumulator::new(*item),
+            rows: 0,
+        }
+    }
+
+    /// Adds the rows of a segment that a selection picks: row i is picked where lane i is 1. The selection has no bit
+    /// past the segment's rows, and the segment has the aggregate's column. With the rows of the segments
+    /// before it there are at most 2^24.
+    #[tactic(auto, using(crate::proofs::PickedLemmas::few_picked))]
+    pub fn add<S: Segment>(&mut self, segment: &S, selection: &Selection)
+        requires column { IsTrue (item_within (length (S.meaning segment.now).columns) self.old.picked.item) }
+        requires selection { IsWithin (length (S.meaning segment.now).rows) (lanes_of_words selection.now) }
+        requires room { self.old.rows + length (S.meaning segment.now).rows ≤ most_rows }
+        ensures item { self.new.picked.item ≡ self.old.picked.item }
+        ensures rows { self.new.rows ≡ self.old.rows + length (S.meaning segment.now).rows }
+        ensures total { (rows : List (List Value)) → self.old.picked ≡ tally_of self.old.picked.item rows
+            → self.new.picked ≡ tally_of self.old.picked.item
+            (rows ++ picked_rows (S.meaning segment.now) (lanes_of_words selection.now)) }
+    {
+        let mut picked = self.picked;
+        add_picked(&mut picked, segment, selection);
+        *self = Totals {
+            picked,
+            rows: self.rows + segment.rows_in(),
+        };
+    }
+
+    /// How many rows the segments so far have, picked or not.
+    pub fn rows(&self) -> u64
+        ensures { result ≡ self.now.rows }
+    {
+        u64::from(self.rows)
+    }
+
+    /// The total of the picked rows so far: null is the total of no values, but for COUNT, where it is 0.
+    pub fn finish(&self) -> Option<i128>
+        ensures { result ≡ self.now.picked.answer }
+    {
+        self.picked.finish()
+    }
+}

@@ -1,3 +1,0 @@
-pub mod CertificateFields
-pub mod CertificateShape
-pub mod Columns

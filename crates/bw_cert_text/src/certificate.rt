@@ -1,0 +1,112 @@
+//! Certificates.
+ghost use Rattle.std.specs.Prelude.{◌≡◌, length};
+
+use crate::lines::{BodyLine, ChainLine, EndLine, NodeLine, ProductLine};
+use std::marker::Model;
+
+/// A certificate as its lines.
+#[derive(Drop)]
+pub struct Certificate {
+    pub(crate) nodes: Vec<NodeLine>,
+    pub(crate) chains: Vec<ChainLine>,
+    pub(crate) products: Vec<ProductLine>,
+    pub(crate) body: Vec<BodyLine>,
+    pub(crate) end: EndLine,
+}
+
+impl Model for Certificate {
+    ghost use Rattle.bw_cert_text.specs.CertificateShape.{CertificateShape};
+
+    ghost Value = { CertificateShape };
+
+    ghost view = { λ certificate. record {
+      nodes = certificate.nodes.items;
+      chains = certificate.chains.items;
+      products = certificate.products.items;
+      body = certificate.body.items;
+      end = certificate.end;
+    } };
+}
+
+impl Certificate {
+    /// The certificate of these lines.
+    pub fn new(
+        nodes: Vec<NodeLine>,
+        chains: Vec<ChainLine>,
+        products: Vec<ProductLine>,
+        body: Vec<BodyLine>,
+        end: EndLine,
+    ) -> Self
+        ensures { result ≡ record {
+          nodes = nodes.items;
+          chains = chains.items;
+          products = products.items;
+          body = body.items;
+          end = end;
+        } }
+    {
+        Certificate {
+            nodes,
+            chains,
+            products,
+            body,
+            end,
+        }
+    }
+
+    /// How many nodes it states.
+    pub fn nodes(&self) -> usize
+        ensures { result ≡ length self.now.nodes }
+    {
+        self.nodes.len()
+    }
+
+    /// How many chains it states.
+    pub fn chains(&self) -> usize
+        ensures { result ≡ length self.now.chains }
+    {
+        self.chains.len()
+    }
+
+    /// How many product rows it states.
+    pub fn rows(&self) -> usize
+        ensures { result ≡ length self.now.products }
+    {
+        self.products.len()
+    }
+
+    /// The lines of its nodes, in order.
+    pub fn node_lines(&self) -> &[NodeLine]
+        ensures { result.now ≡ self.now.nodes }
+    {
+        &self.nodes
+    }
+
+    /// The lines of its chains, in order.
+    pub fn chain_lines(&self) -> &[ChainLine]
+        ensures { result.now ≡ self.now.chains }
+    {
+        &self.chains
+    }
+
+    /// The lines of its product rows, in order.
+    pub fn product_lines(&self) -> &[ProductLine]
+        ensures { result.now ≡ self.now.products }
+    {
+        &self.products
+    }
+
+    /// The lines of conditions, instructions and joins, in order.
+    pub fn body(&self) -> &[BodyLine]
+        ensures { result.now ≡ self.now.body }
+    {
+        &self.body
+    }
+
+    /// The last line.
+    pub fn end(&self) -> EndLine
+        ensures { result ≡ self.now.end }
+    {
+        self.end
+    }
+}

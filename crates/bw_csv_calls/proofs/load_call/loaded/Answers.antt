@@ -1,0 +1,68 @@
+-- Each exit, by what its calls' contracts say.
+use Rattle.std.proofs.Common.{◌≡◌, Ok, Err, Some, Result, refl}
+use Rattle.std.proofs.lemmas.Result.{IfErr-weaker, err_from_is_err_and}
+use Rattle.bw_model.specs.declared.fault.Fault.{Fault}
+use Rattle.bw_model.specs.declared.schema.Schema.{Schema}
+use Rattle.bw_model.specs.Fault.{◌>>=◌}
+use Rattle.bw_model.specs.Limits.{longest_csv}
+use Rattle.bw_file.specs.declared.layout.Layout.{Layout}
+use Rattle.bw_csv.specs.Input.{csv_from}
+use Rattle.bw_csv_calls.specs.Arrived.{IsSchemaFrom}
+use Rattle.bw_csv_calls.specs.Load.{IsFile, file_of}
+use Rattle.bw_csv_calls.proofs.Exits.{Arrival, Given, came_of, stopped_of, schema_exit, csv_exit, text_exit, never_read, unread}
+use Rattle.bw_csv_calls.proofs.load_call.loaded.Goals as goal
+
+-- the schema was refused, or read
+refused_schema : (layout : Layout) (came : Arrival) (fault : Fault) → IsSchemaFrom came (Err fault) → IsFile layout came unread (Err fault)
+refused_schema layout came fault from =
+    let outcome : Result Schema Fault = Err fault in
+    let given : Given = Err fault in
+    let is : given ≡ Err fault = refl in
+    (outcome, from, is)
+
+read_schema : (layout : Layout) (came csv : Arrival) (schema : Schema) → IsSchemaFrom came (Ok schema) → IsFile layout came csv (csv_from csv >>= file_of layout schema)
+read_schema layout came csv schema from =
+    let outcome : Result Schema Fault = Ok schema in
+    let is : (csv_from csv >>= file_of layout schema) ≡ (csv_from csv >>= file_of layout schema) = refl in
+    (outcome, from, is)
+
+pub returns-in_err-schema-clause-file : goal.returns-in_err-schema-clause-file
+returns-in_err-schema-clause-file g c =
+    let p = err_from_is_err_and c.from_residual.result c.from_residual.ensures.1 in
+    let told = c.in_err-schema.ensures.answered in
+    let fault = c.in_err-schema.field-0.0 in
+    let layout = c.args.layout in
+    rw (p.1, p.2) (schema_exit _ _ (IsFile layout) _ told.0 fault (refused_schema layout) told.1 (never_read longest_csv (g.C.Source.to_come c.args.csv_source.now) _) told.2
+    (λ given is. is))
+
+pub returns-in_err-csv-clause-file : goal.returns-in_err-csv-clause-file
+returns-in_err-csv-clause-file g c =
+    let p = err_from_is_err_and c.from_residual-in_err-csv.result c.from_residual-in_err-csv.ensures.1 in
+    let told = c.in_ok-schema.ensures.answered in
+    let csv = c.in_err-csv.ensures.answered in
+    let fault = c.in_err-csv.field-0.0 in
+    let schema = c.in_ok-schema.schema in
+    let layout = c.args.layout in
+    rw (p.1, p.2) (csv_exit _ _ (IsFile layout) _ told.0 csv.0 (file_of layout schema) fault
+    (read_schema layout told.0 csv.0 schema told.2) told.1 csv.1 csv.2
+    (λ given is. is))
+
+pub returns-clause-file : goal.returns-clause-file
+returns-clause-file g c =
+    let told = c.in_ok-schema.ensures.answered in
+    let csv = c.in_ok-csv.ensures.answered in
+    let schema = c.in_ok-schema.schema in
+    let layout = c.args.layout in
+    let bytes = c.deref.result.now in
+    text_exit _ _ (IsFile layout) _ told.0 csv.0 (file_of layout schema) bytes
+    (read_schema layout told.0 (Ok (Some bytes)) schema told.2) told.1 csv.1 (rw c.deref.ensures.value csv.2)
+    c.file_bytes.ensures.bytes
+
+pub returns-clause-reader : goal.returns-clause-reader
+returns-clause-reader g c =
+    let schema = c.in_ok-schema.schema in
+    IfErr-weaker c.file_bytes.result _ _ (λ fault stops own. (
+      schema,
+      came_of _ schema c.in_ok-schema.ensures.answered,
+      stopped_of _ schema c.in_ok-csv.csv.items _ _ c.in_ok-csv.ensures.answered c.deref.ensures.value (stops own),
+    )) c.file_bytes.ensures.reader

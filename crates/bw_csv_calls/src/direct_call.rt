@@ -1,0 +1,130 @@
+//! A query answered straight from a CSV text.
+ghost use Rattle.std.specs.Prelude.{◌≡◌, ◌+◌, ◌-◌, ◌^◌, ◌<◌, ◌≤◌, ℕ, List, Option, Result, Ok, false, true, length, vec_len, IfErr, IsTrue};
+ghost use Rattle.std.specs.List.{list_all};
+ghost use Rattle.bw_model.specs.declared.fault.Fault.{Fault};
+ghost use Rattle.bw_model.specs.declared.query.Query.{Query};
+ghost use Rattle.bw_model.specs.declared.schema.Schema.{Schema};
+ghost use Rattle.bw_device.specs.Sink.{LeavesSink, Wrote, is_write_fault};
+ghost use Rattle.bw_model.specs.Limits.{longest_schema, longest_csv};
+ghost use Rattle.bw_device.specs.Source.{Came, LeavesSource};
+ghost use Rattle.bw_model.specs.Total.{item_within};
+ghost use Rattle.bw_sql.specs.Items.{AreOfOneKind};
+ghost use Rattle.bw_sql.specs.Statement.{IsReadAs};
+ghost use Rattle.bw_csv_calls.specs.Arrived.{CsvStopped, SchemaCame};
+ghost use Rattle.bw_csv.specs.Bare.{records_of};
+ghost use Rattle.bw_csv.specs.Rows.{is_aside, is_reader_fault, GivesButAside, IsRowsFault, StopsUnder};
+ghost use Rattle.bw_csv_calls.specs.Direct.{IsAnswer, answer_of, is_before_csv};
+
+use crate::inputs::read_schema;
+use bw_answer::Answer;
+use bw_csv::{read_csv, read_rows};
+use bw_device::{Sink, Source, write_whole};
+use bw_model::{Fault, Query, Schema};
+use bw_sql::parse;
+use std::alloc::Global;
+
+/// Answers a statement over the rows of a CSV text, under the schema of a schema text, and writes the answer
+/// as CSV text: a heading record and then the records, fields joined by commas and each record ended by a
+/// line feed.
+///
+/// Refuses in this order: the schema's source (701) and text (106, 101 to 105), the statement (401 to 408), the
+/// CSV's source (701) and text (208, 201 to 209), and the sink (702); out of memory (801) wherever it comes.
+/// Nothing is written before all else has succeeded. That each device's count of failures can rise is the
+/// caller's condition.
+pub fn direct<S: Source, C: Source, K: Sink>(
+    alloc: Global,
+    schema_source: &mut S,
+    csv_source: &mut C,
+    sql: &[u8],
+    sink: &mut K,
+) -> Result<(), Fault>
+    requires schema { S.failures schema_source.old < 2 ^ 64 - 1 }
+    requires csv { C.failures csv_source.old < 2 ^ 64 - 1 }
+    requires sink { K.failures sink.old < 2 ^ 64 - 1 }
+
+    // What went out is the text of the answer by what came of the sources, or nothing, where that is a fault. A source
+    // that wasn't reached, or whose text found no memory, stands as one that found no memory.
+    ensures answer { (schema csv : Result (Option (List ℕ)) Fault) × (given : Result (List ℕ) Fault)
+        × Came longest_schema (S.to_come schema_source.old) (S.to_come schema_source.new)
+        (S.failures schema_source.old) (S.failures schema_source.new) schema
+        × Came longest_csv (C.to_come csv_source.old) (C.to_come csv_source.new)
+        (C.failures csv_source.old) (C.failures csv_source.new) csv
+        × IsAnswer schema sql.now csv given
+        × Wrote is_aside (K.taken sink.old) (K.taken sink.new) (K.failures sink.old) (K.failures sink.new)
+        given result }
+
+    // Where the CSV's reader has an error of its own, the schema and the statement were accepted, the CSV came whole,
+    // and the error's place is the heading, or the record after those whose rows are good.
+    ensures reader { IfErr result (λ fault. is_reader_fault fault ≡ true → (schema : Schema) × (query : Query)
+        × SchemaCame (Came longest_schema (S.to_come schema_source.old) (S.to_come schema_source.new)
+        (S.failures schema_source.old) (S.failures schema_source.new)) schema
+        × IsReadAs schema sql.now (Ok query)
+        × CsvStopped (Came longest_csv (C.to_come csv_source.old) (C.to_come csv_source.new)
+        (C.failures csv_source.old) (C.failures csv_source.new)) schema fault) }
+
+    // Where a device failed, the call ends with that; of a source no more is taken than one byte past its limit; and
+    // where the call refuses, but for a write that failed, it has written nothing.
+    ensures schema { LeavesSource (longest_schema + 1) (S.to_come schema_source.old) (S.to_come schema_source.new)
+        (S.failures schema_source.old) (S.failures schema_source.new) result }
+    ensures csv { LeavesSource (longest_csv + 1) (C.to_come csv_source.old) (C.to_come csv_source.new)
+        (C.failures csv_source.old) (C.failures csv_source.new) result }
+    ensures sink { LeavesSink (K.taken sink.old) (K.taken sink.new) (K.failures sink.old) (K.failures sink.new) result }
+
+    // Where the schema's source failed, or the schema or the statement is refused, the CSV's source is as it was.
+    ensures unread { S.failures schema_source.old < S.failures schema_source.new → csv_source.new ≡ csv_source.old }
+    ensures unneeded { IfErr result (λ fault. IsTrue (is_before_csv fault) → csv_source.new ≡ csv_source.old) }
+{
+    let text = direct_text(alloc, schema_source, csv_source, sql)?;
+    write_whole(sink, &text)
+}
+
+/// The text of the answer to a statement over the rows of a CSV text. Refuses as [`direct`] does, but for the sink.
+fn direct_text<S: Source, C: Source>(
+    alloc: Global,
+    schema_source: &mut S,
+    csv_source: &mut C,
+    sql: &[u8],
+) -> Result<Vec<u8>, Fault>
+    requires schema { S.failures schema_source.old < 2 ^ 64 - 1 }
+    requires csv { C.failures csv_source.old < 2 ^ 64 - 1 }
+    ensures answer { (schema csv : Result (Option (List ℕ)) Fault) × (given : Result (List ℕ) Fault)
+        × Came longest_schema (S.to_come schema_source.old) (S.to_come schema_source.new)
+        (S.failures schema_source.old) (S.failures schema_source.new) schema
+        × Came longest_csv (C.to_come csv_source.old) (C.to_come csv_source.new)
+        (C.failures csv_source.old) (C.failures csv_source.new) csv
+        × IsAnswer schema sql.now csv given
+        × GivesButAside (λ text. text.items) result given }
+    ensures fault { IfErr result (λ fault. is_write_fault fault ≡ false) }
+    ensures reader { IfErr result (λ fault. is_reader_fault fault ≡ true → (schema : Schema) × (query : Query)
+        × SchemaCame (Came longest_schema (S.to_come schema_source.old) (S.to_come schema_source.new)
+        (S.failures schema_source.old) (S.failures schema_source.new)) schema
+        × IsReadAs schema sql.now (Ok query)
+        × CsvStopped (Came longest_csv (C.to_come csv_source.old) (C.to_come csv_source.new)
+        (C.failures csv_source.old) (C.failures csv_source.new)) schema fault) }
+    ensures schema { LeavesSource (longest_schema + 1) (S.to_come schema_source.old) (S.to_come schema_source.new)
+        (S.failures schema_source.old) (S.failures schema_source.new) result }
+    ensures csv { LeavesSource (longest_csv + 1) (C.to_come csv_source.old) (C.to_come csv_source.new)
+        (C.failures csv_source.old) (C.failures csv_source.new) result }
+    ensures unread { S.failures schema_source.old < S.failures schema_source.new → csv_source.new ≡ csv_source.old }
+    ensures unneeded { IfErr result (λ fault. IsTrue (is_before_csv fault) → csv_source.new ≡ csv_source.old) }
+{
+    let schema = read_schema(alloc, schema_source)?;
+    let query = parse(alloc, &schema, sql)?;
+    let csv = read_csv(alloc, csv_source)?;
+    answer_text(alloc, &schema, &query, &csv)
+}
+
+/// The text of the answer over the rows of a CSV text. Refuses as [`read_rows`] does.
+fn answer_text(alloc: Global, schema: &Schema, query: &Query, csv: &[u8]) -> Result<Vec<u8>, Fault>
+    requires items { IsTrue (list_all (item_within (vec_len schema.now.columns)) query.now.items.items) }
+    requires some { 1 ≤ length query.now.items.items }
+    requires kinds { AreOfOneKind query.now.items.items }
+    ensures text { GivesButAside (λ text. text.items) result (answer_of schema.now.columns.items query.now csv.now) }
+    ensures fault { IfErr result IsRowsFault }
+    ensures reader { IfErr result (λ fault. is_reader_fault fault ≡ true
+        → StopsUnder schema.now.columns.items (records_of csv.now) fault) }
+{
+    let mut answer = Answer::new(alloc, schema, query)?;
+    read_rows(alloc, schema, csv, &mut answer)?;
+    answer.into_text()
+}

@@ -1,0 +1,166 @@
+-- What is answered over a loaded table is what `direct` may write.
+use Rattle.std.proofs.Common.{◌≡◌, ◌∙◌, ◌≤◌, ℕ, List, length, Option, Some, None, Result, Ok, Err, IfOk, IsTrue, refl, sym, ap, subst}
+use Rattle.std.specs.Io.KnownBytes.{Appends}
+use Rattle.std.specs.List.{list_all}
+use Rattle.bw_model.specs.declared.column.Column.{Column}
+use Rattle.bw_model.specs.declared.fault.Fault.{Fault}
+use Rattle.bw_model.specs.declared.query.Query.{Query}
+use Rattle.bw_model.specs.declared.schema.Schema.{Schema}
+use Rattle.bw_model.specs.Column.{admits_values, names_of}
+use Rattle.bw_model.specs.Fault.{◌>>=◌}
+use Rattle.bw_model.specs.Limits.{most_rows}
+use Rattle.bw_model.specs.Row.{Value}
+use Rattle.bw_model.specs.SchemaText.{schema_shape}
+use Rattle.bw_sql.specs.Asked.{asked}
+use Rattle.bw_sql.specs.Statement.{IsReadAs}
+use Rattle.bw_sql.proofs.SameNames.{columns_too, spells_too}
+use Rattle.bw_answer.specs.Answer.{csv_text, meaning}
+use Rattle.bw_csv.specs.Input.{csv_from}
+use Rattle.bw_csv.specs.Rows.{rows_of}
+use Rattle.bw_file.specs.declared.layout.Layout.{Layout}
+use Rattle.bw_file.specs.FileBytes.{IsFileBytes, IsSchema, file_bytes}
+use Rattle.bw_file.specs.TableReading.{Found}
+use Rattle.bw_file.proofs.SpelledFile.{of_one_table}
+use Rattle.bw_query.specs.TableAnswer.{AnswersFile, by_statement}
+use Rattle.bw_csv_calls.specs.Arrived.{IsSchemaFrom}
+use Rattle.bw_csv_calls.specs.Direct.{IsAnswer, IsAnswerUnder, answer_from, answer_of}
+use Rattle.bw_csv_calls.specs.Load.{IsFile, file_of}
+use Rattle.bw_laws.specs.AsDirect.{IsAnswerable, LoadMayWrite, TookAnswer, TookAsDirect}
+use Rattle.bw_laws.specs.Joined.{AnswersCsv}
+use Rattle.bw_laws.specs.OneAnswer.{DirectMayWrite}
+use Rattle.bw_laws.proofs.ArrivedLemmas.{csv_text_of, one_text}
+use Rattle.bw_laws.proofs.JoinedLemmas.{Loaded, answers, loaded, loaded_text}
+use Rattle.bw_laws.proofs.OneAnswerLemmas.{one_answer, one_schema}
+use Rattle.bw_laws.proofs.SoundSchemaLemmas.{sound_shape}
+
+abbrev Rows : Type 0
+Rows = List (List Value)
+
+-- columns admit each row of a text, and a text has at most so many
+abbrev pub AdmitsRows : Type 0
+AdmitsRows = (columns : List Column) (text : List ℕ) → IfOk (rows_of columns text) (λ rows. IsTrue (list_all (admits_values columns) rows))
+
+abbrev pub LimitsRows : Type 0
+LimitsRows = (columns : List Column) (text : List ℕ) → IfOk (rows_of columns text) (λ rows. length rows ≤ most_rows)
+
+-- a schema that came of a text is sound
+sound_from : (came : Result (Option (List ℕ)) Fault) (schema : Schema) → IsSchemaFrom came (Ok schema) → IsSchema (schema_shape schema)
+sound_from (Ok (Some text)) schema from = sound_shape text (schema_shape schema) from
+sound_from (Ok None) schema from = absurd (cc from)
+sound_from (Err fault) schema from = absurd (cc from)
+
+-- the answer to a query over a CSV text that came
+answered_from : (schema : Schema) (query : Query) (csv : Result (Option (List ℕ)) Fault) (text answer : List ℕ) → csv_from csv ≡ Ok text
+    → answer_of schema.columns.items query text ≡ Ok answer → Ok answer ≡ answer_from schema (Ok query) csv
+answered_from schema query csv text answer came is =
+    sym (ap (λ (read : Result (List ℕ) Fault). read >>= λ text. answer_of schema.columns.items query text) came ∙ is)
+
+-- the table file of a schema and rows that came is a file of theirs
+file_of_rows : (layout : Layout) (schema : Schema) (text bytes : List ℕ) → AdmitsRows → LimitsRows → IsSchema (schema_shape schema)
+    → (of : Loaded layout schema text bytes) → IsFileBytes bytes layout schema of.rows
+file_of_rows layout schema text bytes admits limits under of =
+    loaded_text layout schema text bytes under of (admits schema.columns.items text) (limits schema.columns.items text)
+
+under_direct : AdmitsRows → LimitsRows → (layout : Layout) (came csv : Result (Option (List ℕ)) Fault) (bytes sql : List ℕ) (program old new : Option (List ℕ))
+    (reading : Result Schema Fault) → IsSchemaFrom came reading → ◌≡◌ {A = Result (List ℕ) Fault} (Ok bytes) (reading >>= λ schema. csv_from csv >>= file_of layout schema)
+    → AnswersFile (by_statement program sql) bytes old new → TookAnswer came csv sql old new
+under_direct admits limits layout came csv bytes sql program old new (Err fault) from made file = absurd (cc made)
+under_direct admits limits layout came csv bytes sql program old new (Ok schema) from made file =
+    let csv_came = csv_text_of csv (file_of layout schema) bytes (sym made) in
+    let of = loaded layout schema csv_came.text bytes csv_came.given in
+    let is = file_of_rows layout schema csv_came.text bytes admits limits (sound_from came schema from) of in
+    let same = of_one_table bytes layout file.layout schema file.schema of.rows file.rows is file.file in
+    let shape = sym (ap (λ (found : Found). found.schema) same) in
+    let spelled = spells_too file.schema schema sql (asked file.query) shape file.asked.0 in
+    let found : AnswersCsv (λ query. IsReadAs schema sql (Ok query)) schema csv_came.text old new =
+    answers (λ query. IsReadAs schema sql (Ok query)) layout file.layout schema file.schema csv_came.text bytes old new file.query of file.rows same
+    (columns_too file.schema schema shape) spelled file.text in
+    let answer : IsAnswer came sql csv (Ok found.text) =
+    (Ok schema, from, (Ok found.query, found.asked, answered_from schema found.query csv csv_came.text found.text csv_came.came found.is)) in
+    record {
+      text = found.text;
+      is = answer;
+      only = λ given other. one_answer came csv sql given (Ok found.text) other answer;
+      took = found.took;
+    }
+
+pub took_answer : AdmitsRows → LimitsRows → (layout : Layout) (schema csv : Result (Option (List ℕ)) Fault) (bytes sql : List ℕ) (program old new : Option (List ℕ))
+    → IsFile layout schema csv (Ok bytes) → AnswersFile (by_statement program sql) bytes old new → TookAnswer schema csv sql old new
+took_answer admits limits layout schema csv bytes sql program old new is file =
+    under_direct admits limits layout schema csv bytes sql program old new is.0 is.1 is.2 file
+
+-- so it is over the texts of the sources
+pub took_as_direct : AdmitsRows → LimitsRows → (layout : Layout) (schema csv bytes sql : List ℕ) (program old new : Option (List ℕ))
+    → LoadMayWrite layout schema csv bytes → AnswersFile (by_statement program sql) bytes old new → TookAsDirect schema csv sql old new
+took_as_direct admits limits layout schema csv bytes sql program old new load file =
+    let took = took_answer admits limits layout load.schema_came load.csv_came bytes sql program old new load.is file in
+    let may : DirectMayWrite schema csv sql took.text =
+    record {
+      schema_came = load.schema_came;
+      csv_came = load.csv_came;
+      schema_source = load.schema_source;
+      csv_source = load.csv_source;
+      is = took.is;
+    } in
+    record {
+      text = took.text;
+      may = may;
+      only = λ other also. one_text schema csv sql other took.text also may;
+      took = took.took;
+    }
+
+-- two sinks that took what `direct` may write took the same text
+pub took_alike : (schema csv sql : List ℕ) (old new before after : Option (List ℕ)) → TookAsDirect schema csv sql old new → TookAsDirect schema csv sql before after
+    → (text : List ℕ) × Appends old new text × Appends before after text
+took_alike schema csv sql old new before after a b =
+    (a.text, a.took, subst (λ (text : List ℕ). Appends before after text) (a.only b.text b.may) b.took)
+
+-- a CSV text over which a query has an answer spells rows
+rows_spelled : (columns : List Column) (query : Query) (text answer : List ℕ) (spelled : Result Rows Fault) → rows_of columns text ≡ spelled
+    → (spelled >>= λ rows. Ok (csv_text (meaning (names_of columns) query rows))) ≡ Ok answer → (rows : Rows) × (rows_of columns text ≡ Ok rows)
+rows_spelled columns query text answer (Ok rows) spelled given = (rows, spelled)
+rows_spelled columns query text answer (Err fault) spelled given = absurd (cc given)
+
+-- where a query has an answer over a CSV that came, a load has a file for it
+answerable_under : AdmitsRows → LimitsRows → (layout : Layout) (came csv : Result (Option (List ℕ)) Fault) (sql answer : List ℕ) (given : Result (List ℕ) Fault)
+    (schema other : Schema) (query : Query) → IsSchemaFrom came (Ok schema) → schema_shape other ≡ schema_shape schema → IsReadAs other sql (Ok query)
+    → answer_from other (Ok query) csv ≡ Ok answer → given ≡ (csv_from csv >>= file_of layout schema) → IsAnswerable layout sql given
+answerable_under admits limits layout came csv sql answer given schema other query from shape read is made =
+    let csv_came = csv_text_of csv (λ text. answer_of other.columns.items query text) answer is in
+    let text = csv_came.text in
+    let found = rows_spelled other.columns.items query text answer (rows_of other.columns.items text) refl csv_came.given in
+    let spelled : rows_of schema.columns.items text ≡ Ok found.0 = ap (λ (cs : List Column). rows_of cs text) (sym (columns_too other schema shape)) ∙ found.1 in
+    let bytes = file_bytes layout schema found.0 in
+    let of : Loaded layout schema text bytes = record { rows = found.0; spelled = spelled; text = refl } in
+    let whole : file_of layout schema text ≡ Ok bytes = ap (λ (spelled : Result Rows Fault). spelled >>= λ rows. Ok (file_bytes layout schema rows)) spelled in
+    record {
+      bytes = bytes;
+      is = made ∙ ap (λ (read : Result (List ℕ) Fault). read >>= file_of layout schema) csv_came.came ∙ whole;
+      schema = schema;
+      rows = found.0;
+      file = file_of_rows layout schema text bytes admits limits (sound_from came schema from) of;
+      query = query;
+      asked = spells_too other schema sql (asked query) shape read;
+    }
+
+answerable_read : AdmitsRows → LimitsRows → (layout : Layout) (came csv : Result (Option (List ℕ)) Fault) (sql answer : List ℕ) (given : Result (List ℕ) Fault)
+    (schema other : Schema) (reading : Result Query Fault) → IsSchemaFrom came (Ok schema) → schema_shape other ≡ schema_shape schema → IsReadAs other sql reading
+    → ◌≡◌ {A = Result (List ℕ) Fault} (Ok answer) (answer_from other reading csv) → given ≡ (csv_from csv >>= file_of layout schema) → IsAnswerable layout sql given
+answerable_read admits limits layout came csv sql answer given schema other (Ok query) from shape read is made =
+    answerable_under admits limits layout came csv sql answer given schema other query from shape read (sym is) made
+answerable_read admits limits layout came csv sql answer given schema other (Err fault) from shape read is made = absurd (cc is)
+
+answerable_by : AdmitsRows → LimitsRows → (layout : Layout) (came csv : Result (Option (List ℕ)) Fault) (sql answer : List ℕ) (given : Result (List ℕ) Fault)
+    (reading second : Result Schema Fault) → IsSchemaFrom came reading → IsSchemaFrom came second → IsAnswerUnder reading sql csv (Ok answer)
+    → given ≡ (second >>= λ schema. csv_from csv >>= file_of layout schema) → IsAnswerable layout sql given
+answerable_by admits limits layout came csv sql answer given (Ok other) (Ok schema) a b is made =
+    let same = one_schema came (Ok other) (Ok schema) a b in
+    let shape : schema_shape other ≡ schema_shape schema = cc same in
+    answerable_read admits limits layout came csv sql answer given schema other is.0 b shape is.1 is.2 made
+answerable_by admits limits layout came csv sql answer given (Ok other) (Err fault) a b is made = absurd (cc (one_schema came (Ok other) (Err fault) a b))
+answerable_by admits limits layout came csv sql answer given (Err fault) second a b is made = absurd (cc is)
+
+pub answerable : AdmitsRows → LimitsRows → (layout : Layout) (schema csv : Result (Option (List ℕ)) Fault) (sql answer : List ℕ) (given : Result (List ℕ) Fault)
+    → IsAnswer schema sql csv (Ok answer) → IsFile layout schema csv given → IsAnswerable layout sql given
+answerable admits limits layout schema csv sql answer given is file =
+    answerable_by admits limits layout schema csv sql answer given is.0 file.0 is.1 file.1 is.2 file.2

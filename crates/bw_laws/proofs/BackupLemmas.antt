@@ -1,0 +1,306 @@
+-- The text of a dump spells the table's rows, and so a load of it gives the table's file.
+use Rattle.std.proofs.Common.{◌≡◌, ◌∙◌, ◌⊎◌, inl, inr, ℕ, zero, suc, ◌+◌, ◌≤◌, List, [], ◌∷◌, ◌++◌, length, length-append, map, Option, Some, None, Result, Ok, Err, Bool, true, false, refl, sym, ap, subst, arith, slice_index, MatchBool}
+use Rattle.std.specs.Prelude.{slice_index_or}
+use Rattle.std.specs.Io.KnownBytes.{Appends, Consumes}
+use Rattle.std.specs.List.{filter_map, list_all, range_with_len}
+use Rattle.std.proofs.lemmas.Bool.{eq-eqb, le-ltb}
+use Rattle.std.proofs.lemmas.List.{get_or-map, length-map}
+use Rattle.std.proofs.lemmas.List.FromFn.{fill_by_all}
+use Rattle.csv.specs.Reading.{default_config, records, strip_bom}
+use Rattle.bw_model.specs.declared.column.Column.{Column}
+use Rattle.bw_model.specs.declared.fault.Fault.{Fault}
+use Rattle.bw_model.specs.declared.query.Item.TheVariants.{Plain}
+use Rattle.bw_model.specs.declared.query.Query.{Query}
+use Rattle.bw_model.specs.declared.schema.Schema.{Schema}
+use Rattle.bw_model.specs.Column.{admits_value, admits_values, names_of}
+use Rattle.bw_model.specs.Fault.{◌>>=◌, is_memory, no_memory, nowhere}
+use Rattle.bw_model.specs.Limits.{longest_csv, longest_schema, most_rows}
+use Rattle.bw_model.specs.Groups.{together}
+use Rattle.bw_model.specs.Row.{Value, value_in}
+use Rattle.bw_model.specs.Selection.{kept}
+use Rattle.bw_model.specs.SchemaText.{IsSchemaText, SchemaShape, schema_shape}
+use Rattle.bw_model.proofs.SameColumns.{columns_same}
+use Rattle.bw_model.proofs.SchemaSpelling.{read_of}
+use Rattle.bw_answer.specs.Answer.{csv_text, field_of, heading_of, lists_rows, meaning, value_text}
+use Rattle.bw_answer.proofs.CountLemmas.{every_kept}
+use Rattle.bw_csv.specs.Input.{csv_from}
+use Rattle.bw_csv.specs.Rows.{row_of_record, rows_from, rows_of, values_of_fields}
+use Rattle.bw_csv.proofs.DigitsAlone.{both}
+use Rattle.bw_csv.proofs.RowLemmas.{rows_after-rows}
+use Rattle.bw_csv_calls.specs.Arrived.{IsSchemaFrom}
+use Rattle.bw_csv_calls.specs.Load.{file_of}
+use Rattle.bw_device.specs.Source.{Came, is_input_fault}
+use Rattle.bw_file.specs.declared.layout.Layout.{Layout}
+use Rattle.bw_file.specs.FileBytes.{IsFileBytes, bytes_of_version, file_bytes, file_bytes2, front_bytes, header_bytes, magic}
+use Rattle.bw_file.specs.Reading.{Tail, tail}
+use Rattle.bw_file.specs.TableReading.{Found, HeaderShape, IsReadAfter, IsReadAs, found_as, found_in, header}
+use Rattle.bw_file.proofs.ReaderLemmas.{head_at}
+use Rattle.bw_query.specs.TableAnswer.{AnswersFile, IsEveryRow, by_dump}
+use Rattle.bw_laws.specs.OneAnswer.{CameOf}
+use Rattle.bw_laws.specs.Backup.{IsOfNeededVersion, IsThatFile, IsTold, LoadsUnder, table_text}
+use Rattle.bw_laws.proofs.SpelledRecords.{is_record, records_read, unmarked}
+use Rattle.bw_laws.proofs.SpelledValues.{AreColumns, first_is, is_solid, name_is_solid, names_head, others_are, shows, solid_shows, value_shows, value_spelled, word_unmarked}
+use Rattle.bw_text.specs.Text.{goes_on_in_word}
+
+abbrev Rows : Type 0
+Rows = List (List Value)
+
+-- the texts of the values of a row, and of each row
+abbrev row_fields : List Value → List (List ℕ)
+row_fields row = map value_text row
+
+abbrev rows_fields : Rows → List (List (List ℕ))
+rows_fields rows = map row_fields rows
+
+-- the fields of a row that columns admit spell its values
+values_spelled : (number : ℕ) (columns : List Column) (row : List Value) → AreColumns columns → admits_values columns row ≡ true
+    → values_of_fields number columns (row_fields row) ≡ Ok row
+unfolding values_of_fields
+values_spelled number [] [] are e = refl
+values_spelled number [] (value ∷ row) are e = absurd (cc e)
+values_spelled number (column ∷ columns) [] are e = absurd (cc e)
+values_spelled number (column ∷ columns) (value ∷ row) are e =
+    let is = both (admits_value column value) (admits_values columns row) e in
+    rw (value_spelled number column value (first_is column columns are) is.0, values_spelled number columns row (others_are column columns are) is.1) refl
+
+pub as_wide : (columns : List Column) (row : List Value) → admits_values columns row ≡ true → length row ≡ length columns
+as_wide [] [] e = refl
+as_wide [] (value ∷ row) e = absurd (cc e)
+as_wide (column ∷ columns) [] e = absurd (cc e)
+as_wide (column ∷ columns) (value ∷ row) e = ap suc (as_wide columns row (both (admits_value column value) (admits_values columns row) e).1)
+
+row_spelled : (number : ℕ) (columns : List Column) (row : List Value) → AreColumns columns → admits_values columns row ≡ true → number ≤ most_rows
+    → row_of_record number columns (row_fields row) ≡ Ok row
+unfolding row_of_record
+row_spelled number columns row are e few =
+    let wide : length (row_fields row) ≡ length columns = length-map row value_text ∙ as_wide columns row e in
+    rw (eq-eqb (length (row_fields row)) (length columns) wide, le-ltb most_rows number few) (values_spelled number columns row are e)
+
+rows_spelled : (columns : List Column) (rows : Rows) (number : ℕ) → AreColumns columns → list_all (admits_values columns) rows ≡ true
+    → number + length rows ≤ most_rows + 1 → rows_from columns number (rows_fields rows) ≡ Ok rows
+unfolding rows_from
+rows_spelled columns [] number are e few = refl
+rows_spelled columns (row ∷ rows) number are e few =
+    let is = both (admits_values columns row) (list_all (admits_values columns) rows) e in
+    rw (row_spelled number columns row are is.0 (omega (arith, few)), rows_spelled columns rows (number + 1) are is.1 (omega (arith, few))) refl
+
+-- each field shows itself, in the rows and in the heading
+row_shows : (columns : List Column) (row : List Value) → AreColumns columns → admits_values columns row ≡ true → list_all shows (row_fields row) ≡ true
+row_shows [] [] are e = refl
+row_shows [] (value ∷ row) are e = absurd (cc e)
+row_shows (column ∷ columns) [] are e = absurd (cc e)
+row_shows (column ∷ columns) (value ∷ row) are e =
+    let is = both (admits_value column value) (admits_values columns row) e in
+    rw (value_shows column value (first_is column columns are) is.0, row_shows columns row (others_are column columns are) is.1) refl
+
+names_show : (columns : List Column) → AreColumns columns → list_all shows (names_of columns) ≡ true
+names_show [] are = refl
+names_show (column ∷ columns) are =
+    rw (solid_shows column.name (name_is_solid column.name (first_is column columns are).name), names_show columns (others_are column columns are)) refl
+
+shown_record : (fields : List (List ℕ)) → 1 ≤ length fields → list_all shows fields ≡ true → is_record fields ≡ true
+shown_record [] some e = absurd (omega (arith, some))
+shown_record (field ∷ fields) some e = e
+
+rows_are_records : (columns : List Column) (rows : Rows) → 1 ≤ length columns → AreColumns columns → list_all (admits_values columns) rows ≡ true
+    → list_all is_record (rows_fields rows) ≡ true
+rows_are_records columns [] some are e = refl
+rows_are_records columns (row ∷ rows) some are e =
+    let is = both (admits_values columns row) (list_all (admits_values columns) rows) e in
+    let long : 1 ≤ length (row_fields row) = omega (arith, length-map row value_text, as_wide columns row is.0) in
+    rw (shown_record (row_fields row) long (row_shows columns row are is.0), rows_are_records columns rows some are is.1) refl
+
+-- no byte order mark begins with a name
+named_unmarked : (name : List ℕ) (fields : List (List ℕ)) (more : List (List (List ℕ))) → is_solid name ≡ true
+    → strip_bom (csv_text ((name ∷ fields) ∷ more)) ≡ csv_text ((name ∷ fields) ∷ more)
+named_unmarked [] fields more e = absurd (cc e)
+named_unmarked (c ∷ cs) fields more e = unmarked c cs fields more (word_unmarked c (both (goes_on_in_word c) (list_all goes_on_in_word cs) e).0)
+
+names_unmarked : (columns : List Column) (more : List (List (List ℕ))) → 1 ≤ length columns → AreColumns columns
+    → strip_bom (csv_text (names_of columns ∷ more)) ≡ csv_text (names_of columns ∷ more)
+names_unmarked [] more some are = absurd (omega (arith, some))
+names_unmarked (column ∷ columns) more some are = named_unmarked column.name (names_of columns) more (name_is_solid column.name (first_is column columns are).name)
+
+-- a heading of the columns' names, and then the rows, spell the rows
+rows_again : (columns : List Column) (rows : Rows) → 1 ≤ length columns → AreColumns columns → list_all (admits_values columns) rows ≡ true → length rows ≤ most_rows
+    → rows_of columns (csv_text (names_of columns ∷ rows_fields rows)) ≡ Ok rows
+rows_again columns rows some are e few =
+    let all = names_of columns ∷ rows_fields rows in
+    let wide : 1 ≤ length (names_of columns) = omega (arith, some, length-map columns (λ (column : Column). column.name)) in
+    let shown : list_all is_record all ≡ true = rw (shown_record (names_of columns) wide (names_show columns are), rows_are_records columns rows some are e) refl in
+    let read : records default_config (strip_bom (csv_text all)) ≡ all = ap (records default_config) (names_unmarked columns (rows_fields rows) some are) ∙ records_read all shown in
+    rows_after-rows columns (records default_config (strip_bom (csv_text all))) (rows_fields rows) (names_of columns) read (names_head columns are)
+    ∙ rows_spelled columns rows 1 are e (omega (arith, few))
+
+-- a query for every row in every column means them
+headings_by : (names : List (List ℕ)) (places : List ℕ) → map (heading_of names) (map Plain places) ≡ map (λ (i : ℕ). slice_index_or names i []) places
+headings_by names [] = refl
+headings_by names (i ∷ places) = ap (λ (l : List (List ℕ)). slice_index_or names i [] ∷ l) (headings_by names places)
+
+fields_by : (row : List Value) (places : List ℕ) → filter_map (field_of row) (map Plain places) ≡ map (λ (i : ℕ). value_text (value_in row i)) places
+fields_by row [] = refl
+fields_by row (i ∷ places) = ap (λ (l : List (List ℕ)). value_text (value_in row i) ∷ l) (fields_by row places)
+
+all_headings : (names : List (List ℕ)) (n : ℕ) → length names ≡ n → map (heading_of names) (map Plain (range_with_len 0 n)) ≡ names
+all_headings names n long =
+    headings_by names (range_with_len 0 n) ∙ sym (fill_by_all (λ (i : ℕ). slice_index_or names i []) names n [] long (λ k lt. refl))
+
+all_fields : (row : List Value) (n : ℕ) → length row ≡ n → filter_map (field_of row) (map Plain (range_with_len 0 n)) ≡ row_fields row
+all_fields row n long =
+    fields_by row (range_with_len 0 n)
+    ∙ sym (fill_by_all (λ (i : ℕ). value_text (value_in row i)) (row_fields row) n (value_text None) (length-map row value_text ∙ long)
+    (λ k lt. get_or-map value_text row k None (value_text None) (omega (arith, lt, long))))
+
+every_field : (columns : List Column) (rows : Rows) → list_all (admits_values columns) rows ≡ true
+    → map (λ (row : List Value). filter_map (field_of row) (map Plain (range_with_len 0 (length columns)))) rows ≡ rows_fields rows
+every_field columns [] e = refl
+every_field columns (row ∷ rows) e =
+    let is = both (admits_values columns row) (list_all (admits_values columns) rows) e in
+    rw (all_fields row (length columns) (as_wide columns row is.0), every_field columns rows is.1) refl
+
+plain_lists : (n : ℕ) → 1 ≤ n → lists_rows (map Plain (range_with_len 0 n)) ≡ true
+plain_lists zero some = absurd (omega (arith, some))
+plain_lists (suc n) some = refl
+
+every_meaning : (columns : List Column) (query : Query) (rows : Rows) → 1 ≤ length columns → list_all (admits_values columns) rows ≡ true
+    → query.items.items ≡ map Plain (range_with_len 0 (length columns)) → kept query.cond rows ≡ rows
+    → meaning (names_of columns) query rows ≡ names_of columns ∷ rows_fields rows
+unfolding meaning
+every_meaning columns query rows some e items all =
+    rw (items, plain_lists (length columns) some, all, all_headings (names_of columns) (length columns) (length-map columns (λ (column : Column). column.name)), every_field columns rows e) refl
+
+-- so a dump of a table's file is the table as a CSV text, which spells the table's rows
+pub dump_text : (bytes : List ℕ) (layout : Layout) (schema : Schema) (rows : Rows) (query : Query) → IsFileBytes bytes layout schema rows → IsEveryRow schema query
+    → csv_text (meaning (names_of schema.columns.items) query rows) ≡ table_text schema rows
+dump_text bytes layout schema rows query file every =
+    ap csv_text (every_meaning schema.columns.items query rows schema.inhabited file.admitted.admitted every.columns (every_kept query.cond rows every.rows))
+
+pub text_spells : (bytes : List ℕ) (layout : Layout) (schema : Schema) (rows : Rows) → IsFileBytes bytes layout schema rows
+    → rows_of schema.columns.items (table_text schema rows) ≡ Ok rows
+text_spells bytes layout schema rows file = rows_again schema.columns.items rows schema.inhabited file.under.columns file.admitted.admitted file.admitted.few
+
+-- so a load of a text that spells the rows gives their file
+pub text_loads : (layout : Layout) (schema : Schema) (rows : Rows) (text : List ℕ) → rows_of schema.columns.items text ≡ Ok rows
+    → file_of layout schema text ≡ Ok (file_bytes layout schema rows)
+text_loads layout schema rows text spelled = rw spelled refl
+
+-- a file of the version that its table needs has the bytes that a load gives
+second_told : (layout : Layout) (schema : Schema) (rows : Rows) → slice_index (file_bytes2 layout schema rows) 8 ≡ 2
+unfolding bytes_of_version header_bytes front_bytes magic
+second_told layout schema rows = refl
+
+pub needed_same : (bytes : List ℕ) (layout : Layout) (schema : Schema) (rows : Rows) → IsFileBytes bytes layout schema rows → IsOfNeededVersion bytes schema
+    → bytes ≡ file_bytes layout schema rows
+needed_same bytes layout schema rows file needed = by file.text needed
+  where
+    by : (bytes ≡ file_bytes layout schema rows) ⊎ (bytes ≡ file_bytes2 layout schema rows) → IsOfNeededVersion bytes schema → bytes ≡ file_bytes layout schema rows
+    by (inl text) need = text
+    by (inr text) (inl first) = absurd (let told : slice_index bytes 8 ≡ 2 = ap (λ (l : List ℕ). slice_index l 8) text ∙ second_told layout schema rows in omega (arith, first, told))
+    by (inr text) (inr second) = text ∙ ap (λ (v : ℕ). bytes_of_version v layout schema.name schema.columns.items rows) (sym second)
+
+-- what a dump wrote of a table's file is that text
+pub dumped : (bytes : List ℕ) (layout : Layout) (schema : Schema) (rows : Rows) (old new : Option (List ℕ)) → (wrote : AnswersFile by_dump bytes old new)
+    → found_as layout (schema_shape schema) rows ≡ found_as wrote.layout (schema_shape wrote.schema) wrote.rows → Appends old new (table_text schema rows)
+dumped bytes layout schema rows old new wrote same =
+    let columns : wrote.schema.columns.items ≡ schema.columns.items =
+    columns_same _ _ (ap (λ (shape : SchemaShape). shape.columns) (sym (ap (λ (found : Found). found.schema) same))) in
+    let rows_same : wrote.rows ≡ rows = sym (ap (λ (found : Found). found.rows) same) in
+    let alike : table_text wrote.schema wrote.rows ≡ table_text schema rows = rw (columns, rows_same) refl in
+    subst (Appends old new) (dump_text bytes wrote.layout wrote.schema wrote.rows wrote.query wrote.file wrote.asked ∙ alike) wrote.text
+
+-- what came of a source is all that it had to give, where that is within the limit, or a failed read or no memory
+abbrev Failed : Result (Option (List ℕ)) Fault → Type 0
+Failed came = (fault : Fault) × (came ≡ Err fault) × (is_input_fault fault ≡ true)
+
+input_is : (fault : Fault) (memory : Bool) (before after : ℕ) → is_memory fault ≡ memory
+    → MatchBool memory ((fault ≡ no_memory) × (after ≡ before)) ((fault ≡ nowhere 701) × (after ≡ before + 1)) → is_input_fault fault ≡ true
+input_is fault true before after e came = rw e refl
+input_is fault false before after e came = rw (came.0) refl
+
+not_past : (bytes left taken : List ℕ) (limit : ℕ) → length bytes ≤ limit → bytes ≡ taken ++ left → length taken ≡ limit + 1 → ⊥
+not_past bytes left taken limit short e long = omega (arith, short, ap length e, length-append taken left, long)
+
+came_by : (limit : ℕ) (bytes : List ℕ) (left : Option (List ℕ)) (before after : ℕ) (came : Result (Option (List ℕ)) Fault) → length bytes ≤ limit
+    → Came limit (Some bytes) left before after came → (came ≡ Ok (Some bytes)) ⊎ Failed came
+came_by limit bytes left before after (Ok (Some all)) short is = inl (ap (λ (l : List ℕ). Ok (Some l)) is.0.1)
+came_by limit bytes None before after (Ok None) short is = absurd is.0.1
+came_by limit bytes (Some left) before after (Ok None) short is = absurd (not_past bytes left is.0.0 limit short is.0.1 is.0.2)
+came_by limit bytes left before after (Err fault) short is = inr (fault, refl, input_is fault (is_memory fault) before after refl is)
+
+came_whole : (limit : ℕ) (bytes : List ℕ) (came : Result (Option (List ℕ)) Fault) → length bytes ≤ limit → CameOf limit bytes came → (came ≡ Ok (Some bytes)) ⊎ Failed came
+came_whole limit bytes came short of = came_by limit bytes of.left of.before of.after came short of.is
+
+-- schema texts that spell a schema have its columns
+spelled_alike : (text : List ℕ) (shape other : SchemaShape) → IsSchemaText text shape → IsSchemaText text other → shape ≡ other
+spelled_alike text shape other one two = done_same shape other (sym (read_of text shape one) ∙ read_of text other two)
+  where
+    done_same : (a b : SchemaShape) → ◌≡◌ {A = Result SchemaShape Fault} (Ok a) (Ok b) → a ≡ b
+    done_same a b e = cc e
+
+under_alike : (layout : Layout) (under schema : Schema) (csv : List ℕ) → schema_shape under ≡ schema_shape schema → file_of layout under csv ≡ file_of layout schema csv
+under_alike layout under schema csv e =
+    let columns : under.columns.items ≡ schema.columns.items = columns_same _ _ (ap (λ (shape : SchemaShape). shape.columns) e) in
+    let name : under.name ≡ schema.name = ap (λ (shape : SchemaShape). shape.name) e in
+    rw (columns, name) refl
+
+-- a load of a text that spells the rows, and is no longer than a CSV text may be
+module _ (layout : Layout) (schema : Schema) (rows : Rows) (csv : List ℕ) (spelled : rows_of schema.columns.items csv ≡ Ok rows) where
+  abbrev IsGiven : Result (List ℕ) Fault → Type 0
+  IsGiven given = IsThatFile (file_bytes layout schema rows) given
+
+  with_csv : (under : Schema) (came : Result (Option (List ℕ)) Fault) (given : Result (List ℕ) Fault) → schema_shape under ≡ schema_shape schema
+      → (came ≡ Ok (Some csv)) ⊎ Failed came → given ≡ (csv_from came >>= file_of layout under) → IsGiven given
+  with_csv under came given alike (inl whole) e =
+      let made : given ≡ Ok (file_bytes layout schema rows) =
+      e ∙ ap (λ (came : Result (Option (List ℕ)) Fault). csv_from came >>= file_of layout under) whole ∙ under_alike layout under schema csv alike ∙ text_loads layout schema rows csv spelled in
+      rw made refl
+  with_csv under came given alike (inr failed) e =
+      let made : given ≡ Err failed.0 = e ∙ ap (λ (came : Result (Option (List ℕ)) Fault). csv_from came >>= file_of layout under) failed.1 in
+      rw made failed.2
+
+  with_schema : (text : List ℕ) (under : Result Schema Fault) (came : Result (Option (List ℕ)) Fault) (given : Result (List ℕ) Fault) → IsSchemaText text (schema_shape schema)
+      → IsSchemaFrom (Ok (Some text)) under → (came ≡ Ok (Some csv)) ⊎ Failed came → given ≡ (under >>= λ under. csv_from came >>= file_of layout under) → IsGiven given
+  with_schema text (Ok under) came given is from arrived e = with_csv under came given (spelled_alike text (schema_shape under) (schema_shape schema) from is) arrived e
+  with_schema text (Err fault) came given is from arrived e =
+      absurd (let clash : ◌≡◌ {A = Result SchemaShape Fault} (Ok (schema_shape schema)) (Err fault) = sym (read_of text (schema_shape schema) is) ∙ from in cc clash)
+
+  by_schema : (text : List ℕ) (schema_came came : Result (Option (List ℕ)) Fault) (under : Result Schema Fault) (given : Result (List ℕ) Fault) → IsSchemaText text (schema_shape schema)
+      → (schema_came ≡ Ok (Some text)) ⊎ Failed schema_came → IsSchemaFrom schema_came under → (came ≡ Ok (Some csv)) ⊎ Failed came
+      → given ≡ (under >>= λ under. csv_from came >>= file_of layout under) → IsGiven given
+  by_schema text schema_came came under given is (inl whole) from arrived e =
+      with_schema text under came given is (subst (λ (came : Result (Option (List ℕ)) Fault). IsSchemaFrom came under) whole from) arrived e
+  by_schema text schema_came came under given is (inr failed) from arrived e =
+      let refused : under ≡ Err failed.0 = subst (λ (came : Result (Option (List ℕ)) Fault). IsSchemaFrom came under) failed.1 from in
+      let made : given ≡ Err failed.0 = e ∙ ap (λ (under : Result Schema Fault). under >>= λ under. csv_from came >>= file_of layout under) refused in
+      rw made failed.2
+
+  pub load_again : length csv ≤ longest_csv → LoadsUnder layout schema csv (file_bytes layout schema rows)
+  load_again short text is schema_came csv_came given of_schema of_csv file =
+      by_schema text schema_came csv_came file.0 given is (came_whole longest_schema text schema_came is.0 of_schema) file.1 (came_whole longest_csv csv csv_came short of_csv) file.2
+
+-- what is told of a table's file is its schema
+rest_of : (new : Option (List ℕ)) (bytes taken : List ℕ) → Consumes (Some bytes) new taken → (rest : List ℕ) × (bytes ≡ taken ++ rest)
+rest_of None bytes taken gone = absurd gone
+rest_of (Some rest) bytes taken e = (rest, e)
+
+found_schema : (told : HeaderShape) (found : Found) (groups : Result (List Rows × Tail) Fault) → ◌≡◌ {A = Result Found Fault} (Ok found) (found_in told.layout told.schema groups)
+    → told.schema ≡ found.schema
+found_schema told found (Ok x) e =
+    let same : found ≡ found_as told.layout told.schema (together x.0) = cc e in
+    sym (ap (λ (found : Found). found.schema) same)
+found_schema told found (Err fault) e = absurd (cc e)
+
+pub told_spells : (bytes : List ℕ) (layout : Layout) (schema : Schema) (rows : Rows) (text : List ℕ) → IsReadAs bytes (Ok (found_as layout (schema_shape schema) rows))
+    → IsTold bytes text → IsSchemaText text (schema_shape schema)
+told_spells bytes layout schema rows text read is =
+    let told = is.header.told in
+    let head = is.header.read in
+    let rest = rest_of is.now.known bytes head.bytes head.took.consumed in
+    let e : header (tail 0 bytes) ≡ Ok (told, tail is.now.offset rest.0) = ap (λ (l : List ℕ). header (tail 0 l)) rest.1 ∙ head_at _ is.now told rest.0 refl head in
+    let after = subst (λ r. IsReadAfter r (Ok (found_as layout (schema_shape schema) rows))) e read in
+    let same = found_schema told (found_as layout (schema_shape schema) rows) _ after.2 in
+    subst (λ (shape : SchemaShape). IsSchemaText text shape) (sym is.header.shape ∙ same) is.header.spelled
+
+-- a text spells its rows in one way
+pub same_rows : (rows other : Rows) → ◌≡◌ {A = Result Rows Fault} (Ok rows) (Ok other) → rows ≡ other
+same_rows rows other e = cc e

@@ -1,0 +1,116 @@
+-- A schema text, a CSV text and a statement have one answer.
+use Rattle.std.proofs.Common.{◌≡◌, ◌∙◌, ℕ, not, ◌||◌, ◌==◌, List, Option, Some, None, Result, Ok, Err, refl, sym, ap, subst}
+use Rattle.bw_model.specs.declared.column.Column.{Column}
+use Rattle.bw_model.specs.declared.fault.Fault.{Fault}
+use Rattle.bw_model.specs.declared.query.Query.{Query}
+use Rattle.bw_model.specs.declared.schema.Schema.{Schema}
+use Rattle.bw_model.specs.Column.{names_of}
+use Rattle.bw_model.specs.Fault.{◌>>=◌}
+use Rattle.bw_model.specs.SchemaText.{SchemaShape, schema_shape}
+use Rattle.bw_sql.specs.declared.reader.Refusal.{Refusal}
+use Rattle.bw_sql.specs.declared.reader.Refusal.TheVariants.{Syntax, Literal}
+use Rattle.bw_sql.specs.Asked.{Asked, asked}
+use Rattle.bw_sql.specs.Demand.{meets, refusal}
+use Rattle.bw_sql.specs.Frontier.{Begins, Stands, IsFirst, asked_for, at_token, at_sign, at_end}
+use Rattle.bw_sql.specs.Grammar.{StatementIs}
+use Rattle.bw_sql.specs.Refusal.{code_of}
+use Rattle.bw_sql.specs.Statement.{IsFault, IsReadAs, IsRefusal, too_long, refused, token_refused, end_refused, byte_refused}
+use Rattle.bw_sql.specs.Token.{Lexeme}
+use Rattle.bw_sql.proofs.SameNames.{columns_too, spells_too}
+use Rattle.bw_sql.proofs.Texts.{text_query, same_fault, spelled_or_refused}
+use Rattle.bw_answer.specs.Answer.{csv_text, meaning}
+use Rattle.bw_csv.specs.Input.{csv_from}
+use Rattle.bw_csv.specs.Rows.{rows_of}
+use Rattle.bw_csv_calls.specs.Arrived.{IsSchemaFrom}
+use Rattle.bw_csv_calls.specs.Direct.{IsAnswer, IsAnswerUnder, answer_from, answer_of}
+use Rattle.bw_laws.specs.OneAnswer.{asked_in, shape_in}
+use Rattle.bw_laws.proofs.OneMeaningLemmas.{one_meaning}
+use Rattle.bw_laws.proofs.SchemaTextLemmas as texts
+
+-- what is spelled under a schema, as far as the demands of one number go, is spelled under one of its shape
+spelled_too : (s t : Schema) (why : Refusal) (tokens : List Lexeme) (query : Asked) → schema_shape s ≡ schema_shape t
+    → StatementIs s.columns.items (asked_for s why) tokens query → StatementIs t.columns.items (asked_for t why) tokens query
+spelled_too s t why tokens query same spelled =
+    subst (λ (name : List ℕ). StatementIs t.columns.items (λ d. not (code_of (refusal d) == code_of why) || meets name t.columns.items d) tokens query)
+    (ap (λ (h : SchemaShape). h.name) same)
+    (subst (λ (cs : List Column). StatementIs cs (λ d. not (code_of (refusal d) == code_of why) || meets s.name cs d) tokens query) (columns_too s t same) spelled)
+
+begins_too : (s t : Schema) (why : Refusal) (tokens : List Lexeme) → schema_shape s ≡ schema_shape t → Begins s why tokens → Begins t why tokens
+begins_too s t why tokens same begins =
+    record { more = begins.more; query = begins.query; spelled = spelled_too s t why _ begins.query same begins.spelled }
+
+-- so each fault stands where it does under a schema of its shape
+stands_too : (s t : Schema) (tokens : List Lexeme) (why : Refusal) (place : ℕ) → schema_shape s ≡ schema_shape t → Stands s tokens why place → Stands t tokens why place
+stands_too s t tokens why place same (at_token before after token is begins stops) =
+    at_token before after token is (begins_too s t why before same begins) (λ goes_on. stops (begins_too t s why _ (sym same) goes_on))
+stands_too s t tokens why place same (at_sign before after token digits sign is begins stops) =
+    at_sign before after token digits sign is (begins_too s t Literal before same begins) (λ goes_on. stops (begins_too t s Literal _ (sym same) goes_on))
+stands_too s t tokens why place same (at_end begins stops) =
+    at_end (begins_too s t Syntax tokens same begins) (λ query spelled. stops query (spelled_too t s Syntax tokens query (sym same) spelled))
+
+first_too : (s t : Schema) (tokens : List Lexeme) (why : Refusal) (place : ℕ) → schema_shape s ≡ schema_shape t → IsFirst s tokens why place → IsFirst t tokens why place
+first_too s t tokens why place same first = record {
+  stands = stands_too s t tokens why place same first.stands;
+  first = λ other at stands. first.first other at (stands_too t s tokens other at (sym same) stands);
+}
+
+refusal_too : (s t : Schema) (text : List ℕ) (fault : Fault) → schema_shape s ≡ schema_shape t → IsRefusal s text fault → IsRefusal t text fault
+refusal_too s t text fault same (token_refused cut first at) = token_refused cut (first_too s t _ _ _ same first) at
+refusal_too s t text fault same (end_refused cut first) = end_refused cut (first_too s t _ _ _ same first)
+refusal_too s t text fault same (byte_refused cut none) = byte_refused cut (λ why place first. none why place (first_too t s _ why place (sym same) first))
+
+fault_too : (s t : Schema) (text : List ℕ) (fault : Fault) → schema_shape s ≡ schema_shape t → IsFault s text fault → IsFault t text fault
+fault_too s t text fault same (too_long long) = too_long long
+fault_too s t text fault same (refused short refusal) = refused short (refusal_too s t text fault same refusal)
+
+-- a statement is read in one way under schemas of one shape
+pub one_reading : (s t : Schema) (text : List ℕ) (reading second : Result Query Fault) → schema_shape s ≡ schema_shape t
+    → IsReadAs s text reading → IsReadAs t text second → asked_in reading ≡ asked_in second
+one_reading s t text (Ok query) (Ok other) same a b = ap Ok (text_query t text (asked query) (asked other) (spells_too s t text (asked query) same a) b)
+one_reading s t text (Ok query) (Err fault) same a b = absurd (spelled_or_refused t text (asked query) fault (spells_too s t text (asked query) same a) b)
+one_reading s t text (Err fault) (Ok query) same a b = absurd (spelled_or_refused t text (asked query) fault b (fault_too s t text fault same a))
+one_reading s t text (Err fault) (Err other) same a b = ap Err (same_fault t text fault other (fault_too s t text fault same a) b)
+
+-- a schema text is read in one way
+pub one_schema : (came : Result (Option (List ℕ)) Fault) (reading second : Result Schema Fault) → IsSchemaFrom came reading → IsSchemaFrom came second
+    → shape_in reading ≡ shape_in second
+one_schema (Ok (Some text)) (Ok schema) (Ok other) a b = ap Ok (texts.one_schema text (schema_shape schema) (schema_shape other) a b)
+one_schema (Ok (Some text)) (Ok schema) (Err fault) a b = absurd (texts.not_both text (schema_shape schema) fault a b)
+one_schema (Ok (Some text)) (Err fault) (Ok schema) a b = absurd (texts.not_both text (schema_shape schema) fault b a)
+one_schema (Ok (Some text)) (Err fault) (Err other) a b =
+    ap Err (texts.one_fault text fault other a b)
+one_schema (Ok None) reading second a b = ap shape_in (a ∙ sym b)
+one_schema (Err fault) reading second a b = ap shape_in (a ∙ sym b)
+
+-- what follows from an answer, where it is the same of each
+pub then_alike : {A B : Type 0} (first : Result A Fault) (f g : A → Result B Fault) → ((x : A) → f x ≡ g x) → (first >>= f) ≡ (first >>= g)
+then_alike (Ok x) f g alike = alike x
+then_alike (Err fault) f g alike = refl
+
+answer_of_alike : (columns : List Column) (query other : Query) (text : List ℕ) → asked query ≡ asked other → answer_of columns query text ≡ answer_of columns other text
+answer_of_alike columns query other text same =
+    then_alike (rows_of columns text) (λ rows. Ok (csv_text (meaning (names_of columns) query rows))) (λ rows. Ok (csv_text (meaning (names_of columns) other rows)))
+    (λ rows. ap (λ (records : List (List (List ℕ))). Ok (csv_text records)) (one_meaning (names_of columns) query other rows same))
+
+answer_alike : (s t : Schema) (reading second : Result Query Fault) (csv : Result (Option (List ℕ)) Fault) → s.columns.items ≡ t.columns.items
+    → asked_in reading ≡ asked_in second → answer_from s reading csv ≡ answer_from t second csv
+answer_alike s t (Ok query) (Ok other) csv columns same =
+    let one : asked query ≡ asked other = cc same in
+    then_alike (csv_from csv) (λ text. answer_of s.columns.items query text) (λ text. answer_of t.columns.items other text)
+    (λ text. ap (λ (cs : List Column). answer_of cs query text) columns ∙ answer_of_alike t.columns.items query other text one)
+answer_alike s t (Ok query) (Err fault) csv columns same = absurd (cc same)
+answer_alike s t (Err fault) (Ok query) csv columns same = absurd (cc same)
+answer_alike s t (Err fault) (Err other) csv columns same = let one : fault ≡ other = cc same in ap Err one
+
+under_alike : (reading second : Result Schema Fault) (sql : List ℕ) (csv : Result (Option (List ℕ)) Fault) (given other : Result (List ℕ) Fault)
+    → shape_in reading ≡ shape_in second → IsAnswerUnder reading sql csv given → IsAnswerUnder second sql csv other → given ≡ other
+under_alike (Ok s) (Ok t) sql csv given other same a b =
+    let shape : schema_shape s ≡ schema_shape t = cc same in
+    a.2 ∙ answer_alike s t a.0 b.0 csv (columns_too s t shape) (one_reading s t sql a.0 b.0 shape a.1 b.1) ∙ sym b.2
+under_alike (Ok s) (Err fault) sql csv given other same a b = absurd (cc same)
+under_alike (Err fault) (Ok t) sql csv given other same a b = absurd (cc same)
+under_alike (Err fault) (Err second) sql csv given other same a b = let one : fault ≡ second = cc same in a ∙ ap Err one ∙ sym b
+
+pub one_answer : (schema csv : Result (Option (List ℕ)) Fault) (sql : List ℕ) (given other : Result (List ℕ) Fault) → IsAnswer schema sql csv given → IsAnswer schema sql csv other
+    → given ≡ other
+one_answer schema csv sql given other a b = under_alike a.0 b.0 sql csv given other (one_schema schema a.0 b.0 a.1 b.1) a.2 b.2

@@ -1,0 +1,47 @@
+-- What is answered over the table file that a load wrote, beside what is answered straight from the CSV text.
+use Rattle.std.specs.Prelude.{◌≡◌, ℕ, List, Option, Result, Ok}
+use Rattle.std.specs.Io.KnownBytes.{Appends}
+use Rattle.bw_model.specs.declared.fault.Fault.{Fault}
+use Rattle.bw_model.specs.declared.query.Query.{Query}
+use Rattle.bw_model.specs.declared.schema.Schema.{Schema}
+use Rattle.bw_model.specs.Limits.{longest_schema, longest_csv}
+use Rattle.bw_model.specs.Row.{Value}
+use Rattle.bw_file.specs.declared.layout.Layout.{Layout}
+use Rattle.bw_file.specs.FileBytes.{IsFileBytes}
+use Rattle.bw_sql.specs.Statement.{IsReadAs}
+use Rattle.bw_csv_calls.specs.Direct.{IsAnswer}
+use Rattle.bw_csv_calls.specs.Load.{IsFile}
+use Rattle.bw_laws.specs.OneAnswer.{CameOf, DirectMayWrite}
+
+-- over sources of this schema text and of this CSV text, `load` may write these bytes
+pub record LoadMayWrite (layout : Layout) (schema csv bytes : List ℕ) : Type 0 where
+  pub schema_came : Result (Option (List ℕ)) Fault
+  pub csv_came : Result (Option (List ℕ)) Fault
+  pub schema_source : CameOf longest_schema schema schema_came
+  pub csv_source : CameOf longest_csv csv csv_came
+  pub is : IsFile layout schema_came csv_came (Ok bytes)
+
+-- a sink took the text of the answer by what came of the schema's source and of the CSV's, which has no other answer
+pub record TookAnswer (schema csv : Result (Option (List ℕ)) Fault) (sql : List ℕ)
+    (old new : Option (List ℕ)) : Type 0 where
+  pub text : List ℕ
+  pub is : IsAnswer schema sql csv (Ok text)
+  pub only : (given : Result (List ℕ) Fault) → IsAnswer schema sql csv given → given ≡ Ok text
+  pub took : Appends old new text
+
+-- a sink took a text that `direct` may write over sources of this schema text and of this CSV text, and the only one
+pub record TookAsDirect (schema csv sql : List ℕ) (old new : Option (List ℕ)) : Type 0 where
+  pub text : List ℕ
+  pub may : DirectMayWrite schema csv sql text
+  pub only : (other : List ℕ) → DirectMayWrite schema csv sql other → other ≡ text
+  pub took : Appends old new text
+
+-- what a load is to write is the file of a table, under whose schema the statement spells a query
+pub record IsAnswerable (layout : Layout) (sql : List ℕ) (given : Result (List ℕ) Fault) : Type 0 where
+  pub bytes : List ℕ
+  pub is : given ≡ Ok bytes
+  pub schema : Schema
+  pub rows : List (List Value)
+  pub file : IsFileBytes bytes layout schema rows
+  pub query : Query
+  pub asked : IsReadAs schema sql (Ok query)

@@ -1,0 +1,59 @@
+//! What is answered with a plan that was kept.
+ghost use Rattle.std.specs.Prelude.{◌≡◌, ℕ, List, [], Option, Some, Result, Ok};
+ghost use Rattle.bw_model.specs.declared.fault.Fault.{Fault};
+ghost use Rattle.bw_model.specs.declared.query.Query.{Query};
+ghost use Rattle.bw_model.specs.declared.schema.Schema.{Schema};
+ghost use Rattle.bw_model.specs.Row.{Value};
+ghost use Rattle.bw_model.specs.SchemaText.{IsSchemaText, schema_shape};
+ghost use Rattle.bw_device.specs.Sink.{Wrote, none_aside};
+ghost use Rattle.bw_file.specs.declared.layout.Layout.{Layout};
+ghost use Rattle.bw_file.specs.FileBytes.{IsFileBytes};
+ghost use Rattle.bw_sql.specs.Statement.{IsReadAs};
+ghost use Rattle.bw_report.specs.declared.served.Served.{Served};
+ghost use Rattle.bw_query.specs.Plan.{IsPlan, IsPlanned};
+ghost use Rattle.bw_query.specs.Served.{ByProgram, IsServed};
+ghost use Rattle.bw_query.specs.TableAnswer.{AnswersFile, by_statement};
+
+use crate::schema_text::a_schema_text_spells_one_schema_or_has_one_fault;
+use bw_cert::{certificates_are_judged_by_what_they_say, one_verdict, valid_exactly_where_checked};
+use bw_file::a_file_is_of_one_table;
+use bw_sql::{one_query_of_a_text, schemas_of_one_shape};
+
+/// A law, which joins `plan_text` to `answer`: a query with a kept plan is answered by the plan's program, and never
+/// row by row.
+///
+/// `plan_text` succeeds for a schema text and a statement: then a sink that was empty holds a plan for them. `answer`
+/// accepts a plan as the program file of its statement, over every table whose schema that text spells. For the
+/// statement spells a query under that schema, and the file is accepted for each query that it spells. The query is
+/// served by the plan's own program, with the loads and skips of its runs: over any rows, and so over the table of a
+/// file.
+pub fn a_kept_plan_is_used()
+    ensures written { (text sql plan : List ℕ) (given : Result (List ℕ) Fault) (before after : ℕ)
+        → IsPlanned text sql given
+        → Wrote {T = Unit {0}} none_aside (Some []) (Some plan) before after given (Ok tt)
+        → IsPlan text sql plan }
+    ensures accepted { (text sql plan : List ℕ) (schema : Schema) → IsPlan text sql plan
+        → IsSchemaText text (schema_shape schema)
+        → (query : Query) × by_statement (Some plan) sql schema (Ok query) }
+    ensures each { (text sql plan : List ℕ) (schema : Schema) (query : Query) → IsPlan text sql plan
+        → IsSchemaText text (schema_shape schema) → IsReadAs schema sql (Ok query)
+        → by_statement (Some plan) sql schema (Ok query) }
+    ensures served { (text sql plan : List ℕ) (schema : Schema) (query : Query) (rows : List (List Value))
+        (served : Served) → (kept : IsPlan text sql plan) → IsSchemaText text (schema_shape schema)
+        → IsServed (Some plan) schema query rows served
+        → ByProgram kept.program schema.columns.items rows served }
+    ensures file { (text sql plan bytes : List ℕ) (layout : Layout) (schema : Schema) (rows : List (List Value))
+        (old new : Option (List ℕ)) (served : Served) → (kept : IsPlan text sql plan)
+        → IsFileBytes bytes layout schema rows → IsSchemaText text (schema_shape schema)
+        → (answers : AnswersFile (by_statement (Some plan) sql) bytes old new)
+        → IsServed (Some plan) answers.schema answers.query answers.rows served
+        → ByProgram kept.program schema.columns.items rows served }
+{
+    a_file_is_of_one_table();
+    a_schema_text_spells_one_schema_or_has_one_fault();
+    schemas_of_one_shape();
+    one_query_of_a_text();
+    valid_exactly_where_checked();
+    certificates_are_judged_by_what_they_say();
+    one_verdict();
+}

@@ -1,5 +1,0 @@
-pub mod Accumulator
-pub mod Numbers
-pub mod Picked
-pub mod Prepared
-pub mod Totals

@@ -1,0 +1,5 @@
+pub mod LaneLemmas
+pub mod LogicLemmas
+pub mod NumberLemmas
+pub mod PreparedLemmas
+pub mod TotalLemmas

@@ -1,0 +1,3 @@
+pub mod Accumulator
+pub mod Numbers
+pub mod Prepared

@@ -1,0 +1,37 @@
+-- Conditions whose lists are sorted, and what they mean on a row: what the conditions mean that they were made from.
+use Rattle.std.specs.Prelude.{◌≡◌, ℕ, List, [], map, slice_index_or}
+use Rattle.bw_model.specs.declared.cond.Cond.{Cond}
+use Rattle.bw_model.specs.declared.cond.Truth.{Truth}
+use Rattle.bw_model.specs.declared.cond.Truth.TheVariants.{Yes}
+use Rattle.bw_model.specs.Cond.{operand_value, truth_of}
+use Rattle.bw_model.specs.Row.{Value}
+use Rattle.bw_model.specs.Truth.{all_of, among, any_of, between, compared, greatest, is_null, is_truth, negation, truth_from}
+use Rattle.bw_rowwise.specs.Numbers.{among_numbers}
+use Rattle.bw_rowwise.specs.declared.prepared.Prepared.{Prepared, Prepared-F, fold-Prepared}
+use Rattle.bw_rowwise.specs.declared.prepared.Prepared.TheOpen.{Always, Cmp, Between, Among, IsNull, And, Or, Not, Test}
+
+-- the truth of a prepared condition on a row, from that of its parts
+abbrev pub prepared_step : List Value → Prepared-F Truth → Truth
+prepared_step row Always = Yes
+prepared_step row (Cmp op x y) = compared op (operand_value row x) (operand_value row y)
+prepared_step row (Between x y z) = between (operand_value row x) (operand_value row y) (operand_value row z)
+prepared_step row (Among x numbers others) =
+    greatest (among_numbers (operand_value row x) numbers.sorted.items)
+    (among (operand_value row x) (map (operand_value row) others.items))
+prepared_step row (IsNull x) = truth_from (is_null (operand_value row x))
+prepared_step row (And parts) = all_of parts.items
+prepared_step row (Or parts) = any_of parts.items
+prepared_step row (Not part) = negation part.value
+prepared_step row (Test part t) = truth_from (is_truth part.value t)
+
+-- the truth of a prepared condition on a row
+unfoldable pub prepared_truth : List Value → Prepared → Truth
+prepared_truth row cond = fold-Prepared Truth (prepared_step row) cond
+
+-- a prepared condition has a condition's truth on every row
+abbrev pub IsPreparedFrom : Cond → Prepared → Type 0
+IsPreparedFrom cond prepared = (row : List Value) → prepared_truth row prepared ≡ truth_of row cond
+
+-- the row in a lane, which past the last row has no values
+abbrev pub row_at : List (List Value) → ℕ → List Value
+row_at rows lane = slice_index_or rows lane []

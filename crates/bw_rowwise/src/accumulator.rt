@@ -1,0 +1,127 @@
+//! The total of rows that come one at a time, or as a list.
+ghost use Rattle.std.specs.Prelude.{◌≡◌, ◌+◌, ◌<◌, ◌≤◌, List, [], ◌∷◌, ◌++◌, length, map, All, IsTrue};
+ghost use Rattle.bw_model.specs.Limits.{most_rows};
+ghost use Rattle.bw_model.specs.declared.query.Item.TheVariants.{CountAll};
+ghost use Rattle.bw_model.specs.Row.{Value, values_of};
+ghost use Rattle.bw_model.specs.Total.{total, is_aggregate, item_within};
+ghost use Rattle.bw_rowwise.specs.Accumulator.{tally_of, tally_with, tally_joined, counted, IsTotalOfRows};
+
+use crate::total::{answer_with, joined};
+use bw_model::{Item, Row, totals_join};
+use std::marker::Model;
+
+/// The total of an aggregate over the rows that it has been given so far, of which there are at most 2^24.
+#[derive(Clone, Copy)]
+pub struct Accumulator {
+    item: Item,
+    rows: u32,
+    total: Option<i128>,
+}
+
+impl Model for Accumulator {
+    ghost use Rattle.std.specs.Prelude.{◌≤◌};
+    ghost use Rattle.bw_model.specs.Limits.{most_rows};
+    ghost use Rattle.bw_rowwise.specs.Accumulator.{Tally, IsTotalOfRows};
+
+    ghost Value = { Tally };
+
+    ghost view = { λ a. record { item = a.item; count = a.rows; answer = a.total } };
+
+    ghost invariant = { λ a. (a.rows ≤ most_rows) × IsTotalOfRows a.rows a.total };
+
+    ghost inverse = { λ t. record { item = t.item; rows = t.count; total = t.answer } };
+}
+
+impl Accumulator {
+    /// The total of an aggregate over no rows.
+    pub fn new(item: Item) -> Self
+        requires { IsTrue (is_aggregate item) }
+        ensures { result ≡ tally_of item [] }
+    {
+        let total = match item {
+            Item::CountAll | Item::Count(_) => Some(0),
+            Item::Plain(_) | Item::Sum(_) | Item::Min(_) | Item::Max(_) => None,
+        };
+        Accumulator {
+            item,
+            rows: 0,
+            total,
+        }
+    }
+
+    /// The aggregate.
+    pub fn item(&self) -> Item
+        ensures { result ≡ self.now.item }
+    {
+        self.item
+    }
+
+    /// Adds a row to those so far. It has the aggregate's column.
+    pub fn add(&mut self, row: &Row)
+        requires room { self.old.count < most_rows }
+        requires column { IsTrue (item_within (length (values_of row.now)) self.old.item) }
+        ensures step { self.new ≡ tally_with self.old (values_of row.now) }
+        ensures total { (rows : List (List Value)) → self.old ≡ tally_of self.old.item rows
+            → self.new ≡ tally_of self.old.item (rows ++ values_of row.now ∷ []) }
+    {
+        *self = Accumulator {
+            item: self.item,
+            rows: self.rows + 1,
+            total: answer_with(self.item, self.total, row),
+        };
+    }
+
+    /// Adds so many rows, whichever they are, to a count of rows. Of other totals it makes such a count.
+    pub fn add_count(&mut self, count: u32)
+        requires { self.old.count + count ≤ most_rows }
+        ensures total { (rows more : List (List Value)) → length more ≡ count → self.old ≡ tally_of CountAll rows
+            → self.new ≡ tally_of CountAll (rows ++ more) }
+        ensures step { self.new ≡ counted self.old count }
+    {
+        let rows = self.rows + count;
+        *self = Accumulator {
+            item: self.item,
+            rows,
+            total: Some(i128::from(rows)),
+        };
+    }
+
+    /// Adds so many rows, of which the total is known, to those so far. There are at most 2^24 in all, and the total is
+    /// no larger than 2^73 a row.
+    #[tactic(auto, using(crate::proofs::TotalLemmas::small_below))]
+    pub fn add_total(&mut self, count: u32, others: Option<i128>)
+        requires room { self.old.count + count ≤ most_rows }
+        requires small { IsTotalOfRows count others }
+        ensures step { self.new ≡ tally_joined self.old count others }
+        ensures total { (rows more : List (List Value)) → length more ≡ count → others ≡ total self.old.item more
+            → self.old ≡ tally_of self.old.item rows → self.new ≡ tally_of self.old.item (rows ++ more) }
+    {
+        totals_join();
+        *self = Accumulator {
+            item: self.item,
+            rows: self.rows + count,
+            total: joined(self.item, self.total, others),
+        };
+    }
+
+    /// The total of the rows so far.
+    pub fn finish(&self) -> Option<i128>
+        ensures { result ≡ self.now.answer }
+    {
+        self.total
+    }
+}
+
+/// A total over a list of rows. Each row has the aggregate's column.
+pub fn aggregate(item: &Item, rows: &[Row]) -> Option<i128>
+    requires aggregate { IsTrue (is_aggregate item.now) }
+    requires columns { All (λ row. IsTrue (item_within (length (values_of row)) item.now)) rows.now }
+    requires count { length rows.now ≤ most_rows }
+    ensures { result ≡ total item.now (map values_of rows.now) }
+{
+    let mut accumulator = Accumulator::new(*item);
+    for row in rows {
+        accumulator.add(row);
+    }
+    accumulator.finish()
+}

@@ -1,0 +1,32 @@
+//! What a query asks of rows: conditions and aggregates, row by row, straight from their meaning.
+//!
+//! The contracts that the crates above use: a [`Prepared`] condition is TRUE on the rows that it keeps, and an
+//! [`Accumulator`] totals rows that come one at a time. `bw_aggregate` adds to it those of a segment that a selection
+//! picks, without looking at one row.
+//!
+//! The source of the rules is SQL-92: its predicates, search conditions and set functions, whose meaning
+//! stands in the `specs/` of `bw_model`. Read `condition.rt` first, and then `accumulator.rt`.
+//!
+//! [`truth`], [`select`] and [`aggregate`], for rows that are in memory, are the library's public face, and what tests
+//! compare the faster ways with:
+//!
+//! ```
+//! let kept = select(rt.alloc(), &query.cond, &rows)?;
+//! let sum = aggregate(&Item::Sum(3), &kept);
+//! ```
+#![tactic(auto)]
+
+mod accumulator;
+mod condition;
+mod kernels;
+mod lanes;
+mod logic;
+mod numbers;
+mod prepared;
+mod prepared_row;
+mod total;
+
+pub use accumulator::{Accumulator, aggregate};
+pub use condition::{keeps_all, select, truth};
+pub use numbers::Numbers;
+pub use prepared::Prepared;

@@ -1,0 +1,55 @@
+//! Three-valued logic, and comparisons in it, after SQL-92.
+ghost use Rattle.std.specs.Prelude.{◌≡◌};
+ghost use Rattle.bw_model.specs.Truth.{least, greatest, negation, compared, between};
+
+use bw_model::{Op, Truth, Value};
+
+/// AND of two truth values, the least of them.
+pub fn both(a: Truth, b: Truth) -> Truth
+    ensures { result ≡ least a b }
+{
+    match (a, b) {
+        (Truth::No, _) | (_, Truth::No) => Truth::No,
+        (Truth::Yes, Truth::Yes) => Truth::Yes,
+        _ => Truth::Unknown,
+    }
+}
+
+/// OR of two truth values, the greatest of them.
+pub fn either(a: Truth, b: Truth) -> Truth
+    ensures { result ≡ greatest a b }
+{
+    match (a, b) {
+        (Truth::Yes, _) | (_, Truth::Yes) => Truth::Yes,
+        (Truth::No, Truth::No) => Truth::No,
+        _ => Truth::Unknown,
+    }
+}
+
+/// NOT of a truth value.
+pub fn opposite(a: Truth) -> Truth
+    ensures { result ≡ negation a }
+{
+    match a {
+        Truth::No => Truth::Yes,
+        Truth::Unknown => Truth::Unknown,
+        Truth::Yes => Truth::No,
+    }
+}
+
+/// The truth of a comparison: UNKNOWN where a value is null.
+pub fn compared(op: Op, x: Value, y: Value) -> Truth
+    ensures { result ≡ compared op x y }
+{
+    match (x, y) {
+        (Some(x), Some(y)) => Truth::of(op.holds(x, y)),
+        _ => Truth::Unknown,
+    }
+}
+
+/// The truth of `x BETWEEN y AND z`.
+pub fn between(x: Value, y: Value, z: Value) -> Truth
+    ensures { result ≡ between x y z }
+{
+    both(compared(Op::Ge, x, y), compared(Op::Le, x, z))
+}

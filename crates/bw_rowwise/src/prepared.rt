@@ -1,0 +1,99 @@
+//! Conditions made ready for many rows: the numbers of each list are sorted.
+ghost use Rattle.std.specs.Prelude.{◌≡◌, List, map, IfOk, IsOkUnless};
+ghost use Rattle.bw_model.specs.Cond.{operand_value, truth_of};
+ghost use Rattle.bw_model.specs.Fault.{no_memory};
+ghost use Rattle.bw_model.specs.Row.{Value};
+ghost use Rattle.bw_model.specs.Truth.{among, greatest};
+ghost use Rattle.bw_rowwise.specs.Numbers.{among_numbers};
+ghost use Rattle.bw_rowwise.specs.Prepared.{prepared_truth, IsPreparedFrom};
+
+use crate::numbers::Numbers;
+use bw_model::{Cond, Fault, Op, Operand, Truth};
+use std::alloc::Global;
+
+/// A condition in the form that rows are tested by. It has the truth of the condition that it was made from on every
+/// row.
+#[derive(Drop)]
+pub enum Prepared {
+    Always,
+    Cmp(Op, Operand, Operand),
+    Between(Operand, Operand, Operand),
+    /// The operand is one of the numbers or of the other operands, as `IN` says.
+    Among(Operand, Numbers, Vec<Operand>),
+    IsNull(Operand),
+    And(Vec<Prepared>),
+    Or(Vec<Prepared>),
+    Not(Box<Prepared>),
+    Test(Box<Prepared>, Truth),
+}
+
+/// The items of a list: its numbers, and what else stands in it.
+#[derive(Drop)]
+struct Items {
+    numbers: Numbers,
+    others: Vec<Operand>,
+}
+
+impl Prepared {
+    /// A condition, made ready. Refuses as 801 alone.
+    #[cycle(new)]
+    #[tactic(auto, using(bw_model::proofs::CondLemmas::truths, crate::proofs::PreparedLemmas::truths))]
+    pub fn new(alloc: Global, cond: &Cond) -> Result<Self, Fault>
+        ensures prepared { IfOk result (IsPreparedFrom cond.now) }
+        ensures only_memory { IsOkUnless result no_memory }
+    {
+        match cond {
+            Cond::Always => Ok(Prepared::Always),
+            Cond::Cmp(op, x, y) => Ok(Prepared::Cmp(*op, *x, *y)),
+            Cond::Between(x, y, z) => Ok(Prepared::Between(*x, *y, *z)),
+            Cond::Among(x, items) => {
+                let items = items_of(alloc, items)?;
+                Ok(Prepared::Among(*x, items.numbers, items.others))
+            }
+            Cond::IsNull(x) => Ok(Prepared::IsNull(*x)),
+            Cond::And(parts) => Ok(Prepared::And(all_of(alloc, parts)?)),
+            Cond::Or(parts) => Ok(Prepared::Or(all_of(alloc, parts)?)),
+            Cond::Not(part) => Ok(Prepared::Not(Box::new(alloc, Prepared::new(alloc, part)?)?)),
+            Cond::Test(part, wanted) => Ok(Prepared::Test(
+                Box::new(alloc, Prepared::new(alloc, part)?)?,
+                *wanted,
+            )),
+        }
+    }
+}
+
+/// Conditions, made ready, in their order.
+#[cycle(new)]
+fn all_of(alloc: Global, conds: &[Cond]) -> Result<Vec<Prepared>, Fault>
+    ensures prepared { IfOk result (λ prepared. (row : List Value)
+        → map (prepared_truth row) prepared.items ≡ map (truth_of row) conds.now) }
+    ensures only_memory { IsOkUnless result no_memory }
+{
+    let mut prepared = Vec::with_capacity(alloc, conds.len())?;
+    for cond in conds {
+        prepared.push(Prepared::new(alloc, cond)?)?;
+    }
+    Ok(prepared)
+}
+
+/// The numbers among the items of a list, sorted, and the other items.
+fn items_of(alloc: Global, items: &[Operand]) -> Result<Items, Fault>
+    ensures items { IfOk result (λ found. (row : List Value) (x : Value)
+        → greatest (among_numbers x found.numbers.sorted.items)
+        (among x (map (operand_value row) found.others.items))
+        ≡ among x (map (operand_value row) items.now)) }
+    ensures only_memory { IsOkUnless result no_memory }
+{
+    let mut numbers = Vec::new(alloc);
+    let mut others = Vec::new(alloc);
+    for item in items {
+        match item {
+            Operand::Lit(n) => numbers.push(*n)?,
+            Operand::Col(_) | Operand::Null => others.push(*item)?,
+        }
+    }
+    Ok(Items {
+        numbers: Numbers::new(numbers),
+        others,
+    })
+}

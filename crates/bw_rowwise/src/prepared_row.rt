@@ -1,0 +1,94 @@
+//! The truth of a prepared condition on a row.
+ghost use Rattle.std.specs.Prelude.{◌≡◌, map};
+ghost use Rattle.bw_model.specs.Cond.{operand_value};
+ghost use Rattle.bw_model.specs.Row.{values_of};
+ghost use Rattle.bw_model.specs.Truth.{all_of, among, any_of};
+ghost use Rattle.bw_rowwise.specs.Prepared.{prepared_truth};
+
+use crate::logic::{between, both, compared, either, opposite};
+use crate::prepared::Prepared;
+use bw_model::{Op, Operand, Row, Truth, Value};
+
+impl Prepared {
+    /// The truth of the condition on a row. A column that the row hasn't is null.
+    #[tactic(auto, using(crate::proofs::PreparedLemmas::truths))]
+    #[cycle(truth)]
+    pub fn truth(&self, row: &Row) -> Truth
+        ensures { result ≡ prepared_truth (values_of row.now) self.now }
+    {
+        match self {
+            Prepared::Always => Truth::Yes,
+            Prepared::Cmp(op, x, y) => compared(*op, value_of(*x, row), value_of(*y, row)),
+            Prepared::Between(x, y, z) => {
+                between(value_of(*x, row), value_of(*y, row), value_of(*z, row))
+            }
+            Prepared::Among(x, numbers, others) => {
+                let x = value_of(*x, row);
+                either(numbers.among(x), among(x, others, row))
+            }
+            Prepared::IsNull(x) => Truth::of(value_of(*x, row).is_none()),
+            Prepared::And(parts) => all_of(parts, row),
+            Prepared::Or(parts) => any_of(parts, row),
+            Prepared::Not(part) => opposite(part.truth(row)),
+            Prepared::Test(part, wanted) => Truth::of(part.truth(row) == *wanted),
+        }
+    }
+}
+
+/// AND of the parts.
+#[tactic(auto, using(crate::proofs::LogicLemmas::least_assoc))]
+#[cycle(truth)]
+fn all_of(parts: &[Prepared], row: &Row) -> Truth
+    ensures { result ≡ all_of (map (prepared_truth (values_of row.now)) parts.now) }
+{
+    let mut least = Truth::Yes;
+    for part in parts {
+        least = both(least, part.truth(row));
+        if least == Truth::No {
+            break;
+        }
+    }
+    least
+}
+
+/// OR of the parts.
+#[tactic(auto, using(crate::proofs::LogicLemmas::greatest_assoc))]
+#[cycle(truth)]
+fn any_of(parts: &[Prepared], row: &Row) -> Truth
+    ensures { result ≡ any_of (map (prepared_truth (values_of row.now)) parts.now) }
+{
+    let mut greatest = Truth::No;
+    for part in parts {
+        greatest = either(greatest, part.truth(row));
+        if greatest == Truth::Yes {
+            break;
+        }
+    }
+    greatest
+}
+
+/// The value that an operand has in a row; null for a column that the row hasn't.
+fn value_of(operand: Operand, row: &Row) -> Value
+    ensures { result ≡ operand_value (values_of row.now) operand }
+{
+    match operand {
+        Operand::Col(column) => row.values.get(column).copied().flatten(),
+        Operand::Lit(n) => Some(n),
+        Operand::Null => None,
+    }
+}
+
+/// Whether a value is one of the items, as `IN` says.
+#[tactic(auto, using(crate::proofs::LogicLemmas::greatest_assoc))]
+fn among(x: Value, items: &[Operand], row: &Row) -> Truth
+    ensures { result ≡ among x (map (operand_value (values_of row.now)) items.now) }
+{
+    let mut greatest = Truth::No;
+    for item in items {
+        greatest = either(greatest, compared(Op::Eq, x, value_of(*item, row)));
+        if greatest == Truth::Yes {
+            break;
+        }
+    }
+    greatest
+}

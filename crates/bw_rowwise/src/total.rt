@@ -1,0 +1,110 @@
+//! A total, and what one more row makes of it. A null counts for nothing.
+ghost use Rattle.std.specs.Prelude.{◌≡◌, ◌+◌, ◌<◌, ◌+ℤ◌, ℕ, pos, Some, FitsSigned, IsTrue, length};
+ghost use Rattle.std.specs.Int.{w64};
+ghost use Rattle.bw_model.specs.Limits.{most_rows};
+ghost use Rattle.bw_model.specs.Row.{values_of};
+ghost use Rattle.bw_model.specs.Total.{item_within, joined, of_both};
+ghost use Rattle.bw_rowwise.specs.Accumulator.{answer_with, added_by, IsTotalOfRows};
+
+use bw_model::{Item, Row, Value};
+
+/// The total of an aggregate over some rows and one more, from the total over the rows. The row has the
+/// aggregate's column.
+#[tactic(auto, using(crate::proofs::TotalLemmas::small_one, crate::proofs::TotalLemmas::small_more))]
+pub fn answer_with(item: Item, answer: Option<i128>, row: &Row) -> Option<i128>
+    requires few { IsTotalOfRows most_rows answer }
+    requires column { IsTrue (item_within (length (values_of row.now)) item) }
+    ensures value { result ≡ answer_with item answer (values_of row.now) }
+    ensures small { (rows : ℕ) → IsTotalOfRows rows answer → IsTotalOfRows (rows + 1) result }
+{
+    match (answer, added_by(item, row)) {
+        (Some(total), Some(n)) => Some(of_both(item, total, n)),
+        (None, Some(n)) => Some(widened(n)),
+        (_, None) => answer,
+    }
+}
+
+/// What a row adds to an aggregate.
+fn added_by(item: Item, row: &Row) -> Value
+    requires { IsTrue (item_within (length (values_of row.now)) item) }
+    ensures { result ≡ added_by item (values_of row.now) }
+{
+    match item {
+        Item::Plain(_) => None,
+        Item::CountAll => Some(1),
+        Item::Count(column) => row.values[column].map(|_| 1),
+        Item::Sum(column) | Item::Min(column) | Item::Max(column) => row.values[column],
+    }
+}
+
+/// What an aggregate makes of its total and one more number.
+fn of_both(item: Item, total: i128, n: i64) -> i128
+    requires { IsTotalOfRows most_rows (Some total) }
+    ensures value { result ≡ of_both item total n }
+    ensures fits { FitsSigned w64 n }
+    ensures small { (rows : ℕ) → IsTotalOfRows rows (Some total)
+        → IsTotalOfRows (rows + 1) (Some result) }
+{
+    match item {
+        Item::Min(_) => total.min(widened(n)),
+        Item::Max(_) => total.max(widened(n)),
+        Item::Plain(_) | Item::CountAll | Item::Count(_) | Item::Sum(_) => plus(total, n),
+    }
+}
+
+/// The sum of two numbers.
+fn plus(sum: i128, n: i64) -> i128
+    requires { IsTotalOfRows most_rows (Some sum) }
+    ensures sum { result ≡ sum +ℤ n }
+    ensures fits { FitsSigned w64 n }
+{
+    sum + i128::from(n)
+}
+
+/// The same number.
+fn widened(n: i64) -> i128
+    ensures same { result ≡ n }
+    ensures fits { FitsSigned w64 n }
+{
+    i128::from(n)
+}
+
+/// The total of some rows and others, from the totals of both.
+#[tactic(auto, using(crate::proofs::TotalLemmas::small_left, crate::proofs::TotalLemmas::small_right))]
+pub fn joined(item: Item, answer: Option<i128>, others: Option<i128>) -> Option<i128>
+    requires few { IsTotalOfRows most_rows answer }
+    requires others { IsTotalOfRows most_rows others }
+    ensures value { result ≡ joined item answer others }
+    ensures small { (rows more : ℕ) → IsTotalOfRows rows answer → IsTotalOfRows more others
+        → IsTotalOfRows (rows + more) result }
+{
+    match (answer, others) {
+        (Some(a), Some(b)) => Some(total_of_both(item, a, b)),
+        (None, others) => others,
+        (_, None) => answer,
+    }
+}
+
+/// What an aggregate makes of two totals that are there.
+fn total_of_both(item: Item, a: i128, b: i128) -> i128
+    requires few { IsTotalOfRows most_rows (Some a) }
+    requires others { IsTotalOfRows most_rows (Some b) }
+    ensures value { result ≡ of_both item a b }
+    ensures small { (rows more : ℕ) → IsTotalOfRows rows (Some a) → IsTotalOfRows more (Some b)
+        → IsTotalOfRows (rows + more) (Some result) }
+{
+    match item {
+        Item::Min(_) => a.min(b),
+        Item::Max(_) => a.max(b),
+        Item::Plain(_) | Item::CountAll | Item::Count(_) | Item::Sum(_) => sum_of_both(a, b),
+    }
+}
+
+/// The sum of two totals.
+fn sum_of_both(a: i128, b: i128) -> i128
+    requires few { IsTotalOfRows most_rows (Some a) }
+    requires others { IsTotalOfRows most_rows (Some b) }
+    ensures { result ≡ a +ℤ b }
+{
+    a + b
+}

@@ -1,0 +1,74 @@
+//! Certificates and the checker.
+ghost use Rattle.std.specs.Prelude.{◌≡◌, ◌≤◌, ◌^◌, length, IsTrue};
+ghost use Rattle.bw_cert_text.specs.Columns.{has_columns};
+ghost use Rattle.bw_cert_text.specs.CertificateFields.{certificate_fields};
+ghost use Rattle.bw_model.specs.Cond.{is_whole, names_within};
+
+use bw_cert::{Certificate, Certified};
+use bw_lanes::Plane;
+use bw_model::{Cond, Fault, Schema};
+use bw_program::Program;
+use bw_run::Counts;
+use bw_segment::Segment;
+use std::alloc::Global;
+
+pub fn calls_parse(alloc: Global, first_line: u64, text: &[u8]) -> Result<Certificate, Fault>
+    requires some { 1 ≤ first_line }
+    requires few { first_line ≤ 2 ^ 32 }
+{
+    Certificate::parse(alloc, first_line, text)
+}
+
+pub fn calls_print(
+    certificate: &Certificate,
+    alloc: Global,
+    schema: &Schema,
+) -> Result<Vec<u8>, Fault>
+    requires { IsTrue (has_columns schema.now.columns.items (certificate_fields certificate.now)) }
+{
+    certificate.print(alloc, schema)
+}
+
+pub fn calls_nodes(certificate: &Certificate) -> usize {
+    certificate.nodes()
+}
+
+pub fn calls_chains(certificate: &Certificate) -> usize {
+    certificate.chains()
+}
+
+pub fn calls_rows(certificate: &Certificate) -> usize {
+    certificate.rows()
+}
+
+pub fn calls_check(
+    alloc: Global,
+    schema: &Schema,
+    condition: &Cond,
+    program: Program,
+    certificate: &Certificate,
+) -> Result<Certified, (Program, Fault)>
+    requires whole { IsTrue (is_whole condition.now) }
+    requires columns { IsTrue (names_within (length schema.now.columns.items) condition.now) }
+{
+    bw_cert::check(alloc, schema, condition, program, certificate)
+}
+
+pub fn calls_schema(certified: &Certified) -> &Schema {
+    certified.schema()
+}
+
+pub fn calls_condition(certified: &Certified) -> &Cond {
+    certified.condition()
+}
+
+pub fn calls_program(certified: &Certified) -> &Program {
+    certified.program()
+}
+
+pub fn calls_run_segment<S: Segment>(certified: &Certified, segment: &S) -> (Plane, Counts)
+    requires name { (S.meaning segment.now).name ≡ certified.now.schema.name }
+    requires columns { (S.meaning segment.now).columns ≡ certified.now.schema.columns.items }
+{
+    certified.run_segment(segment)
+}

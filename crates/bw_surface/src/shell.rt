@@ -1,0 +1,160 @@
+//! The calls end to end, and what is reported of them.
+ghost use Rattle.std.specs.Prelude.{◌-◌, ◌^◌, ◌<◌};
+
+use bw_file::{Layout, Sink, Source};
+use bw_model::Fault;
+use bw_shell::{Accepted, By, Input, ProgramFile, Served};
+use std::alloc::Global;
+
+pub fn makes_whole(bytes: Vec<u8>) -> Input {
+    Input::Whole(bytes)
+}
+
+pub fn tells_inputs(input: &Input) -> u8 {
+    match input {
+        Input::Whole(_) => 0,
+        Input::Over => 1,
+    }
+}
+
+pub fn calls_read_limited<S: Source>(
+    alloc: Global,
+    source: &mut S,
+    limit: u64,
+) -> Result<Input, Fault>
+    requires source { S.failures source.old < 2 ^ 64 - 1 }
+    requires limit { limit < 2 ^ 63 }
+{
+    bw_shell::read_limited(alloc, source, limit)
+}
+
+pub fn calls_report<K: Sink>(fault: &Fault, sink: &mut K) -> u8
+    requires { K.failures sink.old < 2 ^ 64 - 1 }
+{
+    bw_shell::report(fault, sink)
+}
+
+pub fn makes_accepted(
+    instructions: usize,
+    skips: usize,
+    nodes: usize,
+    chains: usize,
+    rows: usize,
+) -> Accepted {
+    Accepted {
+        instructions,
+        skips,
+        nodes,
+        chains,
+        rows,
+    }
+}
+
+pub fn calls_accepted_line<K: Sink>(accepted: &Accepted, sink: &mut K) -> Result<(), Fault>
+    requires { K.failures sink.old < 2 ^ 64 - 1 }
+{
+    bw_shell::accepted_line(accepted, sink)
+}
+
+pub fn tells_by(by: By) -> u8 {
+    match by {
+        By::Program => 0,
+        By::Rows => 1,
+    }
+}
+
+pub fn makes_served(by: By, segments: u32, loads: u64, skips: u64) -> Served {
+    Served {
+        by,
+        segments,
+        loads,
+        skips,
+    }
+}
+
+pub fn calls_stats_line<K: Sink>(served: &Served, sink: &mut K) -> Result<(), Fault>
+    requires { K.failures sink.old < 2 ^ 64 - 1 }
+{
+    bw_shell::stats_line(served, sink)
+}
+
+pub fn calls_split_file(file: &[u8]) -> (&[u8], &[u8], u64) {
+    let ProgramFile {
+        program,
+        certificate,
+        first_line,
+    } = bw_shell::split_file(file);
+    (program, certificate, first_line)
+}
+
+pub fn calls_load<S: Source, C: Source, K: Sink>(
+    alloc: Global,
+    schema: &mut S,
+    csv: &mut C,
+    layout: Layout,
+    sink: &mut K,
+) -> Result<(), Fault>
+    requires schema { S.failures schema.old < 2 ^ 64 - 1 }
+    requires csv { C.failures csv.old < 2 ^ 64 - 1 }
+    requires sink { K.failures sink.old < 2 ^ 64 - 1 }
+{
+    bw_shell::load(alloc, schema, csv, layout, sink)
+}
+
+pub fn calls_direct<S: Source, C: Source, K: Sink>(
+    alloc: Global,
+    schema: &mut S,
+    csv: &mut C,
+    sql: &[u8],
+    sink: &mut K,
+) -> Result<(), Fault>
+    requires schema { S.failures schema.old < 2 ^ 64 - 1 }
+    requires csv { C.failures csv.old < 2 ^ 64 - 1 }
+    requires sink { K.failures sink.old < 2 ^ 64 - 1 }
+{
+    bw_shell::direct(alloc, schema, csv, sql, sink)
+}
+
+pub fn calls_answer<S: Source, K: Sink>(
+    alloc: Global,
+    table: &mut S,
+    sql: &[u8],
+    program: Option<&[u8]>,
+    sink: &mut K,
+) -> Result<Served, Fault>
+    requires table { S.failures table.old < 2 ^ 64 - 1 }
+    requires sink { K.failures sink.old < 2 ^ 64 - 1 }
+{
+    bw_shell::answer(alloc, table, sql, program, sink)
+}
+
+pub fn calls_dump<S: Source, K: Sink>(
+    alloc: Global,
+    table: &mut S,
+    sink: &mut K,
+) -> Result<(), Fault>
+    requires table { S.failures table.old < 2 ^ 64 - 1 }
+    requires sink { K.failures sink.old < 2 ^ 64 - 1 }
+{
+    bw_shell::dump(alloc, table, sink)
+}
+
+pub fn calls_check_text(
+    alloc: Global,
+    schema: &[u8],
+    sql: &[u8],
+    file: &[u8],
+) -> Result<Accepted, Fault> {
+    bw_shell::check_text(alloc, schema, sql, file)
+}
+
+pub fn calls_plan_text<K: Sink>(
+    alloc: Global,
+    schema: &[u8],
+    sql: &[u8],
+    sink: &mut K,
+) -> Result<(), Fault>
+    requires { K.failures sink.old < 2 ^ 64 - 1 }
+{
+    bw_shell::plan_text(alloc, schema, sql, sink)
+}
