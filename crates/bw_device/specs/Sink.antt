@@ -1,22 +1,13 @@
 -- What of a text went out to a sink.
-use Rattle.std.specs.Prelude.{◌≡◌, ◌==◌, ℕ, ◌+◌, ◌<◌, Bool, true, false, List, length, take, Option, Result, Ok, Err, IfErr, IsOkAnd, OnOk}
-use Rattle.std.specs.Io.KnownBytes.{Appends, Keeps}
+use Rattle.std.specs.Prelude.{◌≡◌, ◌==◌, ℕ, ◌+◌, ◌<◌, Bool, false, List, length, take, Option, Result, Ok, Err}
+use Rattle.std.specs.Io.KnownBytes.{Appends}
 use Rattle.bw_model.specs.FaultTable.{WRITE_FAILED}
 use Rattle.bw_model.specs.declared.fault.Fault.{Fault}
 use Rattle.bw_model.specs.Fault.{nowhere}
-use Rattle.bw_device.specs.Source.{EndsWith}
 
 -- the fault tells of a failed write
 abbrev pub is_write_fault : Fault → Bool
 is_write_fault fault = fault.code == WRITE_FAILED
-
--- What a call leaves of a sink to which it writes once all else has succeeded: where a write failed it ends with that;
--- where it refuses for another reason the sink is as it was; and where it succeeds no write failed.
-abbrev pub LeavesSink : {T : Type 0} → Option (List ℕ) → Option (List ℕ) → ℕ → ℕ → Result T Fault → Type 0
-LeavesSink old new before after result =
-    EndsWith (nowhere WRITE_FAILED) before after result
-    × IfErr result (λ fault. is_write_fault fault ≡ false → (new ≡ old) × (after ≡ before))
-    × OnOk result (after ≡ before)
 
 -- a part from the text's front was taken, and not all of it
 abbrev pub TookPart : Option (List ℕ) → Option (List ℕ) → List ℕ → Type 0
@@ -30,18 +21,18 @@ GoesOut old new before after text (Ok x) = Appends old new text × (after ≡ be
 GoesOut old new before after text (Err fault) =
     (fault ≡ nowhere WRITE_FAILED) × TookPart old new text × (after ≡ before + 1)
 
--- A call that is to write a text, or to refuse: the text went out, or up to a failed write; or the
--- call wrote nothing and refused as it was to, where the fault isn't one of those that are set
--- aside.
-abbrev pub Wrote : {T : Type 0} → (Fault → Bool) → Option (List ℕ) → Option (List ℕ) → ℕ → ℕ
-    → Result (List ℕ) Fault → Result T Fault → Type 0
-Wrote aside old new before after given (Ok x) =
-    IsOkAnd given (λ text. Appends old new text) × (after ≡ before)
-Wrote aside old new before after given (Err fault) =
-    (is_write_fault fault ≡ true
-    → (fault ≡ nowhere WRITE_FAILED) × IsOkAnd given (TookPart old new) × (after ≡ before + 1))
-    × (is_write_fault fault ≡ false
-    → Keeps old new × (after ≡ before) × (aside fault ≡ false → given ≡ Err fault))
+-- What a call did to its sink that is to write a text or to refuse: everything went out; or a beginning went out, and
+-- then a write failed; or nothing went out, because of this fault, which is the one by which the call was to refuse,
+-- unless it is one that is set aside. The sink's count of failures rises from before to after, by one, at a failed write
+-- alone.
+pub data Wrote {T : Type 0} (aside : Fault → Bool) (old new : Option (List ℕ)) (before after : ℕ)
+    (given : Result (List ℕ) Fault) : Result T Fault → Type 0 where
+  everything : {x : T} (text : List ℕ) → given ≡ Ok text → Appends old new text → after ≡ before →
+      Wrote aside old new before after given (Ok x)
+  beginning : (text : List ℕ) → given ≡ Ok text → TookPart old new text → after ≡ before + 1 →
+      Wrote aside old new before after given (Err (nowhere WRITE_FAILED))
+  nothing : {fault : Fault} → is_write_fault fault ≡ false → (aside fault ≡ false → given ≡ Err fault) →
+      new ≡ old → after ≡ before → Wrote aside old new before after given (Err fault)
 
 -- no fault is set aside
 abbrev pub none_aside : Fault → Bool

@@ -1,9 +1,17 @@
 -- What came of a source that a call read to its end, or until it passed a limit.
-use Rattle.std.specs.Prelude.{◌≡◌, ◌==◌, ◌&&◌, ◌||◌, Bool, ℕ, ◌+◌, ◌<◌, ◌≤◌, List, length, Option, Some, None, IfSome, Result, Ok, Err, MatchBool}
+use Rattle.std.specs.Prelude.{◌≡◌, ◌==◌, ◌&&◌, ◌||◌, if◌then◌else◌, Bool, ℕ, ◌+◌, ◌≤◌, List, length, Option, IfSome, Result, Ok, Err, MatchBool}
 use Rattle.std.specs.Io.KnownBytes.{Consumes, IsAtEnd}
 use Rattle.bw_model.specs.FaultTable.{READ_FAILED}
 use Rattle.bw_model.specs.declared.fault.Fault.{Fault}
 use Rattle.bw_model.specs.Fault.{nowhere, no_memory, is_memory, stands_nowhere}
+
+-- What came of a source that a call reads whole, up to a limit: the call ended before it read the source; all its
+-- bytes came; they were more than the limit; or a read failed or memory ran out, which is this fault.
+pub data Arrival : Type 0 where
+  NotReached : Arrival
+  Whole : List ℕ → Arrival
+  TooLong : Arrival
+  Failed : Fault → Arrival
 
 -- a failed read, and what a call that only reads refuses by: a failed read or out of memory
 abbrev pub is_read_fault : Fault → Bool
@@ -12,9 +20,18 @@ is_read_fault fault = (fault.code == READ_FAILED) && stands_nowhere fault.place
 abbrev pub is_input_fault : Fault → Bool
 is_input_fault fault = is_memory fault || is_read_fault fault
 
--- a device's count of failures rose, and so the call answered this fault
-abbrev pub EndsWith : {T : Type 0} → Fault → ℕ → ℕ → Result T Fault → Type 0
-EndsWith fault before after result = before < after → result ≡ Err fault
+-- how many reads failed in a call that refuses by this fault: one, if it is that of a failed read, and else none
+abbrev pub failed_reads : Fault → ℕ
+failed_reads fault = if is_read_fault fault then 1 else 0
+
+-- how many reads failed in a call that answered this
+abbrev pub failed_by : {T : Type 0} → Result T Fault → ℕ
+failed_by (Ok x) = 0
+failed_by (Err fault) = failed_reads fault
+
+-- The call refused by a failed read exactly where its source's count of failures rose, and then by one.
+abbrev pub TellsFailure : {T : Type 0} → ℕ → ℕ → Result T Fault → Type 0
+TellsFailure before after result = after ≡ before + failed_by result
 
 -- all bytes to come, where they are known, came, and there were no more than the limit
 abbrev pub GaveAll : ℕ → Option (List ℕ) → Option (List ℕ) → List ℕ → Type 0
@@ -28,19 +45,17 @@ PassedLimit limit old new = (bytes : List ℕ) × Consumes old new bytes × (len
 abbrev pub TookAtMost : ℕ → Option (List ℕ) → Option (List ℕ) → Type 0
 TookAtMost most old new = (bytes : List ℕ) × Consumes old new bytes × (length bytes ≤ most)
 
--- What a call leaves of a source: of its bytes to come it took at most so many, and where a read failed it ends with
--- that.
+-- What a call leaves of its source: it took at most so many of the bytes to come, and refused by a failed read exactly
+-- where the count of failures rose.
 abbrev pub LeavesSource : {T : Type 0} → ℕ → Option (List ℕ) → Option (List ℕ) → ℕ → ℕ → Result T Fault → Type 0
-LeavesSource most old new before after result = TookAtMost most old new
-    × EndsWith (nowhere READ_FAILED) before after result
+LeavesSource most old new before after result = TookAtMost most old new × TellsFailure before after result
 
--- What came: all bytes, which are within the limit; or None, for more than the limit; or out of
--- memory; or a failed read. The source's failures rise from before to after, by one, at a failed
--- read alone.
-abbrev pub Came : ℕ → Option (List ℕ) → Option (List ℕ) → ℕ → ℕ → Result (Option (List ℕ)) Fault
-    → Type 0
-Came limit old new before after (Ok (Some bytes)) = GaveAll limit old new bytes × (after ≡ before)
-Came limit old new before after (Ok None) = PassedLimit limit old new × (after ≡ before)
-Came limit old new before after (Err fault) =
+-- A source's count of failures rises from before to after, by one, where a failed read is what came of it, and else
+-- stays. A source that wasn't reached is as it was, as far as its bytes to come and its count tell.
+abbrev pub Came : ℕ → Option (List ℕ) → Option (List ℕ) → ℕ → ℕ → Arrival → Type 0
+Came limit old new before after NotReached = (new ≡ old) × (after ≡ before)
+Came limit old new before after (Whole bytes) = GaveAll limit old new bytes × (after ≡ before)
+Came limit old new before after TooLong = PassedLimit limit old new × (after ≡ before)
+Came limit old new before after (Failed fault) =
     MatchBool (is_memory fault) ((fault ≡ no_memory) × (after ≡ before))
     ((fault ≡ nowhere READ_FAILED) × (after ≡ before + 1))

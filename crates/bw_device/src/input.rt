@@ -1,8 +1,6 @@
 //! Whole inputs, read from a source up to a limit.
 ghost use Rattle.std.specs.Prelude.{◌+◌, ◌-◌, ◌^◌, ◌<◌, IfErr, IsTrue};
-ghost use Rattle.bw_model.specs.FaultTable.{READ_FAILED};
-ghost use Rattle.bw_model.specs.Fault.{nowhere};
-ghost use Rattle.bw_device.specs.Source.{Came, TookAtMost, EndsWith, is_input_fault};
+ghost use Rattle.bw_device.specs.Source.{Came, TookAtMost, TellsFailure, is_input_fault};
 ghost use Rattle.bw_device.specs.Input.{arrival};
 
 use crate::failed::Failed;
@@ -31,7 +29,7 @@ pub fn read_limited<S: Source>(alloc: Global, source: &mut S, limit: u64) -> Res
     ensures came { Came limit (S.to_come source.old) (S.to_come source.new)
         (S.failures source.old) (S.failures source.new) (arrival result) }
     ensures took { TookAtMost (limit + 1) (S.to_come source.old) (S.to_come source.new) }
-    ensures failed { EndsWith (nowhere READ_FAILED) (S.failures source.old) (S.failures source.new) result }
+    ensures failed { TellsFailure (S.failures source.old) (S.failures source.new) result }
     ensures fault { IfErr result (λ fault. IsTrue (is_input_fault fault)) }
 {
     let most = limit as usize + 1;
