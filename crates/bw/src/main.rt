@@ -7,6 +7,7 @@
 #![tactic(auto)]
 
 mod calls;
+mod in_file;
 mod out_file;
 mod run;
 

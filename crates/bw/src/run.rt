@@ -3,6 +3,7 @@ ghost use Rattle.std.specs.Prelude.{◌≡◌, IfOk};
 ghost use Rattle.bw_device.specs.ReadAhead.{read_failures};
 
 use crate::calls::{answer, check, direct, dump, infer, info, load, plan};
+use crate::in_file::InFile;
 use crate::out_file::{OutFile, is_same_file};
 use bw_device::ReadAhead;
 use bw_file::{FromRead, Layout, Source, ToWrite};
@@ -10,7 +11,7 @@ use bw_model::{Fault, MAX_SCHEMA_LEN, code};
 use bw_shell::{
     By, Input, MAX_PROGRAM_FILE_LEN, Served, accepted_line, read_limited, report, stats_line,
 };
-use bw_tell::{Ended, explain, explain_rows};
+use bw_tell::{Ended, Reads, explain, explain_rows};
 use bw_words::{Asked, USAGE, Words, asked_by, words_given};
 use std::fs::File;
 use std::io::IsTerminal;
@@ -107,21 +108,30 @@ fn run_direct<'a>(
     csv_path: &'a str,
     sql: &str,
 ) -> Result<(), Ended<'a>> {
-    let (schema, csv) = open_both(rt, schema_path, csv_path)?;
-    let mut schema = FromRead::new(schema);
-    let mut csv = FromRead::new(csv);
+    let (mut schema, mut csv) = open_both(rt, schema_path, csv_path)?;
+    let mut schema_source = FromRead::new(&mut schema);
+    let mut csv_source = FromRead::new(&mut csv);
     let mut out = ToWrite::new(rt.stdout());
-    let done = direct(rt.alloc(), &mut schema, &mut csv, sql, &mut out);
-    let files = [(schema_path, schema.failures()), (csv_path, csv.failures())];
-    or_ended(done, &files)
+    let done = direct(
+        rt.alloc(),
+        &mut schema_source,
+        &mut csv_source,
+        sql,
+        &mut out,
+    );
+    or_ended(
+        done,
+        &[(schema_path, schema.reads()), (csv_path, csv.reads())],
+    )
 }
 
 /// Runs `bw infer`.
 fn run_infer<'a>(rt: &HostRuntime, name: Option<&str>, csv_path: &'a str) -> Result<(), Ended<'a>> {
-    let mut csv = FromRead::new(open(rt, csv_path)?);
+    let mut csv = open(rt, csv_path)?;
+    let mut source = FromRead::new(&mut csv);
     let mut out = ToWrite::new(rt.stdout());
-    let done = infer(rt.alloc(), name.unwrap_or("t"), &mut csv, &mut out);
-    or_ended(done, &[(csv_path, csv.failures())])
+    let done = infer(rt.alloc(), name.unwrap_or("t"), &mut source, &mut out);
+    or_ended(done, &[(csv_path, csv.reads())])
 }
 
 /// Runs `bw load`: both files are opened before either is read, and the third is created at the first write.
@@ -132,13 +142,21 @@ fn run_load<'a>(
     csv_path: &'a str,
     out: &str,
 ) -> Result<(), Ended<'a>> {
-    let (schema, csv) = open_both(rt, schema_path, csv_path)?;
-    let mut schema = FromRead::new(schema);
-    let mut csv = FromRead::new(csv);
+    let (mut schema, mut csv) = open_both(rt, schema_path, csv_path)?;
+    let mut schema_source = FromRead::new(&mut schema);
+    let mut csv_source = FromRead::new(&mut csv);
     let mut out = OutFile::new(rt, out);
-    let done = load(rt.alloc(), &mut schema, &mut csv, layout, &mut out);
-    let files = [(schema_path, schema.failures()), (csv_path, csv.failures())];
-    or_ended(done, &files)
+    let done = load(
+        rt.alloc(),
+        &mut schema_source,
+        &mut csv_source,
+        layout,
+        &mut out,
+    );
+    or_ended(
+        done,
+        &[(schema_path, schema.reads()), (csv_path, csv.reads())],
+    )
 }
 
 /// Runs `bw query`: the files are opened before any is read, and the program file is read first. Tells how the query
@@ -174,18 +192,18 @@ fn program_given<'a>(
 fn answer_from<'a>(
     rt: &HostRuntime,
     path: &'a str,
-    table: File,
+    mut table: InFile,
     sql: &str,
     program: Option<&[u8]>,
 ) -> Result<Served, Ended<'a>> {
-    let mut table = ahead(rt, table)?;
+    let mut source = ahead(rt, &mut table)?;
     let mut out = ToWrite::new(rt.stdout());
-    let done = answer(rt.alloc(), &mut table, sql, program, &mut out);
-    or_ended(done, &[(path, table.failures())])
+    let done = answer(rt.alloc(), &mut source, sql, program, &mut out);
+    or_ended(done, &[(path, table.reads())])
 }
 
 /// The bytes of a program file, whole.
-fn read_program<'a>(rt: &HostRuntime, path: &'a str, file: File) -> Result<Vec<u8>, Ended<'a>> {
+fn read_program<'a>(rt: &HostRuntime, path: &'a str, file: InFile) -> Result<Vec<u8>, Ended<'a>> {
     match read_text(rt, path, file, MAX_PROGRAM_FILE_LEN as u32)? {
         Input::Whole(bytes) => Ok(bytes),
         Input::Over => Err(Ended::of(Fault::new(code::PROGRAM_FILE_TOO_LONG), &[])),
@@ -202,16 +220,18 @@ fn run_plan<'a>(rt: &HostRuntime, schema_path: &'a str, sql: &str) -> Result<(),
 
 /// Runs `bw info`.
 fn run_info<'a>(rt: &HostRuntime, table_path: &'a str) -> Result<(), Ended<'a>> {
-    let mut table = ahead(rt, open(rt, table_path)?)?;
-    let done = info(rt.alloc(), &mut table, &mut ToWrite::new(rt.stdout()));
-    or_ended(done, &[(table_path, table.failures())])
+    let mut table = open(rt, table_path)?;
+    let mut source = ahead(rt, &mut table)?;
+    let done = info(rt.alloc(), &mut source, &mut ToWrite::new(rt.stdout()));
+    or_ended(done, &[(table_path, table.reads())])
 }
 
 /// Runs `bw dump`.
 fn run_dump<'a>(rt: &HostRuntime, table_path: &'a str) -> Result<(), Ended<'a>> {
-    let mut table = ahead(rt, open(rt, table_path)?)?;
-    let done = dump(rt.alloc(), &mut table, &mut ToWrite::new(rt.stdout()));
-    or_ended(done, &[(table_path, table.failures())])
+    let mut table = open(rt, table_path)?;
+    let mut source = ahead(rt, &mut table)?;
+    let done = dump(rt.alloc(), &mut source, &mut ToWrite::new(rt.stdout()));
+    or_ended(done, &[(table_path, table.reads())])
 }
 
 /// Runs `bw check`: both files are opened before either is read, and read in this order.
@@ -230,7 +250,7 @@ fn run_check<'a>(
 }
 
 /// The text of a schema, whole.
-fn read_schema<'a>(rt: &HostRuntime, path: &'a str, file: File) -> Result<Vec<u8>, Ended<'a>> {
+fn read_schema<'a>(rt: &HostRuntime, path: &'a str, file: InFile) -> Result<Vec<u8>, Ended<'a>> {
     match read_text(rt, path, file, MAX_SCHEMA_LEN as u32)? {
         Input::Whole(text) => Ok(text),
         Input::Over => Err(Ended::of(Fault::new(code::SCHEMA_TOO_LONG), &[])),
@@ -241,17 +261,17 @@ fn read_schema<'a>(rt: &HostRuntime, path: &'a str, file: File) -> Result<Vec<u8
 fn read_text<'a>(
     rt: &HostRuntime,
     path: &'a str,
-    file: File,
+    mut file: InFile,
     limit: u32,
 ) -> Result<Input, Ended<'a>> {
-    let mut source = FromRead::new(file);
+    let mut source = FromRead::new(&mut file);
     let done = read_limited(rt.alloc(), &mut source, u64::from(limit));
-    or_ended(done, &[(path, source.failures())])
+    or_ended(done, &[(path, file.reads())])
 }
 
-/// What a call gave, or what ended the command: the call's fault, and the files that it read, each with its number of
-/// failed reads.
-fn or_ended<'a, T>(done: Result<T, Fault>, files: &[(&'a str, u64)]) -> Result<T, Ended<'a>> {
+/// What a call gave, or what ended the command: the call's fault, and the files that it read, each with how its reads
+/// went.
+fn or_ended<'a, T>(done: Result<T, Fault>, files: &[(&'a str, Reads)]) -> Result<T, Ended<'a>> {
     match done {
         Ok(given) => Ok(given),
         Err(fault) => Err(Ended::of(fault, files)),
@@ -263,26 +283,29 @@ fn open_both<'a>(
     rt: &HostRuntime,
     first: &'a str,
     second: &'a str,
-) -> Result<(File, File), Ended<'a>> {
+) -> Result<(InFile, InFile), Ended<'a>> {
     let first = open(rt, first)?;
     let second = open(rt, second)?;
     Ok((first, second))
 }
 
-fn open<'a>(rt: &HostRuntime, path: &'a str) -> Result<File, Ended<'a>> {
+fn open<'a>(rt: &HostRuntime, path: &'a str) -> Result<InFile, Ended<'a>> {
     match File::open(rt, path) {
-        Ok(file) => Ok(file),
+        Ok(file) => Ok(InFile::new(file)),
         Err(_) => Err(Ended::unread(path)),
     }
 }
 
 /// A table file, which the system is asked for in large pieces, or at once where it's smaller: memory that isn't needed
 /// needn't be cleared.
-fn ahead<'a>(rt: &HostRuntime, file: File) -> Result<ReadAhead<File>, Ended<'a>>
+fn ahead<'f>(
+    rt: &HostRuntime,
+    file: &'f mut InFile,
+) -> Result<ReadAhead<&'f mut InFile>, Ended<'static>>
     ensures { IfOk result (λ source. read_failures source ≡ 0) }
 {
-    let piece = match file.metadata() {
-        Ok(found) if 0 < found.len() && found.len() < PIECE as u64 => found.len() as usize,
+    let piece = match file.len() {
+        Some(len) if 0 < len && len < PIECE as u64 => len as usize,
         _ => PIECE,
     };
     match ReadAhead::new(rt.alloc(), file, piece) {

@@ -22,4 +22,4 @@ mod shown;
 mod told;
 mod unfit;
 
-pub use told::{Ended, explain, explain_rows};
+pub use told::{Ended, Reads, explain, explain_rows};

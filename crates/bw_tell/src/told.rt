@@ -13,28 +13,39 @@ use std::fs::File;
 /// How many bytes of a statement are shown on each side of a fault.
 const SIDE: usize = 60;
 
-/// What ended a command: its fault, and the file that couldn't be opened or read where that is the fault.
+/// How the reads of a file went.
+#[derive(Clone, Copy, PartialEq, Eq)]
+pub enum Reads {
+    /// None failed.
+    Good,
+    /// One failed, or the file couldn't be opened.
+    Failed,
+    /// The file changed meanwhile.
+    Changed,
+}
+
+/// What ended a command: its fault, and the file whose reads failed where that is the fault.
 #[derive(Clone, Copy)]
 pub struct Ended<'a> {
     pub fault: Fault,
-    unread: Option<&'a str>,
+    unread: Option<(&'a str, Reads)>,
 }
 
 impl<'a> Ended<'a> {
-    /// A command that one of its files ended, which couldn't be opened or read.
+    /// A command that one of its files ended, which couldn't be opened.
     pub fn unread(path: &'a str) -> Self {
         Ended {
             fault: Fault::new(code::READ_FAILED),
-            unread: Some(path),
+            unread: Some((path, Reads::Failed)),
         }
     }
 
-    /// A command that a fault ended, and the files that it had opened, each with its number of failed reads.
-    pub fn of(fault: Fault, files: &[(&'a str, u64)]) -> Self {
-        let failed = files.iter().find(|(_, failures)| *failures > 0);
+    /// A command that a fault ended, and the files that it had opened, each with how its reads went.
+    pub fn of(fault: Fault, files: &[(&'a str, Reads)]) -> Self {
+        let failed = files.iter().find(|(_, reads)| *reads != Reads::Good);
         Ended {
             fault,
-            unread: failed.map(|(path, _)| *path),
+            unread: failed.copied(),
         }
     }
 }
@@ -49,7 +60,7 @@ pub fn explain(rt: &HostRuntime, words: &Words<'_>, ended: &Ended<'_>) {
         say(rt, "", said_of_statement(rt, words, sql, fault));
     } else if let Some(file) = file_of(words, ended) {
         if !say(rt, file, said_of_file(rt, words, file, fault)) {
-            explain_place(rt, fault, file);
+            explain_place(rt, ended, file);
         }
     }
 }
@@ -142,8 +153,12 @@ fn explain_byte(rt: &HostRuntime, sql: &str, byte: u64) {
 }
 
 /// Says where in a file a fault stands.
-fn explain_place(rt: &HostRuntime, fault: &Fault, file: &str) {
-    let _ = match (fault.code, fault.place) {
+fn explain_place(rt: &HostRuntime, ended: &Ended<'_>, file: &str) {
+    let has_changed = matches!(ended.unread, Some((_, Reads::Changed)));
+    let _ = match (ended.fault.code, ended.fault.place) {
+        (code::READ_FAILED, _) if has_changed => {
+            eprintln!(rt; "    {} changed while it was read", file)
+        }
         (code::READ_FAILED, _) => eprintln!(rt; "    {} can't be opened or read", file),
         (code::WRITE_FAILED, _) => eprintln!(rt; "    {} can't be written", file),
         (_, Place::Byte(byte)) => eprintln!(rt; "    byte {} of {}, from 0", byte, file),
@@ -173,7 +188,7 @@ fn file_of<'a>(words: &Words<'a>, ended: &Ended<'a>) -> Option<&'a str> {
         500..600 => words.program(),
         code::NO_PROGRAM => None,
         600..700 => words.program(),
-        code::READ_FAILED => ended.unread,
+        code::READ_FAILED => ended.unread.map(|(path, _)| path),
         code::WRITE_FAILED => Some(words.out().unwrap_or("standard output")),
         _ => None,
     }
