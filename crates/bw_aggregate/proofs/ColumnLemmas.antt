@@ -15,8 +15,8 @@ use Rattle.bw_model.specs.Stored.{stored_at}
 use Rattle.bw_model.specs.Total.{present}
 use Rattle.bw_model.specs.Truth.{is_null}
 use Rattle.bw_model.proofs.BitsLemmas.{both}
-use Rattle.bw_segment.specs.Packing.{null_bits, value_held}
-use Rattle.bw_segment.specs.Meaning.{Meaning, IsGroup, stored_codes}
+use Rattle.bw_segment.specs.Packing.{value_held}
+use Rattle.bw_segment.specs.Meaning.{Meaning, IsGroup, null_bits, stored_codes}
 use Rattle.bw_segment.proofs.ValueLemmas.{held_admitted}
 use Rattle.bw_segment.specs.Picked.{codes_in}
 use Rattle.bw_segment.proofs.PickedCodes.{codes_counted}

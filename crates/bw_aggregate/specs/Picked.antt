@@ -5,8 +5,7 @@ use Rattle.bw_model.specs.Code.{value_at}
 use Rattle.bw_model.specs.Row.{Value}
 use Rattle.bw_model.specs.Selection.{picked}
 use Rattle.bw_model.specs.Total.{total}
-use Rattle.bw_segment.specs.Packing.{null_bits}
-use Rattle.bw_segment.specs.Meaning.{Meaning}
+use Rattle.bw_segment.specs.Meaning.{Meaning, null_bits}
 use Rattle.bw_segment.specs.Picked.{codes_in}
 use Rattle.bw_rowwise.specs.Accumulator.{Tally, tally_joined}
 

@@ -11,6 +11,7 @@ use bw_lanes::{Selection, and, count, not};
 use bw_segment::Segment;
 
 /// Of some rows those in which a column isn't null.
+#[tactic(auto, unfolding(crate::specs::Picked::present_lanes))]
 pub(crate) fn present<S: Segment>(segment: &S, col: usize, rows: &Selection) -> Selection
     requires { col < length (S.meaning segment.now).columns }
     ensures { lanes_of_words result

@@ -8,8 +8,8 @@ use Rattle.bw_model.specs.Code.{span_of, width_of, width_at}
 use Rattle.bw_model.specs.Variable.{is_nullable}
 use Rattle.bw_segment.specs.Packing as kept
 use Rattle.bw_segment.specs.Packing.{IsPacking}
-use Rattle.bw_planes.specs.Kept.{planes_keep_codes}
-use Rattle.bw_slices.specs.Kept.{slices_keep_codes}
+use Rattle.bw_planes.proofs.KeptLemmas.{planes_keep_codes}
+use Rattle.bw_slices.proofs.KeptLemmas.{slices_keep_codes}
 use Rattle.bw_file.specs.Blocks.{form_of, block_size, bytes_before, segment_size}
 use Rattle.bw_file.specs.declared.layout.Layout.{Layout}
 use Rattle.bw_file.specs.declared.layout.Layout.TheVariants.{Planes, Slices}

@@ -18,7 +18,7 @@ use Rattle.bw_model.specs.Stored.{byte_of}
 use Rattle.bw_segment.proofs.ByteLemmas.{with_byte, codes_from, top_byte, byte_more, codes_whole}
 use Rattle.bw_segment.proofs.DescentLemmas.{high_more}
 use Rattle.bw_planes.specs.Planes.{plane_lanes, row_bits, planes_codes}
-use Rattle.bw_planes.specs.Kept.{spelled_below, length-planes_codes, plane_of_codes}
+use Rattle.bw_planes.proofs.KeptLemmas.{spelled_below, length-planes_codes, plane_of_codes}
 
 pub codes_long : (width : ℕ) (bytes : List ℕ) → length (planes_codes width bytes) ≡ 512
 unfolding group_size

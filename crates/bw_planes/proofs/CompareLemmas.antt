@@ -11,7 +11,7 @@ use Rattle.bw_lanes.proofs.WordLemmas.{mapped_right, ones_are_one, zeros_are_zer
 use Rattle.bw_model.specs.Code.{has_bit}
 use Rattle.bw_model.specs.Stored.{byte_of}
 use Rattle.bw_planes.specs.Planes.{planes_codes}
-use Rattle.bw_planes.specs.Kept.{low_more}
+use Rattle.bw_planes.proofs.KeptLemmas.{low_more}
 use Rattle.bw_planes.proofs.CodeLemmas.{codes_agree, codes_long}
 
 pub zip2_map_right : {A B C D : Type 0} (f : A → C → D) (g : B → C) (xs : List A) (ys : List B) → zip2 f xs (map g ys) ≡ zip2 (λ x y. f x (g y)) xs ys

@@ -6,8 +6,7 @@
 //! [`PlaneSegment::build`] gives a segment that means the rows given, and [`PlaneSegment::of_blocks`] one of bytes
 //! whose blocks [`PlaneSegment::judge`] finds without fault; either answers as [`bw_segment::Segment`] says.
 //!
-//! Read `specs/Planes.antt` first, and then `planes.rt`, `compare.rt` and `sum.rt`. `specs/Kept.antt` has the proof of
-//! the layout's law.
+//! Read `specs/Planes.antt` first, and then `planes.rt`, `compare.rt` and `sum.rt`.
 //!
 //! `bw` itself makes segments of a file's blocks. [`PlaneSegment::build`] is the library's public face, for 1 to 512
 //! rows that are in memory:

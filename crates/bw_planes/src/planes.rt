@@ -6,7 +6,6 @@ ghost use Rattle.bw_model.specs.Code.{has_bit};
 ghost use Rattle.bw_model.specs.Selection.{picked};
 ghost use Rattle.bw_model.specs.Stored.{byte_of};
 ghost use Rattle.bw_planes.specs.Planes.{plane_packing, planes_codes};
-ghost use Rattle.bw_planes.specs.Kept.{planes_keep_codes};
 
 use crate::compare::{at_least, eq, narrowed};
 use crate::sum::sum_in_word;
@@ -117,7 +116,7 @@ impl CodeLayout for Planes {
         }
     }
 
-    ghost keeps = { planes_keep_codes };
+    fn keeps_codes() {}
 }
 
 /// The greatest of the codes in some lanes, or the least; none where there are no lanes. From the top bit down the

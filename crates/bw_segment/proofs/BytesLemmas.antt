@@ -19,9 +19,9 @@ use Rattle.bw_model.specs.Stored.{stored_at}
 use Rattle.bw_model.specs.Truth.{is_null}
 use Rattle.bw_model.specs.Variable.{is_nullable}
 use Rattle.bw_model.proofs.BitsLemmas.{both}
-use Rattle.bw_segment.specs.Packing.{Packing, IsPacking, null_bits, null_size, block_size, segment_size, block_bytes, segment_bytes, block_at, block_nulls, block_codes, value_held, value_in_block, rows_spelled}
+use Rattle.bw_segment.specs.Packing.{Packing, IsPacking, null_size, block_size, segment_size, block_bytes, segment_bytes, block_at, block_nulls, block_codes, value_held, value_in_block, rows_spelled}
 use Rattle.bw_segment.specs.BlockFault.{padding_fault, row_fault, lanes_fault, block_fault, IsSound}
-use Rattle.bw_segment.specs.Meaning.{Meaning, IsGroup, stored_codes}
+use Rattle.bw_segment.specs.Meaning.{Meaning, IsGroup, stored_codes, null_bits}
 use Rattle.bw_segment.proofs.FaultLemmas.{first_none, row_clear, lanes_none, of_rows}
 use Rattle.bw_segment.proofs.CodeLemmas.{length_admitted}
 use Rattle.bw_segment.proofs.PlacementLemmas.{span_fits}

@@ -19,68 +19,68 @@ use Rattle.bw_model.specs.Variable.{Assignment, first_variable, null_variable, b
 use Rattle.bw_model.proofs.BitsLemmas.{both}
 use Rattle.bw_model.proofs.PlaceLemmas.{code_bit_at, null_bit_at_variable}
 use Rattle.bw_model.proofs.StoredLemmas.{byte_of_bits, spelled_zero}
-use Rattle.bw_segment.specs.Packing.{null_bits}
-use Rattle.bw_segment.specs.Meaning.{Meaning, IsGroup, variable_lanes, byte_lanes, stored_codes, code_lanes, stored_nulls, null_lanes}
+use Rattle.bw_segment.specs.Meaning.{Meaning, IsGroup, variable_lanes, byte_lanes, stored_codes, code_lanes, null_bits}
 
 map-replicate : {A B : Type 0} (f : A → B) (count : ℕ) (x : A) → map f (replicate count x) ≡ replicate count (f x)
 map-replicate f zero x = refl
 map-replicate f (suc count) x = ap (λ l. f x ∷ l) (map-replicate f count x)
 
--- what is read of a number of each row, and of zeros, is what is read of the row's assignment, and of that of zeros
-rows_agree : {A : Type 0} (columns : List Column) (number : List Value → ℕ) (of_number : ℕ → A) (of_bits : Assignment → A)
-    → ((values : List Value) → admits_values columns values ≡ true → of_number (number values) ≡ of_bits (assignment_of (bits_of columns values)))
+-- what is read of each row is what is read of its assignment
+rows_agree : {A : Type 0} (columns : List Column) (of_row : List Value → A) (of_bits : Assignment → A)
+    → ((values : List Value) → admits_values columns values ≡ true → of_row values ≡ of_bits (assignment_of (bits_of columns values)))
     → (rows : List (List Value)) → list_all (admits_values columns) rows ≡ true
-    → map of_number (map number rows) ≡ map of_bits (map (λ row. assignment_of (bits_of columns row)) rows)
-rows_agree columns number of_number of_bits same [] all = refl
-rows_agree columns number of_number of_bits same (row ∷ rows) all =
+    → map of_row rows ≡ map of_bits (map (λ row. assignment_of (bits_of columns row)) rows)
+rows_agree columns of_row of_bits same [] all = refl
+rows_agree columns of_row of_bits same (row ∷ rows) all =
     let each = both (admits_values columns row) (list_all (admits_values columns) rows) all in
-    ap₂ ◌∷◌ (same row each.0) (rows_agree columns number of_number of_bits same rows each.1)
+    ap₂ ◌∷◌ (same row each.0) (rows_agree columns of_row of_bits same rows each.1)
 
-lanes_agree : {A : Type 0} (meaning : Meaning) (number : List Value → ℕ) (of_number : ℕ → A) (of_bits : Assignment → A) → IsGroup meaning
-    → ((values : List Value) → admits_values meaning.columns values ≡ true → of_number (number values) ≡ of_bits (assignment_of (bits_of meaning.columns values)))
-    → of_number 0 ≡ of_bits no_bits
-    → map of_number (map number meaning.rows ++ replicate (group_size - length meaning.rows) 0) ≡ map of_bits (lanes_of meaning.columns meaning.rows)
+-- and what is read of no row is what is read of the assignment of zeros
+lanes_agree : {A : Type 0} (meaning : Meaning) (of_row : List Value → A) (of_none : A) (of_bits : Assignment → A) → IsGroup meaning
+    → ((values : List Value) → admits_values meaning.columns values ≡ true → of_row values ≡ of_bits (assignment_of (bits_of meaning.columns values)))
+    → of_none ≡ of_bits no_bits
+    → map of_row meaning.rows ++ replicate (group_size - length meaning.rows) of_none ≡ map of_bits (lanes_of meaning.columns meaning.rows)
 unfolding lanes_of
-lanes_agree meaning number of_number of_bits group same none =
+lanes_agree meaning of_row of_none of_bits group same none =
     let count = group_size - length meaning.rows in
     let assigned : List Assignment = map (λ row. assignment_of (bits_of meaning.columns row)) meaning.rows in
-    map-append of_number (map number meaning.rows) (replicate count 0)
-    ∙ ap₂ ◌++◌ (rows_agree meaning.columns number of_number of_bits same meaning.rows group.admitted) (map-replicate of_number count 0 ∙ ap (replicate count) none)
+    ap₂ ◌++◌ (rows_agree meaning.columns of_row of_bits same meaning.rows group.admitted) (ap (replicate count) none)
     ∙ sym (map-append of_bits assigned (replicate count no_bits) ∙ ap (λ l. map of_bits assigned ++ l) (map-replicate of_bits count no_bits))
 
--- a bit as a number
-shown : (b : Bool) → has_bit (cond b 1 0) 0 ≡ b
-shown true = refl
-shown false = refl
+-- what is read of the codes of rows, and of zeros
+codes_read : {A : Type 0} (columns : List Column) (rows : List (List Value)) (col : ℕ) (of_code : ℕ → A)
+    → map of_code (stored_codes columns rows col) ≡ map (λ row. of_code (stored_at columns col (value_in row col))) rows ++ replicate (group_size - length rows) (of_code 0)
+unfolding stored_codes
+codes_read columns rows col of_code =
+    let code = λ (row : List Value). stored_at columns col (value_in row col) in
+    let count = group_size - length rows in
+    map-append of_code (map code rows) (replicate count 0) ∙ ap₂ ◌++◌ (map-map of_code code rows) (map-replicate of_code count 0)
 
 pub nulls_in_lanes : (meaning : Meaning) (col variable : ℕ) → IsGroup meaning → col < length meaning.columns → null_variable meaning.columns col ≡ Some variable
-    → map (λ null. has_bit null 0) (null_lanes meaning col) ≡ variable_lanes meaning variable
-unfolding stored_nulls
+    → null_bits meaning.rows col ≡ variable_lanes meaning variable
+unfolding null_bits
 nulls_in_lanes meaning col variable group lt is =
-    lanes_agree meaning (λ row. cond (is_null (value_in row col)) 1 0) (λ null. has_bit null 0) (λ bits. bits variable) group
-    (λ values admitted. shown (is_null (value_in values col)) ∙ sym (null_bit_at_variable meaning.columns values col variable admitted lt is)) refl
+    lanes_agree meaning (λ row. is_null (value_in row col)) false (λ bits. bits variable) group
+    (λ values admitted. sym (null_bit_at_variable meaning.columns values col variable admitted lt is)) refl
 
--- the null bits of rows
-pub bits_of_nulls : (rows : List (List Value)) (col : ℕ) → map (λ null. has_bit null 0) (stored_nulls rows col) ≡ null_bits rows col
-unfolding stored_nulls null_bits
-bits_of_nulls rows col =
-    let null = λ (row : List Value). cond (is_null (value_in row col)) 1 0 in
-    let count = group_size - length rows in
-    map-append (λ null. has_bit null 0) (map null rows) (replicate count 0)
-    ∙ ap₂ ◌++◌ (map-map (λ null. has_bit null 0) null rows ∙ (λ i. map (λ row. shown (is_null (value_in row col)) i) rows)) (map-replicate (λ null. has_bit null 0) count 0)
+-- bits that were kept as numbers
+pub bits_of_numbers : (bits : List Bool) → map (λ n. has_bit n 0) (map (λ bit. cond bit 1 0) bits) ≡ bits
+bits_of_numbers [] = refl
+bits_of_numbers (true ∷ bits) = ap (λ l. true ∷ l) (bits_of_numbers bits)
+bits_of_numbers (false ∷ bits) = ap (λ l. false ∷ l) (bits_of_numbers bits)
 
 pub bits_in_lanes : (meaning : Meaning) (col bit : ℕ) → IsGroup meaning → col < length meaning.columns → bit < width_at meaning.columns col
     → map (λ code. has_bit code bit) (code_lanes meaning col) ≡ variable_lanes meaning (bit_variable meaning.columns col bit)
-unfolding stored_codes
 bits_in_lanes meaning col bit group lt below =
-    lanes_agree meaning (λ row. stored_at meaning.columns col (value_in row col)) (λ code. has_bit code bit) (λ bits. bits (bit_variable meaning.columns col bit)) group
+    codes_read meaning.columns meaning.rows col (λ code. has_bit code bit)
+    ∙ lanes_agree meaning (λ row. has_bit (stored_at meaning.columns col (value_in row col)) bit) (has_bit 0 bit) (λ bits. bits (bit_variable meaning.columns col bit)) group
     (λ values admitted. sym (code_bit_at meaning.columns values col bit admitted lt below)) (ap (λ k. k == 1) (bit_at-zero bit))
 
 pub bytes_in_lanes : (meaning : Meaning) (col slice : ℕ) → IsGroup meaning → col < length meaning.columns → slice < slices_at meaning.columns col
     → map (byte_of slice) (code_lanes meaning col) ≡ byte_lanes meaning col slice
-unfolding stored_codes
 bytes_in_lanes meaning col slice group lt there =
-    lanes_agree meaning (λ row. stored_at meaning.columns col (value_in row col)) (byte_of slice) (byte_spelled meaning.columns col slice) group
+    codes_read meaning.columns meaning.rows col (byte_of slice)
+    ∙ lanes_agree meaning (λ row. byte_of slice (stored_at meaning.columns col (value_in row col))) (byte_of slice 0) (byte_spelled meaning.columns col slice) group
     (λ values admitted. sym (byte_of_bits meaning.columns values col slice admitted lt there)) none
   where
     none : byte_of slice 0 ≡ byte_spelled meaning.columns col slice no_bits

@@ -6,17 +6,16 @@ use lib.Lanes.{zip2}
 use Rattle.bw_lanes.specs.Picked.{as_byte}
 use Rattle.bw_model.specs.declared.column.Column.{Column}
 use Rattle.bw_model.specs.Row.{Value, value_in}
-use Rattle.bw_model.specs.Code.{span_of, value_of_code, value_at, has_bit}
+use Rattle.bw_model.specs.Code.{span_of, value_of_code, value_at}
 use Rattle.bw_model.specs.Column.{admits_values}
 use Rattle.bw_model.specs.Groups.{group_size}
 use Rattle.bw_model.specs.Stored.{stored_at}
 use Rattle.bw_model.specs.Truth.{is_null}
 use Rattle.bw_model.proofs.BitsLemmas.{both}
-use Rattle.bw_segment.specs.Packing.{null_bits, value_held}
-use Rattle.bw_segment.specs.Meaning.{Meaning, IsGroup, stored_codes, code_lanes, null_lanes}
+use Rattle.bw_segment.specs.Packing.{value_held}
+use Rattle.bw_segment.specs.Meaning.{Meaning, IsGroup, null_bits, stored_codes, code_lanes}
 use Rattle.bw_segment.proofs.BytesLemmas.{stored_in_span}
 use Rattle.bw_segment.proofs.FaultLemmas.{zero_everywhere}
-use Rattle.bw_segment.proofs.LaneLemmas.{bits_of_nulls}
 use Rattle.bw_segment.proofs.ValueLemmas.{held_admitted}
 
 -- the lanes past the last row, and those in which there is no value
@@ -32,11 +31,11 @@ nulls_or_past null zero [] = refl
 nulls_or_past null (suc m) [] = ap (λ l. true ∷ l) (nulls_or_past null m [])
 nulls_or_past null m (row ∷ rows) = ap (λ l. null row ∷ l) (nulls_or_past null m rows)
 
-pub empty_is : (meaning : Meaning) (col : ℕ) (past plane : List Bool) → past ≡ past_lanes (length meaning.rows) → plane ≡ map (λ null. has_bit null 0) (null_lanes meaning col)
+pub empty_is : (meaning : Meaning) (col : ℕ) (past plane : List Bool) → past ≡ past_lanes (length meaning.rows) → plane ≡ null_bits meaning.rows col
     → zip2 (λ x y. x || y) past plane ≡ empty_lanes meaning.rows col
 unfolding null_bits group_size
 empty_is meaning col past plane is plane_is =
-    ap₂ (zip2 (λ x y. x || y)) is (plane_is ∙ bits_of_nulls meaning.rows col) ∙ nulls_or_past (λ row. is_null (value_in row col)) (512 - length meaning.rows) meaning.rows
+    ap₂ (zip2 (λ x y. x || y)) is plane_is ∙ nulls_or_past (λ row. is_null (value_in row col)) (512 - length meaning.rows) meaning.rows
 
 -- each code is one of the column's
 pub codes_within : (meaning : Meaning) (col : ℕ) (column : Column) → col < length meaning.columns → column ≡ get_or meaning.columns col column → All (λ code. code ≤ span_of column) (code_lanes meaning col)

@@ -4,16 +4,16 @@ use Rattle.std.proofs.lemmas.List.{take_all, length-drop, length-map}
 use Rattle.std.proofs.lemmas.Simd.{map-map}
 use Rattle.bw_model.specs.declared.column.Column.{Column}
 use Rattle.bw_model.specs.declared.row.Row.{Row}
-use Rattle.bw_model.specs.Code.{width_at, slices_at, span_at, has_bit}
+use Rattle.bw_model.specs.Code.{width_at, slices_at, span_at}
 use Rattle.bw_model.specs.Groups.{group_size}
 use Rattle.bw_model.specs.Row.{Value, value_in, values_of}
 use Rattle.bw_model.specs.Stored.{byte_of}
 use Rattle.bw_segment.specs.declared.placement.Placement.{Placement}
 use Rattle.bw_segment.specs.BlockFault.{IsSound}
-use Rattle.bw_segment.specs.Meaning.{Meaning, IsGroup, byte_lanes, code_lanes, null_lanes, meaning_of}
+use Rattle.bw_segment.specs.Meaning.{Meaning, IsGroup, byte_lanes, code_lanes, null_bits, meaning_of}
 use Rattle.bw_segment.specs.Packed.{IsPacked}
 use Rattle.bw_segment.specs.Packing.{Packing, IsPacking, bytes_before, block_at, block_codes, block_nulls, block_size, meaning_spelled, null_size, rows_spelled, segment_bytes, value_held}
-use Rattle.bw_segment.proofs.LaneLemmas.{bits_of_nulls, bytes_in_lanes}
+use Rattle.bw_segment.proofs.LaneLemmas.{bytes_in_lanes}
 use Rattle.bw_segment.proofs.LayoutLemmas.{before_in_order, piece_within}
 use Rattle.bw_segment.proofs.SoundLemmas.{length-rows_spelled, length-cut, nulls_again, codes_again}
 use Rattle.bw_segment.proofs.BytesLemmas.{small_codes, null_of_row, code_of_row, row_admitted, text_is_sound, rows_of_bytes}
@@ -38,8 +38,8 @@ module _ {packing : Packing} {placement : Placement} {count : ℕ} {bytes : List
   pub block_within : (col : ℕ) → col < length columns → bytes_before packing columns (col + 1) ≤ length bytes
   block_within col there = omega (arith, before_in_order packing columns (col + 1) (length columns) (omega arith), packed.sound.size)
 
-  pub nulls_held : (col : ℕ) → col < length columns → block_nulls columns col (block col) ≡ map (λ null. has_bit null 0) (null_lanes meaning col)
-  nulls_held col there = sym (nulls_again packing packed.law columns count bytes few packed.sound col there) ∙ sym (bits_of_nulls meaning.rows col)
+  pub nulls_held : (col : ℕ) → col < length columns → block_nulls columns col (block col) ≡ null_bits meaning.rows col
+  nulls_held col there = sym (nulls_again packing packed.law columns count bytes few packed.sound col there)
 
   -- the bytes before a block's end that keep the codes
   module _ (col width size end : ℕ) (there : col < length columns) (wide : width ≡ width_at columns col) (long : size ≡ packing.size width) (is_end : end ≡ bytes_before packing columns (col + 1)) where
@@ -82,9 +82,9 @@ module _ {packing : Packing} {placement : Placement} {count : ℕ} {bytes : List
     pub code_within : get_or (code_lanes meaning col) row 0 ≤ span_at columns col
     code_within = omega (arith, code_of_row packing packed.law meaning packed.group col row lt, stored_within columns col (value_in (get_or meaning.rows row []) col) there)
 
-    pub row_held : value_held columns col (get_or (map (λ null. has_bit null 0) (null_lanes meaning col)) row false) (get_or (code_lanes meaning col) row 0) ≡ value_in (get_or meaning.rows row []) col
+    pub row_held : value_held columns col (get_or (null_bits meaning.rows col) row false) (get_or (code_lanes meaning col) row 0) ≡ value_in (get_or meaning.rows row []) col
     row_held =
-        ap₂ (value_held columns col) (ap (λ l. get_or l row false) (bits_of_nulls meaning.rows col) ∙ null_of_row packing packed.law meaning packed.group col row lt) (code_of_row packing packed.law meaning packed.group col row lt)
+        ap₂ (value_held columns col) (null_of_row packing packed.law meaning packed.group col row lt) (code_of_row packing packed.law meaning packed.group col row lt)
         ∙ held_admitted columns (get_or meaning.rows row []) col (row_admitted packing packed.law meaning packed.group row lt) there
 
 -- what is built of rows

@@ -18,9 +18,9 @@ use Rattle.bw_model.specs.Groups.{group_size}
 use Rattle.bw_model.specs.Stored.{stored_at}
 use Rattle.bw_model.specs.Truth.{is_null}
 use Rattle.bw_model.specs.Variable.{is_nullable}
-use Rattle.bw_segment.specs.Packing.{Packing, IsPacking, null_bits, null_size, block_size, bytes_before, block_bytes, segment_bytes, block_at, block_nulls, block_codes, value_held, value_in_block, rows_spelled}
+use Rattle.bw_segment.specs.Packing.{Packing, IsPacking, null_size, block_size, bytes_before, block_bytes, segment_bytes, block_at, block_nulls, block_codes, value_held, value_in_block, rows_spelled}
 use Rattle.bw_segment.specs.BlockFault.{padding_fault, block_fault, IsSound}
-use Rattle.bw_segment.specs.Meaning.{IsGroup, stored_codes}
+use Rattle.bw_segment.specs.Meaning.{IsGroup, stored_codes, null_bits}
 use Rattle.bw_segment.proofs.FaultLemmas.{padding_none, row_none, lanes_none_at, of_rows}
 use Rattle.bw_segment.proofs.ValueLemmas.{admits_at, is_null_held, stored_held, held_is_admitted, admitted_by_column}
 use Rattle.bw_segment.proofs.LayoutLemmas.{before_in_order, cuts_are_all}

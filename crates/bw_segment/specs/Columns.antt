@@ -1,16 +1,18 @@
 -- Some rows kept column by column: for each column its codes as they are stored, and its null bits, in 512 lanes.
-use Rattle.std.specs.Prelude.{◌≡◌, ℕ, ◌<◌, List, [], length, slice_index_or}
+use Rattle.std.specs.Prelude.{◌≡◌, ℕ, ◌<◌, List, [], length, map, slice_index_or, if◌then◌else◌}
 use Rattle.bw_model.specs.declared.column.Column.{Column}
 use Rattle.bw_model.specs.Row.{Value}
 use Rattle.bw_segment.specs.declared.columns.ColumnCodes.{ColumnCodes}
-use Rattle.bw_segment.specs.Meaning.{stored_codes, stored_nulls}
+use Rattle.bw_segment.specs.Meaning.{null_bits, stored_codes}
 
 -- what is kept of the column of this number
 abbrev pub kept_at : List ColumnCodes → ℕ → ColumnCodes
 kept_at kept column = slice_index_or kept column (record { codes = []; nulls = [] })
 
--- These rows are kept, at most 512: of each column the code and the null bit of each row in its lane, and then zeros.
+-- These rows are kept, at most 512: of each column the code of each row in its lane, with 1 where the row is null and
+-- else 0, and then zeros.
 pub record KeepRows (columns : List Column) (rows : List (List Value)) (kept : List ColumnCodes) : Type 0 where
   pub all : length kept ≡ length columns
   pub codes : (column : ℕ) → column < length columns → (kept_at kept column).codes ≡ stored_codes columns rows column
-  pub nulls : (column : ℕ) → column < length columns → (kept_at kept column).nulls ≡ stored_nulls rows column
+  pub nulls : (column : ℕ) → column < length columns → (kept_at kept column).nulls
+      ≡ map (λ null. if null then 1 else 0) (null_bits rows column)

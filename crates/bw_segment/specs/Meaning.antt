@@ -1,5 +1,5 @@
 -- What a segment means: a table's name and columns, and at least 1 and at most 512 rows that the columns admit.
-use Rattle.std.specs.Prelude.{◌≡◌, ℕ, ◌≤◌, Bool, true, List, ◌++◌, ◌-◌, length, map, replicate, if◌then◌else◌}
+use Rattle.std.specs.Prelude.{◌≡◌, ℕ, ◌≤◌, Bool, true, false, List, ◌++◌, ◌-◌, length, map, replicate}
 use Rattle.std.specs.List.{list_all}
 use Rattle.bw_model.specs.declared.column.Column.{Column}
 use Rattle.bw_model.specs.Row.{Value, value_in, values_of}
@@ -39,14 +39,9 @@ stored_codes columns rows column =
 abbrev pub code_lanes : Meaning → ℕ → List ℕ
 code_lanes meaning column = stored_codes meaning.columns meaning.rows column
 
--- in each of the 512 lanes of some rows 1 where a column is null, and else 0
-unfoldable pub stored_nulls : List (List Value) → ℕ → List ℕ
-stored_nulls rows column = map (λ row. if is_null (value_in row column) then 1 else 0) rows
-    ++ replicate (group_size - length rows) 0
-
--- the same of a group's rows
-abbrev pub null_lanes : Meaning → ℕ → List ℕ
-null_lanes meaning column = stored_nulls meaning.rows column
+-- in each of the 512 lanes whether the row there is null in a column; past the last row none is
+unfoldable pub null_bits : List (List Value) → ℕ → List Bool
+null_bits rows column = map (λ row. is_null (value_in row column)) rows ++ replicate (group_size - length rows) false
 
 -- what rows of a table of this schema mean
 abbrev pub meaning_of : Schema → List Row → Meaning

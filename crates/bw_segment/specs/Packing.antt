@@ -1,16 +1,15 @@
 -- Segments as bytes: for each column one block, of its null plane, in 64 bytes, where it is nullable, and then its
 -- codes, in one of two layouts.
-use Rattle.std.specs.Prelude.{◌≡◌, ℕ, zero, suc, ◌+◌, ◌-◌, ◌<◌, ◌^◌, Bool, false, List, [], ◌++◌, length, map, take, drop, replicate, slice_index, slice_index_or, Some, None, if◌then◌else◌, All}
+use Rattle.std.specs.Prelude.{◌≡◌, ℕ, zero, suc, ◌+◌, ◌<◌, ◌^◌, Bool, false, List, [], ◌++◌, length, map, take, drop, replicate, slice_index, slice_index_or, Some, None, if◌then◌else◌, All}
 use Rattle.std.specs.List.{flat_map, range_with_len}
 use Rattle.bw_lanes.specs.Lanes.{bytes_of_lanes, lanes_of_bytes}
 use Rattle.bw_model.specs.declared.column.Column.{Column}
 use Rattle.bw_model.specs.declared.schema.Schema.{Schema}
-use Rattle.bw_model.specs.Row.{Value, value_in}
+use Rattle.bw_model.specs.Row.{Value}
 use Rattle.bw_model.specs.Code.{width_at, value_at}
 use Rattle.bw_model.specs.Groups.{group_size}
-use Rattle.bw_model.specs.Truth.{is_null}
 use Rattle.bw_model.specs.Variable.{is_nullable}
-use Rattle.bw_segment.specs.Meaning.{Meaning, stored_codes}
+use Rattle.bw_segment.specs.Meaning.{Meaning, null_bits, stored_codes}
 
 -- How the codes of 512 lanes are kept, by how many binary digits they have: how many bytes they take, the bytes of such
 -- codes, and the codes that such bytes spell.
@@ -29,10 +28,6 @@ pub record IsPacking (packing : Packing) : Type 0 where
       → packing.codes width (packing.bytes width codes) ≡ codes
   pub codes_spelled : (width : ℕ) (bytes : List ℕ) → length bytes ≡ packing.size width
       → All (λ byte. byte < 2 ^ 8) bytes → packing.bytes width (packing.codes width bytes) ≡ bytes
-
--- in each of the 512 lanes whether the row there is null in a column; past the last row none is
-unfoldable pub null_bits : List (List Value) → ℕ → List Bool
-null_bits rows column = map (λ row. is_null (value_in row column)) rows ++ replicate (group_size - length rows) false
 
 -- how many bytes a column's null plane takes
 abbrev pub null_size : List Column → ℕ → ℕ

@@ -16,8 +16,7 @@ impl Placement {
     ghost use Rattle.bw_model.specs.Fault.{no_memory};
     ghost use Rattle.bw_model.specs.Row.{Value};
     ghost use Rattle.bw_model.specs.Variable.{is_nullable};
-    ghost use Rattle.bw_segment.specs.Packing.{null_bits};
-    ghost use Rattle.bw_segment.specs.Meaning.{stored_nulls};
+    ghost use Rattle.bw_segment.specs.Meaning.{null_bits};
 
     /// The greatest code of a column.
     pub fn span(&self, col: usize) -> u64
@@ -51,7 +50,8 @@ impl Placement {
         nulls: &[u8; LANES],
     ) -> Result<(), Fault>
         requires { col < length self.now.schema.columns.items }
-        ensures added { OnOk result ((rows : List (List Value)) → nulls.now ≡ stored_nulls rows col
+        ensures added { OnOk result ((rows : List (List Value))
+            → nulls.now ≡ map (λ null. if null then 1 else 0) (null_bits rows col)
             → bytes.new.items ≡ bytes.old.items
             ++ (if is_nullable self.now.schema.columns.items col
             then bytes_of_lanes (null_bits rows col) else [])) }

@@ -47,6 +47,7 @@ impl<L: CodeLayout> PackedSegment<L> {
         let bytes = SharedBytes::new(alloc, blocks_of::<L>(alloc, shared, &kept)?)?;
         let placement = placement.clone()?;
         let count = rows.len() as u32;
+        L::keeps_codes();
         Ok(PackedSegment::of_blocks(placement, count, bytes))
     }
 

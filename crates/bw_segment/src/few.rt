@@ -52,6 +52,7 @@ fn least_of_few<L: CodeLayout>(width: u32, bytes: &[u8], lanes: &Selection) -> O
         ≡ reduce min (picked (lanes_of_words lanes.now) (L.packing.codes width bytes.now)) }
     ensures bound { IfSome result (λ code. code < 2 ^ 63) }
 {
+    L::keeps_codes();
     let mut least = None;
     let mut end = LANES;
     while let Some(lane) = last_between(lanes, 0, end) {
@@ -74,6 +75,7 @@ fn greatest_of_few<L: CodeLayout>(width: u32, bytes: &[u8], lanes: &Selection) -
         ≡ reduce max (picked (lanes_of_words lanes.now) (L.packing.codes width bytes.now)) }
     ensures bound { IfSome result (λ code. code < 2 ^ 63) }
 {
+    L::keeps_codes();
     let mut greatest = None;
     let mut end = LANES;
     while let Some(lane) = last_between(lanes, 0, end) {

@@ -31,6 +31,7 @@ impl<L: CodeLayout> PackedSegment<L> {
         if rows as usize == LANES && are_good::<L>(&nulls, width, codes, span) {
             return None;
         }
+        L::keeps_codes();
         let used = used::<L>(rows, &nulls, width, codes);
         let above = L::above(width, codes, span);
         fault_of_lanes(rows, &nulls, &used, &above)
@@ -46,6 +47,7 @@ fn are_good<L: CodeLayout>(nulls: &Plane, width: u32, codes: &[u8], span: u64) -
     ensures { result ≡ true
         → lanes_fault span 512 (lanes_of_words nulls.now) (L.packing.codes width codes.now) ≡ None }
 {
+    L::keeps_codes();
     (is_zero(nulls) || !L::any_used(width, codes, nulls)) && !L::any_above(width, codes, span)
 }
 

@@ -3,14 +3,14 @@ ghost use Rattle.std.specs.Prelude.{◌≡◌, ◌<◌, ℕ, Some, length, map};
 ghost use Rattle.bw_model.specs.Code.{width_at, slices_at, has_bit};
 ghost use Rattle.bw_model.specs.Stored.{byte_of};
 ghost use Rattle.bw_model.specs.Variable.{null_variable, bit_variable};
-ghost use Rattle.bw_segment.specs.Meaning.{Meaning, IsGroup, variable_lanes, byte_lanes, code_lanes, null_lanes};
+ghost use Rattle.bw_segment.specs.Meaning.{Meaning, IsGroup, variable_lanes, byte_lanes, code_lanes, null_bits};
 
 /// A law: the bits and the bytes in a group's lanes are those of its codes as they are stored, and its nulls.
 pub fn lanes_hold_codes()
     ensures nulls { (meaning : Meaning) (col variable : ℕ) → IsGroup meaning
         → col < length meaning.columns
         → null_variable meaning.columns col ≡ Some variable
-        → map (λ null. has_bit null 0) (null_lanes meaning col) ≡ variable_lanes meaning variable }
+        → null_bits meaning.rows col ≡ variable_lanes meaning variable }
     ensures bits { (meaning : Meaning) (col bit : ℕ) → IsGroup meaning
         → col < length meaning.columns
         → bit < width_at meaning.columns col

@@ -122,5 +122,6 @@ pub trait CodeLayout {
         ensures { codes.new ≡ packing.codes width bytes.now };
 
     /// A law: what is kept is read again.
-    ghost keeps: { IsPacking packing };
+    fn keeps_codes()
+        ensures { IsPacking packing };
 }

@@ -116,6 +116,7 @@ impl<L: CodeLayout> PackedSegment<L> {
             ≡ meaning_spelled L.packing placement.value.schema rows (bytes_in bytes) }
     {
         bytes.are_bytes();
+        L::keeps_codes();
         PackedSegment {
             placement,
             rows,

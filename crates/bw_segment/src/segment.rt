@@ -2,11 +2,11 @@
 ghost use Rattle.std.specs.Prelude.{◌≡◌, ◌^◌, ◌<◌, ◌≤◌, ◌==◌, length, map, max, min, nat_lt, slice_index_or, sum, [], IfSome, Some};
 ghost use Rattle.std.specs.List.{reduce};
 ghost use Rattle.bw_lanes.specs.Lanes.{lanes_of_words};
-ghost use Rattle.bw_model.specs.Code.{has_bit, slices_at, width_at};
+ghost use Rattle.bw_model.specs.Code.{slices_at, width_at};
 ghost use Rattle.bw_model.specs.Groups.{group_size};
 ghost use Rattle.bw_model.specs.Row.{value_in};
 ghost use Rattle.bw_model.specs.Variable.{bit_variable, null_variable, variables_of};
-ghost use Rattle.bw_segment.specs.Meaning.{Meaning, IsGroup, variable_lanes, byte_lanes, code_lanes, null_lanes};
+ghost use Rattle.bw_segment.specs.Meaning.{Meaning, IsGroup, variable_lanes, byte_lanes, code_lanes, null_bits};
 ghost use Rattle.bw_segment.specs.Picked.{bit_lanes, codes_in};
 
 use bw_lanes::{LANES, Plane, Selection};
@@ -36,8 +36,7 @@ pub trait Segment {
     /// The rows in which a column is null, none where it isn't nullable.
     fn nulls(&self, col: usize) -> Plane
         requires { col < length (meaning self.now).columns }
-        ensures { lanes_of_words result
-            ≡ map (λ null. has_bit null 0) (null_lanes (meaning self.now) col) };
+        ensures { lanes_of_words result ≡ null_bits (meaning self.now).rows col };
 
     /// The rows in which a byte of a column's code, padded to whole bytes by zero bits at its top, is below c.
     /// Byte 0 is the least. The rows past the last one count as code 0, as null does.

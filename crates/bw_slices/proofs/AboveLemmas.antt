@@ -22,7 +22,7 @@ use Rattle.bw_model.specs.Stored.{byte_of}
 use Rattle.bw_segment.proofs.LowLemmas.{above_ones}
 use Rattle.bw_segment.proofs.PickedLemmas.{any_picked}
 use Rattle.bw_slices.specs.Slices.{number_from, slices_codes}
-use Rattle.bw_slices.specs.Kept.{bytes_in, byte_of_number, number_of_front, length-slices_codes}
+use Rattle.bw_slices.proofs.KeptLemmas.{bytes_in, byte_of_number, number_of_front, length-slices_codes}
 use Rattle.bw_slices.proofs.CodeLemmas.{code_in_lane, number_below, used_is}
 
 -- a byte that isn't 0

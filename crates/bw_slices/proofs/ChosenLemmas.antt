@@ -8,7 +8,7 @@ use Rattle.bw_model.specs.Selection.{picked}
 use Rattle.bw_segment.proofs.PickedLemmas.{is_none}
 use Rattle.bw_segment.proofs.DescentLemmas.{choice, one_of, of_both, Chooses, IsDescended, descended_as, all_kept, reduce_kept, below}
 use Rattle.bw_model.specs.Stored.{byte_of}
-use Rattle.bw_slices.specs.Kept.{next_byte}
+use Rattle.bw_slices.proofs.KeptLemmas.{next_byte}
 use Rattle.bw_slices.proofs.CodeLemmas.{next_small}
 
 -- the byte that stands for none

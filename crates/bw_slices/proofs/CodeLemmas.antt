@@ -13,7 +13,7 @@ use Rattle.bw_model.specs.Selection.{picked}
 use Rattle.bw_segment.proofs.PickedLemmas.{all_picked, is_none, none_picked, word_more, words_summed}
 use Rattle.bw_segment.proofs.ByteLemmas.{with_byte, codes_from, top_byte, byte_more as byte_below, codes_whole}
 use Rattle.bw_slices.specs.Slices.{number_from, slices_codes}
-use Rattle.bw_slices.specs.Kept.{bytes_in, length-slices_codes, next_byte}
+use Rattle.bw_slices.proofs.KeptLemmas.{bytes_in, length-slices_codes, next_byte}
 use Rattle.std.proofs.Math.Nat.{div-eq_of_lt, mul-le-mul_right}
 use Rattle.std.proofs.lemmas.List.Sums.{sum_by-cons}
 use Rattle.bw_lanes.specs.Picked.{bytes_picked}

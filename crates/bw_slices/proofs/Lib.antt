@@ -1,3 +1,4 @@
 pub mod AboveLemmas
 pub mod ChosenLemmas
 pub mod CodeLemmas
+pub mod KeptLemmas

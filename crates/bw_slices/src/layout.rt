@@ -1,6 +1,5 @@
 //! Byte slices as a layout of segments.
 ghost use Rattle.bw_slices.specs.Slices.{slice_packing};
-ghost use Rattle.bw_slices.specs.Kept.{slices_keep_codes};
 
 use crate::above::above;
 use crate::any::{is_any_above, is_any_used};
@@ -116,5 +115,5 @@ impl CodeLayout for Slices {
         }
     }
 
-    ghost keeps = { slices_keep_codes };
+    fn keeps_codes() {}
 }

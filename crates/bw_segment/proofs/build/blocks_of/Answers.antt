@@ -3,8 +3,8 @@ use Rattle.std.specs.List.{range_with_len}
 use Rattle.bw_lanes.specs.Lanes.{bytes_of_lanes}
 use Rattle.bw_model.specs.Code.{width_at}
 use Rattle.bw_model.specs.Variable.{is_nullable}
-use Rattle.bw_segment.specs.Packing.{null_bits, block_bytes, segment_bytes}
-use Rattle.bw_segment.specs.Meaning.{stored_codes}
+use Rattle.bw_segment.specs.Packing.{block_bytes, segment_bytes}
+use Rattle.bw_segment.specs.Meaning.{null_bits, stored_codes}
 use Rattle.bw_segment.proofs.LayoutLemmas.{block_more}
 use Rattle.bw_segment.proofs.build.blocks_of.Goals as goal
 

@@ -14,7 +14,7 @@ unfolding group_size
 loop-lane-preserved-in-Some-greatest g c =
     let lanes = lanes_of_words c.args.lanes.now in
     let codes = g.L.CodeLayout.packing.codes c.args.width c.args.bytes.now in
-    let long = g.met.L.CodeLayout.keeps.codes_length c.args.width c.args.bytes.now c.requires.size in
+    let long = c.keeps_codes.ensures.codes_length c.args.width c.args.bytes.now c.requires.size in
     let before = subst (IsChosen true lanes codes c.loop-lane.end) c.in-Some-greatest.is c.loop-lane.invariant in
     subst (λ code. IsChosen true lanes codes c.in-Some.lane (Some code)) (sym c.max.ensures)
     (chosen_more true lanes codes c.args.width c.loop-lane.end c.in-Some.lane _ _ c.requires.width.1 long c.requires.small c.code-code.ensures c.in-Some.ensures.last before)
@@ -24,7 +24,7 @@ unfolding group_size
 loop-lane-preserved g c =
     let lanes = lanes_of_words c.args.lanes.now in
     let codes = g.L.CodeLayout.packing.codes c.args.width c.args.bytes.now in
-    let long = g.met.L.CodeLayout.keeps.codes_length c.args.width c.args.bytes.now c.requires.size in
+    let long = c.keeps_codes.ensures.codes_length c.args.width c.args.bytes.now c.requires.size in
     let before = subst (IsChosen true lanes codes c.loop-lane.end) c.in-None.is c.loop-lane.invariant in
     chosen_more true lanes codes c.args.width c.loop-lane.end c.in-Some.lane _ _ c.requires.width.1 long c.requires.small c.code-code.ensures c.in-Some.ensures.last before
 

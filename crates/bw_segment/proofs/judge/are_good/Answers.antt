@@ -16,4 +16,4 @@ returns-then-not-any_used g c = λ good.
       | then-is_zero w ↦ none_used test nulls codes (sym c.is_zero.ensures ∙ w.if-is_zero.true)
       | else-is_zero w ↦ sym w.any_used.ensures ∙ not-true w.any_used.result (sym w.value-is ∙ c.if-not-any_used.true)
     ] in
-    all_good c.args.span nulls codes (g.met.L.CodeLayout.keeps.codes_length c.args.width c.args.codes.now c.requires.size) unused (sym c.any_above.ensures ∙ not-true c.any_above.result good)
+    all_good c.args.span nulls codes (c.keeps_codes.ensures.codes_length c.args.width c.args.codes.now c.requires.size) unused (sym c.any_above.ensures ∙ not-true c.any_above.result good)

@@ -1,7 +1,7 @@
 use Rattle.std.proofs.Common.{◌∙◌, ap, ◌*◌, ltb, take_all, arith}
 use Rattle.std.specs.List.{list_any}
 use Rattle.bw_slices.specs.Slices.{slices_codes}
-use Rattle.bw_slices.specs.Kept.{length-slices_codes}
+use Rattle.bw_slices.proofs.KeptLemmas.{length-slices_codes}
 use Rattle.bw_slices.proofs.AboveLemmas.{any_more, any_of_all}
 use Rattle.bw_slices.proofs.above.any_above.Goals as goal
 

@@ -3,7 +3,7 @@ use Rattle.std.specs.Int.{trailing_zeros}
 use Rattle.std.proofs.lemmas.Nat.Bits.{bit_at-trailing_zeros}
 use Rattle.bw_lanes.specs.Lanes.{bits_from_least}
 use Rattle.bw_slices.specs.Slices.{slices_codes}
-use Rattle.bw_slices.specs.Kept.{length-slices_codes}
+use Rattle.bw_slices.proofs.KeptLemmas.{length-slices_codes}
 use Rattle.bw_slices.proofs.CodeLemmas.{bit_cleared, picked_small, without_less}
 use Rattle.bw_slices.proofs.few.sum_of_word.Goals as goal
 

@@ -17,7 +17,7 @@ of_blocks-requires-clause-sound g c =
     let rows = map values_of c.args.rows.now in
     let keep = subst (KeepRows c.deref-shared.result.now.schema.columns.items rows) (sym c.deref.ensures.value) c.in_ok-kept.ensures.keeps in
     let text = c.in_ok-bytes.ensures.bytes ∙ c.in_ok-blocks_of.ensures.bytes rows keep ∙ ap (λ (placement : Placement). segment_bytes packing placement.schema.columns.items rows) c.deref-shared.ensures in
-    built_sound packing g.met.L.CodeLayout.keeps c.args.placement.now.value c.in_ok-placement.placement.value c.args.rows.now (bytes_in c.in_ok-bytes.bytes) c.requires.group c.in_ok-placement.ensures.cases text
+    built_sound packing c.keeps_codes.ensures c.args.placement.now.value c.in_ok-placement.placement.value c.args.rows.now (bytes_in c.in_ok-bytes.bytes) c.requires.group c.in_ok-placement.ensures.cases text
 
 pub returns-clause-means : goal.returns-clause-means
 returns-clause-means g c =
@@ -25,4 +25,4 @@ returns-clause-means g c =
     let rows = map values_of c.args.rows.now in
     let keep = subst (KeepRows c.deref-shared.result.now.schema.columns.items rows) (sym c.deref.ensures.value) c.in_ok-kept.ensures.keeps in
     let text = c.in_ok-bytes.ensures.bytes ∙ c.in_ok-blocks_of.ensures.bytes rows keep ∙ ap (λ (placement : Placement). segment_bytes packing placement.schema.columns.items rows) c.deref-shared.ensures in
-    c.of_blocks.ensures.means ∙ built_means packing g.met.L.CodeLayout.keeps c.args.placement.now.value c.in_ok-placement.placement.value c.args.rows.now (bytes_in c.in_ok-bytes.bytes) c.requires.group c.in_ok-placement.ensures.cases text
+    c.of_blocks.ensures.means ∙ built_means packing c.keeps_codes.ensures c.args.placement.now.value c.in_ok-placement.placement.value c.args.rows.now (bytes_in c.in_ok-bytes.bytes) c.requires.group c.in_ok-placement.ensures.cases text

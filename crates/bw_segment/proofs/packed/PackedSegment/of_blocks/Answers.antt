@@ -8,7 +8,7 @@ invariant_of-result g c =
     let schema = c.args.placement.value.schema in
     let bytes = bytes_in c.args.bytes in
     let packing = g.L.CodeLayout.packing in
-    let law = g.met.L.CodeLayout.keeps in
+    let law = c.keeps_codes.ensures in
     record {
       packed = record {
         law = law;
