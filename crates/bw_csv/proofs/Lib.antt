@@ -2,6 +2,7 @@ pub mod BareLemmas
 pub mod DigitsAlone
 pub mod FieldLemmas
 pub mod HeadingLemmas
+pub mod InputLemmas
 pub mod Passed
 pub mod PlainFields
 pub mod PlainRecords

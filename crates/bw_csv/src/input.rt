@@ -1,10 +1,9 @@
 //! A CSV text, read whole.
-ghost use Rattle.std.specs.Prelude.{◌≡◌, ◌+◌, ◌-◌, ◌^◌, ◌<◌, ℕ, List, Option, Result, false, IfErr, IsTrue};
-ghost use Rattle.bw_model.specs.declared.fault.Fault.{Fault};
+ghost use Rattle.std.specs.Prelude.{◌≡◌, ◌+◌, ◌-◌, ◌^◌, ◌<◌, false, IfErr, IsTrue};
 ghost use Rattle.bw_csv.specs.Rows.{is_reader_fault};
 ghost use Rattle.bw_device.specs.Sink.{is_write_fault};
 ghost use Rattle.bw_model.specs.Limits.{longest_csv};
-ghost use Rattle.bw_device.specs.Source.{Came, LeavesSource};
+ghost use Rattle.bw_device.specs.Source.{Arrival, Came, LeavesSource};
 ghost use Rattle.bw_csv.specs.Input.{is_csv_input_fault, CsvAnswered};
 
 use bw_device::{Input, Source, read_limited};
@@ -15,7 +14,7 @@ use std::alloc::Global;
 /// one byte more. That the source's count of failures can rise is the caller's condition.
 pub fn read_csv<C: Source>(alloc: Global, source: &mut C) -> Result<Vec<u8>, Fault>
     requires { C.failures source.old < 2 ^ 64 - 1 }
-    ensures answered { (came : Result (Option (List ℕ)) Fault)
+    ensures answered { (came : Arrival)
         × Came longest_csv (C.to_come source.old) (C.to_come source.new) (C.failures source.old)
         (C.failures source.new) came
         × CsvAnswered came result }

@@ -1,5 +1,5 @@
 -- What came of a source that a call read to its end, or until it passed a limit.
-use Rattle.std.specs.Prelude.{◌≡◌, ◌==◌, ◌&&◌, ◌||◌, if◌then◌else◌, Bool, ℕ, ◌+◌, ◌≤◌, List, length, Option, IfSome, Result, Ok, Err, MatchBool}
+use Rattle.std.specs.Prelude.{◌≡◌, ◌⊎◌, ◌==◌, ◌&&◌, ◌||◌, if◌then◌else◌, Bool, ℕ, ◌+◌, ◌≤◌, List, length, Option, IfSome, Result, Ok, Err, MatchBool}
 use Rattle.std.specs.Io.KnownBytes.{Consumes, IsAtEnd}
 use Rattle.bw_model.specs.FaultTable.{READ_FAILED}
 use Rattle.bw_model.specs.declared.fault.Fault.{Fault}
@@ -32,6 +32,13 @@ failed_by (Err fault) = failed_reads fault
 -- The call refused by a failed read exactly where its source's count of failures rose, and then by one.
 abbrev pub TellsFailure : {T : Type 0} → ℕ → ℕ → Result T Fault → Type 0
 TellsFailure before after result = after ≡ before + failed_by result
+
+-- A call with two sources refused by a failed read exactly where the count of one of them rose, by one; the other's
+-- stayed.
+abbrev pub TellsFailureOfEither : {T : Type 0} → ℕ → ℕ → ℕ → ℕ → Result T Fault → Type 0
+TellsFailureOfEither before after second_before second_after result =
+    (TellsFailure before after result × (second_after ≡ second_before))
+    ⊎ ((after ≡ before) × TellsFailure second_before second_after result)
 
 -- all bytes to come, where they are known, came, and there were no more than the limit
 abbrev pub GaveAll : ℕ → Option (List ℕ) → Option (List ℕ) → List ℕ → Type 0
