@@ -1,5 +1,5 @@
 -- What a reader gives next: a segment, the end, a fault, or what was settled.
-use Rattle.std.proofs.Common.{◌≡◌, ℕ, min, ◌+◌, ◌-◌, ◌<◌, List, [], ◌++◌, length, inl, inr, Some, None, Ok, Err, refl, sym, ap, subst, ◌∙◌, arith}
+use Rattle.std.proofs.Common.{◌≡◌, ℕ, min, ◌+◌, ◌-◌, ◌<◌, List, [], ◌++◌, length, inl, inr, Some, None, Result, Ok, Err, refl, sym, ap, subst, ◌∙◌, arith}
 use Rattle.std.specs.Io.KnownBytes.{IsAtEnd}
 use Rattle.bw_model.specs.declared.fault.Fault.{Fault}
 use Rattle.bw_model.specs.Groups.{group_size, groups_of, together}
@@ -8,8 +8,8 @@ use Rattle.bw_file.specs.declared.segments.AnySegment.{AnySegment}
 use Rattle.bw_file.specs.declared.table_reader.TableReader.{TableReader}
 use Rattle.bw_file.specs.AnySegment.{any_layout, any_meaning}
 use Rattle.bw_file.specs.Reading.{tail, State, Took, GoesOn, NeedsMore, Fails, HasByteMore, give}
-use Rattle.bw_file.specs.TableReading.{segment, end, group_sizes}
-use Rattle.bw_file.specs.TableReader.{settled, SoFar, SameTable, GivesNext}
+use Rattle.bw_file.specs.TableReading.{segment, end, group_sizes, IsTableFault}
+use Rattle.bw_file.specs.TableReader.{settled, SoFar, SameTable, GaveSegment, EndedWhole, Refused, Repeats, GivesNext, gives, ends, refuses, repeats}
 use Rattle.bw_file.proofs.BodySpelling.{groups_found}
 use Rattle.bw_file.proofs.FaultLemmas.{refused_by, segment_own, byte_own}
 use Rattle.bw_file.proofs.ReaderLemmas.{so_far_more, segment_refused, at_end, end_seen, end_missed}
@@ -28,64 +28,79 @@ module _ {S : Type 0} (source next_source : S) (old now : State) (reader next : 
       → next.given ≡ reader.given + size → any_layout given ≡ reader.layout → (any_meaning given).name ≡ reader.placement.value.schema.name → (any_meaning given).columns ≡ reader.placement.value.schema.columns.items
       → length (any_meaning given).rows ≡ size → GoesOn (segment reader.layout reader.placement.value.schema.columns.items size) old (give (any_meaning given).rows) now
       → GivesNext source next_source old now reader next (Ok (Some given))
-  segment_given given size reading left unsettled sized counted layout name columns count read = record {
-    given = λ start groups so_far. so_far_more start old now reader next groups (any_meaning given).rows size same.version same.layout same.schema same.rows counted left sized so_far read;
-    segment = (record { layout = layout; name = name; columns = columns; count = count ∙ sized }, counted ∙ ap (λ (n : ℕ). reader.given + n) (sym count), reading);
-    ended = λ none. absurd cc;
-    groups = λ none. absurd cc;
-    refused = tt;
-    fault = tt;
+  segment_given given size reading left unsettled sized counted layout name columns count read = gives unsettled (record {
+    of_table = record { layout = layout; name = name; columns = columns; count = count ∙ sized };
+    after = λ start groups so_far. so_far_more start old now reader next groups (any_meaning given).rows size same.version same.layout same.schema same.rows counted left sized so_far read;
     counted = counted ∙ ap (λ (n : ℕ). reader.given + n) (sym count);
-    read = λ _. record { bytes = read.bytes; took = read.took; unfinished = tt; failures = omega (arith, read.failures) };
-    settles = reading;
-    repeats = λ answer set. absurd (cc (unsettled, set));
+    bytes = read.bytes;
+    took = read.took;
+    failures = read.failures;
+    goes_on = reading;
     same = same;
-  }
+  })
 
   pub segment_missed : (size : ℕ) (fault : Fault) → settled next ≡ Some (Err fault) → reader.given < reader.rows → settled reader ≡ None → size ≡ min group_size (reader.rows - reader.given)
       → Fails (segment reader.layout reader.placement.value.schema.columns.items size) old now fault → next.given ≡ reader.given → GivesNext source next_source old now reader next (Err fault)
-  segment_missed size fault stopped left unsettled sized fails kept = record {
-    given = tt;
-    segment = tt;
-    ended = tt;
-    groups = tt;
-    refused = λ _ start groups so_far. segment_refused start old now reader groups size fault left sized so_far fails;
-    fault = refused_by (segment reader.layout reader.placement.value.schema.columns.items size) old now fault (segment_own reader.layout reader.placement.value.schema.columns.items size) fails;
-    counted = omega (arith, kept);
-    read = λ _. record { bytes = fails.bytes; took = fails.took; unfinished = λ failed. inr (subst (λ (n : ℕ). NeedsMore (segment reader.layout reader.placement.value.schema.columns.items n) old.offset fails.bytes) sized (fails.unfinished failed)); failures = fails.failures };
+  segment_missed size fault stopped left unsettled sized fails kept = refuses unsettled (record {
+    answers = λ start groups so_far. segment_refused start old now reader groups size fault left sized so_far fails;
+    own = refused_by (segment reader.layout reader.placement.value.schema.columns.items size) old now fault (segment_own reader.layout reader.placement.value.schema.columns.items size) fails;
+    counted = kept;
+    bytes = fails.bytes;
+    took = fails.took;
+    failures = fails.failures;
+    unfinished = λ failed. inr (subst (λ (n : ℕ). NeedsMore (segment reader.layout reader.placement.value.schema.columns.items n) old.offset fails.bytes) sized (fails.unfinished failed));
     settles = stopped;
-    repeats = λ answer set. absurd (cc (unsettled, set));
     same = same;
-  }
+  })
 
   pub end_given : settled next ≡ Some (Ok tt) → reader.given ≡ reader.rows → settled reader ≡ None → Took old now [] → now.failures ≡ old.failures → IsAtEnd now.known
       → next.given ≡ reader.given → GivesNext source next_source old now reader next (Ok None)
-  end_given stopped all unsettled took failures ended kept = record {
-    given = tt;
-    segment = tt;
-    ended = λ _ _ start groups so_far. end_seen start old now reader groups all so_far took failures ended;
-    groups = λ _ _ start groups so_far. all_groups start old reader groups all so_far;
-    refused = tt;
-    fault = tt;
-    counted = omega (arith, kept);
-    read = λ _. record { bytes = []; took = took; unfinished = tt; failures = omega (arith, failures) };
+  end_given stopped all unsettled took failures ended kept = ends unsettled (record {
+    whole = λ start groups so_far. end_seen start old now reader groups all so_far took failures ended;
+    groups = λ start groups so_far. all_groups start old reader groups all so_far;
+    counted = kept;
+    took = took;
+    failures = failures;
     settles = stopped;
-    repeats = λ answer set. absurd (cc (unsettled, set));
     same = same;
-  }
+  })
 
   pub byte_given : (fault : Fault) → settled next ≡ Some (Err fault) → reader.given ≡ reader.rows → settled reader ≡ None → HasByteMore old now fault
       → next.given ≡ reader.given → GivesNext source next_source old now reader next (Err fault)
-  byte_given fault stopped all unsettled fails kept = record {
-    given = tt;
-    segment = tt;
-    ended = tt;
-    groups = tt;
-    refused = λ _ start groups so_far. end_missed start old now reader groups fault all so_far fails;
-    fault = byte_own old now fault fails;
-    counted = omega (arith, kept);
-    read = λ _. record { bytes = fails.bytes; took = fails.took; unfinished = λ failed. inl (fails.unfinished failed); failures = fails.failures };
+  byte_given fault stopped all unsettled fails kept = refuses unsettled (record {
+    answers = λ start groups so_far. end_missed start old now reader groups fault all so_far fails;
+    own = byte_own old now fault fails;
+    counted = kept;
+    bytes = fails.bytes;
+    took = fails.took;
+    failures = fails.failures;
+    unfinished = λ failed. inl (fails.unfinished failed);
     settles = stopped;
-    repeats = λ answer set. absurd (cc (unsettled, set));
     same = same;
-  }
+  })
+
+no_segment_again : (segment : AnySegment) (answer : Result (Unit {0}) Fault) → Repeats (Ok (Some segment)) answer → ⊥
+no_segment_again segment (Ok x) again = cc again
+no_segment_again segment (Err fault) again = cc again.0
+
+module _ {S : Type 0} {source next_source : S} {old now : State} {reader next : TableReader} where
+  -- a segment is given by no call but one that reads
+  pub segment_of : {segment : AnySegment} → GivesNext source next_source old now reader next (Ok (Some segment)) → GaveSegment old now reader next segment
+  segment_of (gives unsettled gave) = gave
+  segment_of {segment} (repeats again) = absurd (no_segment_again segment again.answer again.again)
+
+  -- where nothing was settled, None tells of a file that was read whole, and a fault is the first one
+  pub end_of : GivesNext source next_source old now reader next (Ok None) → settled reader ≡ None → EndedWhole old now reader next
+  end_of (ends _ ended) unsettled = ended
+  end_of (repeats again) unsettled = absurd (cc (again.was_settled, unsettled))
+
+  pub refusal_of : {fault : Fault} → GivesNext source next_source old now reader next (Err fault) → settled reader ≡ None → Refused old now reader next fault
+  refusal_of (refuses _ refused) unsettled = refused
+  refusal_of (repeats again) unsettled = absurd (cc (again.was_settled, unsettled))
+
+  -- a call that finds an answer settled repeats it
+  pub ended_again : settled reader ≡ Some (Ok tt) → next ≡ reader → next_source ≡ source → GivesNext source next_source old now reader next (Ok None)
+  ended_again stopped same_reader same_source = repeats (record { answer = Ok tt; was_settled = stopped; again = refl; same_reader = same_reader; same_source = same_source })
+
+  pub refused_again : (fault : Fault) → settled reader ≡ Some (Err fault) → IsTableFault fault → next ≡ reader → next_source ≡ source → GivesNext source next_source old now reader next (Err fault)
+  refused_again fault stopped own same_reader same_source = repeats (record { answer = Err fault; was_settled = stopped; again = (refl, own); same_reader = same_reader; same_source = same_source })

@@ -15,7 +15,7 @@ use Rattle.bw_file.specs.declared.layout.Layout.{Layout}
 use Rattle.bw_file.specs.declared.table_reader.TableReader.{TableReader}
 use Rattle.bw_file.specs.Reading.{tail, Reading, ◌>>=◌, give, State, Took, GoesOn, NeedsEach, NeedsMore, HasFault, Fails, HasByteMore}
 use Rattle.bw_file.specs.TableReading.{HeaderShape, header, body, segment, end, sizes_within, group_sizes, found_in, IsReadAs}
-use Rattle.bw_file.specs.TableReader.{header_stated, SoFar, found_so_far, ReadWhole, LacksFault, AreTooFew, NoneToSpare, HasFirstFault, AnswersFault}
+use Rattle.bw_file.specs.TableReader.{header_stated, SoFar, found_so_far, ReadWhole, FrontsEndEarly, NoneToSpare, HasFirstFault, AnswersFault}
 use Rattle.bw_file.proofs.ReadingLemmas.{passes, stops, took_more, coming_of, is_coming}
 
 -- the sizes of groups don't hang on how many groups there may be
@@ -94,7 +94,6 @@ header_refused start new fault first p = record {
       let has = p.refused own in
       let e : header (tail 0 (p.bytes ++ has.rest)) ≡ Err fault = rw first at has.gives in
       let found : HasFirstFault new p.bytes fault = record {
-        needed = λ n lt. inl (header_early start new fault first p n lt);
         rest = has.rest;
         coming = has.coming;
         read = rw e refl;
@@ -115,8 +114,7 @@ module _ (start old : State) (reader : TableReader) (groups : List (List (List V
   header_on rest = head_at start so_far.after (header_stated reader.version reader) rest so_far.first so_far.head
 
   -- a file that ends within its header, or where what stands after it needs more, ends too early
-  pub ends_early : (more : List ℕ) → NeedsEach whole_body so_far.after.offset more → (n : ℕ) → n < length (so_far.head.bytes ++ more)
-      → IsReadAs (take n (so_far.head.bytes ++ more)) (Err (at_byte 305 n))
+  pub ends_early : (more : List ℕ) → NeedsEach whole_body so_far.after.offset more → FrontsEndEarly (so_far.head.bytes ++ more)
   ends_early more needed n lt =
       elim (cases_lt n (length so_far.head.bytes)) [
         | inl less ↦
@@ -142,13 +140,12 @@ module _ (start old : State) (reader : TableReader) (groups : List (List (List V
       rw (header_on more) (reader.placement.value.schema, refl, sym (ap (found_in reader.layout (schema_shape reader.placement.value.schema)) early))
 
   -- the fault after the header is the file's
-  after_fault : (new : State) (more : List ℕ) (fault : Fault) → ((n : ℕ) → n < length (so_far.head.bytes ++ more) → LacksFault (so_far.head.bytes ++ more) n fault)
-      → HasFault whole_body so_far.after new more fault → HasFirstFault new (so_far.head.bytes ++ more) fault
-  after_fault new more fault needed has =
+  after_fault : (new : State) (more : List ℕ) (fault : Fault) → HasFault whole_body so_far.after new more fault → HasFirstFault new (so_far.head.bytes ++ more) fault
+  after_fault new more fault has =
       let e : header (tail 0 ((so_far.head.bytes ++ more) ++ has.rest)) ≡ Ok (header_stated reader.version reader, tail so_far.after.offset (more ++ has.rest)) =
       rw append_assoc (header_on (more ++ has.rest)) in
       let own_fault = sym (ap (found_in reader.layout (schema_shape reader.placement.value.schema)) has.gives) in
-      record { needed = needed; rest = has.rest; coming = has.coming; read = rw e (reader.placement.value.schema, refl, own_fault) }
+      record { rest = has.rest; coming = has.coming; read = rw e (reader.placement.value.schema, refl, own_fault) }
 
   after_refused : (new : State) (fault : Fault) → Fails whole_body so_far.after new fault → AnswersFault start old new fault
   after_refused new fault p = record {
@@ -157,7 +154,7 @@ module _ (start old : State) (reader : TableReader) (groups : List (List (List V
     needed = λ n lt. inl (ends_early p.bytes p.needed n lt);
     unfinished = λ failed. inl (after_unfinished p.bytes (p.unfinished failed));
     failures = omega (arith, p.failures, so_far.on.failures);
-    first = λ own. after_fault new p.bytes fault (λ n lt. inl (ends_early p.bytes p.needed n lt)) (p.refused own);
+    first = λ own. after_fault new p.bytes fault (p.refused own);
   }
 
 pub segment_refused : (start old new : State) (reader : TableReader) (groups : List (List (List Value))) (size : ℕ) (fault : Fault)
@@ -201,8 +198,7 @@ byte_more groups at (byte ∷ bytes) rest one = refl
 
 -- and no fewer bytes have it
 byte_needed : (start old : State) (reader : TableReader) (groups : List (List (List Value))) → reader.given ≡ reader.rows → (so_far : SoFar start old reader groups)
-    → (byte : List ℕ) → length byte ≡ 1 → (n : ℕ) → n < length (so_far.head.bytes ++ (so_far.on.bytes ++ byte))
-    → LacksFault (so_far.head.bytes ++ (so_far.on.bytes ++ byte)) n (at_byte 309 old.offset)
+    → (byte : List ℕ) → length byte ≡ 1 → NoneToSpare (so_far.head.bytes ++ (so_far.on.bytes ++ byte)) (at_byte 309 old.offset)
 byte_needed start old reader groups all so_far byte one n lt =
     let front = so_far.head.bytes ++ so_far.on.bytes in
     let whole : front ++ byte ≡ so_far.head.bytes ++ (so_far.on.bytes ++ byte) = append_assoc so_far.head.bytes so_far.on.bytes byte in
@@ -216,20 +212,15 @@ byte_needed start old reader groups all so_far byte one n lt =
           rw (take_at front byte n size) (inr (found_so_far reader groups, read_so_far start old reader groups all so_far, ap (λ (k : ℕ). at_byte 309 k) place))
     ])
 
--- bytes that lack a fault are too few
-lacking : (bytes : List ℕ) (n : ℕ) (fault : Fault) → LacksFault bytes n fault → AreTooFew bytes n
-lacking bytes n fault (inl early) = inl early
-lacking bytes n fault (inr whole) = inr (whole.0, whole.1)
-
 -- no byte could be spared, whether a byte came after the groups or a read failed
-end_needed : (start old : State) (reader : TableReader) (groups : List (List (List Value))) → reader.given ≡ reader.rows → (so_far : SoFar start old reader groups)
-    → (byte : List ℕ) (failed : Bool) → (failed ≡ true → byte ≡ []) → (failed ≡ false → length byte ≡ 1)
-    → NoneToSpare (so_far.head.bytes ++ (so_far.on.bytes ++ byte))
-end_needed start old reader groups all so_far byte true none one =
+end_needed : (start old : State) (reader : TableReader) (groups : List (List (List Value))) (fault : Fault) → reader.given ≡ reader.rows → (so_far : SoFar start old reader groups)
+    → (byte : List ℕ) (failed : Bool) → (failed ≡ true → byte ≡ []) → (failed ≡ false → (length byte ≡ 1) × (fault ≡ at_byte 309 old.offset))
+    → NoneToSpare (so_far.head.bytes ++ (so_far.on.bytes ++ byte)) fault
+end_needed start old reader groups fault all so_far byte true none one =
     let whole : so_far.on.bytes ++ byte ≡ so_far.on.bytes = rw (none refl) (append-nil so_far.on.bytes) in
     rw whole (λ n lt. inl (ends_early start old reader groups so_far so_far.on.bytes so_far.on.needed n lt))
-end_needed start old reader groups all so_far byte false none one =
-    λ n lt. lacking (so_far.head.bytes ++ (so_far.on.bytes ++ byte)) n (at_byte 309 old.offset) (byte_needed start old reader groups all so_far byte (one refl) n lt)
+end_needed start old reader groups fault all so_far byte false none one =
+    rw ((one refl).1) (byte_needed start old reader groups all so_far byte (one refl).0)
 
 -- a fault that isn't a failed read, nor out of memory
 own_fault : (fault : Fault) → is_input_fault fault ≡ false → is_read_fault fault ≡ false
@@ -244,7 +235,7 @@ pub end_missed : (start old new : State) (reader : TableReader) (groups : List (
 end_missed start old new reader groups fault all so_far p = record {
   bytes = so_far.head.bytes ++ (so_far.on.bytes ++ p.bytes);
   took = took_more start so_far.after new so_far.head.bytes (so_far.on.bytes ++ p.bytes) so_far.head.took (took_more so_far.after old new so_far.on.bytes p.bytes so_far.on.took p.took);
-  needed = end_needed start old reader groups all so_far p.bytes (is_read_fault fault) p.unfinished (λ own. (p.refused own).0);
+  needed = end_needed start old reader groups fault all so_far p.bytes (is_read_fault fault) p.unfinished p.refused;
   unfinished = λ failed.
       let whole : so_far.on.bytes ++ p.bytes ≡ so_far.on.bytes = rw (p.unfinished failed) (append-nil so_far.on.bytes) in
       rw whole (inr (found_so_far reader groups, read_so_far start old reader groups all so_far));
@@ -261,7 +252,7 @@ end_missed start old new reader groups fault all so_far p = record {
             ∙ at_end start old reader groups all so_far (p.bytes ++ rest)
             ∙ byte_more groups old.offset p.bytes rest has.0;
       } in
-      rw has.1 (after_fault start old reader groups so_far new (so_far.on.bytes ++ p.bytes) (at_byte 309 old.offset) (byte_needed start old reader groups all so_far p.bytes has.0) found);
+      rw has.1 (after_fault start old reader groups so_far new (so_far.on.bytes ++ p.bytes) (at_byte 309 old.offset) found);
 }
 
 pub end_seen : (start old new : State) (reader : TableReader) (groups : List (List (List Value))) → reader.given ≡ reader.rows → SoFar start old reader groups
@@ -270,7 +261,7 @@ end_seen start old new reader groups all so_far took same ended = record {
   bytes = so_far.head.bytes ++ so_far.on.bytes;
   took = rw append-nil at (took_more start old new (so_far.head.bytes ++ so_far.on.bytes) []
       (took_more start so_far.after old so_far.head.bytes so_far.on.bytes so_far.head.took so_far.on.took) took);
-  needed = λ n lt. inl (ends_early start old reader groups so_far so_far.on.bytes so_far.on.needed n lt);
+  needed = ends_early start old reader groups so_far so_far.on.bytes so_far.on.needed;
   failures = omega (arith, same, so_far.on.failures, so_far.head.failures);
   ended = ended;
   read = read_so_far start old reader groups all so_far;

@@ -1,10 +1,10 @@
 -- Reading bytes field by field: what is read of them, and the bytes after it, or the first fault.
-use Rattle.std.specs.Prelude.{◌≡◌, ℕ, ◌+◌, true, false, List, [], ◌++◌, length, take, drop, Option, IfSome, Result, Ok, Err, if◌then◌else◌, nat_lt, ◌<◌, slice_index}
+use Rattle.std.specs.Prelude.{◌≡◌, ℕ, ◌+◌, true, false, List, [], ◌++◌, length, take, drop, Option, IfSome, Result, Ok, Err, nat_lt, ◌<◌, slice_index}
 use Rattle.std.specs.Io.KnownBytes.{Consumes}
 use Rattle.bw_model.specs.FaultTable.{TRUNCATED, BYTES_AFTER_END}
 use Rattle.bw_model.specs.declared.fault.Fault.{Fault}
 use Rattle.bw_model.specs.Fault.{at_byte, refused_if}
-use Rattle.bw_device.specs.Source.{is_read_fault, is_input_fault}
+use Rattle.bw_device.specs.Source.{is_read_fault, is_input_fault, failed_reads}
 
 -- the bytes of a file from a place on
 pub record Tail : Type 0 where
@@ -99,10 +99,6 @@ pub record HasFault {A : Type 0} (reading : Reading A) (old new : State)
   pub rest : List ℕ
   pub coming : IfSome new.known (λ known. known ≡ rest)
   pub gives : reading (tail old.offset (bytes ++ rest)) ≡ Err fault
-
--- how many reads have failed where this fault is answered
-abbrev pub failed_reads : Fault → ℕ
-failed_reads fault = if is_read_fault fault then 1 else 0
 
 -- Bytes were taken of a source, none that reading doesn't need, and a fault was answered: that of a
 -- failed read, where the bytes that were taken weren't enough; out of memory; or the one that

@@ -7,17 +7,17 @@ ghost use Rattle.bw_model.specs.SchemaText.{schema_shape};
 ghost use Rattle.bw_file.specs.FileBytes.{IsFileBytes};
 ghost use Rattle.bw_file.specs.Reading.{State, Took};
 ghost use Rattle.bw_device.specs.Source.{is_input_fault};
-ghost use Rattle.bw_file.specs.TableReader.{SoFar, ReadWhole, NoneToSpare, AnswersFault, GaveFirst};
+ghost use Rattle.bw_file.specs.TableReader.{SoFar, ReadWhole, FrontsEndEarly, AnswersFault, GaveFirst};
 ghost use Rattle.bw_file.specs.TableReading.{Found, found_as};
 ghost use Rattle.bw_file.specs.declared.layout.Layout.{Layout};
 ghost use Rattle.bw_file.specs.declared.table_reader.TableReader.{TableReader};
 
-/// A law: what a reader has read so far are bytes that were taken of the source, none of which could
-/// be spared, with no failed read.
+/// A law: what a reader has read so far are bytes that were taken of the source, with no failed read,
+/// and a file of fewer of them ends too early.
 pub fn bytes_were_taken()
     ensures { (start now : State) (reader : TableReader) (groups : List (List (List Value)))
         → SoFar start now reader groups
-        → ((bytes : List ℕ) × Took start now bytes × NoneToSpare bytes) × (now.failures ≡ start.failures) }
+        → ((bytes : List ℕ) × Took start now bytes × FrontsEndEarly bytes) × (now.failures ≡ start.failures) }
 {}
 
 /// A law: where the bytes to come are a table's, a reader tells of that table and gives its

@@ -1,5 +1,5 @@
 -- The header's bytes, and those after it.
-use Rattle.std.proofs.Common.{◌∙◌, ◌++◌, inl}
+use Rattle.std.proofs.Common.{◌∙◌, ◌++◌}
 use Rattle.bw_file.proofs.ReaderLemmas.{ends_early}
 use Rattle.bw_file.proofs.ReadingLemmas.{took_more}
 use Rattle.bw_file.proofs.reader_laws.bytes_were_taken.Goals as goal
@@ -9,7 +9,7 @@ returns c = λ start now reader groups read. (
   (
     read.head.bytes ++ read.on.bytes,
     took_more start read.after now read.head.bytes read.on.bytes read.head.took read.on.took,
-    λ n lt. inl (ends_early start now reader groups read read.on.bytes read.on.needed n lt),
+    ends_early start now reader groups read read.on.bytes read.on.needed,
   ),
   read.on.failures ∙ read.head.failures,
 )
