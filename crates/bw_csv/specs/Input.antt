@@ -22,9 +22,9 @@ abbrev pub IsMadeAfter : {A B : Type 0} → Result B Fault → (B → List ℕ �
 IsMadeAfter (Ok x) make csv outcome = IsMadeOf (make x) csv outcome
 IsMadeAfter (Err fault) make csv outcome = (csv ≡ NotReached) × (outcome ≡ Err fault)
 
--- a call that reads a CSV text answered its bytes, or the fault of what came
+-- a call that reads a CSV text answered all its bytes, or the fault of what came
 abbrev pub CsvAnswered : Arrival → Result (Vec ℕ Global) Fault → Type 0
-CsvAnswered csv (Ok bytes) = IsMadeOf Ok csv (Ok bytes.items)
+CsvAnswered csv (Ok bytes) = csv ≡ Whole bytes.items
 CsvAnswered csv (Err fault) = IsMadeOf Ok csv (Err fault)
 
 -- a failed read, no memory, or a text past the limit

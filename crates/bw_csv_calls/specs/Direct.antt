@@ -1,16 +1,17 @@
 -- What an answer straight from a CSV text is to be, by what came of the schema's source and of the CSV's.
-use Rattle.std.specs.Prelude.{◌≡◌, ◌&&◌, ◌||◌, Bool, ℕ, List, nat_le, Option, Result, Ok, Err}
+use Rattle.std.specs.Prelude.{◌≡◌, ◌&&◌, ◌||◌, Bool, ℕ, List, nat_le, Result, Ok, Err}
 use Rattle.bw_model.specs.FaultTable.{SCHEMA_FORM, SCHEMA_TOO_LONG, CHARACTER, NESTING}
 use Rattle.bw_model.specs.declared.fault.Fault.{Fault}
 use Rattle.bw_model.specs.declared.query.Query.{Query}
 use Rattle.bw_model.specs.declared.schema.Schema.{Schema}
 use Rattle.bw_model.specs.Fault.{◌>>=◌}
+use Rattle.bw_device.specs.Source.{Arrival, NotReached}
 use Rattle.bw_sql.specs.Statement.{IsReadAs}
 use Rattle.bw_model.specs.declared.column.Column.{Column}
 use Rattle.bw_model.specs.Column.{names_of}
 use Rattle.bw_csv.specs.Rows.{rows_of}
 use Rattle.bw_answer.specs.Answer.{csv_text, meaning}
-use Rattle.bw_csv.specs.Input.{csv_from}
+use Rattle.bw_csv.specs.Input.{IsMadeAfter}
 use Rattle.bw_csv_calls.specs.Arrived.{IsSchemaFrom}
 
 -- a fault of a schema text or of a statement, which is answered before the CSV is read
@@ -22,19 +23,14 @@ is_before_csv fault = (nat_le SCHEMA_FORM fault.code && nat_le fault.code SCHEMA
 abbrev pub answer_of : List Column → Query → List ℕ → Result (List ℕ) Fault
 answer_of columns query csv = rows_of columns csv >>= λ rows. Ok (csv_text (meaning (names_of columns) query rows))
 
--- the text of the answer to a statement that was read, or the first fault after it
-abbrev pub answer_from : Schema → Result Query Fault → Result (Option (List ℕ)) Fault → Result (List ℕ) Fault
-answer_from schema statement csv = statement >>= λ query. csv_from csv
-    >>= λ text. answer_of schema.columns.items query text
-
--- The text of the answer, or the first fault in the order of the schema, the statement and the CSV.
-abbrev pub IsAnswerUnder : Result Schema Fault → List ℕ → Result (Option (List ℕ)) Fault → Result (List ℕ) Fault
-    → Type 0
+-- The text of the answer by what the schema was read as, or the first fault in the order of the schema, the statement
+-- and the CSV. Where the schema or the statement is refused, the CSV isn't reached.
+abbrev pub IsAnswerUnder : Result Schema Fault → List ℕ → Arrival → Result (List ℕ) Fault → Type 0
 IsAnswerUnder (Ok schema) sql csv given = (statement : Result Query Fault) × IsReadAs schema sql statement
-    × (given ≡ answer_from schema statement csv)
-IsAnswerUnder (Err fault) sql csv given = given ≡ Err fault
+    × IsMadeAfter statement (answer_of schema.columns.items) csv given
+IsAnswerUnder (Err fault) sql csv given = (csv ≡ NotReached) × (given ≡ Err fault)
 
-abbrev pub IsAnswer : Result (Option (List ℕ)) Fault → List ℕ → Result (Option (List ℕ)) Fault → Result (List ℕ) Fault
-    → Type 0
+-- so it is by what came of the schema's source
+abbrev pub IsAnswer : Arrival → List ℕ → Arrival → Result (List ℕ) Fault → Type 0
 IsAnswer came sql csv given = (schema : Result Schema Fault) × IsSchemaFrom came schema
     × IsAnswerUnder schema sql csv given

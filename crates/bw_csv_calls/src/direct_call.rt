@@ -1,12 +1,12 @@
 //! A query answered straight from a CSV text.
-ghost use Rattle.std.specs.Prelude.{◌≡◌, ◌+◌, ◌-◌, ◌^◌, ◌<◌, ◌≤◌, ℕ, List, Option, Result, Ok, false, true, length, vec_len, IfErr, IsTrue};
+ghost use Rattle.std.specs.Prelude.{◌≡◌, ◌+◌, ◌-◌, ◌^◌, ◌<◌, ◌≤◌, ℕ, List, Result, Ok, false, true, length, vec_len, IfErr, IsTrue};
 ghost use Rattle.std.specs.List.{list_all};
 ghost use Rattle.bw_model.specs.declared.fault.Fault.{Fault};
 ghost use Rattle.bw_model.specs.declared.query.Query.{Query};
 ghost use Rattle.bw_model.specs.declared.schema.Schema.{Schema};
-ghost use Rattle.bw_device.specs.Sink.{LeavesSink, Wrote, is_write_fault};
+ghost use Rattle.bw_device.specs.Sink.{Wrote, is_write_fault};
 ghost use Rattle.bw_model.specs.Limits.{longest_schema, longest_csv};
-ghost use Rattle.bw_device.specs.Source.{Came, LeavesSource};
+ghost use Rattle.bw_device.specs.Source.{Arrival, Came, TellsFailureOfEither, TookAtMost};
 ghost use Rattle.bw_model.specs.Total.{item_within};
 ghost use Rattle.bw_sql.specs.Items.{AreOfOneKind};
 ghost use Rattle.bw_sql.specs.Statement.{IsReadAs};
@@ -42,9 +42,10 @@ pub fn direct<S: Source, C: Source, K: Sink>(
     requires csv { C.failures csv_source.old < 2 ^ 64 - 1 }
     requires sink { K.failures sink.old < 2 ^ 64 - 1 }
 
-    // What went out is the text of the answer by what came of the sources, or nothing, where that is a fault. A source
-    // that wasn't reached, or whose text found no memory, stands as one that found no memory.
-    ensures answer { (schema csv : Result (Option (List ℕ)) Fault) × (given : Result (List ℕ) Fault)
+    // What went out is the text of the answer by what came of the sources, or nothing, where that is a fault. If memory
+    // runs out while the schema or the statement is read, the schema's source stands as one that found no memory, and
+    // the CSV's as not reached.
+    ensures answer { (schema csv : Arrival) × (given : Result (List ℕ) Fault)
         × Came longest_schema (S.to_come schema_source.old) (S.to_come schema_source.new)
         (S.failures schema_source.old) (S.failures schema_source.new) schema
         × Came longest_csv (C.to_come csv_source.old) (C.to_come csv_source.new)
@@ -62,13 +63,12 @@ pub fn direct<S: Source, C: Source, K: Sink>(
         × CsvStopped (Came longest_csv (C.to_come csv_source.old) (C.to_come csv_source.new)
         (C.failures csv_source.old) (C.failures csv_source.new)) schema fault) }
 
-    // Where a device failed, the call ends with that; of a source no more is taken than one byte past its limit; and
-    // where the call refuses, but for a write that failed, it has written nothing.
-    ensures schema { LeavesSource (longest_schema + 1) (S.to_come schema_source.old) (S.to_come schema_source.new)
-        (S.failures schema_source.old) (S.failures schema_source.new) result }
-    ensures csv { LeavesSource (longest_csv + 1) (C.to_come csv_source.old) (C.to_come csv_source.new)
+    // Of a source no more is taken than one byte past its limit. The call refuses by a failed read exactly where the
+    // count of one source rose.
+    ensures schema { TookAtMost (longest_schema + 1) (S.to_come schema_source.old) (S.to_come schema_source.new) }
+    ensures csv { TookAtMost (longest_csv + 1) (C.to_come csv_source.old) (C.to_come csv_source.new) }
+    ensures failed { TellsFailureOfEither (S.failures schema_source.old) (S.failures schema_source.new)
         (C.failures csv_source.old) (C.failures csv_source.new) result }
-    ensures sink { LeavesSink (K.taken sink.old) (K.taken sink.new) (K.failures sink.old) (K.failures sink.new) result }
 
     // Where the schema's source failed, or the schema or the statement is refused, the CSV's source is as it was.
     ensures unread { S.failures schema_source.old < S.failures schema_source.new → csv_source.new ≡ csv_source.old }
@@ -87,7 +87,7 @@ fn direct_text<S: Source, C: Source>(
 ) -> Result<Vec<u8>, Fault>
     requires schema { S.failures schema_source.old < 2 ^ 64 - 1 }
     requires csv { C.failures csv_source.old < 2 ^ 64 - 1 }
-    ensures answer { (schema csv : Result (Option (List ℕ)) Fault) × (given : Result (List ℕ) Fault)
+    ensures answer { (schema csv : Arrival) × (given : Result (List ℕ) Fault)
         × Came longest_schema (S.to_come schema_source.old) (S.to_come schema_source.new)
         (S.failures schema_source.old) (S.failures schema_source.new) schema
         × Came longest_csv (C.to_come csv_source.old) (C.to_come csv_source.new)
@@ -101,9 +101,9 @@ fn direct_text<S: Source, C: Source>(
         × IsReadAs schema sql.now (Ok query)
         × CsvStopped (Came longest_csv (C.to_come csv_source.old) (C.to_come csv_source.new)
         (C.failures csv_source.old) (C.failures csv_source.new)) schema fault) }
-    ensures schema { LeavesSource (longest_schema + 1) (S.to_come schema_source.old) (S.to_come schema_source.new)
-        (S.failures schema_source.old) (S.failures schema_source.new) result }
-    ensures csv { LeavesSource (longest_csv + 1) (C.to_come csv_source.old) (C.to_come csv_source.new)
+    ensures schema { TookAtMost (longest_schema + 1) (S.to_come schema_source.old) (S.to_come schema_source.new) }
+    ensures csv { TookAtMost (longest_csv + 1) (C.to_come csv_source.old) (C.to_come csv_source.new) }
+    ensures failed { TellsFailureOfEither (S.failures schema_source.old) (S.failures schema_source.new)
         (C.failures csv_source.old) (C.failures csv_source.new) result }
     ensures unread { S.failures schema_source.old < S.failures schema_source.new → csv_source.new ≡ csv_source.old }
     ensures unneeded { IfErr result (λ fault. IsTrue (is_before_csv fault) → csv_source.new ≡ csv_source.old) }

@@ -1,11 +1,10 @@
 //! The text of a schema, read whole.
-ghost use Rattle.std.specs.Prelude.{◌≡◌, ◌+◌, ◌-◌, ◌^◌, ◌<◌, ℕ, List, Option, Result, false, IfErr};
-ghost use Rattle.bw_model.specs.declared.fault.Fault.{Fault};
+ghost use Rattle.std.specs.Prelude.{◌≡◌, ◌+◌, ◌-◌, ◌^◌, ◌<◌, false, IfErr};
 ghost use Rattle.bw_csv.specs.Rows.{is_reader_fault};
 ghost use Rattle.bw_device.specs.Sink.{is_write_fault};
 ghost use Rattle.bw_model.specs.Limits.{longest_schema};
-ghost use Rattle.bw_device.specs.Source.{Came, LeavesSource};
-ghost use Rattle.bw_csv_calls.specs.Arrived.{SchemaAnswered};
+ghost use Rattle.bw_device.specs.Source.{Arrival, Came, LeavesSource};
+ghost use Rattle.bw_csv_calls.specs.Arrived.{IsSchemaFrom};
 
 use bw_device::{Input, Source, read_limited};
 use bw_model::{Fault, MAX_SCHEMA_LEN, Schema, code};
@@ -14,10 +13,10 @@ use std::alloc::Global;
 /// The schema of a schema text. Refuses its source (701) and then the text (106, 101 to 105).
 pub(crate) fn read_schema<S: Source>(alloc: Global, source: &mut S) -> Result<Schema, Fault>
     requires { S.failures source.old < 2 ^ 64 - 1 }
-    ensures answered { (came : Result (Option (List ℕ)) Fault)
+    ensures answered { (came : Arrival)
         × Came longest_schema (S.to_come source.old) (S.to_come source.new) (S.failures source.old)
         (S.failures source.new) came
-        × SchemaAnswered came result }
+        × IsSchemaFrom came result }
     ensures source { LeavesSource (longest_schema + 1) (S.to_come source.old) (S.to_come source.new)
         (S.failures source.old) (S.failures source.new) result }
     ensures fault { IfErr result (λ fault. is_write_fault fault ≡ false) }

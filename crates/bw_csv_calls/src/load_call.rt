@@ -1,10 +1,10 @@
 //! A table file written from a CSV text.
-ghost use Rattle.std.specs.Prelude.{◌≡◌, ◌+◌, ◌-◌, ◌^◌, ◌<◌, ℕ, List, Option, Result, false, true, IfErr, IsTrue};
+ghost use Rattle.std.specs.Prelude.{◌≡◌, ◌+◌, ◌-◌, ◌^◌, ◌<◌, ℕ, List, Result, false, true, IfErr, IsTrue};
 ghost use Rattle.bw_model.specs.declared.fault.Fault.{Fault};
 ghost use Rattle.bw_model.specs.declared.schema.Schema.{Schema};
 ghost use Rattle.bw_model.specs.Limits.{longest_schema, longest_csv};
-ghost use Rattle.bw_device.specs.Sink.{LeavesSink, Wrote, is_write_fault};
-ghost use Rattle.bw_device.specs.Source.{Came, LeavesSource};
+ghost use Rattle.bw_device.specs.Sink.{Wrote, is_write_fault};
+ghost use Rattle.bw_device.specs.Source.{Arrival, Came, TellsFailureOfEither, TookAtMost};
 ghost use Rattle.bw_csv.specs.Bare.{records_of};
 ghost use Rattle.bw_csv.specs.Rows.{is_aside, is_reader_fault, GivesButAside, IsRowsFault, StopsUnder};
 ghost use Rattle.bw_csv_calls.specs.Arrived.{CsvStopped, SchemaCame};
@@ -35,9 +35,9 @@ pub fn load<S: Source, C: Source, K: Sink>(
     requires csv { C.failures csv_source.old < 2 ^ 64 - 1 }
     requires sink { K.failures sink.old < 2 ^ 64 - 1 }
 
-    // What went out is the table file by what came of the sources, or nothing, where that is a fault. A
-    // source that wasn't reached, or whose text found no memory, stands as one that found no memory.
-    ensures file { (schema csv : Result (Option (List ℕ)) Fault) × (given : Result (List ℕ) Fault)
+    // What went out is the table file by what came of the sources, or nothing, where that is a fault. If memory runs
+    // out while the schema is read, its source stands as one that found no memory, and the CSV's as not reached.
+    ensures file { (schema csv : Arrival) × (given : Result (List ℕ) Fault)
         × Came longest_schema (S.to_come schema_source.old) (S.to_come schema_source.new)
         (S.failures schema_source.old) (S.failures schema_source.new) schema
         × Came longest_csv (C.to_come csv_source.old) (C.to_come csv_source.new)
@@ -54,13 +54,12 @@ pub fn load<S: Source, C: Source, K: Sink>(
         × CsvStopped (Came longest_csv (C.to_come csv_source.old) (C.to_come csv_source.new)
         (C.failures csv_source.old) (C.failures csv_source.new)) schema fault) }
 
-    // Where a device failed, the call ends with that; of a source no more is taken than one byte past its limit; and
-    // where the call refuses, but for a write that failed, it has written nothing.
-    ensures schema { LeavesSource (longest_schema + 1) (S.to_come schema_source.old) (S.to_come schema_source.new)
-        (S.failures schema_source.old) (S.failures schema_source.new) result }
-    ensures csv { LeavesSource (longest_csv + 1) (C.to_come csv_source.old) (C.to_come csv_source.new)
+    // Of a source no more is taken than one byte past its limit. The call refuses by a failed read exactly where the
+    // count of one source rose.
+    ensures schema { TookAtMost (longest_schema + 1) (S.to_come schema_source.old) (S.to_come schema_source.new) }
+    ensures csv { TookAtMost (longest_csv + 1) (C.to_come csv_source.old) (C.to_come csv_source.new) }
+    ensures failed { TellsFailureOfEither (S.failures schema_source.old) (S.failures schema_source.new)
         (C.failures csv_source.old) (C.failures csv_source.new) result }
-    ensures sink { LeavesSink (K.taken sink.old) (K.taken sink.new) (K.failures sink.old) (K.failures sink.new) result }
 
     // Where the schema's source failed, or the schema is refused, the CSV's source is as it was.
     ensures unread { S.failures schema_source.old < S.failures schema_source.new → csv_source.new ≡ csv_source.old }
@@ -80,7 +79,7 @@ fn loaded<S: Source, C: Source>(
 ) -> Result<Vec<u8>, Fault>
     requires schema { S.failures schema_source.old < 2 ^ 64 - 1 }
     requires csv { C.failures csv_source.old < 2 ^ 64 - 1 }
-    ensures file { (schema csv : Result (Option (List ℕ)) Fault) × (given : Result (List ℕ) Fault)
+    ensures file { (schema csv : Arrival) × (given : Result (List ℕ) Fault)
         × Came longest_schema (S.to_come schema_source.old) (S.to_come schema_source.new)
         (S.failures schema_source.old) (S.failures schema_source.new) schema
         × Came longest_csv (C.to_come csv_source.old) (C.to_come csv_source.new)
@@ -93,9 +92,9 @@ fn loaded<S: Source, C: Source>(
         (S.failures schema_source.old) (S.failures schema_source.new)) schema
         × CsvStopped (Came longest_csv (C.to_come csv_source.old) (C.to_come csv_source.new)
         (C.failures csv_source.old) (C.failures csv_source.new)) schema fault) }
-    ensures schema { LeavesSource (longest_schema + 1) (S.to_come schema_source.old) (S.to_come schema_source.new)
-        (S.failures schema_source.old) (S.failures schema_source.new) result }
-    ensures csv { LeavesSource (longest_csv + 1) (C.to_come csv_source.old) (C.to_come csv_source.new)
+    ensures schema { TookAtMost (longest_schema + 1) (S.to_come schema_source.old) (S.to_come schema_source.new) }
+    ensures csv { TookAtMost (longest_csv + 1) (C.to_come csv_source.old) (C.to_come csv_source.new) }
+    ensures failed { TellsFailureOfEither (S.failures schema_source.old) (S.failures schema_source.new)
         (C.failures csv_source.old) (C.failures csv_source.new) result }
     ensures unread { S.failures schema_source.old < S.failures schema_source.new → csv_source.new ≡ csv_source.old }
     ensures unneeded { IfErr result (λ fault. IsTrue (is_before_csv fault) → csv_source.new ≡ csv_source.old) }

@@ -1,5 +1,5 @@
 -- What is answered over a loaded table is what `direct` may write.
-use Rattle.std.proofs.Common.{◌≡◌, ◌∙◌, ◌≤◌, ℕ, List, length, Option, Some, None, Result, Ok, Err, IfOk, IsTrue, refl, sym, ap, subst}
+use Rattle.std.proofs.Common.{◌≡◌, ◌∙◌, ◌≤◌, ℕ, List, length, Option, Result, Ok, Err, IfOk, IsTrue, refl, sym, ap, subst}
 use Rattle.std.specs.Io.KnownBytes.{Appends}
 use Rattle.std.specs.List.{list_all}
 use Rattle.bw_model.specs.declared.column.Column.{Column}
@@ -11,11 +11,12 @@ use Rattle.bw_model.specs.Fault.{◌>>=◌}
 use Rattle.bw_model.specs.Limits.{most_rows}
 use Rattle.bw_model.specs.Row.{Value}
 use Rattle.bw_model.specs.SchemaText.{schema_shape}
+use Rattle.bw_device.specs.Source.{Arrival, NotReached, Whole, TooLong, Failed}
 use Rattle.bw_sql.specs.Asked.{asked}
 use Rattle.bw_sql.specs.Statement.{IsReadAs}
 use Rattle.bw_sql.proofs.SameNames.{columns_too, spells_too}
 use Rattle.bw_answer.specs.Answer.{csv_text, meaning}
-use Rattle.bw_csv.specs.Input.{csv_from}
+use Rattle.bw_csv.specs.Input.{IsMadeOf, IsMadeAfter}
 use Rattle.bw_csv.specs.Rows.{rows_of}
 use Rattle.bw_file.specs.declared.layout.Layout.{Layout}
 use Rattle.bw_file.specs.FileBytes.{IsFileBytes, IsSchema, file_bytes}
@@ -23,7 +24,7 @@ use Rattle.bw_file.specs.TableReading.{Found}
 use Rattle.bw_file.proofs.SpelledFile.{of_one_table}
 use Rattle.bw_query.specs.TableAnswer.{AnswersFile, by_statement}
 use Rattle.bw_csv_calls.specs.Arrived.{IsSchemaFrom}
-use Rattle.bw_csv_calls.specs.Direct.{IsAnswer, IsAnswerUnder, answer_from, answer_of}
+use Rattle.bw_csv_calls.specs.Direct.{IsAnswer, IsAnswerUnder, answer_of}
 use Rattle.bw_csv_calls.specs.Load.{IsFile, file_of}
 use Rattle.bw_laws.specs.AsDirect.{IsAnswerable, LoadMayWrite, TookAnswer, TookAsDirect}
 use Rattle.bw_laws.specs.Joined.{AnswersCsv}
@@ -44,16 +45,18 @@ abbrev pub LimitsRows : Type 0
 LimitsRows = (columns : List Column) (text : List ℕ) → IfOk (rows_of columns text) (λ rows. length rows ≤ most_rows)
 
 -- a schema that came of a text is sound
-sound_from : (came : Result (Option (List ℕ)) Fault) (schema : Schema) → IsSchemaFrom came (Ok schema) → IsSchema (schema_shape schema)
-sound_from (Ok (Some text)) schema from = sound_shape text (schema_shape schema) from
-sound_from (Ok None) schema from = absurd (cc from)
-sound_from (Err fault) schema from = absurd (cc from)
+sound_from : (came : Arrival) (schema : Schema) → IsSchemaFrom came (Ok schema) → IsSchema (schema_shape schema)
+sound_from NotReached schema from = absurd from
+sound_from (Whole text) schema from = sound_shape text (schema_shape schema) from
+sound_from TooLong schema from = absurd (cc from)
+sound_from (Failed fault) schema from = absurd (cc from)
 
--- the answer to a query over a CSV text that came
-answered_from : (schema : Schema) (query : Query) (csv : Result (Option (List ℕ)) Fault) (text answer : List ℕ) → csv_from csv ≡ Ok text
-    → answer_of schema.columns.items query text ≡ Ok answer → Ok answer ≡ answer_from schema (Ok query) csv
-answered_from schema query csv text answer came is =
-    sym (ap (λ (read : Result (List ℕ) Fault). read >>= λ text. answer_of schema.columns.items query text) came ∙ is)
+-- what is made of a CSV text that came
+made_from : (make : List ℕ → Result (List ℕ) Fault) (csv : Arrival) (text made : List ℕ) → csv ≡ Whole text → make text ≡ Ok made → IsMadeOf make csv (Ok made)
+made_from make csv text made came is = subst (λ (csv : Arrival). IsMadeOf make csv (Ok made)) (sym came) (sym is)
+
+given_from : (make : List ℕ → Result (List ℕ) Fault) (csv : Arrival) (text : List ℕ) (given : Result (List ℕ) Fault) → csv ≡ Whole text → IsMadeOf make csv given → given ≡ make text
+given_from make csv text given came made = subst (λ (csv : Arrival). IsMadeOf make csv given) came made
 
 -- the table file of a schema and rows that came is a file of theirs
 file_of_rows : (layout : Layout) (schema : Schema) (text bytes : List ℕ) → AdmitsRows → LimitsRows → IsSchema (schema_shape schema)
@@ -61,12 +64,12 @@ file_of_rows : (layout : Layout) (schema : Schema) (text bytes : List ℕ) → A
 file_of_rows layout schema text bytes admits limits under of =
     loaded_text layout schema text bytes under of (admits schema.columns.items text) (limits schema.columns.items text)
 
-under_direct : AdmitsRows → LimitsRows → (layout : Layout) (came csv : Result (Option (List ℕ)) Fault) (bytes sql : List ℕ) (program old new : Option (List ℕ))
-    (reading : Result Schema Fault) → IsSchemaFrom came reading → ◌≡◌ {A = Result (List ℕ) Fault} (Ok bytes) (reading >>= λ schema. csv_from csv >>= file_of layout schema)
+under_direct : AdmitsRows → LimitsRows → (layout : Layout) (came csv : Arrival) (bytes sql : List ℕ) (program old new : Option (List ℕ))
+    (reading : Result Schema Fault) → IsSchemaFrom came reading → IsMadeAfter reading (file_of layout) csv (Ok bytes)
     → AnswersFile (by_statement program sql) bytes old new → TookAnswer came csv sql old new
-under_direct admits limits layout came csv bytes sql program old new (Err fault) from made file = absurd (cc made)
+under_direct admits limits layout came csv bytes sql program old new (Err fault) from made file = absurd (cc (made.1))
 under_direct admits limits layout came csv bytes sql program old new (Ok schema) from made file =
-    let csv_came = csv_text_of csv (file_of layout schema) bytes (sym made) in
+    let csv_came = csv_text_of csv (file_of layout schema) bytes made in
     let of = loaded layout schema csv_came.text bytes csv_came.given in
     let is = file_of_rows layout schema csv_came.text bytes admits limits (sound_from came schema from) of in
     let same = of_one_table bytes layout file.layout schema file.schema of.rows file.rows is file.file in
@@ -76,7 +79,7 @@ under_direct admits limits layout came csv bytes sql program old new (Ok schema)
     answers (λ query. IsReadAs schema sql (Ok query)) layout file.layout schema file.schema csv_came.text bytes old new file.query of file.rows same
     (columns_too file.schema schema shape) spelled file.text in
     let answer : IsAnswer came sql csv (Ok found.text) =
-    (Ok schema, from, (Ok found.query, found.asked, answered_from schema found.query csv csv_came.text found.text csv_came.came found.is)) in
+    (Ok schema, from, (Ok found.query, found.asked, made_from (answer_of schema.columns.items found.query) csv csv_came.text found.text csv_came.came found.is)) in
     record {
       text = found.text;
       is = answer;
@@ -84,7 +87,7 @@ under_direct admits limits layout came csv bytes sql program old new (Ok schema)
       took = found.took;
     }
 
-pub took_answer : AdmitsRows → LimitsRows → (layout : Layout) (schema csv : Result (Option (List ℕ)) Fault) (bytes sql : List ℕ) (program old new : Option (List ℕ))
+pub took_answer : AdmitsRows → LimitsRows → (layout : Layout) (schema csv : Arrival) (bytes sql : List ℕ) (program old new : Option (List ℕ))
     → IsFile layout schema csv (Ok bytes) → AnswersFile (by_statement program sql) bytes old new → TookAnswer schema csv sql old new
 took_answer admits limits layout schema csv bytes sql program old new is file =
     under_direct admits limits layout schema csv bytes sql program old new is.0 is.1 is.2 file
@@ -122,11 +125,11 @@ rows_spelled columns query text answer (Ok rows) spelled given = (rows, spelled)
 rows_spelled columns query text answer (Err fault) spelled given = absurd (cc given)
 
 -- where a query has an answer over a CSV that came, a load has a file for it
-answerable_under : AdmitsRows → LimitsRows → (layout : Layout) (came csv : Result (Option (List ℕ)) Fault) (sql answer : List ℕ) (given : Result (List ℕ) Fault)
+answerable_under : AdmitsRows → LimitsRows → (layout : Layout) (came csv : Arrival) (sql answer : List ℕ) (given : Result (List ℕ) Fault)
     (schema other : Schema) (query : Query) → IsSchemaFrom came (Ok schema) → schema_shape other ≡ schema_shape schema → IsReadAs other sql (Ok query)
-    → answer_from other (Ok query) csv ≡ Ok answer → given ≡ (csv_from csv >>= file_of layout schema) → IsAnswerable layout sql given
+    → IsMadeOf (answer_of other.columns.items query) csv (Ok answer) → IsMadeOf (file_of layout schema) csv given → IsAnswerable layout sql given
 answerable_under admits limits layout came csv sql answer given schema other query from shape read is made =
-    let csv_came = csv_text_of csv (λ text. answer_of other.columns.items query text) answer is in
+    let csv_came = csv_text_of csv (answer_of other.columns.items query) answer is in
     let text = csv_came.text in
     let found = rows_spelled other.columns.items query text answer (rows_of other.columns.items text) refl csv_came.given in
     let spelled : rows_of schema.columns.items text ≡ Ok found.0 = ap (λ (cs : List Column). rows_of cs text) (sym (columns_too other schema shape)) ∙ found.1 in
@@ -135,7 +138,7 @@ answerable_under admits limits layout came csv sql answer given schema other que
     let whole : file_of layout schema text ≡ Ok bytes = ap (λ (spelled : Result Rows Fault). spelled >>= λ rows. Ok (file_bytes layout schema rows)) spelled in
     record {
       bytes = bytes;
-      is = made ∙ ap (λ (read : Result (List ℕ) Fault). read >>= file_of layout schema) csv_came.came ∙ whole;
+      is = given_from (file_of layout schema) csv text given csv_came.came made ∙ whole;
       schema = schema;
       rows = found.0;
       file = file_of_rows layout schema text bytes admits limits (sound_from came schema from) of;
@@ -143,24 +146,24 @@ answerable_under admits limits layout came csv sql answer given schema other que
       asked = spells_too other schema sql (asked query) shape read;
     }
 
-answerable_read : AdmitsRows → LimitsRows → (layout : Layout) (came csv : Result (Option (List ℕ)) Fault) (sql answer : List ℕ) (given : Result (List ℕ) Fault)
+answerable_read : AdmitsRows → LimitsRows → (layout : Layout) (came csv : Arrival) (sql answer : List ℕ) (given : Result (List ℕ) Fault)
     (schema other : Schema) (reading : Result Query Fault) → IsSchemaFrom came (Ok schema) → schema_shape other ≡ schema_shape schema → IsReadAs other sql reading
-    → ◌≡◌ {A = Result (List ℕ) Fault} (Ok answer) (answer_from other reading csv) → given ≡ (csv_from csv >>= file_of layout schema) → IsAnswerable layout sql given
+    → IsMadeAfter reading (answer_of other.columns.items) csv (Ok answer) → IsMadeOf (file_of layout schema) csv given → IsAnswerable layout sql given
 answerable_read admits limits layout came csv sql answer given schema other (Ok query) from shape read is made =
-    answerable_under admits limits layout came csv sql answer given schema other query from shape read (sym is) made
-answerable_read admits limits layout came csv sql answer given schema other (Err fault) from shape read is made = absurd (cc is)
+    answerable_under admits limits layout came csv sql answer given schema other query from shape read is made
+answerable_read admits limits layout came csv sql answer given schema other (Err fault) from shape read is made = absurd (cc (is.1))
 
-answerable_by : AdmitsRows → LimitsRows → (layout : Layout) (came csv : Result (Option (List ℕ)) Fault) (sql answer : List ℕ) (given : Result (List ℕ) Fault)
+answerable_by : AdmitsRows → LimitsRows → (layout : Layout) (came csv : Arrival) (sql answer : List ℕ) (given : Result (List ℕ) Fault)
     (reading second : Result Schema Fault) → IsSchemaFrom came reading → IsSchemaFrom came second → IsAnswerUnder reading sql csv (Ok answer)
-    → given ≡ (second >>= λ schema. csv_from csv >>= file_of layout schema) → IsAnswerable layout sql given
+    → IsMadeAfter second (file_of layout) csv given → IsAnswerable layout sql given
 answerable_by admits limits layout came csv sql answer given (Ok other) (Ok schema) a b is made =
     let same = one_schema came (Ok other) (Ok schema) a b in
     let shape : schema_shape other ≡ schema_shape schema = cc same in
     answerable_read admits limits layout came csv sql answer given schema other is.0 b shape is.1 is.2 made
 answerable_by admits limits layout came csv sql answer given (Ok other) (Err fault) a b is made = absurd (cc (one_schema came (Ok other) (Err fault) a b))
-answerable_by admits limits layout came csv sql answer given (Err fault) second a b is made = absurd (cc is)
+answerable_by admits limits layout came csv sql answer given (Err fault) second a b is made = absurd (cc (is.1))
 
-pub answerable : AdmitsRows → LimitsRows → (layout : Layout) (schema csv : Result (Option (List ℕ)) Fault) (sql answer : List ℕ) (given : Result (List ℕ) Fault)
+pub answerable : AdmitsRows → LimitsRows → (layout : Layout) (schema csv : Arrival) (sql answer : List ℕ) (given : Result (List ℕ) Fault)
     → IsAnswer schema sql csv (Ok answer) → IsFile layout schema csv given → IsAnswerable layout sql given
 answerable admits limits layout schema csv sql answer given is file =
     answerable_by admits limits layout schema csv sql answer given is.0 file.0 is.1 file.1 is.2 file.2

@@ -13,7 +13,7 @@ use Rattle.bw_model.specs.declared.query.Item.TheVariants.{Plain}
 use Rattle.bw_model.specs.declared.query.Query.{Query}
 use Rattle.bw_model.specs.declared.schema.Schema.{Schema}
 use Rattle.bw_model.specs.Column.{admits_value, admits_values, names_of}
-use Rattle.bw_model.specs.Fault.{◌>>=◌, is_memory, no_memory, nowhere}
+use Rattle.bw_model.specs.Fault.{is_memory, no_memory, nowhere}
 use Rattle.bw_model.specs.Limits.{longest_csv, longest_schema, most_rows}
 use Rattle.bw_model.specs.Groups.{together}
 use Rattle.bw_model.specs.Row.{Value, value_in}
@@ -23,13 +23,13 @@ use Rattle.bw_model.proofs.SameColumns.{columns_same}
 use Rattle.bw_model.proofs.SchemaSpelling.{read_of}
 use Rattle.bw_answer.specs.Answer.{csv_text, field_of, heading_of, lists_rows, meaning, value_text}
 use Rattle.bw_answer.proofs.CountLemmas.{every_kept}
-use Rattle.bw_csv.specs.Input.{csv_from}
+use Rattle.bw_csv.specs.Input.{IsMadeAfter, IsMadeOf}
 use Rattle.bw_csv.specs.Rows.{row_of_record, rows_from, rows_of, values_of_fields}
 use Rattle.bw_csv.proofs.DigitsAlone.{both}
 use Rattle.bw_csv.proofs.RowLemmas.{rows_after-rows}
 use Rattle.bw_csv_calls.specs.Arrived.{IsSchemaFrom}
 use Rattle.bw_csv_calls.specs.Load.{file_of}
-use Rattle.bw_device.specs.Source.{Came, is_input_fault}
+use Rattle.bw_device.specs.Source.{Arrival, NotReached, Whole, TooLong, Failed, PassedLimit, is_input_fault}
 use Rattle.bw_file.specs.declared.layout.Layout.{Layout}
 use Rattle.bw_file.specs.FileBytes.{IsFileBytes, bytes_of_version, file_bytes, file_bytes2, front_bytes, header_bytes, magic}
 use Rattle.bw_file.specs.Reading.{Tail, tail}
@@ -208,27 +208,21 @@ dumped bytes layout schema rows old new wrote same =
     let alike : table_text wrote.schema wrote.rows ≡ table_text schema rows = rw (columns, rows_same) refl in
     subst (Appends old new) (dump_text bytes wrote.layout wrote.schema wrote.rows wrote.query wrote.file wrote.asked ∙ alike) wrote.text
 
--- what came of a source is all that it had to give, where that is within the limit, or a failed read or no memory
-abbrev Failed : Result (Option (List ℕ)) Fault → Type 0
-Failed came = (fault : Fault) × (came ≡ Err fault) × (is_input_fault fault ≡ true)
-
+-- what fails a source is a failed read or no memory, and no more comes than it had to give
 input_is : (fault : Fault) (memory : Bool) (before after : ℕ) → is_memory fault ≡ memory
     → MatchBool memory ((fault ≡ no_memory) × (after ≡ before)) ((fault ≡ nowhere 701) × (after ≡ before + 1)) → is_input_fault fault ≡ true
 input_is fault true before after e came = rw e refl
 input_is fault false before after e came = rw (came.0) refl
 
+failed_input : (limit : ℕ) (bytes : List ℕ) (fault : Fault) → CameOf limit bytes (Failed fault) → is_input_fault fault ≡ true
+failed_input limit bytes fault of = input_is fault (is_memory fault) of.before of.after refl of.is
+
 not_past : (bytes left taken : List ℕ) (limit : ℕ) → length bytes ≤ limit → bytes ≡ taken ++ left → length taken ≡ limit + 1 → ⊥
 not_past bytes left taken limit short e long = omega (arith, short, ap length e, length-append taken left, long)
 
-came_by : (limit : ℕ) (bytes : List ℕ) (left : Option (List ℕ)) (before after : ℕ) (came : Result (Option (List ℕ)) Fault) → length bytes ≤ limit
-    → Came limit (Some bytes) left before after came → (came ≡ Ok (Some bytes)) ⊎ Failed came
-came_by limit bytes left before after (Ok (Some all)) short is = inl (ap (λ (l : List ℕ). Ok (Some l)) is.0.1)
-came_by limit bytes None before after (Ok None) short is = absurd is.0.1
-came_by limit bytes (Some left) before after (Ok None) short is = absurd (not_past bytes left is.0.0 limit short is.0.1 is.0.2)
-came_by limit bytes left before after (Err fault) short is = inr (fault, refl, input_is fault (is_memory fault) before after refl is)
-
-came_whole : (limit : ℕ) (bytes : List ℕ) (came : Result (Option (List ℕ)) Fault) → length bytes ≤ limit → CameOf limit bytes came → (came ≡ Ok (Some bytes)) ⊎ Failed came
-came_whole limit bytes came short of = came_by limit bytes of.left of.before of.after came short of.is
+never_past : (limit : ℕ) (bytes : List ℕ) (left : Option (List ℕ)) → length bytes ≤ limit → PassedLimit limit (Some bytes) left → ⊥
+never_past limit bytes None short past = past.1
+never_past limit bytes (Some left) short past = not_past bytes left past.0 limit short past.1 past.2
 
 -- schema texts that spell a schema have its columns
 spelled_alike : (text : List ℕ) (shape other : SchemaShape) → IsSchemaText text shape → IsSchemaText text other → shape ≡ other
@@ -248,35 +242,39 @@ module _ (layout : Layout) (schema : Schema) (rows : Rows) (csv : List ℕ) (spe
   abbrev IsGiven : Result (List ℕ) Fault → Type 0
   IsGiven given = IsThatFile (file_bytes layout schema rows) given
 
-  with_csv : (under : Schema) (came : Result (Option (List ℕ)) Fault) (given : Result (List ℕ) Fault) → schema_shape under ≡ schema_shape schema
-      → (came ≡ Ok (Some csv)) ⊎ Failed came → given ≡ (csv_from came >>= file_of layout under) → IsGiven given
-  with_csv under came given alike (inl whole) e =
-      let made : given ≡ Ok (file_bytes layout schema rows) =
-      e ∙ ap (λ (came : Result (Option (List ℕ)) Fault). csv_from came >>= file_of layout under) whole ∙ under_alike layout under schema csv alike ∙ text_loads layout schema rows csv spelled in
-      rw made refl
-  with_csv under came given alike (inr failed) e =
-      let made : given ≡ Err failed.0 = e ∙ ap (λ (came : Result (Option (List ℕ)) Fault). csv_from came >>= file_of layout under) failed.1 in
-      rw made failed.2
+  failed_is_given : (given : Result (List ℕ) Fault) (fault : Fault) → is_input_fault fault ≡ true → given ≡ Err fault → IsGiven given
+  failed_is_given given fault input e = rw e input
 
-  with_schema : (text : List ℕ) (under : Result Schema Fault) (came : Result (Option (List ℕ)) Fault) (given : Result (List ℕ) Fault) → IsSchemaText text (schema_shape schema)
-      → IsSchemaFrom (Ok (Some text)) under → (came ≡ Ok (Some csv)) ⊎ Failed came → given ≡ (under >>= λ under. csv_from came >>= file_of layout under) → IsGiven given
-  with_schema text (Ok under) came given is from arrived e = with_csv under came given (spelled_alike text (schema_shape under) (schema_shape schema) from is) arrived e
-  with_schema text (Err fault) came given is from arrived e =
+  with_csv : (under : Schema) (came : Arrival) (given : Result (List ℕ) Fault) → schema_shape under ≡ schema_shape schema → length csv ≤ longest_csv → CameOf longest_csv csv came
+      → IsMadeOf (file_of layout under) came given → IsGiven given
+  with_csv under NotReached given alike short of made = absurd made
+  with_csv under (Whole all) given alike short of made =
+      let file : given ≡ Ok (file_bytes layout schema rows) =
+      made ∙ ap (file_of layout under) of.is.0.1 ∙ under_alike layout under schema csv alike ∙ text_loads layout schema rows csv spelled in
+      rw file refl
+  with_csv under TooLong given alike short of made = absurd (never_past longest_csv csv of.left short of.is.0)
+  with_csv under (Failed fault) given alike short of made = failed_is_given given fault (failed_input longest_csv csv fault of) made
+
+  with_schema : (text : List ℕ) (under : Result Schema Fault) (came : Arrival) (given : Result (List ℕ) Fault) → IsSchemaText text (schema_shape schema)
+      → IsSchemaFrom (Whole text) under → length csv ≤ longest_csv → CameOf longest_csv csv came → IsMadeAfter under (file_of layout) came given → IsGiven given
+  with_schema text (Ok under) came given is from short of made = with_csv under came given (spelled_alike text (schema_shape under) (schema_shape schema) from is) short of made
+  with_schema text (Err fault) came given is from short of made =
       absurd (let clash : ◌≡◌ {A = Result SchemaShape Fault} (Ok (schema_shape schema)) (Err fault) = sym (read_of text (schema_shape schema) is) ∙ from in cc clash)
 
-  by_schema : (text : List ℕ) (schema_came came : Result (Option (List ℕ)) Fault) (under : Result Schema Fault) (given : Result (List ℕ) Fault) → IsSchemaText text (schema_shape schema)
-      → (schema_came ≡ Ok (Some text)) ⊎ Failed schema_came → IsSchemaFrom schema_came under → (came ≡ Ok (Some csv)) ⊎ Failed came
-      → given ≡ (under >>= λ under. csv_from came >>= file_of layout under) → IsGiven given
-  by_schema text schema_came came under given is (inl whole) from arrived e =
-      with_schema text under came given is (subst (λ (came : Result (Option (List ℕ)) Fault). IsSchemaFrom came under) whole from) arrived e
-  by_schema text schema_came came under given is (inr failed) from arrived e =
-      let refused : under ≡ Err failed.0 = subst (λ (came : Result (Option (List ℕ)) Fault). IsSchemaFrom came under) failed.1 from in
-      let made : given ≡ Err failed.0 = e ∙ ap (λ (under : Result Schema Fault). under >>= λ under. csv_from came >>= file_of layout under) refused in
-      rw made failed.2
+  by_schema : (text : List ℕ) (schema_came came : Arrival) (under : Result Schema Fault) (given : Result (List ℕ) Fault) → IsSchemaText text (schema_shape schema)
+      → CameOf longest_schema text schema_came → IsSchemaFrom schema_came under → length csv ≤ longest_csv → CameOf longest_csv csv came
+      → IsMadeAfter under (file_of layout) came given → IsGiven given
+  by_schema text NotReached came under given is source from short of made = absurd from
+  by_schema text (Whole all) came under given is source from short of made =
+      with_schema text under came given is (subst (λ (bytes : List ℕ). IsSchemaFrom (Whole bytes) under) source.is.0.1 from) short of made
+  by_schema text TooLong came under given is source from short of made = absurd (never_past longest_schema text source.left (is.0) source.is.0)
+  by_schema text (Failed fault) came under given is source from short of made =
+      let refused = subst (λ (under : Result Schema Fault). IsMadeAfter under (file_of layout) came given) from made in
+      failed_is_given given fault (failed_input longest_schema text fault source) refused.1
 
   pub load_again : length csv ≤ longest_csv → LoadsUnder layout schema csv (file_bytes layout schema rows)
   load_again short text is schema_came csv_came given of_schema of_csv file =
-      by_schema text schema_came csv_came file.0 given is (came_whole longest_schema text schema_came is.0 of_schema) file.1 (came_whole longest_csv csv csv_came short of_csv) file.2
+      by_schema text schema_came csv_came file.0 given is of_schema file.1 short of_csv file.2
 
 -- what is told of a table's file is its schema
 rest_of : (new : Option (List ℕ)) (bytes taken : List ℕ) → Consumes (Some bytes) new taken → (rest : List ℕ) × (bytes ≡ taken ++ rest)

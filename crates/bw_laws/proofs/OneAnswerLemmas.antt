@@ -1,5 +1,5 @@
 -- A schema text, a CSV text and a statement have one answer.
-use Rattle.std.proofs.Common.{◌≡◌, ◌∙◌, ℕ, not, ◌||◌, ◌==◌, List, Option, Some, None, Result, Ok, Err, refl, sym, ap, subst}
+use Rattle.std.proofs.Common.{◌≡◌, ◌∙◌, ℕ, not, ◌||◌, ◌==◌, List, Result, Ok, Err, refl, sym, ap, subst}
 use Rattle.bw_model.specs.declared.column.Column.{Column}
 use Rattle.bw_model.specs.declared.fault.Fault.{Fault}
 use Rattle.bw_model.specs.declared.query.Query.{Query}
@@ -7,6 +7,7 @@ use Rattle.bw_model.specs.declared.schema.Schema.{Schema}
 use Rattle.bw_model.specs.Column.{names_of}
 use Rattle.bw_model.specs.Fault.{◌>>=◌}
 use Rattle.bw_model.specs.SchemaText.{SchemaShape, schema_shape}
+use Rattle.bw_device.specs.Source.{Arrival, NotReached, Whole, TooLong, Failed}
 use Rattle.bw_sql.specs.declared.reader.Refusal.{Refusal}
 use Rattle.bw_sql.specs.declared.reader.Refusal.TheVariants.{Syntax, Literal}
 use Rattle.bw_sql.specs.Asked.{Asked, asked}
@@ -19,10 +20,10 @@ use Rattle.bw_sql.specs.Token.{Lexeme}
 use Rattle.bw_sql.proofs.SameNames.{columns_too, spells_too}
 use Rattle.bw_sql.proofs.Texts.{text_query, same_fault, spelled_or_refused}
 use Rattle.bw_answer.specs.Answer.{csv_text, meaning}
-use Rattle.bw_csv.specs.Input.{csv_from}
+use Rattle.bw_csv.specs.Input.{IsMadeOf, IsMadeAfter}
 use Rattle.bw_csv.specs.Rows.{rows_of}
 use Rattle.bw_csv_calls.specs.Arrived.{IsSchemaFrom}
-use Rattle.bw_csv_calls.specs.Direct.{IsAnswer, IsAnswerUnder, answer_from, answer_of}
+use Rattle.bw_csv_calls.specs.Direct.{IsAnswer, IsAnswerUnder, answer_of}
 use Rattle.bw_laws.specs.OneAnswer.{asked_in, shape_in}
 use Rattle.bw_laws.proofs.OneMeaningLemmas.{one_meaning}
 use Rattle.bw_laws.proofs.SchemaTextLemmas as texts
@@ -72,18 +73,19 @@ one_reading s t text (Err fault) (Ok query) same a b = absurd (spelled_or_refuse
 one_reading s t text (Err fault) (Err other) same a b = ap Err (same_fault t text fault other (fault_too s t text fault same a) b)
 
 -- a schema text is read in one way
-pub one_schema : (came : Result (Option (List ℕ)) Fault) (reading second : Result Schema Fault) → IsSchemaFrom came reading → IsSchemaFrom came second
+pub one_schema : (came : Arrival) (reading second : Result Schema Fault) → IsSchemaFrom came reading → IsSchemaFrom came second
     → shape_in reading ≡ shape_in second
-one_schema (Ok (Some text)) (Ok schema) (Ok other) a b = ap Ok (texts.one_schema text (schema_shape schema) (schema_shape other) a b)
-one_schema (Ok (Some text)) (Ok schema) (Err fault) a b = absurd (texts.not_both text (schema_shape schema) fault a b)
-one_schema (Ok (Some text)) (Err fault) (Ok schema) a b = absurd (texts.not_both text (schema_shape schema) fault b a)
-one_schema (Ok (Some text)) (Err fault) (Err other) a b =
+one_schema NotReached reading second a b = absurd a
+one_schema (Whole text) (Ok schema) (Ok other) a b = ap Ok (texts.one_schema text (schema_shape schema) (schema_shape other) a b)
+one_schema (Whole text) (Ok schema) (Err fault) a b = absurd (texts.not_both text (schema_shape schema) fault a b)
+one_schema (Whole text) (Err fault) (Ok schema) a b = absurd (texts.not_both text (schema_shape schema) fault b a)
+one_schema (Whole text) (Err fault) (Err other) a b =
     ap Err (texts.one_fault text fault other a b)
-one_schema (Ok None) reading second a b = ap shape_in (a ∙ sym b)
-one_schema (Err fault) reading second a b = ap shape_in (a ∙ sym b)
+one_schema TooLong reading second a b = ap shape_in (a ∙ sym b)
+one_schema (Failed fault) reading second a b = ap shape_in (a ∙ sym b)
 
 -- what follows from an answer, where it is the same of each
-pub then_alike : {A B : Type 0} (first : Result A Fault) (f g : A → Result B Fault) → ((x : A) → f x ≡ g x) → (first >>= f) ≡ (first >>= g)
+then_alike : {A B : Type 0} (first : Result A Fault) (f g : A → Result B Fault) → ((x : A) → f x ≡ g x) → (first >>= f) ≡ (first >>= g)
 then_alike (Ok x) f g alike = alike x
 then_alike (Err fault) f g alike = refl
 
@@ -92,25 +94,37 @@ answer_of_alike columns query other text same =
     then_alike (rows_of columns text) (λ rows. Ok (csv_text (meaning (names_of columns) query rows))) (λ rows. Ok (csv_text (meaning (names_of columns) other rows)))
     (λ rows. ap (λ (records : List (List (List ℕ))). Ok (csv_text records)) (one_meaning (names_of columns) query other rows same))
 
-answer_alike : (s t : Schema) (reading second : Result Query Fault) (csv : Result (Option (List ℕ)) Fault) → s.columns.items ≡ t.columns.items
-    → asked_in reading ≡ asked_in second → answer_from s reading csv ≡ answer_from t second csv
-answer_alike s t (Ok query) (Ok other) csv columns same =
-    let one : asked query ≡ asked other = cc same in
-    then_alike (csv_from csv) (λ text. answer_of s.columns.items query text) (λ text. answer_of t.columns.items other text)
-    (λ text. ap (λ (cs : List Column). answer_of cs query text) columns ∙ answer_of_alike t.columns.items query other text one)
-answer_alike s t (Ok query) (Err fault) csv columns same = absurd (cc same)
-answer_alike s t (Err fault) (Ok query) csv columns same = absurd (cc same)
-answer_alike s t (Err fault) (Err other) csv columns same = let one : fault ≡ other = cc same in ap Err one
+answers_alike : (s t : Schema) (query other : Query) (text : List ℕ) → s.columns.items ≡ t.columns.items → asked query ≡ asked other
+    → answer_of s.columns.items query text ≡ answer_of t.columns.items other text
+answers_alike s t query other text columns same =
+    ap (λ (cs : List Column). answer_of cs query text) columns ∙ answer_of_alike t.columns.items query other text same
 
-under_alike : (reading second : Result Schema Fault) (sql : List ℕ) (csv : Result (Option (List ℕ)) Fault) (given other : Result (List ℕ) Fault)
+-- what is made of a CSV in ways that are alike is the same, also after steps that are alike
+made_alike : (f g : List ℕ → Result (List ℕ) Fault) (csv : Arrival) (given other : Result (List ℕ) Fault) → ((text : List ℕ) → f text ≡ g text) → IsMadeOf f csv given → IsMadeOf g csv other
+    → given ≡ other
+made_alike f g NotReached given other alike a b = absurd a
+made_alike f g (Whole text) given other alike a b = a ∙ alike text ∙ sym b
+made_alike f g TooLong given other alike a b = a ∙ sym b
+made_alike f g (Failed fault) given other alike a b = a ∙ sym b
+
+pub after_alike : {A B : Type 0} (view : A → B) (f g : A → List ℕ → Result (List ℕ) Fault) (first second : Result A Fault) (csv : Arrival) (given other : Result (List ℕ) Fault)
+    → ((x y : A) (text : List ℕ) → view x ≡ view y → f x text ≡ g y text) → (first >>= λ x. Ok (view x)) ≡ (second >>= λ x. Ok (view x))
+    → IsMadeAfter first f csv given → IsMadeAfter second g csv other → given ≡ other
+after_alike view f g (Ok x) (Ok y) csv given other alike same a b =
+    let one : view x ≡ view y = cc same in made_alike (f x) (g y) csv given other (λ text. alike x y text one) a b
+after_alike view f g (Ok x) (Err fault) csv given other alike same a b = absurd (cc same)
+after_alike view f g (Err fault) (Ok y) csv given other alike same a b = absurd (cc same)
+after_alike view f g (Err fault) (Err second) csv given other alike same a b = let one : fault ≡ second = cc same in a.1 ∙ ap Err one ∙ sym b.1
+
+under_alike : (reading second : Result Schema Fault) (sql : List ℕ) (csv : Arrival) (given other : Result (List ℕ) Fault)
     → shape_in reading ≡ shape_in second → IsAnswerUnder reading sql csv given → IsAnswerUnder second sql csv other → given ≡ other
 under_alike (Ok s) (Ok t) sql csv given other same a b =
     let shape : schema_shape s ≡ schema_shape t = cc same in
-    a.2 ∙ answer_alike s t a.0 b.0 csv (columns_too s t shape) (one_reading s t sql a.0 b.0 shape a.1 b.1) ∙ sym b.2
+    after_alike asked (answer_of s.columns.items) (answer_of t.columns.items) a.0 b.0 csv given other (λ x y text one. answers_alike s t x y text (columns_too s t shape) one)
+    (one_reading s t sql a.0 b.0 shape a.1 b.1) a.2 b.2
 under_alike (Ok s) (Err fault) sql csv given other same a b = absurd (cc same)
 under_alike (Err fault) (Ok t) sql csv given other same a b = absurd (cc same)
-under_alike (Err fault) (Err second) sql csv given other same a b = let one : fault ≡ second = cc same in a ∙ ap Err one ∙ sym b
+under_alike (Err fault) (Err second) sql csv given other same a b = let one : fault ≡ second = cc same in a.1 ∙ ap Err one ∙ sym b.1
 
-pub one_answer : (schema csv : Result (Option (List ℕ)) Fault) (sql : List ℕ) (given other : Result (List ℕ) Fault) → IsAnswer schema sql csv given → IsAnswer schema sql csv other
-    → given ≡ other
+pub one_answer : (schema csv : Arrival) (sql : List ℕ) (given other : Result (List ℕ) Fault) → IsAnswer schema sql csv given → IsAnswer schema sql csv other → given ≡ other
 one_answer schema csv sql given other a b = under_alike a.0 b.0 sql csv given other (one_schema schema a.0 b.0 a.1 b.1) a.2 b.2

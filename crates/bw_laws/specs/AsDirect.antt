@@ -6,6 +6,7 @@ use Rattle.bw_model.specs.declared.query.Query.{Query}
 use Rattle.bw_model.specs.declared.schema.Schema.{Schema}
 use Rattle.bw_model.specs.Limits.{longest_schema, longest_csv}
 use Rattle.bw_model.specs.Row.{Value}
+use Rattle.bw_device.specs.Source.{Arrival}
 use Rattle.bw_file.specs.declared.layout.Layout.{Layout}
 use Rattle.bw_file.specs.FileBytes.{IsFileBytes}
 use Rattle.bw_sql.specs.Statement.{IsReadAs}
@@ -15,14 +16,14 @@ use Rattle.bw_laws.specs.OneAnswer.{CameOf, DirectMayWrite}
 
 -- over sources of this schema text and of this CSV text, `load` may write these bytes
 pub record LoadMayWrite (layout : Layout) (schema csv bytes : List ℕ) : Type 0 where
-  pub schema_came : Result (Option (List ℕ)) Fault
-  pub csv_came : Result (Option (List ℕ)) Fault
+  pub schema_came : Arrival
+  pub csv_came : Arrival
   pub schema_source : CameOf longest_schema schema schema_came
   pub csv_source : CameOf longest_csv csv csv_came
   pub is : IsFile layout schema_came csv_came (Ok bytes)
 
 -- a sink took the text of the answer by what came of the schema's source and of the CSV's, which has no other answer
-pub record TookAnswer (schema csv : Result (Option (List ℕ)) Fault) (sql : List ℕ)
+pub record TookAnswer (schema csv : Arrival) (sql : List ℕ)
     (old new : Option (List ℕ)) : Type 0 where
   pub text : List ℕ
   pub is : IsAnswer schema sql csv (Ok text)

@@ -1,5 +1,5 @@
 -- The text of a dump, and the table file that a load writes of it.
-use Rattle.std.specs.Prelude.{◌≡◌, ◌⊎◌, ℕ, ◌+◌, ◌*◌, List, ◌∷◌, map, Option, Some, Result, Ok, Err, IsTrue, slice_index}
+use Rattle.std.specs.Prelude.{◌≡◌, ◌⊎◌, ℕ, ◌+◌, ◌*◌, List, ◌∷◌, map, Some, Result, Ok, Err, IsTrue, slice_index}
 use Rattle.bw_model.specs.declared.fault.Fault.{Fault}
 use Rattle.bw_model.specs.declared.schema.Schema.{Schema}
 use Rattle.bw_model.specs.Column.{names_of}
@@ -8,7 +8,7 @@ use Rattle.bw_model.specs.Row.{Value}
 use Rattle.bw_model.specs.SchemaText.{IsSchemaText, schema_shape}
 use Rattle.bw_answer.specs.Answer.{csv_text, value_text}
 use Rattle.bw_csv_calls.specs.Load.{IsFile}
-use Rattle.bw_device.specs.Source.{is_input_fault}
+use Rattle.bw_device.specs.Source.{Arrival, is_input_fault}
 use Rattle.bw_file.specs.declared.layout.Layout.{Layout}
 use Rattle.bw_file.specs.FileBytes.{version_for}
 use Rattle.bw_file.specs.Reading.{State, state}
@@ -46,7 +46,7 @@ IsThatFile file (Err fault) = IsTrue (is_input_fault fault)
 -- what a load is to write, whose sources have a schema text and a CSV text to give, is this file
 abbrev pub Loads : Layout → List ℕ → List ℕ → List ℕ → Type 0
 Loads layout schema csv file =
-    (schema_came csv_came : Result (Option (List ℕ)) Fault) (given : Result (List ℕ) Fault)
+    (schema_came csv_came : Arrival) (given : Result (List ℕ) Fault)
     → CameOf longest_schema schema schema_came → CameOf longest_csv csv csv_came
     → IsFile layout schema_came csv_came given → IsThatFile file given
 

@@ -6,7 +6,7 @@ use Rattle.bw_model.specs.declared.schema.Schema.{Schema}
 use Rattle.bw_model.specs.Fault.{◌>>=◌}
 use Rattle.bw_model.specs.Limits.{longest_schema, longest_csv}
 use Rattle.bw_model.specs.SchemaText.{SchemaShape, schema_shape}
-use Rattle.bw_device.specs.Source.{Came}
+use Rattle.bw_device.specs.Source.{Arrival, Came}
 use Rattle.bw_sql.specs.Asked.{Asked, asked}
 use Rattle.bw_csv_calls.specs.Direct.{IsAnswer}
 
@@ -19,7 +19,7 @@ abbrev pub shape_in : Result Schema Fault → Result SchemaShape Fault
 shape_in reading = reading >>= λ schema. Ok (schema_shape schema)
 
 -- what can come of a source of this text, up to a limit, whether its reads fail or not
-pub record CameOf (limit : ℕ) (text : List ℕ) (came : Result (Option (List ℕ)) Fault) : Type 0 where
+pub record CameOf (limit : ℕ) (text : List ℕ) (came : Arrival) : Type 0 where
   pub left : Option (List ℕ)
   pub before : ℕ
   pub after : ℕ
@@ -27,8 +27,8 @@ pub record CameOf (limit : ℕ) (text : List ℕ) (came : Result (Option (List �
 
 -- over sources of this schema text and of this CSV text, `direct` may write this answer to the statement
 pub record DirectMayWrite (schema csv sql answer : List ℕ) : Type 0 where
-  pub schema_came : Result (Option (List ℕ)) Fault
-  pub csv_came : Result (Option (List ℕ)) Fault
+  pub schema_came : Arrival
+  pub csv_came : Arrival
   pub schema_source : CameOf longest_schema schema schema_came
   pub csv_source : CameOf longest_csv csv csv_came
   pub is : IsAnswer schema_came sql csv_came (Ok answer)

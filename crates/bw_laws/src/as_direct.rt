@@ -2,6 +2,7 @@
 ghost use Rattle.std.specs.Prelude.{◌≡◌, ℕ, List, Option, Result, Ok};
 ghost use Rattle.std.specs.Io.KnownBytes.{Appends};
 ghost use Rattle.bw_model.specs.declared.fault.Fault.{Fault};
+ghost use Rattle.bw_device.specs.Source.{Arrival};
 ghost use Rattle.bw_file.specs.declared.layout.Layout.{Layout};
 ghost use Rattle.bw_query.specs.TableAnswer.{AnswersFile, by_statement};
 ghost use Rattle.bw_csv_calls.specs.Direct.{IsAnswer};
@@ -20,7 +21,7 @@ pub fn what_is_loaded_is_answered_as_direct()
     ensures texts { (layout : Layout) (schema csv bytes sql : List ℕ) (program old new : Option (List ℕ))
         → LoadMayWrite layout schema csv bytes → AnswersFile (by_statement program sql) bytes old new
         → TookAsDirect schema csv sql old new }
-    ensures came { (layout : Layout) (schema csv : Result (Option (List ℕ)) Fault) (bytes sql : List ℕ)
+    ensures came { (layout : Layout) (schema csv : Arrival) (bytes sql : List ℕ)
         (program old new : Option (List ℕ))
         → IsFile layout schema csv (Ok bytes) → AnswersFile (by_statement program sql) bytes old new
         → TookAnswer schema csv sql old new }
@@ -29,7 +30,7 @@ pub fn what_is_loaded_is_answered_as_direct()
         → LoadMayWrite layout schema csv bytes → AnswersFile (by_statement program sql) bytes old new
         → LoadMayWrite other schema csv others → AnswersFile (by_statement second sql) others before after
         → (text : List ℕ) × Appends old new text × Appends before after text }
-    ensures answerable { (layout : Layout) (schema csv : Result (Option (List ℕ)) Fault) (sql text : List ℕ)
+    ensures answerable { (layout : Layout) (schema csv : Arrival) (sql text : List ℕ)
         (given : Result (List ℕ) Fault)
         → IsAnswer schema sql csv (Ok text) → IsFile layout schema csv given → IsAnswerable layout sql given }
 {

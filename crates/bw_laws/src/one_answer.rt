@@ -1,9 +1,10 @@
 //! What a schema text, a CSV text and a statement determine.
-ghost use Rattle.std.specs.Prelude.{◌≡◌, ℕ, List, Option, Result};
+ghost use Rattle.std.specs.Prelude.{◌≡◌, ℕ, List, Result};
 ghost use Rattle.bw_model.specs.declared.fault.Fault.{Fault};
 ghost use Rattle.bw_model.specs.declared.query.Query.{Query};
 ghost use Rattle.bw_model.specs.declared.schema.Schema.{Schema};
 ghost use Rattle.bw_model.specs.SchemaText.{schema_shape};
+ghost use Rattle.bw_device.specs.Source.{Arrival};
 ghost use Rattle.bw_sql.specs.Statement.{IsReadAs};
 ghost use Rattle.bw_csv_calls.specs.Direct.{IsAnswer};
 ghost use Rattle.bw_laws.specs.OneAnswer.{DirectMayWrite, asked_in};
@@ -20,7 +21,7 @@ pub fn one_reading_under_one_shape()
 /// one fault (`came`). So over sources of these texts `direct` can write one text at most, whichever of its reads fail
 /// (`texts`).
 pub fn there_is_one_answer()
-    ensures came { (schema csv : Result (Option (List ℕ)) Fault) (sql : List ℕ) (given other : Result (List ℕ) Fault)
+    ensures came { (schema csv : Arrival) (sql : List ℕ) (given other : Result (List ℕ) Fault)
         → IsAnswer schema sql csv given → IsAnswer schema sql csv other → given ≡ other }
     ensures texts { (schema csv sql answer other : List ℕ)
         → DirectMayWrite schema csv sql answer → DirectMayWrite schema csv sql other → answer ≡ other }

@@ -1,6 +1,7 @@
 //! What a schema text and a CSV text determine.
-ghost use Rattle.std.specs.Prelude.{◌≡◌, ℕ, List, Option, Result};
+ghost use Rattle.std.specs.Prelude.{◌≡◌, ℕ, List, Result};
 ghost use Rattle.bw_model.specs.declared.fault.Fault.{Fault};
+ghost use Rattle.bw_device.specs.Source.{Arrival};
 ghost use Rattle.bw_file.specs.declared.layout.Layout.{Layout};
 ghost use Rattle.bw_csv_calls.specs.Load.{IsFile};
 ghost use Rattle.bw_laws.specs.AsDirect.{LoadMayWrite};
@@ -9,7 +10,7 @@ ghost use Rattle.bw_laws.specs.AsDirect.{LoadMayWrite};
 /// is to write is one file or one fault (`came`). So over sources of these texts `load` can write the same bytes alone,
 /// whichever of its reads fail (`texts`).
 pub fn there_is_one_file()
-    ensures came { (layout : Layout) (schema csv : Result (Option (List ℕ)) Fault) (given other : Result (List ℕ) Fault)
+    ensures came { (layout : Layout) (schema csv : Arrival) (given other : Result (List ℕ) Fault)
         → IsFile layout schema csv given → IsFile layout schema csv other → given ≡ other }
     ensures texts { (layout : Layout) (schema csv bytes other : List ℕ)
         → LoadMayWrite layout schema csv bytes → LoadMayWrite layout schema csv other → bytes ≡ other }

@@ -9,11 +9,11 @@ use Rattle.bw_model.specs.Row.{Value}
 use Rattle.bw_model.specs.SchemaText.{IsSchemaText, SchemaShape, schema_shape}
 use Rattle.bw_device.specs.Sink.{GoesOut, Wrote, is_write_fault, none_aside}
 use Rattle.bw_device.proofs.SinkLemmas.{no_write_fault, wrote_nothing}
-use Rattle.bw_device.specs.Source.{is_input_fault, is_read_fault}
+use Rattle.bw_device.specs.Source.{failed_reads, is_input_fault, is_read_fault}
 use Rattle.bw_file.specs.declared.layout.Layout.{Layout}
 use Rattle.bw_file.specs.declared.table_reader.TableReader.{TableReader}
 use Rattle.bw_file.specs.FileBytes.{IsFileBytes}
-use Rattle.bw_file.specs.Reading.{State, Fails, GoesOn, failed_reads, give}
+use Rattle.bw_file.specs.Reading.{State, Fails, GoesOn, give}
 use Rattle.bw_file.specs.TableReader.{GaveFirst, header_stated, layout_in, rows_stated, schema_in, version_in}
 use Rattle.bw_file.specs.TableReading.{IsTableFault, header, is_table_fault}
 use Rattle.bw_model.proofs.SameColumns.{columns_same}

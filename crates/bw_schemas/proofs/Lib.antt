@@ -6,5 +6,6 @@ pub mod HeadingLemmas
 pub mod NarrowLemmas
 pub mod SeenLemmas
 pub mod FactLemmas
+pub mod InferExits
 pub mod InfoExits
 pub mod SizeLemmas

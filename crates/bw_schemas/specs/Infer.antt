@@ -7,8 +7,9 @@ use Rattle.bw_model.specs.declared.schema.Schema.{Schema}
 use Rattle.bw_model.specs.Fault.{nowhere, ◌>>=◌, refused_if}
 use Rattle.bw_model.specs.Name.{is_name}
 use Rattle.bw_model.specs.SchemaText.{schema_shape, IsSchemaText}
+use Rattle.bw_device.specs.Source.{Arrival}
 use Rattle.bw_csv.specs.Bare.{bare_rows, records_of}
-use Rattle.bw_csv.specs.Input.{csv_from}
+use Rattle.bw_csv.specs.Input.{IsMadeAfter}
 use Rattle.bw_csv.specs.Rows.{Stops, StopsAfter, is_rows_fault}
 use Rattle.bw_schemas.specs.Printed.{schema_text}
 use Rattle.bw_schemas.specs.Heading.{heading_names}
@@ -18,9 +19,11 @@ use Rattle.bw_schemas.specs.Inferred.{inferred, IsExact}
 abbrev pub inferred_text : List ℕ → List ℕ → Result (List ℕ) Fault
 inferred_text table csv = inferred table csv >>= λ schema. Ok (schema_text schema)
 
--- the same by what came, once it's certain that the table's name is a name
-abbrev pub text_from : List ℕ → Result (Option (List ℕ)) Fault → Result (List ℕ) Fault
-text_from table csv = refused_if (not (is_name table)) (nowhere SCHEMA_NAME) (csv_from csv >>= inferred_text table)
+-- What is written, or the first fault, by what came of the CSV's source. Where the table's name isn't one, the CSV
+-- isn't reached.
+abbrev pub IsTextFrom : List ℕ → Arrival → Result (List ℕ) Fault → Type 0
+IsTextFrom table csv given =
+    IsMadeAfter (refused_if (not (is_name table)) (nowhere SCHEMA_NAME) (Ok table)) inferred_text csv given
 
 -- an error of the reader's own stands at the heading, or at a record after a heading of names and records that have
 -- rows

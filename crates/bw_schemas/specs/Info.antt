@@ -7,13 +7,12 @@ use Rattle.bw_model.specs.declared.schema.Schema.{Schema}
 use Rattle.bw_model.specs.Row.{Value}
 use Rattle.bw_model.specs.SchemaText.{IsSchemaText, schema_shape}
 use Rattle.bw_device.specs.Sink.{is_write_fault}
-use Rattle.bw_device.specs.Source.{is_input_fault}
+use Rattle.bw_device.specs.Source.{TellsFailure, is_input_fault}
 use Rattle.bw_file.specs.declared.layout.Layout.{Layout}
 use Rattle.bw_file.specs.declared.layout.Layout.TheVariants.{Planes, Slices}
 use Rattle.bw_file.specs.Blocks.{segment_size}
 use Rattle.bw_file.specs.FileBytes.{header_bytes}
 use Rattle.bw_file.specs.Reading.{State, GoesOn, Fails, give}
-use Rattle.bw_file.specs.TableReader.{failed_by}
 use Rattle.bw_file.specs.TableReading.{HeaderShape, header}
 use Rattle.bw_text.specs.Printed.{line_text}
 use Rattle.bw_schemas.specs.Printed.{schema_text}
@@ -63,9 +62,9 @@ abbrev pub IsInfo : State → State → Result (List ℕ) Fault → Type 0
 IsInfo start now (Ok text) = TellsHeader start now text
 IsInfo start now (Err fault) = Fails header start now fault
 
--- so it is by what a source gave, whose failures rose where a failed read is answered
+-- so it is by what a source gave, whose failures rose exactly where a failed read is answered
 pub record InfoGave (start now : State) (given : Result (List ℕ) Fault) : Type 0 where
-  pub failures : now.failures ≡ start.failures + failed_by given
+  pub failures : TellsFailure start.failures now.failures given
   pub info : IsInfo start now given
 
 -- The bytes are a table file's of these rows, and a sink took what its header says, with the length of all of them.

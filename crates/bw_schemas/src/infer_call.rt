@@ -1,12 +1,12 @@
 //! A schema text written from a CSV text.
-ghost use Rattle.std.specs.Prelude.{◌≡◌, ◌+◌, ◌-◌, ◌^◌, ◌<◌, ℕ, List, Option, Result, Ok, Some, true, false, IfOk, IfErr, IsTrue, OnOk};
+ghost use Rattle.std.specs.Prelude.{◌≡◌, ◌+◌, ◌-◌, ◌^◌, ◌<◌, ℕ, List, Result, true, false, IfOk, IfErr, IsTrue, OnOk};
 ghost use Rattle.bw_model.specs.declared.fault.Fault.{Fault};
 ghost use Rattle.bw_model.specs.Limits.{longest_csv};
 ghost use Rattle.bw_model.specs.Name.{is_name};
-ghost use Rattle.bw_device.specs.Sink.{LeavesSink, Wrote};
-ghost use Rattle.bw_device.specs.Source.{Came, LeavesSource};
+ghost use Rattle.bw_device.specs.Sink.{Wrote};
+ghost use Rattle.bw_device.specs.Source.{Arrival, Whole, Came, LeavesSource};
 ghost use Rattle.bw_csv.specs.Rows.{is_aside, is_reader_fault, GivesButAside};
-ghost use Rattle.bw_schemas.specs.Infer.{inferred_text, is_inferring_fault, text_from, InfersExactly, SpellsExactly, StopsInferring};
+ghost use Rattle.bw_schemas.specs.Infer.{inferred_text, is_inferring_fault, InfersExactly, IsTextFrom, SpellsExactly, StopsInferring};
 
 use crate::print::print_schema;
 use crate::schema::{infer_schema, inferred_schemas_are_exact};
@@ -34,11 +34,11 @@ pub fn infer<C: Source, K: Sink>(
     requires sink { K.failures sink.old < 2 ^ 64 - 1 }
 
     // What went out is the text of the schema that is inferred from what came of the source, or nothing, where that is
-    // a fault. A source that wasn't reached, or whose text found no memory, stands as one that found no memory.
-    ensures schema { (csv : Result (Option (List ℕ)) Fault) × (given : Result (List ℕ) Fault)
+    // a fault. Where the table's name isn't one, the source wasn't reached.
+    ensures schema { (csv : Arrival) × (given : Result (List ℕ) Fault)
         × Came longest_csv (C.to_come csv_source.old) (C.to_come csv_source.new)
         (C.failures csv_source.old) (C.failures csv_source.new) csv
-        × (given ≡ text_from table.now csv)
+        × IsTextFrom table.now csv given
         × Wrote is_aside (K.taken sink.old) (K.taken sink.new)
         (K.failures sink.old) (K.failures sink.new) given result }
 
@@ -46,21 +46,20 @@ pub fn infer<C: Source, K: Sink>(
     // column of it could be narrower.
     ensures exact { OnOk result ((csv : List ℕ)
         × Came longest_csv (C.to_come csv_source.old) (C.to_come csv_source.new)
-        (C.failures csv_source.old) (C.failures csv_source.new) (Ok (Some csv))
+        (C.failures csv_source.old) (C.failures csv_source.new) (Whole csv)
         × InfersExactly csv (K.taken sink.old) (K.taken sink.new)) }
 
     // Where the reader has an error of its own, the CSV came whole, and its place is the heading, or the record after
     // those whose rows are good.
     ensures reader { IfErr result (λ fault. is_reader_fault fault ≡ true → (csv : List ℕ)
         × Came longest_csv (C.to_come csv_source.old) (C.to_come csv_source.new)
-        (C.failures csv_source.old) (C.failures csv_source.new) (Ok (Some csv))
+        (C.failures csv_source.old) (C.failures csv_source.new) (Whole csv)
         × StopsInferring csv fault) }
 
-    // Where a device failed, the call ends with that; of the source no more is taken than one byte past its limit; and
-    // where the call refuses, but for a write that failed, it has written nothing.
+    // Of the source no more is taken than one byte past its limit. The call refuses by a failed read exactly where the
+    // source's count of failures rose. Where the table's name isn't one, the source is as it was.
     ensures csv { LeavesSource (longest_csv + 1) (C.to_come csv_source.old) (C.to_come csv_source.new)
         (C.failures csv_source.old) (C.failures csv_source.new) result }
-    ensures sink { LeavesSink (K.taken sink.old) (K.taken sink.new) (K.failures sink.old) (K.failures sink.new) result }
     ensures unneeded { is_name table.now ≡ false → csv_source.new ≡ csv_source.old }
 {
     if !is_name(table) {

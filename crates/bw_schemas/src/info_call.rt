@@ -1,13 +1,11 @@
 //! The header of a table file, written as text.
 ghost use Rattle.std.specs.Prelude.{◌≡◌, ◌-◌, ◌^◌, ◌<◌, ℕ, List, Result, Some, length, IfErr, IsTrue, OnOk};
-ghost use Rattle.bw_model.specs.FaultTable.{READ_FAILED};
 ghost use Rattle.bw_model.specs.declared.fault.Fault.{Fault};
 ghost use Rattle.bw_model.specs.declared.schema.Schema.{Schema};
-ghost use Rattle.bw_model.specs.Fault.{nowhere};
 ghost use Rattle.bw_model.specs.Groups.{groups_of};
 ghost use Rattle.bw_model.specs.Row.{Value};
-ghost use Rattle.bw_device.specs.Sink.{LeavesSink, Wrote, none_aside};
-ghost use Rattle.bw_device.specs.Source.{EndsWith};
+ghost use Rattle.bw_device.specs.Sink.{Wrote, none_aside};
+ghost use Rattle.bw_device.specs.Source.{TellsFailure};
 ghost use Rattle.bw_file.specs.declared.layout.Layout.{Layout};
 ghost use Rattle.bw_file.specs.FileBytes.{AreRows, IsFileBytes, bytes_of_version};
 ghost use Rattle.bw_file.specs.Reading.{state};
@@ -43,8 +41,8 @@ pub fn info<S: Source, K: Sink>(alloc: Global, table: &mut S, sink: &mut K) -> R
     ensures accepted { (bytes : List ℕ) (layout : Layout) (schema : Schema) (rows : List (List Value))
         → S.to_come table.old ≡ Some bytes → IsFileBytes bytes layout schema rows
         → IfErr result (λ fault. IsTrue (is_no_verdict fault)) }
-    ensures table { EndsWith (nowhere READ_FAILED) (S.failures table.old) (S.failures table.new) result }
-    ensures sink { LeavesSink (K.taken sink.old) (K.taken sink.new) (K.failures sink.old) (K.failures sink.new) result }
+    // The call refuses by a failed read exactly where the table's count of failures rose.
+    ensures table { TellsFailure (S.failures table.old) (S.failures table.new) result }
 {
     a_file_is_read_whole();
     let reader = TableReader::begin(alloc, table)?;

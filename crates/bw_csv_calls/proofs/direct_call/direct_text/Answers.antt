@@ -1,9 +1,11 @@
 -- Each exit, by what its calls' contracts say.
-use Rattle.std.proofs.Common.{Ok, Some}
+use Rattle.std.proofs.Common.{Err, refl}
 use Rattle.std.proofs.lemmas.Result.{IfErr-weaker, err_from_is_err_and}
 use Rattle.bw_model.specs.Limits.{longest_schema, longest_csv}
+use Rattle.bw_device.specs.Source.{NotReached, Whole}
+use Rattle.bw_csv.proofs.InputLemmas.{made_of_none}
 use Rattle.bw_csv_calls.specs.Direct.{answer_of}
-use Rattle.bw_csv_calls.proofs.Exits.{came_of, stopped_of, schema_exit, csv_exit, text_exit, unread_schema, never_read}
+use Rattle.bw_csv_calls.proofs.Exits.{came_of, stopped_of, refused_exit, text_exit, none_understood, not_reached}
 use Rattle.bw_csv_calls.proofs.DirectExits.{AnswerTo, refused_schema, read_statement, statement_exit}
 use Rattle.bw_csv_calls.proofs.direct_call.direct_text.Goals as goal
 
@@ -13,18 +15,16 @@ returns-in_err-schema-clause-answer g c =
     let told = c.in_err-schema.ensures.answered in
     let fault = c.in_err-schema.field-0.0 in
     let sql = c.args.sql.now in
-    rw (p.1, p.2) (schema_exit _ _ (AnswerTo sql) _ told.0 fault (refused_schema sql) told.1 (never_read longest_csv (g.C.Source.to_come c.args.csv_source.now) _) told.2
-    (λ given is. is))
+    rw (p.1, p.2) (refused_exit _ _ (AnswerTo sql) told.0 NotReached fault (refused_schema sql told.0 fault told.2) told.1 (not_reached longest_csv (g.C.Source.to_come c.args.csv_source.now) _))
 
 pub returns-in_err-query-clause-answer : goal.returns-in_err-query-clause-answer
 returns-in_err-query-clause-answer g c =
     let p = err_from_is_err_and c.from_residual-in_err-query.result c.from_residual-in_err-query.ensures.1 in
     let told = c.in_ok-schema.ensures.answered in
     let fault = c.in_err-query.field-0.0 in
-    rw (p.1, p.2) (statement_exit _ _ c.args.sql.now _ told.0 c.in_ok-schema.schema fault told.1
-    (unread_schema longest_schema _ _ _ _ told.0 c.in_ok-schema.schema told.1 told.2) (never_read longest_csv (g.C.Source.to_come c.args.csv_source.now) _) told.2
-    c.in_err-query.ensures.read
-    (λ given is. is))
+    rw (p.1, p.2) (statement_exit _ _ c.args.sql.now told.0 c.in_ok-schema.schema fault told.1
+    (none_understood longest_schema _ _ _ _ told.0 c.in_ok-schema.schema told.1 told.2) (not_reached longest_csv (g.C.Source.to_come c.args.csv_source.now) _) told.2
+    c.in_err-query.ensures.read)
 
 pub returns-in_err-csv-clause-answer : goal.returns-in_err-csv-clause-answer
 returns-in_err-csv-clause-answer g c =
@@ -35,9 +35,8 @@ returns-in_err-csv-clause-answer g c =
     let schema = c.in_ok-schema.schema in
     let query = c.in_ok-query.query in
     let sql = c.args.sql.now in
-    rw (p.1, p.2) (csv_exit _ _ (AnswerTo sql) _ told.0 csv.0 (answer_of schema.columns.items query) fault
-    (read_statement sql told.0 csv.0 schema query told.2 c.in_ok-query.ensures.read) told.1 csv.1 csv.2
-    (λ given is. is))
+    rw (p.1, p.2) (refused_exit _ _ (AnswerTo sql) told.0 csv.0 fault
+    (read_statement sql told.0 csv.0 schema query (Err fault) told.2 c.in_ok-query.ensures.read (made_of_none (answer_of schema.columns.items query) csv.0 fault csv.2)) told.1 csv.1)
 
 pub returns-clause-answer : goal.returns-clause-answer
 returns-clause-answer g c =
@@ -48,7 +47,7 @@ returns-clause-answer g c =
     let sql = c.args.sql.now in
     let bytes = c.deref.result.now in
     text_exit _ _ (AnswerTo sql) _ told.0 csv.0 (answer_of schema.columns.items query) bytes
-    (read_statement sql told.0 (Ok (Some bytes)) schema query told.2 c.in_ok-query.ensures.read) told.1 csv.1 (rw c.deref.ensures.value csv.2)
+    (read_statement sql told.0 (Whole bytes) schema query (answer_of schema.columns.items query bytes) told.2 c.in_ok-query.ensures.read refl) told.1 csv.1 (rw c.deref.ensures.value csv.2)
     c.answer_text.ensures.text
 
 pub returns-clause-reader : goal.returns-clause-reader

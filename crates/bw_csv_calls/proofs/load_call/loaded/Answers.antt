@@ -1,30 +1,31 @@
 -- Each exit, by what its calls' contracts say.
-use Rattle.std.proofs.Common.{◌≡◌, Ok, Err, Some, Result, refl}
+use Rattle.std.proofs.Common.{◌≡◌, Ok, Err, Result, refl}
 use Rattle.std.proofs.lemmas.Result.{IfErr-weaker, err_from_is_err_and}
 use Rattle.bw_model.specs.declared.fault.Fault.{Fault}
 use Rattle.bw_model.specs.declared.schema.Schema.{Schema}
-use Rattle.bw_model.specs.Fault.{◌>>=◌}
 use Rattle.bw_model.specs.Limits.{longest_csv}
+use Rattle.bw_device.specs.Source.{Arrival, NotReached, Whole}
 use Rattle.bw_file.specs.declared.layout.Layout.{Layout}
-use Rattle.bw_csv.specs.Input.{csv_from}
+use Rattle.bw_csv.specs.Input.{IsMadeOf}
+use Rattle.bw_csv.proofs.InputLemmas.{made_of_none}
 use Rattle.bw_csv_calls.specs.Arrived.{IsSchemaFrom}
 use Rattle.bw_csv_calls.specs.Load.{IsFile, file_of}
-use Rattle.bw_csv_calls.proofs.Exits.{Arrival, Given, came_of, stopped_of, schema_exit, csv_exit, text_exit, never_read, unread}
+use Rattle.bw_csv_calls.proofs.Exits.{Given, came_of, stopped_of, refused_exit, text_exit, not_reached}
 use Rattle.bw_csv_calls.proofs.load_call.loaded.Goals as goal
 
 -- the schema was refused, or read
-refused_schema : (layout : Layout) (came : Arrival) (fault : Fault) → IsSchemaFrom came (Err fault) → IsFile layout came unread (Err fault)
+refused_schema : (layout : Layout) (came : Arrival) (fault : Fault) → IsSchemaFrom came (Err fault) → IsFile layout came NotReached (Err fault)
 refused_schema layout came fault from =
     let outcome : Result Schema Fault = Err fault in
     let given : Given = Err fault in
     let is : given ≡ Err fault = refl in
-    (outcome, from, is)
+    let csv : NotReached ≡ NotReached = refl in
+    (outcome, from, (csv, is))
 
-read_schema : (layout : Layout) (came csv : Arrival) (schema : Schema) → IsSchemaFrom came (Ok schema) → IsFile layout came csv (csv_from csv >>= file_of layout schema)
-read_schema layout came csv schema from =
+read_schema : (layout : Layout) (came csv : Arrival) (schema : Schema) (given : Given) → IsSchemaFrom came (Ok schema) → IsMadeOf (file_of layout schema) csv given → IsFile layout came csv given
+read_schema layout came csv schema given from made =
     let outcome : Result Schema Fault = Ok schema in
-    let is : (csv_from csv >>= file_of layout schema) ≡ (csv_from csv >>= file_of layout schema) = refl in
-    (outcome, from, is)
+    (outcome, from, made)
 
 pub returns-in_err-schema-clause-file : goal.returns-in_err-schema-clause-file
 returns-in_err-schema-clause-file g c =
@@ -32,8 +33,7 @@ returns-in_err-schema-clause-file g c =
     let told = c.in_err-schema.ensures.answered in
     let fault = c.in_err-schema.field-0.0 in
     let layout = c.args.layout in
-    rw (p.1, p.2) (schema_exit _ _ (IsFile layout) _ told.0 fault (refused_schema layout) told.1 (never_read longest_csv (g.C.Source.to_come c.args.csv_source.now) _) told.2
-    (λ given is. is))
+    rw (p.1, p.2) (refused_exit _ _ (IsFile layout) told.0 NotReached fault (refused_schema layout told.0 fault told.2) told.1 (not_reached longest_csv (g.C.Source.to_come c.args.csv_source.now) _))
 
 pub returns-in_err-csv-clause-file : goal.returns-in_err-csv-clause-file
 returns-in_err-csv-clause-file g c =
@@ -43,9 +43,7 @@ returns-in_err-csv-clause-file g c =
     let fault = c.in_err-csv.field-0.0 in
     let schema = c.in_ok-schema.schema in
     let layout = c.args.layout in
-    rw (p.1, p.2) (csv_exit _ _ (IsFile layout) _ told.0 csv.0 (file_of layout schema) fault
-    (read_schema layout told.0 csv.0 schema told.2) told.1 csv.1 csv.2
-    (λ given is. is))
+    rw (p.1, p.2) (refused_exit _ _ (IsFile layout) told.0 csv.0 fault (read_schema layout told.0 csv.0 schema (Err fault) told.2 (made_of_none (file_of layout schema) csv.0 fault csv.2)) told.1 csv.1)
 
 pub returns-clause-file : goal.returns-clause-file
 returns-clause-file g c =
@@ -54,9 +52,8 @@ returns-clause-file g c =
     let schema = c.in_ok-schema.schema in
     let layout = c.args.layout in
     let bytes = c.deref.result.now in
-    text_exit _ _ (IsFile layout) _ told.0 csv.0 (file_of layout schema) bytes
-    (read_schema layout told.0 (Ok (Some bytes)) schema told.2) told.1 csv.1 (rw c.deref.ensures.value csv.2)
-    c.file_bytes.ensures.bytes
+    text_exit _ _ (IsFile layout) _ told.0 csv.0 (file_of layout schema) bytes (read_schema layout told.0 (Whole bytes) schema (file_of layout schema bytes) told.2 refl)
+    told.1 csv.1 (rw c.deref.ensures.value csv.2) c.file_bytes.ensures.bytes
 
 pub returns-clause-reader : goal.returns-clause-reader
 returns-clause-reader g c =
