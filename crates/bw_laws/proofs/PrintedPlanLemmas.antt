@@ -1,14 +1,10 @@
 -- A plan's file is cut at the line CERTIFICATE that was printed: no line of a printed program has that word alone.
-use Rattle.std.proofs.Common.{◌≡◌, ◌∙◌, refl, sym, ap, subst, ℕ, suc, ◌+◌, Bool, true, false, not, cond, List, [], ◌∷◌, ◌++◌, codes, length, map, Result, Ok, All, append_assoc}
+use Rattle.std.proofs.Common.{◌≡◌, ◌∙◌, refl, sym, ap, subst, ℕ, suc, ◌+◌, Bool, true, false, not, cond, List, [], ◌∷◌, ◌++◌, codes, length, Result, Ok, append_assoc}
 use Rattle.std.specs.Fmt.{decimal}
 use Rattle.std.specs.List.{list_all}
 use Rattle.std.proofs.lemmas.Bool.{and_parts, eqb-true}
-use Rattle.std.proofs.lemmas.List.Elements.{All-head, All-tail}
 use Rattle.bw_model.specs.declared.column.Column.{Column}
 use Rattle.bw_model.specs.declared.fault.Fault.{Fault}
-use Rattle.bw_model.specs.Column.{names_of}
-use Rattle.bw_model.specs.Name.{is_name, are_apart}
-use Rattle.bw_model.specs.SchemaText.{SchemaShape, SpellsSchema, column_shape, shape_names}
 use Rattle.bw_text.specs.Lines.{NumberedWords, begins_comment, cut_lines, is_line_feed, is_skipped, numbered, numbered_from, only_of, with_first, words_of}
 use Rattle.bw_text.specs.Printed.{line_text, spaced}
 use Rattle.bw_text.specs.Text.{same_text}
@@ -16,7 +12,6 @@ use Rattle.bw_program.specs.declared.instr.Instr.{Instr}
 use Rattle.bw_program.specs.PrintText.{instr_words, lines_text, print_text}
 use Rattle.bw_program.specs.Program.{ProgramShape}
 use Rattle.bw_program.specs.ProgramText.{IsProgramText, SpellsInstr, SpellsLines, load, nulls, fill, conjunction, disjunction, difference, negation, below, same, skip, result_line, instr_line}
-use Rattle.bw_file.specs.FileBytes.{IsColumn}
 use Rattle.bw_cert_text.specs.CertificateFields.{CertificateFields}
 use Rattle.bw_cert_text.specs.CertificateText.{IsCertificateText, SpellsFrom}
 use Rattle.bw_cert.specs.ProgramFile.{after_divider, before_divider, divides, is_divider_word}
@@ -169,20 +164,7 @@ program_by_lines columns text other program alike of =
 pub one_ok : {A : Type 0} (x y : A) (r : Result A Fault) → r ≡ Ok x → r ≡ Ok y → x ≡ y
 one_ok x y r a b = let both : ◌≡◌ {A = Result _ Fault} (Ok x) (Ok y) = sym a ∙ b in cc both
 
--- a schema text's columns have names, which are apart
-pub names_are : (columns : List Column) → All IsColumn (map column_shape columns) → list_all is_name (names_of columns) ≡ true
-names_are [] all = refl
-names_are (column ∷ columns) all =
-    rw ((All-head IsColumn (column_shape column) (map column_shape columns) all).name) (names_are columns (All-tail IsColumn (column_shape column) (map column_shape columns) all))
-
-pub shape_names_are : (columns : List Column) → shape_names (map column_shape columns) ≡ names_of columns
-shape_names_are [] = refl
-shape_names_are (column ∷ columns) = ap (λ (names : List (List ℕ)). column.name ∷ names) (shape_names_are columns)
-
-pub names_apart : (lines : List NumberedWords) (schema : SchemaShape) → SpellsSchema lines schema → are_apart (shape_names schema.columns) ≡ true
-names_apart [] schema h = absurd h
-names_apart (line ∷ lines) schema h = h.5
-
+-- and so is a certificate's
 pub certificate_by_lines : (first : ℕ) (text other : List ℕ) (certificate : CertificateFields) → cut_lines text ≡ cut_lines other → IsCertificateText first other certificate → IsCertificateText first text certificate
 certificate_by_lines first text other certificate alike of =
     subst (λ (lines : List (List ℕ)). SpellsFrom 0 (numbered_from first lines) certificate) (sym alike) of

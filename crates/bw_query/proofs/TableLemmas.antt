@@ -1,5 +1,5 @@
 -- Groups of rows that an answer takes, and the faults of a table file.
-use Rattle.std.proofs.Common.{◌≡◌, ◌∙◌, ℕ, ◌+◌, List, [], ◌∷◌, ◌++◌, true, false, refl, sym, ap, subst, append_assoc, arith}
+use Rattle.std.proofs.Common.{◌≡◌, ◌∙◌, ℕ, ◌+◌, List, [], ◌∷◌, ◌++◌, true, false, inl, refl, sym, ap, subst, append_assoc, arith}
 use Rattle.std.specs.List.{sum_by}
 use Rattle.std.proofs.lemmas.List.{append-nil}
 use Rattle.std.proofs.lemmas.List.Sums.{sum_by-append}
@@ -9,9 +9,9 @@ use Rattle.bw_model.specs.Groups.{together}
 use Rattle.bw_model.specs.Row.{Value}
 use Rattle.bw_answer.specs.Over.{GoesOver, IsOver}
 use Rattle.bw_answer.specs.declared.answer.Answer.{Answer}
-use Rattle.bw_device.specs.Source.{is_read_fault, is_input_fault}
-use Rattle.bw_file.specs.Reading.{State, Took, failed_reads}
-use Rattle.bw_file.specs.TableReader.{AnswersFault, NoneToSpare, SameTable}
+use Rattle.bw_device.specs.Source.{is_read_fault, is_input_fault, failed_reads}
+use Rattle.bw_file.specs.Reading.{State, Took}
+use Rattle.bw_file.specs.TableReader.{AnswersFault, FrontsEndEarly, SameTable}
 use Rattle.bw_file.specs.declared.table_reader.TableReader.{TableReader}
 
 -- an answer that takes nothing
@@ -36,13 +36,13 @@ goes_on start old new groups rows first next = record {
       (append_assoc before (together groups) rows ∙ ap (λ (l : List (List Value)). before ++ l) (sym (together_more groups rows))) then;
 }
 
--- out of memory, once bytes were taken, none of which could be spared, and no read failed
-pub memory_answers : (start old now : State) (fault : Fault) → ((bytes : List ℕ) × Took start now bytes × NoneToSpare bytes) → now.failures ≡ old.failures → fault ≡ no_memory
+-- out of memory, once bytes were taken, fewer of which end too early, and no read failed
+pub memory_answers : (start old now : State) (fault : Fault) → ((bytes : List ℕ) × Took start now bytes × FrontsEndEarly bytes) → now.failures ≡ old.failures → fault ≡ no_memory
     → AnswersFault start old now fault
 memory_answers start old now fault taken failures memory = record {
   bytes = taken.0;
   took = taken.1;
-  needed = taken.2;
+  needed = λ n less. inl (taken.2 n less);
   unfinished = λ failed. let e : false ≡ true = sym (ap is_read_fault memory) ∙ failed in absurd (cc e);
   failures = rw memory (failures ∙ sym (add_zero old.failures));
   first = λ own. let e : true ≡ false = sym (ap is_input_fault memory) ∙ own in absurd (cc e);

@@ -9,18 +9,26 @@ use Rattle.bw_model.specs.Fault.{is_memory, nowhere}
 use Rattle.bw_model.specs.SchemaText.{schema_of, schema_shape, IsSchemaText}
 use Rattle.bw_program.specs.PrintText as program_text
 use Rattle.bw_program.specs.Program.{ProgramShape}
+use Rattle.bw_program.specs.ProgramText.{IsProgramText}
 use Rattle.bw_cert_text.specs.CertificateFields.{CertificateFields}
 use Rattle.bw_cert_text.specs.CertificateShape.{CertificateShape}
+use Rattle.bw_cert_text.specs.CertificateText.{IsCertificateText}
 use Rattle.bw_cert_text.specs.PrintText as certificate_text
+use Rattle.bw_cert_text.specs.Reprint.{renumbered}
 use Rattle.bw_cert.specs.Judged.{Certifies}
 use Rattle.bw_sql.specs.Statement.{IsReadAs}
 
--- the printed text of a program, the line CERTIFICATE, and the printed text of a certificate
+-- The file is the printed text of a program, the line CERTIFICATE, and the printed text of a certificate. The first
+-- text spells that program. The second spells that certificate, in the columns' spelling of names, and with the numbers
+-- of its own lines, wherever its first line stands.
 pub record IsPrinted (columns : List Column) (file : List ℕ) : Type 0 where
   pub shown : ProgramShape
   pub stated : CertificateFields
   pub is : file ≡ program_text.print_text columns shown ++ codes "CERTIFICATE\n"
       ++ certificate_text.print_text columns stated
+  pub spells : IsProgramText columns (program_text.print_text columns shown) shown
+  pub states : (first : ℕ) → IsCertificateText first (certificate_text.print_text columns stated)
+      (renumbered first (certificate_text.respelled columns stated))
 
 -- A text spells a schema, a statement a query under it, and the file, which is printed so, a program and a certificate
 -- that is valid for it and the query's condition.

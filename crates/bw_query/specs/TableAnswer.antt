@@ -15,12 +15,12 @@ use Rattle.bw_model.specs.SchemaText.{schema_shape}
 use Rattle.bw_sql.specs.Statement.{IsReadAs}
 use Rattle.bw_answer.specs.Answer.{csv_text, meaning}
 use Rattle.bw_device.specs.Sink.{is_write_fault}
-use Rattle.bw_device.specs.Source.{is_read_fault, is_input_fault}
+use Rattle.bw_device.specs.Source.{is_read_fault, is_input_fault, failed_by}
 use Rattle.bw_file.specs.declared.layout.Layout.{Layout}
 use Rattle.bw_file.specs.FileBytes.{IsFileBytes}
 use Rattle.bw_file.specs.Reading.{State, Took, GoesOn, Fails, give}
 use Rattle.bw_file.specs.TableReading.{HeaderShape, Found, header}
-use Rattle.bw_file.specs.TableReader.{AreUnfinished, HasFirstFault, NoneToSpare, ReadWhole, SoFar, failed_by, header_stated, version_in}
+use Rattle.bw_file.specs.TableReader.{AreUnfinished, HasFirstFault, NoneToSpare, ReadWhole, SoFar, header_stated, version_in}
 use Rattle.bw_file.specs.declared.table_reader.TableReader.{TableReader}
 use Rattle.bw_query.specs.Scan.{IsScanFault, IsUsable}
 
@@ -86,7 +86,7 @@ pub record SegmentRefused (asks : Schema → Result Query Fault → Type 0) (sta
   pub asked : asks schema (Ok query)
   pub bytes : List ℕ
   pub took : Took start now bytes
-  pub needed : NoneToSpare bytes
+  pub needed : NoneToSpare bytes fault
   pub unfinished : is_read_fault fault ≡ true → AreUnfinished bytes
   pub first : is_input_fault fault ≡ false → HasFirstFault now bytes fault
 

@@ -9,7 +9,7 @@ ghost use Rattle.bw_cert_text.specs.CertificateFields.{certificate_fields};
 ghost use Rattle.bw_cert_text.specs.CertificateShape.{CertificateShape};
 ghost use Rattle.bw_cert_text.specs.Columns.{has_columns};
 ghost use Rattle.bw_cert.specs.Judged.{Certifies};
-ghost use Rattle.bw_device.specs.Sink.{LeavesSink, Wrote, none_aside};
+ghost use Rattle.bw_device.specs.Sink.{Wrote, none_aside};
 ghost use Rattle.bw_query.specs.Plan.{IsPlanned, IsPrinted};
 
 use bw_cert::certify;
@@ -37,7 +37,6 @@ pub fn plan_text<K: Sink>(
     ensures planned { (given : Result (List ℕ) Fault) × IsPlanned schema.now sql.now given
         × Wrote none_aside (K.taken sink.old) (K.taken sink.new) (K.failures sink.old) (K.failures sink.new) given
         result }
-    ensures sink { LeavesSink (K.taken sink.old) (K.taken sink.new) (K.failures sink.old) (K.failures sink.new) result }
 {
     let schema = Schema::parse(alloc, schema)?;
     let query = parse(alloc, &schema, sql)?;

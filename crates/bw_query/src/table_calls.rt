@@ -2,7 +2,6 @@
 ghost use Rattle.std.specs.Prelude.{◌≡◌, ◌-◌, ◌^◌, ◌<◌, ◌≤◌, ℕ, List, Option, Result, Ok, Err, None, Some, false, length, vec_len, IsTrue, IfOk, IfErr, OnOk};
 ghost use Rattle.std.specs.Io.KnownBytes.{Appends};
 ghost use Rattle.std.specs.List.{list_all};
-ghost use Rattle.bw_model.specs.FaultTable.{READ_FAILED};
 ghost use Rattle.bw_model.specs.declared.fault.Fault.{Fault};
 ghost use Rattle.bw_model.specs.declared.query.Query.{Query};
 ghost use Rattle.bw_model.specs.declared.schema.Schema.{Schema};
@@ -10,15 +9,15 @@ ghost use Rattle.bw_model.specs.Total.{item_within};
 ghost use Rattle.bw_sql.specs.Asked.{Asked};
 ghost use Rattle.bw_sql.specs.Items.{AreOfOneKind};
 ghost use Rattle.bw_sql.specs.Statement.{Spells};
-ghost use Rattle.bw_model.specs.Fault.{nowhere, no_memory, is_memory};
+ghost use Rattle.bw_model.specs.Fault.{no_memory, is_memory};
 ghost use Rattle.bw_model.specs.Row.{Value};
 ghost use Rattle.bw_model.specs.SchemaText.{schema_shape};
 ghost use Rattle.bw_file.specs.declared.layout.Layout.{Layout};
 ghost use Rattle.bw_file.specs.FileBytes.{IsFileBytes};
 ghost use Rattle.bw_file.specs.Reading.{State, state};
 ghost use Rattle.bw_file.specs.TableReader.{bytes_taken, rows_given, settled};
-ghost use Rattle.bw_device.specs.Sink.{LeavesSink, Wrote, is_write_fault, none_aside};
-ghost use Rattle.bw_device.specs.Source.{EndsWith, is_read_fault};
+ghost use Rattle.bw_device.specs.Sink.{Wrote, is_write_fault, none_aside};
+ghost use Rattle.bw_device.specs.Source.{TellsFailure, is_read_fault};
 ghost use Rattle.bw_query.specs.AnswerText.{bytes_in, text_in};
 ghost use Rattle.bw_query.specs.Scan.{IsChosen, IsFor, given_file};
 ghost use Rattle.bw_query.specs.Served.{IsServed};
@@ -78,8 +77,7 @@ pub fn answer<S: Source, K: Sink>(
         → S.to_come table.old ≡ Some bytes → IsFileBytes bytes layout schema rows
         → by_statement (given_file program.entry) sql.now schema (Ok query)
         → IfErr result (λ fault. IsTrue (is_no_verdict fault)) }
-    ensures table { EndsWith (nowhere READ_FAILED) (S.failures table.old) (S.failures table.new) result }
-    ensures sink { LeavesSink (K.taken sink.old) (K.taken sink.new) (K.failures sink.old) (K.failures sink.new) result }
+    ensures table { TellsFailure (S.failures table.old) (S.failures table.new) result }
 {
     let answered = answered(alloc, table, sql, program)?;
     write_whole(sink, &answered.text)?;
@@ -115,7 +113,6 @@ fn answered<S: Source>(
         → by_statement (given_file program.entry) sql.now schema (Ok query)
         → IfErr result (λ fault. IsTrue (is_no_verdict fault)) }
     ensures fault { IfErr result (λ fault. is_write_fault fault ≡ false) }
-    ensures failed { EndsWith (nowhere READ_FAILED) (S.failures table.old) (S.failures table.new) result }
 {
     a_file_is_read_whole();
     let mut reader = TableReader::begin(alloc, table)?;
@@ -148,9 +145,6 @@ fn answered_after_header<S: Source>(
         → by_statement (given_file program.entry) sql.now schema (Ok query)
         → IfErr result (λ fault. IsTrue (is_no_verdict fault)) }
     ensures fault { IfErr result (λ fault. is_write_fault fault ≡ false) }
-    ensures failed { (start : State)
-        → Began start (state (S.to_come table.old) (bytes_taken reader.old) (S.failures table.old)) reader.old
-        → EndsWith (nowhere READ_FAILED) (S.failures table.old) (S.failures table.new) result }
 {
     a_file_is_read_whole();
     let prepared = prepare(alloc, reader.schema(), sql, program)?;
@@ -224,8 +218,7 @@ pub fn dump<S: Source, K: Sink>(alloc: Global, table: &mut S, sink: &mut K) -> R
     ensures accepted { (bytes : List ℕ) (layout : Layout) (schema : Schema) (rows : List (List Value))
         → S.to_come table.old ≡ Some bytes → IsFileBytes bytes layout schema rows
         → IfErr result (λ fault. IsTrue (is_no_verdict fault)) }
-    ensures table { EndsWith (nowhere READ_FAILED) (S.failures table.old) (S.failures table.new) result }
-    ensures sink { LeavesSink (K.taken sink.old) (K.taken sink.new) (K.failures sink.old) (K.failures sink.new) result }
+    ensures table { TellsFailure (S.failures table.old) (S.failures table.new) result }
 {
     let text = dumped(alloc, table)?;
     write_whole(sink, &text)
@@ -244,7 +237,6 @@ fn dumped<S: Source>(alloc: Global, table: &mut S) -> Result<Vec<u8>, Fault>
         → S.to_come table.old ≡ Some bytes → IsFileBytes bytes layout schema rows
         → IfErr result (λ fault. IsTrue (is_no_verdict fault)) }
     ensures fault { IfErr result (λ fault. is_write_fault fault ≡ false) }
-    ensures failed { EndsWith (nowhere READ_FAILED) (S.failures table.old) (S.failures table.new) result }
 {
     a_file_is_read_whole();
     let mut reader = TableReader::begin(alloc, table)?;
@@ -272,9 +264,6 @@ fn dumped_after_header<S: Source>(
         → start.known ≡ Some bytes → IsFileBytes bytes layout schema rows
         → IfErr result (λ fault. IsTrue (is_no_verdict fault)) }
     ensures fault { IfErr result (λ fault. is_write_fault fault ≡ false) }
-    ensures failed { (start : State)
-        → Began start (state (S.to_come table.old) (bytes_taken reader.old) (S.failures table.old)) reader.old
-        → EndsWith (nowhere READ_FAILED) (S.failures table.old) (S.failures table.new) result }
 {
     a_file_is_read_whole();
     let query = every_row(alloc, reader.schema())?;

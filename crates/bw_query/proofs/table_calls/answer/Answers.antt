@@ -1,11 +1,11 @@
 -- Each exit, by what its calls' contracts say.
-use Rattle.std.proofs.Common.{Err}
+use Rattle.std.proofs.Common.{Ok, Err}
 use Rattle.std.proofs.lemmas.Result.{err_from_is_err_and}
 use Rattle.bw_report.specs.declared.served.Served.{Served}
 use Rattle.bw_query.specs.Scan.{given_file}
 use Rattle.bw_query.specs.Served.{IsServed}
 use Rattle.bw_query.specs.TableAnswer.{by_statement}
-use Rattle.bw_query.proofs.TableExits.{ends, refused, table_answered, went}
+use Rattle.bw_query.proofs.TableExits.{ends, refused, table_answered, tells, went}
 use Rattle.bw_query.proofs.table_calls.answer.Goals as goal
 
 pub returns-in_err-answered-clause-answer : goal.returns-in_err-answered-clause-answer
@@ -24,7 +24,18 @@ returns-in_err-write_whole-clause-answer g c =
 pub returns-clause-answer : goal.returns-clause-answer
 returns-clause-answer g c =
     let goes = rw c.deref.ensures.value at c.in_ok-write_whole.ensures in
-    ends _ _ _ _ _ c.in_ok-answered.ensures.answer goes
+    let served = Ok c.in_ok-answered.answered.served in
+    ends _ _ _ _ _ c.in_ok-answered.ensures.answer (went Served _ _ _ _ c.in_ok-answered.answered.text.items served goes)
+
+-- a failed read is told as the clause above says
+pub returns-in_err-answered-clause-table : goal.returns-in_err-answered-clause-table
+returns-in_err-answered-clause-table g c = tells Served _ _ _ _ _ _ _ _ (returns-in_err-answered-clause-answer g c)
+
+pub returns-in_err-write_whole-clause-table : goal.returns-in_err-write_whole-clause-table
+returns-in_err-write_whole-clause-table g c = tells Served _ _ _ _ _ _ _ _ (returns-in_err-write_whole-clause-answer g c)
+
+pub returns-clause-table : goal.returns-clause-table
+returns-clause-table g c = tells Served _ _ _ _ _ _ _ _ (returns-clause-answer g c)
 
 pub returns-clause-served : goal.returns-clause-served
 returns-clause-served g c =

@@ -1,5 +1,5 @@
 -- Each exit, by what its calls' contracts say.
-use Rattle.std.proofs.Common.{[], arith, rules}
+use Rattle.std.proofs.Common.{[]}
 use Rattle.std.proofs.lemmas.Result.{err_from_is_err_and}
 use Rattle.bw_file.specs.TableReader.{schema_in}
 use Rattle.bw_query.specs.Scan.{given_file}
@@ -34,9 +34,6 @@ pub returns-clause-accepted : goal.returns-clause-accepted
 returns-clause-accepted g c = λ start bytes layout schema rows query began known file asks.
     input_verdict c.in-Err.fault (c.a_file_is_read_whole.ensures.faults bytes layout schema rows file _ _ _ _ known (c.in-Err.ensures.refused start began.so_far))
 
-pub returns-clause-failed : goal.returns-clause-failed
-returns-clause-failed g c = λ start began. let answers = (c.in-Err.ensures.refused start began.so_far).failures in search rules
-
 pub returns-in-Ok-clause-answer : goal.returns-in-Ok-clause-answer
 returns-in-Ok-clause-answer g c = λ start began.
     let found = c.in-Ok.found in
@@ -56,8 +53,3 @@ returns-in-Ok-clause-served g c =
     text_over (by_statement (given_file c.args.program) c.args.sql.now) start _ schema prepared.query prepared.scan found.text.items found.scanned
     (served (given_file c.args.program) prepared.scan found.scanned) (λ rows. serves (given_file c.args.program) schema prepared.query rows prepared.scan found.scanned chosen) asked
     (c.in-Ok.ensures.text start began.so_far))
-
-pub returns-in-Ok-clause-failed : goal.returns-in-Ok-clause-failed
-returns-in-Ok-clause-failed g c = λ start began risen.
-    let read = (c.in-Ok.ensures.text start began.so_far).read.failures in
-    absurd (omega (arith, read, risen))

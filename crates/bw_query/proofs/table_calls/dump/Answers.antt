@@ -1,7 +1,7 @@
 -- Each exit, by what its calls' contracts say.
 use Rattle.std.proofs.lemmas.Result.{err_from_is_err_and}
 use Rattle.bw_query.specs.TableAnswer.{by_dump}
-use Rattle.bw_query.proofs.TableExits.{answered_or_not, ends, refused, went}
+use Rattle.bw_query.proofs.TableExits.{answered_or_not, ends, refused, tells, went}
 use Rattle.bw_query.proofs.table_calls.dump.Goals as goal
 
 pub returns-in_err-text-clause-answer : goal.returns-in_err-text-clause-answer
@@ -13,6 +13,13 @@ pub returns-clause-answer : goal.returns-clause-answer
 returns-clause-answer g c =
     let goes = rw c.deref.ensures.value at c.write_whole.ensures in
     ends by_dump _ _ _ _ c.in_ok-text.ensures.answer (went (Unit {0}) _ _ _ _ _ c.write_whole.result goes)
+
+-- a failed read is told as the clause above says
+pub returns-in_err-text-clause-table : goal.returns-in_err-text-clause-table
+returns-in_err-text-clause-table g c = tells (Unit {0}) _ _ _ _ _ _ _ _ (returns-in_err-text-clause-answer g c)
+
+pub returns-clause-table : goal.returns-clause-table
+returns-clause-table g c = tells (Unit {0}) _ _ _ _ _ _ _ _ (returns-clause-answer g c)
 
 pub returns-clause-file : goal.returns-clause-file
 returns-clause-file g c = λ bytes known.

@@ -1,7 +1,7 @@
 -- Each exit, by what its calls' contracts say.
-use Rattle.std.proofs.Common.{◌≡◌, ◌∙◌, arith, rules, true, false, sym, ap}
+use Rattle.std.proofs.Common.{◌≡◌, ◌∙◌, true, false, sym, ap}
 use Rattle.std.proofs.lemmas.Result.{err_from_is_err_and}
-use Rattle.bw_file.specs.Reading.{failed_reads}
+use Rattle.bw_device.specs.Source.{failed_reads}
 use Rattle.bw_file.specs.TableReader.{schema_in}
 use Rattle.bw_model.specs.Fault.{is_memory}
 use Rattle.bw_query.specs.TableAnswer.{by_dump}
@@ -35,9 +35,6 @@ pub returns-clause-accepted : goal.returns-clause-accepted
 returns-clause-accepted g c = λ start bytes layout schema rows began known file.
     input_verdict c.in-Err.fault (c.a_file_is_read_whole.ensures.faults bytes layout schema rows file _ _ _ _ known (c.in-Err.ensures.refused start began.so_far))
 
-pub returns-clause-failed : goal.returns-clause-failed
-returns-clause-failed g c = λ start began. let answers = (c.in-Err.ensures.refused start began.so_far).failures in search rules
-
 pub returns-in-Ok-clause-answer : goal.returns-in-Ok-clause-answer
 returns-in-Ok-clause-answer g c = λ start began.
     let found = c.in-Ok.found in
@@ -50,8 +47,3 @@ returns-in-Ok-clause-text g c = λ start began.
     let asked = rw c.schema.ensures at c.in_ok-query.ensures.every in
     (text_over by_dump start _ (schema_in c.args.reader.now) c.in_ok-query.query _ found.text.items found.scanned (λ s q r. Unit {0}) (λ rows counts. tt)
     asked (c.in-Ok.ensures.text start began.so_far)).0
-
-pub returns-in-Ok-clause-failed : goal.returns-in-Ok-clause-failed
-returns-in-Ok-clause-failed g c = λ start began risen.
-    let read = (c.in-Ok.ensures.text start began.so_far).read.failures in
-    absurd (omega (arith, read, risen))

@@ -11,6 +11,7 @@ use Rattle.bw_file.specs.declared.table_reader.TableReader.{TableReader}
 use Rattle.bw_file.specs.TableReader.{IsSegmentOf, SameTable, schema_in}
 use Rattle.bw_query.specs.Scan.{IsFor, loads_in, skips_in}
 use Rattle.bw_file.specs.AnySegment.{any_is_group, any_meaning}
+use Rattle.bw_file.proofs.NextLemmas.{end_of, refusal_of, segment_of}
 use Rattle.bw_query.proofs.TableLemmas.{goes_nowhere, goes_on, later_answers, memory_answers, one_more, same_table}
 use Rattle.bw_query.proofs.TableExits.{table_writes_nothing}
 use Rattle.bw_query.proofs.table_text.take_rows.Goals as goal
@@ -38,23 +39,22 @@ returns-in_err-segment-clause-refused g c =
     let p = err_from_is_err_and c.from_residual.result c.from_residual.ensures.1 in
     let so_far = c.loop-segment.invariant in
     rw (p.1, p.2) (λ start read. later_answers start _ _ _ c.in_err-segment.field-0.0 so_far.failures
-    (c.in_err-segment.ensures.refused so_far.reading start so_far.groups (so_far.read start read)))
+    ((refusal_of c.in_err-segment.ensures so_far.reading).answers start so_far.groups (so_far.read start read)))
 
 pub returns-in_err-more-clause-refused : goal.returns-in_err-more-clause-refused
 returns-in_err-more-clause-refused g c =
     let p = err_from_is_err_and c.from_residual-in_err-more.result c.from_residual-in_err-more.ensures.1 in
     let so_far = c.loop-segment.invariant in
-    let given = rw c.in-Some.is at c.in_ok-segment.ensures.given in
-    let no_more = c.in_ok-segment.ensures.read so_far.reading in
+    let gave = segment_of (rw c.in-Some.is at c.in_ok-segment.ensures) in
     rw (p.1, p.2) (λ start read. memory_answers start _ _ c.in_err-more.field-0.0
-    (c.bytes_were_taken.ensures start _ c.next_segment.new.self _ (given start so_far.groups (so_far.read start read))).0
-    (omega (arith, no_more.failures, so_far.failures)) c.in_err-more.ensures.only_memory)
+    (c.bytes_were_taken.ensures start _ c.next_segment.new.self _ (gave.after start so_far.groups (so_far.read start read))).0
+    (omega (arith, gave.failures, so_far.failures)) c.in_err-more.ensures.only_memory)
 
 pub loop-segment-smaller : goal.loop-segment-smaller
 loop-segment-smaller g c =
-    let segment = rw c.in-Some.is at c.in_ok-segment.ensures.segment in
+    let gave = segment_of (rw c.in-Some.is at c.in_ok-segment.ensures) in
     let group = any_is_group c.in-Some.segment in
-    omega (arith, segment.0.count, segment.1, group.some, c.in_ok-segment.ensures.same.rows)
+    omega (arith, gave.of_table.count, gave.counted, group.some, gave.same.rows)
 
 -- the columns of a segment that was read are those of the table
 columns_of : (first reader : TableReader) (segment : AnySegment) → SameTable first reader → IsSegmentOf reader segment
@@ -64,34 +64,37 @@ columns_of first reader segment same is = is.columns ∙ ap (λ (schema : Schema
 pub take_either-taken-requires-clause-scan : goal.take_either-taken-requires-clause-scan
 take_either-taken-requires-clause-scan g c =
     let so_far = c.loop-segment.invariant in
-    let segment = rw c.in-Some.is at c.in_ok-segment.ensures.segment in
+    let gave = segment_of (rw c.in-Some.is at c.in_ok-segment.ensures) in
     let under = subst (λ (columns : List Column). IsFor columns (asked_by c.args.answer.now).cond c.args.scan.now)
-    (sym (columns_of c.args.reader.now c.loop-segment.reader c.in-Some.segment so_far.same segment.0)) c.requires.scan in
+    (sym (columns_of c.args.reader.now c.loop-segment.reader c.in-Some.segment so_far.same gave.of_table)) c.requires.scan in
     subst (λ (query : Query). IsFor (any_meaning c.in-Some.segment).columns query.cond c.args.scan.now) (sym so_far.asked) under
 
 pub take_either-taken-requires-clause-width : goal.take_either-taken-requires-clause-width
 take_either-taken-requires-clause-width g c =
     let so_far = c.loop-segment.invariant in
-    let segment = rw c.in-Some.is at c.in_ok-segment.ensures.segment in
+    let gave = segment_of (rw c.in-Some.is at c.in_ok-segment.ensures) in
     so_far.width ∙ ap (λ (columns : List Column). length columns)
-    (sym (columns_of c.args.reader.now c.loop-segment.reader c.in-Some.segment so_far.same segment.0))
+    (sym (columns_of c.args.reader.now c.loop-segment.reader c.in-Some.segment so_far.same gave.of_table))
+
+pub take_either-taken-requires-clause-room : goal.take_either-taken-requires-clause-room
+take_either-taken-requires-clause-room g c =
+    let gave = segment_of (rw c.in-Some.is at c.in_ok-segment.ensures) in
+    omega (arith, c.loop-segment.invariant.rows, gave.counted, c.next_segment.new.self.within, c.next_segment.new.self.few)
 
 pub loop-segment-preserved : goal.loop-segment-preserved
 loop-segment-preserved g c =
     let so_far = c.loop-segment.invariant in
-    let given = rw c.in-Some.is at c.in_ok-segment.ensures.given in
-    let segment = rw c.in-Some.is at c.in_ok-segment.ensures.segment in
-    let no_more = c.in_ok-segment.ensures.read so_far.reading in
+    let gave = segment_of (rw c.in-Some.is at c.in_ok-segment.ensures) in
     let taken = c.in_ok-more.ensures in
     let rows = (any_meaning c.in-Some.segment).rows in
     let group = any_is_group c.in-Some.segment in
     let more = length-append so_far.groups (rows ∷ []) in
-    let columns = columns_of c.args.reader.now c.loop-segment.reader c.in-Some.segment so_far.same segment.0 in
+    let columns = columns_of c.args.reader.now c.loop-segment.reader c.in-Some.segment so_far.same gave.of_table in
     let loads = ap (λ (those : List Column). loads_in those c.args.scan.now rows) columns in
     let skips = ap (λ (those : List Column). skips_in those c.args.scan.now rows) columns in
     record {
       groups = so_far.groups ++ rows ∷ [];
-      read = λ start read. given start so_far.groups (so_far.read start read);
+      read = λ start read. gave.after start so_far.groups (so_far.read start read);
       over = goes_on _ _ _ so_far.groups rows so_far.over taken.over;
       scanned = record {
         segments = omega (arith, so_far.scanned.segments, more);
@@ -100,11 +103,11 @@ loop-segment-preserved g c =
       };
       few_loads = omega (arith, so_far.few_loads, more, taken.bounded);
       few_skips = omega (arith, so_far.few_skips, more, taken.bounded);
-      same = same_table _ _ _ so_far.same c.in_ok-segment.ensures.same;
-      reading = segment.2;
-      failures = omega (arith, no_more.failures, so_far.failures);
-      rows = taken.rows ∙ ap (λ (n : ℕ). n + length rows) so_far.rows ∙ sym segment.1;
-      few = omega (arith, more, so_far.few, segment.1, group.some);
+      same = same_table _ _ _ so_far.same gave.same;
+      reading = gave.goes_on;
+      failures = omega (arith, gave.failures, so_far.failures);
+      rows = taken.rows ∙ ap (λ (n : ℕ). n + length rows) so_far.rows ∙ sym gave.counted;
+      few = omega (arith, more, so_far.few, gave.counted, group.some);
       width = taken.width ∙ so_far.width;
       asked = taken.over.same ∙ so_far.asked;
       counts = λ is. subst CountsRows (sym taken.over.same) (so_far.counts is);
@@ -113,16 +116,16 @@ loop-segment-preserved g c =
 pub returns-clause-took : goal.returns-clause-took
 returns-clause-took g c =
     let so_far = c.loop-segment.invariant in
-    let asked = c.in_ok-segment.ensures in
+    let ended = end_of (rw c.in_default.is at c.in_ok-segment.ensures) so_far.reading in
     record {
       groups = so_far.groups;
       over = so_far.over;
       counts = so_far.scanned;
-      read = λ start read. rw (so_far.same.layout, so_far.same.schema) at (asked.ended c.in_default.is so_far.reading start so_far.groups (so_far.read start read));
-      cut = λ start read. asked.groups c.in_default.is so_far.reading start so_far.groups (so_far.read start read);
+      read = λ start read. rw (so_far.same.layout, so_far.same.schema) at (ended.whole start so_far.groups (so_far.read start read));
+      cut = λ start read. ended.groups start so_far.groups (so_far.read start read);
     }
 
 pub returns-in_err-segment-clause-fault : goal.returns-in_err-segment-clause-fault
 returns-in_err-segment-clause-fault g c =
     let p = err_from_is_err_and c.from_residual.result c.from_residual.ensures.1 in
-    rw (p.1, p.2) (table_writes_nothing c.in_err-segment.field-0.0 c.in_err-segment.ensures.fault)
+    rw (p.1, p.2) (table_writes_nothing c.in_err-segment.field-0.0 (refusal_of c.in_err-segment.ensures c.loop-segment.invariant.reading).own)
