@@ -8,6 +8,7 @@ use Rattle.bw_model.specs.declared.column.Column.{Column}
 use Rattle.bw_model.specs.declared.fault.Fault.{Fault}
 use Rattle.bw_model.specs.Column.{names_of}
 use Rattle.bw_model.specs.Name.{is_name, are_apart}
+use Rattle.bw_model.specs.Schema.{IsColumn}
 use Rattle.bw_model.specs.SchemaText.{SchemaShape, SpellsSchema, column_shape, shape_names}
 use Rattle.bw_text.specs.Lines.{NumberedWords, begins_comment, cut_lines, is_line_feed, is_skipped, numbered, numbered_from, only_of, with_first, words_of}
 use Rattle.bw_text.specs.Printed.{line_text, spaced}
@@ -16,7 +17,6 @@ use Rattle.bw_program.specs.declared.instr.Instr.{Instr}
 use Rattle.bw_program.specs.PrintText.{instr_words, lines_text, print_text}
 use Rattle.bw_program.specs.Program.{ProgramShape}
 use Rattle.bw_program.specs.ProgramText.{IsProgramText, SpellsInstr, SpellsLines, load, nulls, fill, conjunction, disjunction, difference, negation, below, same, skip, result_line, instr_line}
-use Rattle.bw_file.specs.FileBytes.{IsColumn}
 use Rattle.bw_cert_text.specs.CertificateFields.{CertificateFields}
 use Rattle.bw_cert_text.specs.CertificateText.{IsCertificateText, SpellsFrom}
 use Rattle.bw_cert.specs.ProgramFile.{after_divider, before_divider, divides, is_divider_word}
