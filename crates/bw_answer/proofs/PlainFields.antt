@@ -10,7 +10,7 @@ use Rattle.csv.specs.Writing.{field_text, fields_written, has_written, needs_byt
 use Rattle.csv.specs.declared.writer.QuoteStyle.TheVariants as style
 use Rattle.csv.specs.declared.writer.Writer.{Writer}
 use Rattle.csv.specs.declared.writer.WriterBuilder.{WriterBuilder}
-use Rattle.bw_answer.specs.Field.{answer_writer, is_plain}
+use Rattle.bw_answer.specs.Field.{answer_writer, needs_no_quotes}
 use Rattle.bw_answer.specs.Draft.{Drafts, is_begun}
 
 unquoted : (b : Bool) (field : List ℕ) → not b ≡ true → (if b then quoted answer_writer field else field) ≡ field
@@ -18,14 +18,14 @@ unquoted true field e = absurd (cc e)
 unquoted false field e = refl
 
 -- a plain field is written as it is
-plain_text : (field : List ℕ) → is_plain field ≡ true → field_text answer_writer field ≡ field
-unfolding is_plain
+plain_text : (field : List ℕ) → needs_no_quotes field ≡ true → field_text answer_writer field ≡ field
+unfolding needs_no_quotes
 plain_text [] e = absurd (cc e)
 plain_text (c ∷ cs) e = unquoted (needs_quotes answer_writer (c ∷ cs)) (c ∷ cs) e
 
 -- and has a byte
-plain_shows : (field : List ℕ) → is_plain field ≡ true → not (length field == 0) ≡ true
-unfolding is_plain
+plain_shows : (field : List ℕ) → needs_no_quotes field ≡ true → not (length field == 0) ≡ true
+unfolding needs_no_quotes
 plain_shows [] e = absurd (cc e)
 plain_shows (c ∷ cs) e = rw (ne_eqb (length (c ∷ cs)) 0 (λ z. omega (arith, z))) refl
 
@@ -52,14 +52,14 @@ bytes_added old new ended fields field separator text was grown between same =
     ap (λ (l : List ℕ). Some l) (rw (grown, before, between, same, join_more fields field) (append_assoc ended (join_with_byte 44 fields) ((if not (is_begun fields) then [] else 44 ∷ []) ++ field)))
 
 -- whether the writer has shown a byte of the record
-shown_added : (was now : Bool) (field : List ℕ) (begun : Bool) (setup : WriterBuilder) → was ≡ begun → is_plain field ≡ true → setup ≡ answer_writer
+shown_added : (was now : Bool) (field : List ℕ) (begun : Bool) (setup : WriterBuilder) → was ≡ begun → needs_no_quotes field ≡ true → setup ≡ answer_writer
     → (was ≡ false → now ≡ not (length (field_text setup field) == 0)) → (was ≡ true → now ≡ true) → now ≡ true
 shown_added was now field true setup e plain same wrote stays = stays e
 shown_added was now field false setup e plain same wrote stays =
     wrote e ∙ ap (λ (l : List ℕ). not (length l == 0)) (ap (λ (w : WriterBuilder). field_text w field) same ∙ plain_text field plain) ∙ plain_shows field plain
 
 -- what the writer ensures of a plain field
-pub field_added : (old new : Writer (Vec ℕ Global)) (ended : List ℕ) (fields : List (List ℕ)) (field : List ℕ) → is_plain field ≡ true
+pub field_added : (old new : Writer (Vec ℕ Global)) (ended : List ℕ) (fields : List (List ℕ)) (field : List ℕ) → needs_no_quotes field ≡ true
     → ((writer_setup old).style ≢ style.NonNumeric → Appends (text_written (λ bytes. Some bytes.items) old) (text_written (λ bytes. Some bytes.items) new)
     (next_sep (writer_setup old) (fields_written old) ++ field_text (writer_setup old) field))
     → writer_setup new ≡ writer_setup old
@@ -122,13 +122,13 @@ begun_decimal : (n : ℕ) → 0 < length (decimal n)
 unfolding digits
 begun_decimal n = either_begun (n / 10 == 0) _ _ (omega arith) (begun_onto 63 (n / 10) _ [])
 
-pub plain_by : (text : List ℕ) → 0 < length text → list_any (needs_byte answer_writer) text ≡ false → is_plain text ≡ true
-unfolding is_plain
+pub plain_by : (text : List ℕ) → 0 < length text → list_any (needs_byte answer_writer) text ≡ false → needs_no_quotes text ≡ true
+unfolding needs_no_quotes
 plain_by [] some e = absurd (omega arith)
 plain_by (c ∷ cs) some e = ap (λ (b : Bool). not b) e
 
 -- numbers in decimal
-pub plain_number : (z : ℤ) → is_plain (signed_decimal z) ≡ true
+pub plain_number : (z : ℤ) → needs_no_quotes (signed_decimal z) ≡ true
 plain_number (pos n) = plain_by (decimal n) (begun_decimal n) (quiet_decimal n)
 plain_number (negsuc n) = plain_by (45 ∷ decimal (suc n)) (omega arith) (no_more 45 (decimal (suc n)) refl (quiet_decimal (suc n)))
 

@@ -7,7 +7,7 @@ use Rattle.bw_text.specs.Keyword.{is_reserved}
 use Rattle.bw_model.specs.Name.{is_name}
 use Rattle.bw_text.specs.Text.{begins_word, goes_on_in_word, is_word}
 use Rattle.bw_answer.specs.Answer.{call_of}
-use Rattle.bw_answer.specs.Field.{answer_writer, is_plain}
+use Rattle.bw_answer.specs.Field.{answer_writer, needs_no_quotes}
 use Rattle.bw_answer.proofs.PlainFields.{quiet, no_more, plain_by}
 use Rattle.bw_answer.proofs.TotalsLemmas.{both}
 
@@ -44,15 +44,15 @@ begun_word (c ∷ cs) e = omega arith
 begun_name : (name : List ℕ) → is_name name ≡ true → 0 < length name
 begun_name name e = begun_word name (word_of name e)
 
-pub plain_name : (name : List ℕ) → is_name name ≡ true → is_plain name ≡ true
+pub plain_name : (name : List ℕ) → is_name name ≡ true → needs_no_quotes name ≡ true
 plain_name name e = plain_by name (begun_name name e) (quiet_name name e)
 
 quiet_both : (xs ys : List ℕ) → list_any (needs_byte answer_writer) xs ≡ false → list_any (needs_byte answer_writer) ys ≡ false
     → list_any (needs_byte answer_writer) (xs ++ ys) ≡ false
 quiet_both xs ys p q = rw (list_any-append (needs_byte answer_writer) xs ys, p, q) refl
 
-plain_parts : (text : List ℕ) → is_plain text ≡ true → (0 < length text) × (list_any (needs_byte answer_writer) text ≡ false)
-unfolding is_plain
+plain_parts : (text : List ℕ) → needs_no_quotes text ≡ true → (0 < length text) × (list_any (needs_byte answer_writer) text ≡ false)
+unfolding needs_no_quotes
 plain_parts [] e = absurd (cc e)
 plain_parts (c ∷ cs) e = (omega arith, not_true _ e)
   where
@@ -60,7 +60,7 @@ plain_parts (c ∷ cs) e = (omega arith, not_true _ e)
     not_true true e = absurd (cc e)
     not_true false e = refl
 
-pub plain_call : (function name : List ℕ) → is_plain function ≡ true → is_name name ≡ true → is_plain (call_of function name) ≡ true
+pub plain_call : (function name : List ℕ) → needs_no_quotes function ≡ true → is_name name ≡ true → needs_no_quotes (call_of function name) ≡ true
 plain_call function name plain e =
     let front = function ++ codes "(" ++ name in
     plain_by (call_of function name) (omega (arith, length-append front (codes ")")))

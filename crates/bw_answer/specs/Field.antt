@@ -8,6 +8,6 @@ abbrev pub answer_writer : WriterBuilder
 answer_writer = with_flexible default_writer true
 
 -- a field that is written without quotes: it has a byte, and none that asks for them
-unfoldable pub is_plain : List ℕ → Bool
-is_plain [] = false
-is_plain (c ∷ cs) = not (needs_quotes answer_writer (c ∷ cs))
+unfoldable pub needs_no_quotes : List ℕ → Bool
+needs_no_quotes [] = false
+needs_no_quotes (c ∷ cs) = not (needs_quotes answer_writer (c ∷ cs))

@@ -3,7 +3,7 @@
 ghost use Rattle.std.specs.Prelude.{◌≡◌, ℕ, [], ◌∷◌, ◌++◌, List, IsTrue, OnOk, IfOk, IfErr};
 ghost use Rattle.bw_model.specs.Fault.{no_memory};
 ghost use Rattle.bw_answer.specs.Answer.{record_text, value_text};
-ghost use Rattle.bw_answer.specs.Field.{is_plain};
+ghost use Rattle.bw_answer.specs.Field.{needs_no_quotes};
 ghost use Rattle.bw_answer.specs.Draft.{Drafts, Holds, is_begun};
 
 use bw_model::{Fault, code};
@@ -28,7 +28,7 @@ impl CsvText {
 
     /// Adds a field to the record at hand.
     pub fn push_field(&mut self, field: &[u8]) -> Result<(), Fault>
-        requires { IsTrue (is_plain field.now) }
+        requires { IsTrue (needs_no_quotes field.now) }
         ensures field { OnOk result ((ended : List ℕ) → (fields : List (List ℕ)) → Holds self.old ended fields
             → Holds self.new ended (fields ++ field.now ∷ [])) }
         ensures only_memory { IfErr result (λ fault. fault ≡ no_memory) }
@@ -37,7 +37,7 @@ impl CsvText {
     }
 
     /// Adds a number, or null, to the record at hand.
-    #[tactic(auto, using(crate::proofs::PlainFields::plain_numbers), unfolding(crate::specs::Field::is_plain))]
+    #[tactic(auto, using(crate::proofs::PlainFields::plain_numbers), unfolding(crate::specs::Field::needs_no_quotes))]
     pub fn push_number(&mut self, number: Option<i128>) -> Result<(), Fault>
         ensures field { OnOk result ((ended : List ℕ) → (fields : List (List ℕ)) → Holds self.old ended fields
             → Holds self.new ended (fields ++ value_text number ∷ [])) }
@@ -75,7 +75,7 @@ impl CsvText {
 
 /// Adds a field to the record at hand.
 fn write_field(writer: &mut Writer<Vec<u8>>, field: &[u8]) -> Result<(), Fault>
-    requires { IsTrue (is_plain field.now) }
+    requires { IsTrue (needs_no_quotes field.now) }
     ensures field { OnOk result ((ended : List ℕ) → (fields : List (List ℕ)) → Drafts writer.old ended fields
         → Drafts writer.new ended (fields ++ field.now ∷ [])) }
     ensures only_memory { IfErr result (λ fault. fault ≡ no_memory) }

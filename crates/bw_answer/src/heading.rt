@@ -6,7 +6,7 @@ ghost use Rattle.bw_model.specs.Fault.{no_memory};
 ghost use Rattle.bw_model.specs.Total.{item_within};
 ghost use Rattle.bw_answer.specs.Answer.{call_of, heading_of, record_text};
 ghost use Rattle.bw_answer.specs.Draft.{Holds};
-ghost use Rattle.bw_answer.specs.Field.{is_plain};
+ghost use Rattle.bw_answer.specs.Field.{needs_no_quotes};
 
 use crate::csv_text::CsvText;
 use bw_model::{Column, Fault, Item};
@@ -51,11 +51,11 @@ fn push_heading(
 }
 
 /// Puts the heading of an item in the place of another.
-#[tactic(auto, using(crate::proofs::PlainNames::plain_headings), unfolding(crate::specs::Field::is_plain))]
+#[tactic(auto, using(crate::proofs::PlainNames::plain_headings), unfolding(crate::specs::Field::needs_no_quotes))]
 fn put_heading(heading: &mut Vec<u8>, columns: &[Column], item: Item) -> Result<(), Fault>
     requires { IsTrue (item_within (length columns.now) item) }
     ensures heading { OnOk result (heading.new.items ≡ heading_of (names_of columns.now) item) }
-    ensures plain { OnOk result (IsTrue (is_plain heading.new.items)) }
+    ensures plain { OnOk result (IsTrue (needs_no_quotes heading.new.items)) }
     ensures only_memory { IfErr result (λ fault. fault ≡ no_memory) }
 {
     heading.clear();
@@ -73,9 +73,9 @@ fn put_heading(heading: &mut Vec<u8>, columns: &[Column], item: Item) -> Result<
 /// Puts the call of a function at a column in the place of another heading.
 #[tactic(auto, using(crate::proofs::PlainNames::plain_call))]
 fn put_call(heading: &mut Vec<u8>, function: &[u8], column: &Column) -> Result<(), Fault>
-    requires { IsTrue (is_plain function.now) }
+    requires { IsTrue (needs_no_quotes function.now) }
     ensures call { OnOk result (heading.new.items ≡ call_of function.now column.now.name) }
-    ensures plain { OnOk result (IsTrue (is_plain heading.new.items)) }
+    ensures plain { OnOk result (IsTrue (needs_no_quotes heading.new.items)) }
     ensures only_memory { IfErr result (λ fault. fault ≡ no_memory) }
 {
     heading.clear();

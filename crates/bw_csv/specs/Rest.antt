@@ -8,8 +8,8 @@ use Rattle.bw_csv.specs.declared.rest.Rest.{Rest}
 
 -- the records that are still to be read
 unfoldable pub to_come : Rest → List (List (List ℕ))
-to_come rest = if rest.is_plain then records_in st.StartRecord (Some rest.text.now) else coming rest.records
+to_come rest = if rest.reads_text then records_in st.StartRecord (Some rest.text.now) else coming rest.records
 
 -- a text that begins with a line's end or has ended, or a reader that goes on
 unfoldable pub IsReadable : Rest → Type 0
-IsReadable rest = MatchBool rest.is_plain (is_line_end rest.text.now ≡ true) (IsOpen rest.records)
+IsReadable rest = MatchBool rest.reads_text (is_line_end rest.text.now ≡ true) (IsOpen rest.records)

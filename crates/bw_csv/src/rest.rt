@@ -20,8 +20,9 @@ use std::alloc::Global;
 #[derive(Drop)]
 pub(crate) struct Rest<'a> {
     alloc: Global,
-    is_plain: bool,
-    /// What is left of the text while the records are plain: a line's end, or nothing.
+    /// Whether records are read from the text itself, since each so far was plain.
+    reads_text: bool,
+    /// What is left of the text while they are: it begins with a line's end, or is nothing.
     text: &'a [u8],
     /// The reader of the records from then on.
     records: Records<'a>,
@@ -36,7 +37,7 @@ impl<'a> Rest<'a> {
     {
         Rest {
             alloc,
-            is_plain: true,
+            reads_text: true,
             text: after_record(after_byte_order_mark(text)),
             records,
         }
@@ -64,7 +65,7 @@ impl<'a> Rest<'a> {
         ensures fault { IfErr result IsRowsFault }
         ensures place { IfErr result (λ fault. IsTrue (stands_at number fault)) }
     {
-        if self.is_plain {
+        if self.reads_text {
             if let Some(left) = plain_row(columns, self.text, number, row) {
                 self.text = left;
                 return Ok(true);
@@ -77,13 +78,13 @@ impl<'a> Rest<'a> {
     /// Has the csv reader read what is left of the text, where it doesn't yet.
     fn turn_to_reader(&mut self)
         requires { IsReadable self.old }
-        ensures reader { self.new.is_plain ≡ false }
+        ensures reader { self.new.reads_text ≡ false }
         ensures readable { IsReadable self.new }
         ensures to_come { to_come self.new ≡ to_come self.old }
     {
-        if self.is_plain {
+        if self.reads_text {
             self.records = Records::new(self.alloc, self.text);
-            self.is_plain = false;
+            self.reads_text = false;
         }
     }
 }

@@ -8,10 +8,11 @@ use Rattle.bw_model.specs.declared.schema.Schema.{Schema}
 use Rattle.bw_model.specs.Column.{admits_values}
 use Rattle.bw_model.specs.Groups.{together, groups_of}
 use Rattle.bw_model.specs.Row.{Value}
+use Rattle.bw_model.specs.Schema.{IsSchema}
 use Rattle.bw_model.specs.SchemaText.{column_shape, SchemaShape, schema_shape}
 use Rattle.bw_file.specs.declared.layout.Layout.{Layout}
 use Rattle.bw_file.specs.Blocks.{segment_bytes}
-use Rattle.bw_file.specs.FileBytes.{IsSchema, IsFileBytes, file_bytes, file_bytes2, bytes_of_version, front_bytes, name_bytes, header_bytes, segments_bytes, version_for, are_bounds, column_bytes}
+use Rattle.bw_file.specs.FileBytes.{IsFileBytes, file_bytes, file_bytes2, bytes_of_version, front_bytes, name_bytes, header_bytes, segments_bytes, version_for, are_bounds, column_bytes}
 use Rattle.bw_file.specs.Reading.{Tail, tail}
 use Rattle.bw_file.specs.TableReading.{group_sizes, body, HeaderShape, header, Found, found_in, IsReadAs, IsReadAfter}
 use Rattle.bw_model.proofs.SameColumns.{columns_same}

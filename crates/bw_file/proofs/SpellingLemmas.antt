@@ -14,11 +14,12 @@ use Rattle.bw_model.specs.declared.fault.Fault.{Fault}
 use Rattle.bw_model.specs.Fault.{refused_if}
 use Rattle.bw_model.specs.Limits.{most_rows, most_columns}
 use Rattle.bw_model.specs.Name.{is_name}
+use Rattle.bw_model.specs.Schema.{IsColumn, IsSchema}
 use Rattle.bw_model.specs.SchemaText.{ColumnShape, shape, shape_names}
 use Rattle.bw_file.specs.declared.fields.Bounds.{Bounds}
 use Rattle.bw_file.specs.declared.layout.Layout.{Layout}
 use Rattle.bw_file.specs.declared.layout.Layout.TheVariants.{Planes, Slices}
-use Rattle.bw_file.specs.FileBytes.{magic, layout_byte, flag_byte, front_bytes, name_bytes, bound_bytes, column_bytes, are_bounds, IsColumn, IsSchema}
+use Rattle.bw_file.specs.FileBytes.{magic, layout_byte, flag_byte, front_bytes, name_bytes, bound_bytes, column_bytes, are_bounds}
 use Rattle.bw_file.specs.Reading.{Tail, tail, Reading, passed, ◌>>=◌, give, field, said_at, judged}
 use Rattle.bw_file.specs.TableReading.{magic_says, version_says, layout_says, count_says, rows_say, bound_in, bounds_say, nullable_says, name_says, name, column, columns, FrontShape, front_of, front, HeaderShape, header_of, header}
 

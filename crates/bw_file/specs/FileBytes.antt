@@ -1,5 +1,5 @@
 -- The bytes of a table file: a header, and the segments of the table's rows.
-use Rattle.std.specs.Prelude.{◌≡◌, ℕ, ℤ, pos, ◌^◌, ◌≤◌, ◌-ℤ◌, All, FitsSigned, Bool, true, false, ◌&&◌, ◌⊎◌, List, [], ◌∷◌, ◌++◌, length, codes, int_le, int_lt, if◌then◌else◌, ◌==◌}
+use Rattle.std.specs.Prelude.{◌≡◌, ℕ, ℤ, pos, ◌^◌, ◌≤◌, ◌-ℤ◌, Bool, true, false, ◌&&◌, ◌⊎◌, List, [], ◌∷◌, ◌++◌, length, codes, int_le, int_lt, if◌then◌else◌, ◌==◌}
 use Rattle.std.specs.Int.{w16, w32, w64, to_le_bytes, cast_unsigned}
 use Rattle.std.specs.List.{flat_map, list_all}
 use Rattle.bw_model.specs.declared.column.Column.{Column}
@@ -7,9 +7,9 @@ use Rattle.bw_model.specs.declared.schema.Schema.{Schema}
 use Rattle.bw_model.specs.Column.{admits_values}
 use Rattle.bw_model.specs.Groups.{groups_of}
 use Rattle.bw_model.specs.Limits.{most_rows}
-use Rattle.bw_model.specs.Name.{is_name}
 use Rattle.bw_model.specs.Row.{Value}
-use Rattle.bw_model.specs.SchemaText.{ColumnShape, SchemaShape, schema_shape}
+use Rattle.bw_model.specs.Schema.{IsSchema}
+use Rattle.bw_model.specs.SchemaText.{schema_shape}
 use Rattle.bw_file.specs.declared.layout.Layout.{Layout}
 use Rattle.bw_file.specs.declared.layout.Layout.TheVariants.{Planes, Slices}
 use Rattle.bw_file.specs.Blocks.{segment_bytes}
@@ -79,17 +79,6 @@ file_bytes layout schema rows =
 
 abbrev pub file_bytes2 : Layout → Schema → List (List Value) → List ℕ
 file_bytes2 layout schema rows = bytes_of_version 2 layout schema.name schema.columns.items rows
-
--- a column as every column is: its name is a name, and 64 bits hold its bounds
-pub record IsColumn (column : ColumnShape) : Type 0 where
-  pub name : is_name column.name ≡ true
-  pub lo : FitsSigned w64 column.lo
-  pub hi : FitsSigned w64 column.hi
-
--- a schema as every schema is: its name is a name, and each of its columns is such a column
-pub record IsSchema (schema : SchemaShape) : Type 0 where
-  pub name : is_name schema.name ≡ true
-  pub columns : All IsColumn schema.columns
 
 -- at most 2^24 rows, which the columns admit
 pub record AreRows (columns : List Column) (rows : List (List Value)) : Type 0 where

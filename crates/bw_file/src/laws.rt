@@ -3,11 +3,11 @@ ghost use Rattle.std.specs.Prelude.{◌≡◌, ◌<◌, ℕ, List, Result, Ok, s
 ghost use Rattle.bw_model.specs.declared.fault.Fault.{Fault};
 ghost use Rattle.bw_model.specs.Row.{Value};
 ghost use Rattle.bw_file.specs.declared.layout.Layout.{Layout};
-ghost use Rattle.bw_model.specs.SchemaText.{column_shape, schema_shape};
-ghost use Rattle.bw_file.specs.FileBytes.{IsColumn, IsSchema, IsFileBytes};
+ghost use Rattle.bw_model.specs.SchemaText.{schema_shape};
+ghost use Rattle.bw_file.specs.FileBytes.{IsFileBytes};
 ghost use Rattle.bw_file.specs.TableReading.{Found, found_as, IsReadAs};
 
-use bw_model::{Column, Schema};
+use bw_model::Schema;
 
 /// A law: bytes that are read as a table are that table's, of either version.
 pub fn what_is_read_is_a_file()
@@ -40,22 +40,3 @@ pub fn a_file_is_of_one_table()
         → found_as layout (schema_shape schema) rows
         ≡ found_as other_layout (schema_shape other_schema) other_rows }
 {}
-
-/// A law: every schema has names that are names, and bounds that 64 bits hold, so that its tables
-/// have a file. It looks at each column.
-pub fn a_schema_has_names_and_bounds(schema: &Schema)
-    ensures { IsSchema (schema_shape schema.now) }
-{
-    let _name = schema.name.as_bytes();
-    for column in &schema.columns {
-        a_column_has_a_name_and_bounds(column);
-    }
-}
-
-/// A law: every column has a name that is one, and bounds that 64 bits hold.
-fn a_column_has_a_name_and_bounds(column: &Column)
-    ensures { IsColumn (column_shape column.now) }
-{
-    let _name = column.name.as_bytes();
-    let _bounds = (column.lo, column.hi);
-}

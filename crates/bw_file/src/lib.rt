@@ -36,8 +36,8 @@ mod take;
 pub use bw_device::{Failed, FromRead, Sink, Source, ToWrite};
 pub use encoder::Encoder;
 pub use laws::{
-    a_file_is_of_one_table, a_schema_has_names_and_bounds, bytes_are_read_in_one_way,
-    what_is_read_is_a_file, what_is_spelled_is_read,
+    a_file_is_of_one_table, bytes_are_read_in_one_way, what_is_read_is_a_file,
+    what_is_spelled_is_read,
 };
 pub use layout::Layout;
 pub use reader_laws::{a_file_is_read_whole, bytes_were_taken};

@@ -9,7 +9,6 @@ ghost use Rattle.bw_file.specs.Table.{found_of};
 ghost use Rattle.bw_file.specs.TableReading.{found_as, IsReadAs, IsTableFault};
 
 use crate::encoder::Encoder;
-use crate::laws::a_schema_has_names_and_bounds;
 use crate::layout::Layout;
 use crate::memory::Memory;
 use crate::segments::AnySegment;
@@ -41,7 +40,7 @@ pub fn encode(
         (λ bytes. IsFileBytes bytes.items layout schema.now (map values_of rows.now)) }
     ensures only_memory { IsOkUnless result no_memory }
 {
-    a_schema_has_names_and_bounds(schema);
+    schema.has_names_and_bounds();
     let mut encoder = Encoder::new(alloc, layout, schema)?;
     for row in rows {
         encoder.add(row)?;

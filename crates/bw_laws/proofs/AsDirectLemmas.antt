@@ -10,6 +10,7 @@ use Rattle.bw_model.specs.Column.{admits_values, names_of}
 use Rattle.bw_model.specs.Fault.{◌>>=◌}
 use Rattle.bw_model.specs.Limits.{most_rows}
 use Rattle.bw_model.specs.Row.{Value}
+use Rattle.bw_model.specs.Schema.{IsSchema}
 use Rattle.bw_model.specs.SchemaText.{schema_shape}
 use Rattle.bw_device.specs.Source.{Arrival, NotReached, Whole, TooLong, Failed}
 use Rattle.bw_sql.specs.Asked.{asked}
@@ -19,7 +20,7 @@ use Rattle.bw_answer.specs.Answer.{csv_text, meaning}
 use Rattle.bw_csv.specs.Input.{IsMadeOf, IsMadeAfter}
 use Rattle.bw_csv.specs.Rows.{rows_of}
 use Rattle.bw_file.specs.declared.layout.Layout.{Layout}
-use Rattle.bw_file.specs.FileBytes.{IsFileBytes, IsSchema, file_bytes}
+use Rattle.bw_file.specs.FileBytes.{IsFileBytes, file_bytes}
 use Rattle.bw_file.specs.TableReading.{Found}
 use Rattle.bw_file.proofs.SpelledFile.{of_one_table}
 use Rattle.bw_query.specs.TableAnswer.{AnswersFile, by_statement}

@@ -10,13 +10,14 @@ use Rattle.bw_model.specs.Column.{admits_value, admits_values, names_of}
 use Rattle.bw_model.specs.Limits.{longest_csv, most_rows}
 use Rattle.bw_model.specs.Name.{is_name}
 use Rattle.bw_model.specs.Row.{Value}
+use Rattle.bw_model.specs.Schema.{IsColumn}
 use Rattle.bw_model.specs.SchemaText.{column_shape}
 use Rattle.bw_text.specs.Keyword.{is_reserved}
 use Rattle.bw_text.specs.Text.{is_word}
 use Rattle.bw_answer.specs.Answer.{csv_text, record_text, value_text}
 use Rattle.bw_csv.proofs.DigitsAlone.{both}
 use Rattle.bw_file.specs.declared.layout.Layout.{Layout}
-use Rattle.bw_file.specs.FileBytes.{IsColumn, IsFileBytes}
+use Rattle.bw_file.specs.FileBytes.{IsFileBytes}
 use Rattle.bw_schemas.proofs.PrintedBounds.{bound_length}
 use Rattle.bw_laws.specs.Backup.{table_text}
 use Rattle.bw_laws.proofs.BackupLemmas.{as_wide}

@@ -10,11 +10,12 @@ use Rattle.bw_model.specs.Column.{admits_values, names_of}
 use Rattle.bw_model.specs.Fault.{◌>>=◌}
 use Rattle.bw_model.specs.Limits.{most_rows}
 use Rattle.bw_model.specs.Row.{Value}
+use Rattle.bw_model.specs.Schema.{IsSchema}
 use Rattle.bw_model.specs.SchemaText.{schema_shape}
 use Rattle.bw_answer.specs.Answer.{csv_text, meaning}
 use Rattle.bw_csv.specs.Rows.{rows_of}
 use Rattle.bw_file.specs.declared.layout.Layout.{Layout}
-use Rattle.bw_file.specs.FileBytes.{IsFileBytes, IsSchema, file_bytes}
+use Rattle.bw_file.specs.FileBytes.{IsFileBytes, file_bytes}
 use Rattle.bw_file.specs.TableReading.{Found, found_as}
 use Rattle.bw_laws.specs.Joined.{AnswersCsv}
 use Rattle.bw_csv_calls.specs.Load.{file_of}

@@ -11,9 +11,10 @@ use Rattle.bw_text.specs.Text.{same_text, is_word}
 use Rattle.bw_text.proofs.SpacedWords.{line_said, plain_word}
 use Rattle.bw_model.specs.Limits.{longest_name}
 use Rattle.bw_model.specs.Name.{is_name, are_apart}
+use Rattle.bw_model.specs.Schema.{IsColumn}
 use Rattle.bw_model.specs.SchemaText.{ColumnShape, SchemaShape, shape, shape_names, column_words, table_words, is_range, SpellsColumn, SpellsSchema, IsSchemaText}
 use Rattle.bw_model.proofs.BitsLemmas.{both}
-use Rattle.bw_schemas.specs.Printed.{IsColumn, column_line, columns_text, schema_text, table_line}
+use Rattle.bw_schemas.specs.Printed.{column_line, columns_text, schema_text, table_line}
 use Rattle.bw_schemas.proofs.PrintedBounds.{bound_spelled, bound_plain, bound_length}
 use Rattle.bw_schemas.proofs.PrintedText.{no_comments}
 

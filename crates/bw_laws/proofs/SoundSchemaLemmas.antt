@@ -7,8 +7,8 @@ use Rattle.std.proofs.lemmas.List.Elements.{All-nil, All-cons}
 use Rattle.bw_text.specs.Lines.{NumberedWords, lines_in, whole}
 use Rattle.bw_text.specs.Number.{are_digits, digits_value, number_of}
 use Rattle.bw_text.specs.Text.{same_text}
+use Rattle.bw_model.specs.Schema.{IsColumn, IsSchema}
 use Rattle.bw_model.specs.SchemaText.{ColumnShape, SchemaShape, shape, bound_of, signed_digits, with_bounds, are_not_null, column_words, SpellsColumn, SpellsSchema, IsSchemaText}
-use Rattle.bw_file.specs.FileBytes.{IsColumn, IsSchema}
 
 -- a number that a sign and digits spell is one that 64 bits hold
 negative_fits : (v : ℕ) (within : Bool) (n : ℤ) → nat_le v (2 ^ 63) ≡ within → (if within then Some (pos 0 -ℤ pos v) else None) ≡ Some n → FitsSigned w64 n

@@ -14,6 +14,7 @@ use Rattle.bw_model.specs.declared.column.Column.{Column}
 use Rattle.bw_model.specs.Column.{admits_value, names_of}
 use Rattle.bw_model.specs.Name.{is_name}
 use Rattle.bw_model.specs.Row.{Value}
+use Rattle.bw_model.specs.Schema.{IsColumn}
 use Rattle.bw_model.specs.SchemaText.{column_shape}
 use Rattle.bw_text.specs.Keyword.{is_reserved}
 use Rattle.bw_text.specs.Number.{are_digits, number_of}
@@ -24,7 +25,6 @@ use Rattle.bw_csv.specs.Plain.{is_plain}
 use Rattle.bw_csv.specs.Rows.{after_minus, is_blank, is_heading, is_minus, value_of_field, without_blanks, without_end_blanks, without_front_blanks}
 use Rattle.bw_csv.proofs.DigitsAlone.{both, other_than, signed_digits}
 use Rattle.bw_csv.proofs.PlainFields.{plain_number}
-use Rattle.bw_file.specs.FileBytes.{IsColumn}
 
 -- a field that shows itself: a byte or more, none of which ends a field or is a quotation mark
 abbrev pub shows : List ℕ → Bool

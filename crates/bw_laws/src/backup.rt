@@ -16,7 +16,7 @@ ghost use Rattle.bw_query.specs.TableAnswer.{AnswersFile, IsEveryRow, by_dump};
 ghost use Rattle.bw_laws.specs.Backup.{IsOfNeededVersion, IsTold, Loads, LoadsUnder, longest_dump, table_text};
 
 use bw_csv::rows_are_admitted;
-use bw_file::{a_file_is_of_one_table, a_schema_has_names_and_bounds, what_is_spelled_is_read};
+use bw_file::{a_file_is_of_one_table, what_is_spelled_is_read};
 use bw_model::Schema;
 
 /// A law: what a dump writes of a table is the table as a CSV text, which spells the table's rows. So a load of it in
@@ -83,7 +83,7 @@ pub fn a_load_is_restored(schema: &Schema)
         → AnswersFile by_dump bytes old new → Appends old new (table_text schema.now rows)
         × (file_of layout schema.now (table_text schema.now rows) ≡ Ok bytes) }
 {
-    a_schema_has_names_and_bounds(schema);
+    schema.has_names_and_bounds();
     a_file_is_of_one_table();
     rows_are_admitted();
     what_is_dumped_is_loaded();

@@ -7,7 +7,7 @@ ghost use Rattle.bw_laws.specs.Joined.{AnswersCsv};
 ghost use Rattle.bw_csv_calls.specs.Load.{file_of};
 
 use bw_csv::rows_are_admitted;
-use bw_file::{a_file_is_of_one_table, a_schema_has_names_and_bounds};
+use bw_file::a_file_is_of_one_table;
 use bw_model::Schema;
 use bw_sql::schemas_of_one_shape;
 
@@ -23,7 +23,7 @@ pub fn what_is_loaded_is_answered(schema: &Schema)
         → file_of layout schema.now csv ≡ Ok bytes → AnswersFile by_dump bytes old new
         → AnswersCsv (IsEveryRow schema.now) schema.now csv old new }
 {
-    a_schema_has_names_and_bounds(schema);
+    schema.has_names_and_bounds();
     a_file_is_of_one_table();
     rows_are_admitted();
     schemas_of_one_shape();

@@ -68,8 +68,7 @@ pub(crate) enum Comparison {
 }
 
 /// What a comparison of operands is: a column's code stands for its value. Refused are, as
-/// `NoProgram`, columns that the schema hasn't or whose numbers are above 255, and two columns with
-/// different least values.
+/// `NoProgram`, columns that the schema hasn't, and two columns with different least values.
 pub(crate) fn compare(
     facts: &Facts<'_>,
     op: Op,

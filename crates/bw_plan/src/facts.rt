@@ -21,8 +21,8 @@ pub(crate) struct Facts<'a> {
 }
 
 impl<'a> Facts<'a> {
-    /// No facts yet, for a condition, whose columns give the order of variables. Refused is, as
-    /// `NoProgram`, a schema of more than 256 columns.
+    /// No facts yet, for a condition, whose columns give the order of variables. A schema has at most 64
+    /// columns, so each has a number that a byte holds: refused is out of memory alone.
     pub(crate) fn new(alloc: Global, schema: &'a Schema, cond: &Cond) -> Result<Self, Refusal> {
         Ok(Facts {
             schema,
@@ -132,8 +132,8 @@ impl<'a> Facts<'a> {
         }
     }
 
-    /// A column's number as instructions hold it. Refused is, as `NoProgram`, a number above 255, or
-    /// of a column that the schema hasn't.
+    /// A column's number as instructions hold it. Refused is, as `NoProgram`, a number that is none of
+    /// the schema's columns, of which there are at most 64.
     pub(crate) fn column(&self, column: usize) -> Result<ColumnIndex, Refusal> {
         if column >= self.schema.columns.len() {
             return Err(Refusal::NoProgram);

@@ -13,9 +13,10 @@ use Rattle.bw_text.specs.Keyword.{is_reserved}
 use Rattle.bw_model.specs.Limits.{longest_name}
 use Rattle.bw_text.specs.Lines.{NumberedWords, cut_lines, numbered, numbered_from}
 use Rattle.bw_model.specs.Name.{is_name, are_apart}
+use Rattle.bw_model.specs.Schema.{IsColumn, IsSchema}
 use Rattle.bw_model.specs.SchemaText.{shape, shape_names, column_shape, schema_shape, column_words, table_words, is_range, SpellsColumn, SpellsSchema, IsSchemaText}
 use Rattle.bw_text.specs.Text.{same_text, is_word}
-use Rattle.bw_schemas.specs.Printed.{AreComments, IsColumn, column_line, columns_text, schema_text, table_line}
+use Rattle.bw_schemas.specs.Printed.{AreComments, column_line, columns_text, schema_text, table_line}
 use Rattle.bw_text.specs.Printed.{is_plain_word, line_text, spaced}
 use Rattle.bw_model.proofs.BitsLemmas.{both}
 use Rattle.bw_text.proofs.SpacedWords.{line_said, plain_word}
@@ -121,23 +122,23 @@ unfolding spaced
 table_short name is = let n = (short_word name is).short in simp length-append (omega arith)
 
 -- the text of a schema with comments after it spells the schema
-pub text_spells : (schema : Schema) (comments : List ℕ) → is_name schema.name ≡ true → AreColumns schema.columns.items → AreComments comments → length comments ≤ 4096
+pub text_spells : (schema : Schema) (comments : List ℕ) → IsSchema (schema_shape schema) → AreComments comments → length comments ≤ 4096
     → IsSchemaText (schema_text (schema_shape schema) ++ comments) (schema_shape schema)
 unfolding schema_text
-text_spells schema comments named are none few =
+text_spells schema comments is none few =
     let columns = schema.columns.items in
     let first = line_text (table_line schema.name) in
     let more = columns_text (map column_shape columns) in
     let size : length ((first ++ more) ++ comments) ≤ 65536 =
-    omega (arith, length-append (first ++ more) comments, length-append first more, table_short schema.name named, columns_short columns are, schema.limited) in
+    omega (arith, length-append (first ++ more) comments, length-append first more, table_short schema.name is.name, columns_short columns is.columns, schema.limited) in
     let lines : numbered_from 1 (cut_lines ((first ++ more) ++ comments)) ≡ numbered 1 (table_line schema.name) ∷ numbered_from 2 (cut_lines (more ++ comments)) =
-    ap (λ (l : List ℕ). numbered_from 1 (cut_lines l)) (append_assoc first more comments) ∙ table_said schema.name (more ++ comments) named in
+    ap (λ (l : List ℕ). numbered_from 1 (cut_lines l)) (append_assoc first more comments) ∙ table_said schema.name (more ++ comments) is.name in
     let apart : are_apart (shape_names (map column_shape columns)) ≡ true = ap are_apart (names_same columns) ∙ schema.apart in (
       size,
       subst (λ (l : List NumberedWords). SpellsSchema l (schema_shape schema)) (sym lines) (
         table_spelled schema.name,
-        named,
-        columns_spelled 2 columns comments are none,
+        is.name,
+        columns_spelled 2 columns comments is.columns none,
         omega (arith, length-map columns column_shape, schema.inhabited),
         omega (arith, length-map columns column_shape, schema.limited),
         apart,

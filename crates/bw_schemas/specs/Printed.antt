@@ -1,10 +1,8 @@
 -- The text that a schema is written as: keywords in capitals, words one blank apart, names in the schema's spelling,
 -- bounds in decimal without leading zeros, and one line feed after each line.
-use Rattle.std.specs.Prelude.{◌≡◌, ℕ, Bool, true, false, FitsSigned, List, [], ◌∷◌, ◌++◌, codes}
+use Rattle.std.specs.Prelude.{◌≡◌, ℕ, Bool, true, false, List, [], ◌∷◌, ◌++◌, codes}
 use Rattle.std.specs.Fmt.{signed_decimal}
-use Rattle.std.specs.Int.{w64}
 use Rattle.bw_text.specs.Lines.{cut_lines, numbered_from}
-use Rattle.bw_model.specs.Name.{is_name}
 use Rattle.bw_model.specs.SchemaText.{ColumnShape, SchemaShape}
 use Rattle.bw_text.specs.Printed.{line_text}
 
@@ -34,9 +32,3 @@ AreComments text = (number : ℕ) → numbered_from number (cut_lines text) ≡ 
 -- so many bytes of comments have room after the text of every schema
 abbrev pub most_comments : ℕ
 most_comments = 4096
-
--- a column as every column is: its name is a name, and 64 bits hold its bounds
-pub record IsColumn (column : ColumnShape) : Type 0 where
-  pub name : is_name column.name ≡ true
-  pub lo : FitsSigned w64 column.lo
-  pub hi : FitsSigned w64 column.hi

@@ -1,9 +1,8 @@
 //! A schema's text.
-ghost use Rattle.std.specs.Prelude.{◌≡◌, ◌++◌, ◌≤◌, ℕ, List, true, IfOk, IsOkUnless, OnOk, length};
+ghost use Rattle.std.specs.Prelude.{◌≡◌, ◌++◌, ◌≤◌, ℕ, List, IfOk, IsOkUnless, OnOk, length};
 ghost use Rattle.bw_model.specs.Fault.{no_memory};
-ghost use Rattle.bw_model.specs.Name.{is_name};
 ghost use Rattle.bw_model.specs.SchemaText.{column_shape, schema_shape, IsSchemaText};
-ghost use Rattle.bw_schemas.specs.Printed.{AreComments, IsColumn, column_line, most_comments, schema_text, table_line};
+ghost use Rattle.bw_schemas.specs.Printed.{AreComments, column_line, most_comments, schema_text, table_line};
 ghost use Rattle.bw_text.specs.Printed.{line_text};
 
 use bw_model::{Column, Fault, Name, Schema};
@@ -22,6 +21,7 @@ pub fn print_schema(alloc: Global, schema: &Schema) -> Result<Vec<u8>, Fault>
         → IsSchemaText (text.items ++ comments) (schema_shape schema.now)) }
     ensures only_memory { IsOkUnless result no_memory }
 {
+    schema.has_names_and_bounds();
     let mut text = Vec::new(alloc);
     put_table(alloc, &schema.name, &mut text)?;
     for column in &schema.columns {
@@ -32,8 +32,7 @@ pub fn print_schema(alloc: Global, schema: &Schema) -> Result<Vec<u8>, Fault>
 
 /// Appends the line of a table.
 fn put_table(alloc: Global, name: &Name, text: &mut Vec<u8>) -> Result<(), AllocError>
-    ensures text { OnOk result (text.new.items ≡ text.old.items ++ line_text (table_line name.now)) }
-    ensures name { OnOk result (is_name name.now ≡ true) }
+    ensures { OnOk result (text.new.items ≡ text.old.items ++ line_text (table_line name.now)) }
 {
     let pieces = [Piece::Word(b"TABLE"), Piece::Word(name.as_bytes())];
     push_line(alloc, &pieces, text)
@@ -41,8 +40,7 @@ fn put_table(alloc: Global, name: &Name, text: &mut Vec<u8>) -> Result<(), Alloc
 
 /// Appends the line of a column.
 fn put_column(alloc: Global, column: &Column, text: &mut Vec<u8>) -> Result<(), AllocError>
-    ensures text { OnOk result (text.new.items ≡ text.old.items ++ line_text (column_line (column_shape column.now))) }
-    ensures sound { OnOk result (IsColumn (column_shape column.now)) }
+    ensures { OnOk result (text.new.items ≡ text.old.items ++ line_text (column_line (column_shape column.now))) }
 {
     use Piece::{Signed, Word};
     let (name, lo, hi) = (column.name.as_bytes(), Signed(column.lo), Signed(column.hi));

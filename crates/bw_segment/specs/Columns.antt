@@ -9,8 +9,8 @@ use Rattle.bw_segment.specs.Meaning.{null_bits, stored_codes}
 abbrev pub kept_at : List ColumnCodes → ℕ → ColumnCodes
 kept_at kept column = slice_index_or kept column (record { codes = []; nulls = [] })
 
--- These rows are kept, at most 512: of each column the code of each row in its lane, with 1 where the row is null and
--- else 0, and then zeros.
+-- These rows are kept, at most 512. Of each column the lane of a row has its code as it is stored, and 1 where the row is
+-- null there, else 0. The lanes past the last row have zeros.
 pub record KeepRows (columns : List Column) (rows : List (List Value)) (kept : List ColumnCodes) : Type 0 where
   pub all : length kept ≡ length columns
   pub codes : (column : ℕ) → column < length columns → (kept_at kept column).codes ≡ stored_codes columns rows column

@@ -11,7 +11,7 @@ use Rattle.bw_sql.specs.declared.condition.Connective.TheVariants as connective
 use Rattle.bw_sql.specs.declared.items.Aggregate.{Aggregate}
 use Rattle.bw_sql.specs.declared.items.Aggregate.TheVariants as aggregate
 use Rattle.bw_sql.specs.declared.token.Mark.TheVariants as mark
-use Rattle.bw_sql.specs.Demand.{Demand, IsTable, IsColumn, Fits, OfOneKind, Depth, is_met, refusal}
+use Rattle.bw_sql.specs.Demand.{Demand, NamesTable, NamesColumn, Fits, OfOneKind, Depth, is_met, refusal}
 use Rattle.bw_sql.specs.Frontier.{is_sign}
 use Rattle.bw_sql.specs.Reading.{Halt, same_keyword}
 use Rattle.bw_sql.specs.Token.{Lexeme, Name, Digits, Reserved, Compare, Punct}
@@ -70,7 +70,7 @@ in_brackets depth after = a_part connective.Or depth (PartTail connective.Or dep
 -- an operand, and then what stands after it
 abbrev pub operand_choice : List Symbol → Lexeme → Choice
 operand_choice after (Reserved word.Null) = Take after
-operand_choice after (Name text) = Ask (IsColumn text ∷ []) after
+operand_choice after (Name text) = Ask (NamesColumn text ∷ []) after
 operand_choice after (Digits digits) = Ask (Fits false digits ∷ []) after
 operand_choice after (Punct mark.Plus) = Take (SignedDigits false ∷ after)
 operand_choice after (Punct mark.Minus) = Take (SignedDigits true ∷ after)
@@ -132,13 +132,13 @@ decide (PartTail connective.And depth) (Reserved word.And) = Take (a_part connec
 decide (PartTail connective.Or depth) (Reserved word.Or) = Take (a_part connective.Or depth (PartTail connective.Or depth ∷ []))
 decide (PartTail by depth) t = Pass
 decide ItemList (Punct mark.Star) = Take []
-decide ItemList (Name text) = Ask (IsColumn text ∷ []) (CommaTail (Some true) ∷ [])
+decide ItemList (Name text) = Ask (NamesColumn text ∷ []) (CommaTail (Some true) ∷ [])
 decide ItemList t = aggregate_choice [] (CommaTail (Some false) ∷ []) t
-decide (AnItem first) (Name text) = Ask (IsColumn text ∷ OfOneKind first true ∷ []) []
+decide (AnItem first) (Name text) = Ask (NamesColumn text ∷ OfOneKind first true ∷ []) []
 decide (AnItem first) t = aggregate_choice (OfOneKind first false ∷ []) [] t
 decide (AnArgument aggregate.Count) (Punct mark.Star) = Take []
-decide (AnArgument kind) (Name text) = Ask (IsColumn text ∷ []) []
-decide ATable (Name text) = Ask (IsTable text ∷ []) []
+decide (AnArgument kind) (Name text) = Ask (NamesColumn text ∷ []) []
+decide ATable (Name text) = Ask (NamesTable text ∷ []) []
 decide ASelection (Reserved word.Where) = Take (a_part connective.Or 0 (PartTail connective.Or 0 ∷ []))
 decide ASelection t = Pass
 decide AnEnd (Punct mark.Semicolon) = Take []

@@ -17,7 +17,7 @@ use Rattle.bw_text.specs.Text.{same_text}
 use Rattle.bw_sql.specs.Asked.{Asked}
 use Rattle.bw_model.specs.CondTree.{CondTree}
 use Rattle.bw_model.specs.Column.{column_named}
-use Rattle.bw_sql.specs.Demand.{Demand, IsTable, IsColumn, Fits, OfOneKind, Depth, column_number, column_or_first, is_met, meets, refusal, signed}
+use Rattle.bw_sql.specs.Demand.{Demand, NamesTable, NamesColumn, Fits, OfOneKind, Depth, column_number, column_or_first, is_met, meets, refusal, signed}
 use Rattle.bw_sql.specs.Grammar.{TruthIs, OperandIs, CommaList, RangeIs, ComparedIs, JoinedIs, MoreParts, PartIs, FactorIs, TestIs, PrimaryIs, ItemIs, NextItemIs, ItemsAre, SelectionIs, EndIs, StatementIs, IsQuery, true_word, null, column, unsigned, plus, minus, no_more, one_more, between, among, compared, comparison, range, not_range, is_null, is_not_null, parts, last_part, next_part, factor, term, test, not_test, tested, untested, is, is_not, predicate, bracket, plain, count_all, aggregate, next_item, star, items, all_rows, rows_where, bare, statement}
 use Rattle.bw_sql.specs.Limits.{deepest_nesting}
 use Rattle.bw_sql.specs.Reading.{Halt, ◌>>=◌, wanted, begins_with_name, after_keyword, after_mark, keyword_at, mark_at, name_at, digits_at, sign_at, literal_at, column_at, table_at, operand_at, repeated, range_or_list_at, null_test_at, after_comparison, predicate_after, predicate_at, truth_value_at, truth_test_at, primary_in, test_in, factor_in, part_in, term_in, condition_in, joined_in, nested, selection_at, table_expression_at, end_at, after_aggregate, aggregated_at, item_at, of_one_kind, next_item_at, items_at, statement_at}
@@ -81,11 +81,11 @@ module _ (schema : Schema) (met : Demand → Bool) where
       Outcome schema met r x → Outcome schema met (f x) y → Outcome schema met (r >>= f) y
   and_then f o p = and_from f o (λ e. p)
 
-  column_wanted : (text : List ℕ) (tokens : List Lexeme) → met (IsColumn text) ≡ true →
+  column_wanted : (text : List ℕ) (tokens : List Lexeme) → met (NamesColumn text) ≡ true →
       Outcome schema met (wanted (column_named schema.columns.items text) UnknownColumn tokens) (column_number columns text)
   unfolding meets
   column_wanted text tokens m = option_cases (column_named columns text)
-      (λ e. excused (IsColumn text) (length tokens) m (ap is_some e) (ap (λ o. wanted o UnknownColumn tokens) e))
+      (λ e. excused (NamesColumn text) (length tokens) m (ap is_some e) (ap (λ o. wanted o UnknownColumn tokens) e))
       (λ n e. reads (ap (λ o. wanted o UnknownColumn tokens) e ∙ ap Ok (sym (ap column_or_first e))))
 
   number_wanted : (is_negative : Bool) (digits : List ℕ) (tokens : List Lexeme) → met (Fits is_negative digits) ≡ true →
@@ -205,7 +205,7 @@ module _ (schema : Schema) (met : Demand → Bool) where
         excused (Depth (suc depth)) (suc (length tokens)) m (too_deep depth h) refl
     primary_read (bracket m c) (suc n) h = and_then _ (joined_read c n (omega arith) ((refl, refl), refl)) (reads refl)
 
-  aggregated_read : (of : Aggregate) (text : List ℕ) (rest : List Lexeme) → met (IsColumn text) ≡ true →
+  aggregated_read : (of : Aggregate) (text : List ℕ) (rest : List Lexeme) → met (NamesColumn text) ≡ true →
       Outcome schema met (aggregated_at schema of (Name text ∷ rest)) (of_column of (column_number columns text), rest)
   unfolding aggregated_at column_at name_at after_mark
   aggregated_read kind.Count text rest m = and_then _ (and_then _ (column_wanted _ _ m) (reads refl)) (reads refl)
@@ -259,11 +259,11 @@ module _ (schema : Schema) (met : Demand → Bool) where
   selection_read all_rows e = rw (end_read e).1 (reads refl)
   selection_read (rows_where c) e = joined_read c deepest_nesting refl (end_read e).2
 
-  table_read : {table : List ℕ} {rest : List Lexeme} → met (IsTable table) ≡ true →
+  table_read : {table : List ℕ} {rest : List Lexeme} → met (NamesTable table) ≡ true →
       Outcome schema met (table_at schema (Name table ∷ rest)) rest
   unfolding table_at name_at meets
   table_read {table = table} {rest = rest} m = bool_cases (same_text schema.name table) (λ e. rw e (reads refl))
-      (λ e. excused (IsTable table) (suc (length rest)) m e (rw e refl))
+      (λ e. excused (NamesTable table) (suc (length rest)) m e (rw e refl))
 
   pub statement_read : {tokens : List Lexeme} {q : Asked} → StatementIs columns met tokens q →
       Outcome schema met (statement_at schema tokens) q

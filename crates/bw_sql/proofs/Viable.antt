@@ -26,7 +26,7 @@ use Rattle.bw_sql.specs.declared.token.Mark.TheVariants as mark
 use Rattle.bw_sql.specs.Asked.{Asked}
 use Rattle.bw_model.specs.CondTree.{CondTree, Always, Cmp, Between, IsNull, Test, Not, Among}
 use Rattle.bw_model.specs.Column.{column_named}
-use Rattle.bw_sql.specs.Demand.{Demand, IsTable, IsColumn, Fits, OfOneKind, Depth, every_column, is_met, meets}
+use Rattle.bw_sql.specs.Demand.{Demand, NamesTable, NamesColumn, Fits, OfOneKind, Depth, every_column, is_met, meets}
 use Rattle.bw_sql.specs.Frontier.{Viable}
 use Rattle.bw_sql.specs.Grammar.{TruthIs, OperandIs, CommaList, RangeIs, ComparedIs, TestedIs, MoreParts, FactorIs, PrimaryIs, ItemIs, NextItemIs, ItemsAre, SelectionIs, EndIs, StatementIs, true_word, false_word, unknown_word, null, column, unsigned, plus, minus, no_more, one_more, between, among, compared, comparison, range, not_range, is_null, is_not_null, parts, last_part, next_part, factor, term, test, not_test, tested, untested, is, is_not, predicate, bracket, plain, count_all, aggregate, next_item, star, items, all_rows, rows_where, bare, semicolon, statement}
 use Rattle.bw_sql.specs.Reading.{same_keyword}
@@ -67,7 +67,7 @@ module _ (columns : List Column) (met : Demand → Bool) where
   Means (AnItem first) tokens rest = (item : Item) × NextItemIs columns met first tokens rest item
   Means (AnArgument kind) tokens rest = (after : List Lexeme) → IsToken (Punct mark.Close) rest after →
       (item : Item) × ItemIs columns met false (Reserved (aggregate_word kind) ∷ Punct mark.Open ∷ tokens) after item
-  Means ATable tokens rest = (text : List ℕ) × (met (IsTable text) ≡ true) × IsToken (Name text) tokens rest
+  Means ATable tokens rest = (text : List ℕ) × (met (NamesTable text) ≡ true) × IsToken (Name text) tokens rest
   Means ASelection tokens rest = (c : CondTree) × SelectionIs columns met tokens rest c
   Means AnEnd tokens rest = rest ≡ [] → EndIs tokens
   Means AStatement tokens rest = rest ≡ [] → (q : Asked) × StatementIs columns met tokens q
@@ -134,7 +134,7 @@ module _ (columns : List Column) (met : Demand → Bool) where
       Fair s (Reserved (aggregate_word kind)) (Ask demands (of_aggregate kind after))
   aggregate_fair kind s demands after k m more a here_is b given rest close = let p = given rest close in k m more rest p.0 p.1
 
-  counted_fair : (kind : Aggregate) (text : List ℕ) (more : List Lexeme) → met (IsColumn text) ≡ true →
+  counted_fair : (kind : Aggregate) (text : List ℕ) (more : List Lexeme) → met (NamesColumn text) ≡ true →
       Means (AnArgument kind) (Name text ∷ more) more
   counted_fair kind text more m after here_is = (_, aggregate kind m)
 
@@ -280,13 +280,13 @@ module _ (schema : Schema) (met : Demand → Bool) (weaker : (d : Demand) → is
   abbrev columns : List Column
   columns = schema.columns.items
 
-  some_column : (text : List ℕ) × (met (IsColumn text) ≡ true)
+  some_column : (text : List ℕ) × (met (NamesColumn text) ≡ true)
   unfolding meets column_named
-  some_column = let c = first_named columns schema.inhabited in (c.0, weaker (IsColumn c.0) c.1)
+  some_column = let c = first_named columns schema.inhabited in (c.0, weaker (NamesColumn c.0) c.1)
 
-  table_met : met (IsTable schema.name) ≡ true
+  table_met : met (NamesTable schema.name) ≡ true
   unfolding meets
-  table_met = weaker (IsTable schema.name) (same_as_itself schema.name)
+  table_met = weaker (NamesTable schema.name) (same_as_itself schema.name)
 
   zero_fits : (is_negative : Bool) → met (Fits is_negative (48 ∷ [])) ≡ true
   unfolding meets number_of digits_value

@@ -20,7 +20,7 @@ use Rattle.bw_sql.specs.declared.condition.Connective.{Connective}
 use Rattle.bw_sql.specs.declared.condition.Connective.TheVariants as connective
 use Rattle.bw_sql.specs.declared.items.Aggregate.TheVariants as kind
 use Rattle.bw_sql.specs.Asked.{Asked, asked}
-use Rattle.bw_sql.specs.Demand.{IsColumn, OfOneKind, column_number, column_or_first, is_met, meets}
+use Rattle.bw_sql.specs.Demand.{NamesColumn, OfOneKind, column_number, column_or_first, is_met, meets}
 use Rattle.bw_sql.specs.Grammar.{OperandIs, CommaList, RangeIs, ComparedIs, JoinedIs, MoreParts, PartIs, FactorIs, TestIs, PrimaryIs, ItemIs, NextItemIs, ItemsAre, SelectionIs, IsQuery, joined, null, column, no_more, one_more, between, among, compared, comparison, range, not_range, is_null, is_not_null, parts, last_part, next_part, factor, term, test, not_test, tested, untested, is, is_not, predicate, bracket, plain, count_all, aggregate, next_item, star, items, all_rows, rows_where, statement}
 use Rattle.bw_sql.specs.Items.{AreOfOneKind, is_of_kind, are_of_kind}
 use Rattle.bw_sql.specs.Statement.{Parses, tokens_of}
@@ -84,7 +84,7 @@ module _ (schema : Schema) where
   abbrev n : ℕ
   n = length schema.columns.items
 
-  column_within : (text : List ℕ) → is_met schema (IsColumn text) ≡ true → nat_lt (column_number cs text) n ≡ true
+  column_within : (text : List ℕ) → is_met schema (NamesColumn text) ≡ true → nat_lt (column_number cs text) n ≡ true
   unfolding meets
   column_within text m = option_cases (column_named cs text) (λ e. let none : false ≡ true = rw e at m in cc)
       (λ i e. rw (ap column_or_first e) (named_within cs text i e))
@@ -150,7 +150,7 @@ module _ (schema : Schema) where
 
   next_good : {first : Bool} {tokens rest : List Lexeme} {item : Item} → NextItemIs cs (is_met schema) first tokens rest item →
       (item_within n item ≡ true) × (is_of_kind first item ≡ true)
-  next_good {first = first} {item = item} (next_item {is_plain = kind} m p) =
+  next_good {first = first} {item = item} (next_item {other = kind} m p) =
       let g = item_good p in (g.0, subst (λ k. is_of_kind k item ≡ true) (kind_is schema first kind m) g.1)
 
   items_good : {tokens rest : List Lexeme} {items : List Item} → ItemsAre cs (is_met schema) tokens rest items →

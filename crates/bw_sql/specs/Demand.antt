@@ -16,8 +16,8 @@ use Rattle.bw_sql.specs.Limits.{deepest_nesting}
 -- number of a sign and digits, an item is of the kind of the first (both kinds said by whether they are plain
 -- columns), and brackets and NOT may nest so deep.
 pub data Demand : Type 0 where
-  IsTable : List ℕ → Demand
-  IsColumn : List ℕ → Demand
+  NamesTable : List ℕ → Demand
+  NamesColumn : List ℕ → Demand
   Fits : Bool → List ℕ → Demand
   OfOneKind : Bool → Bool → Demand
   Depth : ℕ → Demand
@@ -27,13 +27,13 @@ abbrev pub every_column : List Column → List Item
 every_column columns = map Plain (range_with_len 0 (length columns))
 
 abbrev pub same_kind : Bool → Bool → Bool
-same_kind true is_plain = is_plain
-same_kind false is_plain = not is_plain
+same_kind true other = other
+same_kind false other = not other
 
 -- whether a demand is met by a table's name and its columns, and so under a schema
 unfoldable pub meets : List ℕ → List Column → Demand → Bool
-meets name columns (IsTable text) = same_text name text
-meets name columns (IsColumn text) = is_some (column_named columns text)
+meets name columns (NamesTable text) = same_text name text
+meets name columns (NamesColumn text) = is_some (column_named columns text)
 meets name columns (Fits is_negative digits) = is_some (number_of is_negative digits)
 meets name columns (OfOneKind first other) = same_kind first other
 meets name columns (Depth depth) = nat_le depth deepest_nesting
@@ -43,8 +43,8 @@ is_met schema demand = meets schema.name schema.columns.items demand
 
 -- why a statement is refused that doesn't meet a demand
 abbrev pub refusal : Demand → Refusal
-refusal (IsTable text) = UnknownTable
-refusal (IsColumn text) = UnknownColumn
+refusal (NamesTable text) = UnknownTable
+refusal (NamesColumn text) = UnknownColumn
 refusal (Fits is_negative digits) = Literal
 refusal (OfOneKind first other) = MixedItems
 refusal (Depth depth) = Nesting

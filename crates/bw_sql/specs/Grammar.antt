@@ -18,7 +18,7 @@ use Rattle.bw_sql.specs.declared.items.Aggregate.{Aggregate}
 use Rattle.bw_sql.specs.declared.token.Mark.TheVariants as mark
 use Rattle.bw_sql.specs.Asked.{Asked}
 use Rattle.bw_model.specs.CondTree.{CondTree, CondTrees, Always, Cmp, Between, Among, IsNull, Not, Test, trees_of}
-use Rattle.bw_sql.specs.Demand.{Demand, IsTable, IsColumn, Fits, OfOneKind, Depth, column_number, every_column, is_met, signed}
+use Rattle.bw_sql.specs.Demand.{Demand, NamesTable, NamesColumn, Fits, OfOneKind, Depth, column_number, every_column, is_met, signed}
 use Rattle.bw_sql.specs.Words.{word_of, join_of, aggregate_word, of_column}
 use Rattle.bw_sql.specs.Token.{Lexeme, Name, Digits, Reserved, Compare, Punct}
 
@@ -36,7 +36,7 @@ joined join first (c ∷ others) = join (trees_of (first ∷ c ∷ others))
 -- operand = name | [ + | - ] digits | NULL
 pub data OperandIs (columns : List Column) (met : Demand → Bool) : List Lexeme → List Lexeme → Operand → Type 0 where
   null : {rest : List Lexeme} → OperandIs columns met (Reserved word.Null ∷ rest) rest Null
-  column : {rest : List Lexeme} {text : List ℕ} → IsTrue (met (IsColumn text)) →
+  column : {rest : List Lexeme} {text : List ℕ} → IsTrue (met (NamesColumn text)) →
       OperandIs columns met (Name text ∷ rest) rest (Col (column_number columns text))
   unsigned : {rest : List Lexeme} {digits : List ℕ} → IsTrue (met (Fits false digits)) →
       OperandIs columns met (Digits digits ∷ rest) rest (Lit (signed false digits))
@@ -141,20 +141,20 @@ mutual
 
 -- item = name | COUNT ( * ) | ( COUNT | SUM | MIN | MAX ) ( name ), and whether it is a plain column
 pub data ItemIs (columns : List Column) (met : Demand → Bool) : Bool → List Lexeme → List Lexeme → Item → Type 0 where
-  plain : {rest : List Lexeme} {text : List ℕ} → IsTrue (met (IsColumn text)) →
+  plain : {rest : List Lexeme} {text : List ℕ} → IsTrue (met (NamesColumn text)) →
       ItemIs columns met true (Name text ∷ rest) rest (Plain (column_number columns text))
   count_all : {rest : List Lexeme} →
       ItemIs columns met false (Reserved word.Count ∷ Punct mark.Open ∷ Punct mark.Star ∷ Punct mark.Close
       ∷ rest) rest CountAll
-  aggregate : (kind : Aggregate) {rest : List Lexeme} {text : List ℕ} → IsTrue (met (IsColumn text)) →
+  aggregate : (kind : Aggregate) {rest : List Lexeme} {text : List ℕ} → IsTrue (met (NamesColumn text)) →
       ItemIs columns met false (Reserved (aggregate_word kind) ∷ Punct mark.Open ∷ Name text ∷ Punct mark.Close ∷ rest)
       rest (of_column kind (column_number columns text))
 
 -- an item after a first one that is a plain column or isn't
 pub data NextItemIs (columns : List Column) (met : Demand → Bool) (first : Bool) : List Lexeme → List Lexeme → Item
     → Type 0 where
-  next_item : {is_plain : Bool} {tokens rest : List Lexeme} {item : Item} → IsTrue (met (OfOneKind first is_plain)) →
-      ItemIs columns met is_plain tokens rest item → NextItemIs columns met first tokens rest item
+  next_item : {other : Bool} {tokens rest : List Lexeme} {item : Item} → IsTrue (met (OfOneKind first other)) →
+      ItemIs columns met other tokens rest item → NextItemIs columns met first tokens rest item
 
 -- list = * | item { , item }
 pub data ItemsAre (columns : List Column) (met : Demand → Bool) : List Lexeme → List Lexeme → List Item → Type 0 where
@@ -178,7 +178,7 @@ pub data EndIs : List Lexeme → Type 0 where
 pub data StatementIs (columns : List Column) (met : Demand → Bool) : List Lexeme → Asked → Type 0 where
   statement : {tokens selection last : List Lexeme} {table : List ℕ} {asked : Asked} →
       ItemsAre columns met tokens (Reserved word.From ∷ Name table ∷ selection) asked.items
-      → IsTrue (met (IsTable table)) →
+      → IsTrue (met (NamesTable table)) →
       SelectionIs columns met selection last asked.cond → EndIs last →
       StatementIs columns met (Reserved word.Select ∷ tokens) asked
 

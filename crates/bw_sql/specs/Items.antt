@@ -10,8 +10,8 @@ is_of_kind true item = not (is_aggregate item)
 is_of_kind false item = is_aggregate item
 
 abbrev pub are_of_kind : Bool → List Item → Bool
-are_of_kind is_plain items = list_all (is_of_kind is_plain) items
+are_of_kind are_columns items = list_all (is_of_kind are_columns) items
 
 -- all are columns, or all are aggregates
 abbrev pub AreOfOneKind : List Item → Type 0
-AreOfOneKind items = (is_plain : Bool) × IsTrue (are_of_kind is_plain items)
+AreOfOneKind items = (are_columns : Bool) × IsTrue (are_of_kind are_columns items)

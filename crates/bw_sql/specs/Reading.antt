@@ -439,13 +439,13 @@ of_one_kind schema true tokens = if begins_with_name tokens then Ok tt else mixe
 of_one_kind schema false tokens = if begins_with_name tokens then mixed_name schema tokens else Ok tt
 
 unfoldable pub next_item_at : Schema → Bool → List Lexeme → Read Item
-next_item_at schema is_plain tokens = do
-  same ← of_one_kind schema is_plain tokens
+next_item_at schema are_columns tokens = do
+  same ← of_one_kind schema are_columns tokens
   item_at schema tokens
 
 abbrev pub more_items : Schema → Bool → List Lexeme → Read (List Item)
-more_items schema is_plain tokens = repeated (length tokens) (after_mark mark.Comma)
-    (next_item_at schema is_plain) tokens
+more_items schema are_columns tokens = repeated (length tokens) (after_mark mark.Comma)
+    (next_item_at schema are_columns) tokens
 
 abbrev pub items_after : Schema → Option (List Lexeme) → List Lexeme → Read (List Item)
 items_after schema (Some rest) tokens = Ok (every_column schema.columns.items, rest)

@@ -30,8 +30,8 @@ pub fn items<'t>(alloc: Global, schema: &Schema, tokens: &'t [Placed<'t>]) -> Re
         return Ok((every_column(alloc, schema)?, rest));
     }
     let (first, rest) = item(schema, tokens)?;
-    let is_plain = begins_with_name(tokens);
-    more_items(schema, is_plain, vec![in alloc; first]?, rest)
+    let are_columns = begins_with_name(tokens);
+    more_items(schema, are_columns, vec![in alloc; first]?, rest)
 }
 
 /// Every column, in the order of the schema.
@@ -46,16 +46,16 @@ fn every_column(alloc: Global, schema: &Schema) -> Result<Vec<Item>, AllocError>
 /// The items, and those that follow after commas, all of one kind.
 fn more_items<'t>(
     schema: &Schema,
-    is_plain: bool,
+    are_columns: bool,
     mut items: Vec<Item>,
     tokens: &'t [Placed<'t>],
 ) -> Read<'t, Vec<Item>>
     ensures { ReadsFrom (λ xs. xs.items) tokens.now result
-        (λ tokens. with_front items.items (more_items schema.now is_plain tokens)) }
+        (λ tokens. with_front items.items (more_items schema.now are_columns tokens)) }
 {
     let mut left = Left { tokens };
     while let Some(next) = after_mark(Mark::Comma, left.tokens) {
-        let (item, after) = next_item(schema, is_plain, next)?;
+        let (item, after) = next_item(schema, are_columns, next)?;
         items.push(item)?;
         left = Left { tokens: after };
     }
@@ -64,28 +64,28 @@ fn more_items<'t>(
 
 /// The item of this kind that has to come.
 #[tactic(auto, unfolding(crate::specs::Reading::next_item_at))]
-fn next_item<'t>(schema: &Schema, is_plain: bool, tokens: &'t [Placed<'t>]) -> Read<'t, Item>
-    ensures read { ReadsFrom (λ x. x) tokens.now result (next_item_at schema.now is_plain) }
+fn next_item<'t>(schema: &Schema, are_columns: bool, tokens: &'t [Placed<'t>]) -> Read<'t, Item>
+    ensures read { ReadsFrom (λ x. x) tokens.now result (next_item_at schema.now are_columns) }
     ensures shorter { IfOk result (λ read. length read.1.now < length tokens.now) }
 {
-    of_one_kind(schema, is_plain, tokens)?;
+    of_one_kind(schema, are_columns, tokens)?;
     item(schema, tokens)
 }
 
 /// Refuses an item that begins as one of the other kind. Its first token tells the kind, and a column
 /// that isn't the schema's comes before.
 #[tactic(auto, unfolding(crate::specs::Reading::of_one_kind))]
-fn of_one_kind(schema: &Schema, is_plain: bool, tokens: &[Placed<'_>]) -> Result<(), Stop>
-    ensures { Reads (λ same. same) result (of_one_kind schema.now is_plain (lexemes tokens.now)) }
+fn of_one_kind(schema: &Schema, are_columns: bool, tokens: &[Placed<'_>]) -> Result<(), Stop>
+    ensures { Reads (λ same. same) result (of_one_kind schema.now are_columns (lexemes tokens.now)) }
 {
     if begins_with_name(tokens) {
-        if is_plain {
+        if are_columns {
             return Ok(());
         }
         column(schema, tokens)?;
         return Err(Stop::at(Refusal::MixedItems, tokens));
     }
-    if is_plain && after_aggregate(tokens).is_some() {
+    if are_columns && after_aggregate(tokens).is_some() {
         return Err(Stop::at(Refusal::MixedItems, tokens));
     }
     Ok(())

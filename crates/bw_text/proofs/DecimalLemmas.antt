@@ -8,7 +8,7 @@ use Rattle.std.proofs.lemmas.Fmt.{decimal_by_steps}
 use Rattle.std.proofs.lemmas.List.Folds.{list_all-append}
 use Rattle.std.proofs.lemmas.List.Sums.{fold-append}
 use Rattle.bw_text.specs.Number as number
-use Rattle.bw_text.specs.Printed.{is_plain, is_plain_word}
+use Rattle.bw_text.specs.Printed.{is_above_blank, is_plain_word}
 
 -- digits and nothing else, at least one, which spell a number
 pub record Spells (n : ℕ) (digits : List ℕ) : Type 0 where
@@ -48,7 +48,7 @@ natural_of-decimal n lt =
     go (d ∷ digits) spells = rw (spells.all, spells.value, lt-ltb n (2 ^ 64) lt) refl
 
 -- they are plain words
-pub plain_digits : (digits : List ℕ) → list_all is_ascii_digit digits ≡ true → list_all is_plain digits ≡ true
+pub plain_digits : (digits : List ℕ) → list_all is_ascii_digit digits ≡ true → list_all is_above_blank digits ≡ true
 plain_digits [] h = refl
 plain_digits (d ∷ digits) h =
     let here = and_parts (is_ascii_digit d) (list_all is_ascii_digit digits) h in

@@ -7,7 +7,7 @@ use Rattle.std.proofs.lemmas.List.{append-nil}
 use Rattle.std.proofs.lemmas.List.Folds.{list_all-append}
 use Rattle.std.proofs.lemmas.List.Splits.{slice_split-cons_no, slice_split-cons_yes}
 use Rattle.bw_text.specs.Lines.{is_empty, is_blank, cut_lines, words_of, begins_comment, numbered_from, numbered}
-use Rattle.bw_text.specs.Printed.{is_plain, is_plain_word, line_text, spaced}
+use Rattle.bw_text.specs.Printed.{is_above_blank, is_plain_word, line_text, spaced}
 use Rattle.bw_text.specs.Text.{begins_word, goes_on_in_word, is_word}
 use Rattle.bw_text.proofs.LineLemmas.{numbered_from-said, numbered_from-skipped}
 
@@ -16,13 +16,13 @@ abbrev pub is_inside : ℕ → Bool
 is_inside c = nat_lt 31 c
 
 -- words of letters, digits and underscores are plain
-above_blanks : (c : ℕ) → goes_on_in_word c ≡ true → is_plain c ≡ true
+above_blanks : (c : ℕ) → goes_on_in_word c ≡ true → is_above_blank c ≡ true
 above_blanks c h = let lt : 32 < c = grind (arith, nat_tests) in lt-ltb 32 c lt
 
-begins_above : (c : ℕ) → begins_word c ≡ true → is_plain c ≡ true
+begins_above : (c : ℕ) → begins_word c ≡ true → is_above_blank c ≡ true
 begins_above c h = let lt : 32 < c = grind (arith, nat_tests) in lt-ltb 32 c lt
 
-plain_rest : (text : List ℕ) → list_all goes_on_in_word text ≡ true → list_all is_plain text ≡ true
+plain_rest : (text : List ℕ) → list_all goes_on_in_word text ≡ true → list_all is_above_blank text ≡ true
 plain_rest [] h = refl
 plain_rest (c ∷ text) h =
     let here = and_parts (goes_on_in_word c) (list_all goes_on_in_word text) h in
@@ -37,15 +37,15 @@ plain_word (c ∷ text) word =
 other : (c n : ℕ) → n < c → (c == n) ≡ false
 other c n lt = ne_eqb c n (λ e. absurd (omega arith))
 
-not_blank : (c : ℕ) → is_plain c ≡ true → is_blank c ≡ false
+not_blank : (c : ℕ) → is_above_blank c ≡ true → is_blank c ≡ false
 not_blank c h =
     let above : 32 < c = ltb-true 32 c h in
     rw (other c 32 (omega arith), other c 9 (omega arith)) refl
 
-inside : (word : List ℕ) → list_all is_plain word ≡ true → list_all is_inside word ≡ true
+inside : (word : List ℕ) → list_all is_above_blank word ≡ true → list_all is_inside word ≡ true
 inside [] h = refl
 inside (c ∷ word) h =
-    let here = and_parts (is_plain c) (list_all is_plain word) h in
+    let here = and_parts (is_above_blank c) (list_all is_above_blank word) h in
     let above : 32 < c = ltb-true 32 c here.0 in
     rw (lt-ltb 31 c (omega arith)) (inside word here.1)
 
@@ -55,36 +55,36 @@ unfolding spaced
 spaced_inside [] h = refl
 spaced_inside (word ∷ words) h =
     let here = and_parts (is_plain_word word) (list_all is_plain_word words) h in
-    let plain = and_parts (not (is_empty word)) (list_all is_plain word) here.0 in
+    let plain = and_parts (not (is_empty word)) (list_all is_above_blank word) here.0 in
     rw (list_all-append is_inside word (spaced words), inside word plain.1) (spaced_inside words here.1)
 
 -- a word, cut off at the blank after it
-split_word : (word rest : List ℕ) → list_all is_plain word ≡ true → slice_split is_blank (word ++ 32 ∷ rest) ≡ word ∷ slice_split is_blank rest
+split_word : (word rest : List ℕ) → list_all is_above_blank word ≡ true → slice_split is_blank (word ++ 32 ∷ rest) ≡ word ∷ slice_split is_blank rest
 split_word [] rest h = slice_split-cons_yes is_blank 32 rest refl
 split_word (c ∷ word) rest h =
-    let here = and_parts (is_plain c) (list_all is_plain word) h in
+    let here = and_parts (is_above_blank c) (list_all is_above_blank word) h in
     slice_split-cons_no is_blank c (word ++ 32 ∷ rest) (not_blank c here.0) ∙ ap (onto_first c) (split_word word rest here.1)
 
-split_last : (word : List ℕ) → list_all is_plain word ≡ true → slice_split is_blank word ≡ word ∷ []
+split_last : (word : List ℕ) → list_all is_above_blank word ≡ true → slice_split is_blank word ≡ word ∷ []
 split_last [] h = refl
 split_last (c ∷ word) h =
-    let here = and_parts (is_plain c) (list_all is_plain word) h in
+    let here = and_parts (is_above_blank c) (list_all is_above_blank word) h in
     slice_split-cons_no is_blank c word (not_blank c here.0) ∙ ap (onto_first c) (split_last word here.1)
 
-split_words : (word : List ℕ) (words : List (List ℕ)) → list_all is_plain word ≡ true → list_all is_plain_word words ≡ true →
+split_words : (word : List ℕ) (words : List (List ℕ)) → list_all is_above_blank word ≡ true → list_all is_plain_word words ≡ true →
     slice_split is_blank (word ++ spaced words) ≡ word ∷ words
 unfolding spaced
 split_words word [] plain all = rw (append-nil word) (split_last word plain)
 split_words word (next ∷ words) plain all =
     let here = and_parts (is_plain_word next) (list_all is_plain_word words) all in
-    let second = and_parts (not (is_empty next)) (list_all is_plain next) here.0 in
+    let second = and_parts (not (is_empty next)) (list_all is_above_blank next) here.0 in
     split_word word (next ++ spaced words) plain ∙ ap (λ (ws : List (List ℕ)). word ∷ ws) (split_words next words second.1 here.1)
 
 all_kept : (words : List (List ℕ)) → list_all is_plain_word words ≡ true → filter (λ (word : List ℕ). not (is_empty word)) words ≡ words
 all_kept [] all = refl
 all_kept (word ∷ words) all =
     let here = and_parts (is_plain_word word) (list_all is_plain_word words) all in
-    let some = and_parts (not (is_empty word)) (list_all is_plain word) here.0 in
+    let some = and_parts (not (is_empty word)) (list_all is_above_blank word) here.0 in
     rw (some.0) (ap (λ (ws : List (List ℕ)). word ∷ ws) (all_kept words here.1))
 
 -- no byte of a line is a carriage return
@@ -99,7 +99,7 @@ no_return (c ∷ line) (suc k) h = no_return line k (and_parts (is_inside c) (li
 words_of-line : (word : List ℕ) (words : List (List ℕ)) → is_plain_word word ≡ true → list_all is_plain_word words ≡ true → words_of (word ++ spaced words) ≡ word ∷ words
 unfolding words_of
 words_of-line word words plain all =
-    let first = and_parts (not (is_empty word)) (list_all is_plain word) plain in
+    let first = and_parts (not (is_empty word)) (list_all is_above_blank word) plain in
     let line = word ++ spaced words in
     let within : list_all is_inside (word ++ spaced words) ≡ true = rw (list_all-append is_inside word (spaced words), inside word first.1) (spaced_inside words all) in
     let every : list_all is_plain_word (word ∷ words) ≡ true = rw plain all in
@@ -121,7 +121,7 @@ up_to_feed word words rest = append_assoc word (spaced words ++ 10 ∷ []) rest 
 cut_first : (word : List ℕ) (words : List (List ℕ)) (rest : List ℕ) → is_plain_word word ≡ true → list_all is_plain_word words ≡ true →
     cut_lines (line_text (word ∷ words) ++ rest) ≡ (word ++ spaced words) ∷ cut_lines rest
 cut_first word words rest plain all =
-    let first = and_parts (not (is_empty word)) (list_all is_plain word) plain in
+    let first = and_parts (not (is_empty word)) (list_all is_above_blank word) plain in
     let within : list_all is_inside (word ++ spaced words) ≡ true = rw (list_all-append is_inside word (spaced words), inside word first.1) (spaced_inside words all) in
     ap cut_lines (up_to_feed word words rest) ∙ cut_line (word ++ spaced words) rest within
 

@@ -24,9 +24,10 @@ abbrev pub line_text : List (List ℕ) → List ℕ
 line_text [] = 10 ∷ []
 line_text (word ∷ words) = word ++ (spaced words ++ 10 ∷ [])
 
--- a word that can be read again: its bytes are above the blank's, so none is a blank or an end of a line
-abbrev pub is_plain : ℕ → Bool
-is_plain c = nat_lt 32 c
+-- a byte above the blank's, which is no blank and ends no line
+abbrev pub is_above_blank : ℕ → Bool
+is_above_blank c = nat_lt 32 c
 
+-- a word that can be read again: it has a byte, and each is above the blank's
 abbrev pub is_plain_word : List ℕ → Bool
-is_plain_word word = not (is_empty word) && list_all is_plain word
+is_plain_word word = not (is_empty word) && list_all is_above_blank word

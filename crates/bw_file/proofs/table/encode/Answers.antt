@@ -32,7 +32,7 @@ returns-clause-bytes c =
 pub returns-clause-file : goal.returns-clause-file
 returns-clause-file c =
     IfOk-weaker c.finish.result _ _ (λ bytes text. record {
-      under = c.a_schema_has_names_and_bounds.ensures;
+      under = c.has_names_and_bounds.ensures.schema;
       admitted = c.requires;
       text = inl text;
     }) (returns-clause-bytes c)

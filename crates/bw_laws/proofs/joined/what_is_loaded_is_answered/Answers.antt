@@ -10,7 +10,7 @@ pub returns-clause-answered : goal.returns-clause-answered
 returns-clause-answered c = λ layout csv bytes sql program old new made file.
     let schema = c.args.schema.now in
     let of = loaded layout schema csv bytes made in
-    let text = loaded_text layout schema csv bytes c.a_schema_has_names_and_bounds.ensures of (c.rows_are_admitted.ensures.admitted schema.columns.items csv) (c.rows_are_admitted.ensures.few schema.columns.items csv) in
+    let text = loaded_text layout schema csv bytes c.has_names_and_bounds.ensures.schema of (c.rows_are_admitted.ensures.admitted schema.columns.items csv) (c.rows_are_admitted.ensures.few schema.columns.items csv) in
     let same = c.a_file_is_of_one_table.ensures bytes layout file.layout schema file.schema of.rows file.rows text file.file in
     let shape = sym (ap (λ (found : Found). found.schema) same) in
     let spelled = c.schemas_of_one_shape.ensures.spelled file.schema schema sql (asked file.query) shape file.asked.0 in
@@ -20,7 +20,7 @@ pub returns-clause-dumped : goal.returns-clause-dumped
 returns-clause-dumped c = λ layout csv bytes old new made file.
     let schema = c.args.schema.now in
     let of = loaded layout schema csv bytes made in
-    let text = loaded_text layout schema csv bytes c.a_schema_has_names_and_bounds.ensures of (c.rows_are_admitted.ensures.admitted schema.columns.items csv) (c.rows_are_admitted.ensures.few schema.columns.items csv) in
+    let text = loaded_text layout schema csv bytes c.has_names_and_bounds.ensures.schema of (c.rows_are_admitted.ensures.admitted schema.columns.items csv) (c.rows_are_admitted.ensures.few schema.columns.items csv) in
     let same = c.a_file_is_of_one_table.ensures bytes layout file.layout schema file.schema of.rows file.rows text file.file in
     let shape = sym (ap (λ (found : Found). found.schema) same) in
     let columns = c.schemas_of_one_shape.ensures.columns file.schema schema shape in

@@ -1,13 +1,11 @@
-use Rattle.std.proofs.Common.{◌≡◌, ◌++◌, All, map, take, drop}
+use Rattle.std.proofs.Common.{◌≡◌, ◌++◌, map, drop}
 use Rattle.bw_model.specs.SchemaText.{column_shape}
-use Rattle.bw_schemas.specs.Printed.{IsColumn, columns_text, table_line}
+use Rattle.bw_schemas.specs.Printed.{columns_text, table_line}
 use Rattle.bw_text.specs.Printed.{line_text}
 use Rattle.bw_schemas.proofs.print.print_schema.Given as goal
 
--- what is written so far, and then the columns that are left, are the whole text; and the columns so far are such columns
+-- what is written so far, and then the columns that are left, are the whole text
 abbrev pub invariant-loop-column : goal.invariant-loop-column
-invariant-loop-column l = record {
-  text : l.text.items ++ columns_text (map column_shape (drop l.column-index l.schema.columns.items))
-      ≡ line_text (table_line l.schema.name) ++ columns_text (map column_shape l.schema.columns.items);
-  columns : All (λ column. IsColumn (column_shape column)) (take l.column-index l.schema.columns.items);
-}
+invariant-loop-column l =
+    l.text.items ++ columns_text (map column_shape (drop l.column-index l.schema.columns.items))
+    ≡ line_text (table_line l.schema.name) ++ columns_text (map column_shape l.schema.columns.items)

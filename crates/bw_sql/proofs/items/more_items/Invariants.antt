@@ -8,8 +8,8 @@ use Rattle.bw_sql.proofs.items.more_items.Given as goal
 
 abbrev pub invariant-loop-next : goal.invariant-loop-next
 invariant-loop-next l = record {
-  read : Repeats (after_mark Comma) (next_item_at l.schema l.is_plain) l.items.items (length l.left.tokens.now) (lexemes l.left.tokens.now)
-      (with_front l.initial.items.items (more_items l.schema l.is_plain (lexemes l.tokens)));
+  read : Repeats (after_mark Comma) (next_item_at l.schema l.are_columns) l.items.items (length l.left.tokens.now) (lexemes l.left.tokens.now)
+      (with_front l.initial.items.items (more_items l.schema l.are_columns (lexemes l.tokens)));
 }
 
 abbrev pub decreases-loop-next : goal.decreases-loop-next
