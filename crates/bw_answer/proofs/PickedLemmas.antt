@@ -1,5 +1,6 @@
 -- Rows that a selection picks.
-use Rattle.std.proofs.Common.{◌≡◌, ◌∙◌, refl, sym, ap, ℕ, zero, suc, ◌+◌, ◌≤◌, Bool, true, false, not, List, [], ◌∷◌, ◌++◌, map, length, replicate, append-nil, length-append, cond, arith, nat_le}
+use Rattle.std.proofs.Common.{◌≡◌, ◌∙◌, refl, sym, ap, ℕ, zero, suc, ◌+◌, ◌≤◌, Bool, true, false, not, List, [], ◌∷◌, ◌++◌, map, length, replicate, append-nil, length-append, cond, arith, nat_le, Result, Ok, Err}
+use Rattle.std.specs.Prelude.{OnOk}
 use Rattle.std.specs.List.{list_all}
 use Rattle.std.proofs.lemmas.Bool.{leb-true, le-leb}
 use Rattle.std.proofs.lemmas.List.Sums.{count_by-le-length, length-filter}
@@ -88,3 +89,8 @@ few_kept c rows = let some = count_by-le-length (is_kept c) rows in omega (arith
 pub kept_alike : (c : Cond) (prepared : Prepared) (rows : List (List Value)) → IsPreparedFrom c prepared → map (λ row. is_truth (prepared_truth row prepared) Yes) rows ≡ selection c rows
 kept_alike c prepared [] same = refl
 kept_alike c prepared (row ∷ rows) same = λ i. is_truth (same row i) Yes ∷ kept_alike c prepared rows same i
+
+-- what holds once rows are taken implies the other
+pub taken : {T E P Q : Type 0} (result : Result T E) → (P → Q) → OnOk result P → OnOk result Q
+taken (Ok x) gives p = gives p
+taken (Err e) gives p = tt

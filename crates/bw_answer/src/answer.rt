@@ -26,7 +26,7 @@ use bw_lanes::Selection;
 use bw_model::{
     Fault, Item, Query, Row, RowTaker, Schema, admitted_rows_have_each_value, totals_join,
 };
-use bw_rowwise::{Accumulator, Prepared, keeps_all};
+use bw_rowwise::{Accumulator, Filter, Prepared, keeps_all};
 use bw_segment::Segment;
 use std::alloc::Global;
 
@@ -38,7 +38,7 @@ pub struct Answer<'a> {
     rows: u32,
     query: &'a Query,
     /// The query's condition, made ready for many rows.
-    cond: Prepared,
+    filter: Filter,
     /// Whether the query lists rows, and doesn't total them.
     lists: bool,
     /// The columns that it lists.
@@ -47,7 +47,7 @@ pub struct Answer<'a> {
     text: Vec<u8>,
     /// The total of each aggregate, over the rows that are kept.
     totals: Vec<Accumulator>,
-    ghost prepared: { IsPreparedFrom query.now.cond cond },
+    ghost prepared: { IsPreparedFrom query.now.cond filter },
     ghost items: { IsTrue (list_all (item_within width) query.now.items.items) },
     ghost some: { 1 ≤ length query.now.items.items },
     ghost listing: { lists ≡ lists_rows query.now.items.items },
@@ -83,7 +83,7 @@ impl<'a> Answer<'a> {
             width,
             rows: 0,
             query,
-            cond: Prepared::new(alloc, &query.cond)?,
+            filter: Filter::new(alloc, &query.cond)?,
             lists: lists_rows(&query.items),
             records: Listing::new(alloc, width, &query.items)?,
             text: heading_text(alloc, &schema.columns, &query.items)?,
@@ -165,7 +165,7 @@ impl<'a> Answer<'a> {
         ensures rows { OnOk result (self.new.rows ≡ self.old.rows + length (S.meaning segment.now).rows) }
         ensures only_memory { IfErr result (λ fault. fault ≡ no_memory) }
     {
-        let kept = self.cond.rows_kept(segment);
+        let kept = self.filter.rows_kept(segment);
         self.take_picked(segment, &kept)
     }
 
@@ -185,7 +185,7 @@ impl<'a> Answer<'a> {
             &mut self.totals,
             &mut self.records,
             self.query,
-            &self.cond,
+            self.filter.cond(),
             self.lists,
             row,
         )?;
@@ -203,7 +203,7 @@ impl<'a> Answer<'a> {
             width: _,
             rows: _,
             query: _,
-            cond: _,
+            filter: _,
             lists,
             records: _,
             text,

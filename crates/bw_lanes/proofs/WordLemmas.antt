@@ -17,7 +17,7 @@ use Rattle.std.specs.List.{list_all, range_with_len}
 use Rattle.bw_lanes.specs.Lanes.{bits_from_least, lanes_of_words, lanes_of_bytes, differ}
 use Rattle.std.proofs.lemmas.Nat.Bits.{shr_and_one, bit_at_or, bit_at_xor}
 use Rattle.bw_lanes.proofs.BitLemmas.{bit_in_numbers, length-bits_of_numbers, length-bits_from_least, bits_from_least_more, bits_of_not, bits_of_and, bits_joined, of_bit, bits_of_flags}
-use Rattle.std.proofs.lemmas.Simd.{fold-sum, sum_fits, tops_compared, length-put_chunk, get_or-zip2, length-replicate, length-zip2, put_chunk_is, take_more_put_chunk}
+use Rattle.std.proofs.lemmas.Simd.{fold-sum, sum_fits, tops_compared, mask_l-mod, length-put_chunk, get_or-zip2, length-replicate, length-zip2, put_chunk_is, take_more_put_chunk}
 use Rattle.std.proofs.Math.Seq.{take-add, drop-cons, drop-append_seam, take-append_seam, drop-drop}
 
 pub zip2-append : {A B C : Type 0} (f : A → B → C) (xs xs' : List A) (ys ys' : List B) → length xs ≡ length ys → zip2 f (xs ++ xs') (ys ++ ys') ≡ zip2 f xs ys ++ zip2 f xs' ys'
@@ -255,6 +255,33 @@ zipped_more f word xs ys here there lt =
 pub zipped_all : {A B C : Type 0} (f : A → B → C) (word : ℕ) (xs : List A) (ys : List B) → length xs ≡ 512 → length ys ≡ 512 → 8 ≤ word
     → zip2 f (take (64 * word) xs) (take (64 * word) ys) ≡ zip2 f xs ys
 zipped_all f word xs ys here there le = ap₂ (zip2 f) (take_all (64 * word) xs (omega arith)) (take_all (64 * word) ys (omega arith))
+
+-- a word made of a comparison of each of 64 numbers with another
+pub zip_compared : (t : ℕ → ℕ → Bool) (xs ys : List ℕ) → length xs ≡ 64 → length ys ≡ 64
+    → bits_from_least 64 (mask_l (map (top 63) (zip2 (λ a b. cond (t a b) (2 ^ 64 - 1) 0) xs ys)) % 2 ^ 64) ≡ zip2 t xs ys
+zip_compared t xs ys here there =
+    let long = length-zip2 t xs ys (here ∙ sym there) ∙ here in
+    bits_of_flags 64 (zip2 t xs ys) _ long (ap (λ ms. mask_l ms % 2 ^ 64) (tops_compared w64 t xs ys) ∙ mask_l-mod (zip2 t xs ys) 64 (omega (arith, long)))
+
+-- what a comparison says of the items of the first words
+unfoldable pub zips_to : (ℕ → ℕ → Bool) → ℕ → List ℕ → List ℕ → List Bool
+zips_to test word xs ys = zip2 test (take (64 * word) xs) (take (64 * word) ys)
+
+pub zips_none : (test : ℕ → ℕ → Bool) (xs ys : List ℕ) → zips_to test 0 xs ys ≡ []
+unfolding zips_to
+zips_none test xs ys = refl
+
+pub zips_more : (test : ℕ → ℕ → Bool) (word : ℕ) (xs ys : List ℕ) → length xs ≡ 512 → length ys ≡ 512 → word < 8
+    → zips_to test (word + 1) xs ys ≡ zips_to test word xs ys ++ zip2 test (part word xs) (part word ys)
+unfolding zips_to
+zips_more test word xs ys here there lt = zipped_more test word xs ys here there lt
+
+pub zips_all : (test : ℕ → ℕ → Bool) (word : ℕ) (xs ys : List ℕ) → length xs ≡ 512 → length ys ≡ 512 → 8 ≤ word → zips_to test word xs ys ≡ zip2 test xs ys
+unfolding zips_to
+zips_all test word xs ys here there le = zipped_all test word xs ys here there le
+
+-- the step of a loop that makes a word of each 64 items of two lists
+pub ruleset zips_made = (no_lanes, lanes_set, length-set, take_all, zips_none, zips_more, zips_all)
 
 -- what a test says of the items of the first words
 unfoldable pub tests_to : (ℕ → Bool) → ℕ → List ℕ → List Bool

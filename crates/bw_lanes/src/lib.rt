@@ -9,6 +9,7 @@
 #![tactic(auto)]
 
 mod bytes;
+mod codes;
 mod lanes;
 mod last;
 mod picked;
@@ -17,6 +18,7 @@ mod shifted;
 mod stored;
 
 pub use bytes::{bytes_any, bytes_bit, bytes_eq, bytes_lt, bytes_none};
+pub use codes::{codes_eq, codes_lt};
 pub use lanes::LANES;
 pub use last::last_between;
 pub use picked::{bytes_of_plane, greatest_in, keep_in, least_in, sum_in};

@@ -1,3 +1,4 @@
 pub mod Accumulator
+pub mod Lanes
 pub mod Numbers
 pub mod Prepared

@@ -1,6 +1,6 @@
 //! What a query asks of rows: conditions and aggregates, row by row, straight from their meaning.
 //!
-//! The contracts that the crates above use: a [`Prepared`] condition is TRUE on the rows that it keeps, and an
+//! The contracts that the crates above use: a [`Prepared`] condition is TRUE on the rows that it keeps, a [`Filter`] finds these in a segment, and an
 //! [`Accumulator`] totals rows that come one at a time. `bw_aggregate` adds to it those of a segment that a selection
 //! picks, without looking at one row.
 //!
@@ -17,16 +17,21 @@
 #![tactic(auto)]
 
 mod accumulator;
+mod column_lanes;
 mod condition;
-mod kernels;
+mod filter;
 mod lanes;
 mod logic;
 mod numbers;
+mod planes;
 mod prepared;
 mod prepared_row;
 mod total;
+mod truths;
+mod unpacked;
 
 pub use accumulator::{Accumulator, aggregate};
 pub use condition::{keeps_all, select, truth};
+pub use filter::Filter;
 pub use numbers::Numbers;
 pub use prepared::Prepared;

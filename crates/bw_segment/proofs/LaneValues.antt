@@ -64,7 +64,7 @@ module _ (meaning : Meaning) (col lane : ℕ) (column : Column) (group : IsGroup
   abbrev code : ℕ
   code = get_or (code_lanes meaning col) lane 0
 
-  value_here : cond (get_or empty lane false) None (Some (value_of_code column code)) ≡ value_in (get_or meaning.rows lane []) col
+  pub value_here : cond (get_or empty lane false) None (Some (value_of_code column code)) ≡ value_in (get_or meaning.rows lane []) col
   unfolding stored_codes group_size
   value_here =
       let value : value_of_code column code ≡ value_at meaning.columns col code = ap (λ c. value_of_code c code) is ∙ sym (get_or-map (λ c. value_of_code c code) meaning.columns col column (pos 0) lt) in

@@ -1,6 +1,7 @@
 pub mod BlockFault
 pub mod Columns
-pub mod Packing
+pub mod Keys
 pub mod Meaning
-pub mod Picked
 pub mod Packed
+pub mod Packing
+pub mod Picked

@@ -2,8 +2,8 @@
 //!
 //! The contract that the crates above use: a [`Segment`] means the columns of a schema and 1 to 512 rows that
 //! they admit, and each of its methods answers from that meaning alone, whatever the layout. Bit i of
-//! `plane(v)` is row i's bit of the variable v, and 0 past the last row. `codes` and [`values_in_lanes`] give a column
-//! in all 512 lanes at once.
+//! `plane(v)` is row i's bit of the variable v, and 0 past the last row. `codes`, [`values_in_lanes`] and
+//! [`keys_in_lanes`] give a column in all 512 lanes at once.
 //!
 //! A [`PackedSegment`] is kept as the bytes of its blocks, in a [`CodeLayout`], which says how the codes of one column
 //! are kept: bit planes, after BitWeaving's vertical layout (Li and Patel), in `bw_planes`, and byte slices, after
@@ -47,4 +47,4 @@ pub use packed::PackedSegment;
 pub use packing::{blocks_are_added, bytes_of_a_group_are_sound, sound_bytes_spell_a_group};
 pub use placement::Placement;
 pub use segment::Segment;
-pub use values::values_in_lanes;
+pub use values::{key, keys_in_lanes, number, values_in_lanes};

@@ -4,6 +4,7 @@ ghost use Rattle.bw_lanes.specs.Lanes.{lanes_of_words};
 ghost use Rattle.bw_model.specs.Code.{span_of, value_of_code};
 ghost use Rattle.bw_model.specs.Row.{value_in};
 ghost use Rattle.bw_model.specs.Truth.{is_null};
+ghost use Rattle.bw_segment.specs.Keys.{number_of_key, value_in_lane};
 
 use crate::segment::Segment;
 use bw_lanes::{LANES, Plane, bytes_of_plane, is_zero, mask, not, or};
@@ -24,6 +25,33 @@ pub fn values_in_lanes<S: Segment>(segment: &S, col: usize, values: &mut [Value;
     } else {
         put_values(column, &codes, &bytes_of_plane(&none), values);
     }
+}
+
+/// The values of a column in the 512 lanes as keys, and the lanes in which there is none: those of the rows that are
+/// null in it, and those past the last row.
+pub fn keys_in_lanes<S: Segment>(segment: &S, col: usize, keys: &mut [u64; LANES]) -> Plane
+    requires { col < length (S.meaning segment.now).columns }
+    ensures { (lane : ℕ) → lane < 512 → value_in_lane (lanes_of_words result) keys.new lane
+        ≡ value_in (slice_index_or (S.meaning segment.now).rows lane []) col }
+{
+    let mut codes = [0; LANES];
+    segment.codes(col, &mut codes);
+    put_keys(&segment.schema().columns[col], &codes, keys);
+    no_values(segment, col)
+}
+
+/// The key of a number: how far it is above -2^63. Keys are ordered as the numbers are.
+pub fn key(n: i64) -> u64
+    ensures { number_of_key result ≡ n }
+{
+    (i128::from(n) + (1 << 63)) as u64
+}
+
+/// The number of a key.
+pub fn number(key: u64) -> i64
+    ensures { result ≡ number_of_key key }
+{
+    (i128::from(key) - (1 << 63)) as i64
 }
 
 /// The lanes in which a column has no value: those of the rows that are null in it, and those past the last row.
@@ -65,6 +93,30 @@ fn put_values(
     for lane in 0..LANES {
         values[lane] = value_or_null(value_of(lo, hi, codes[lane]), nulls[lane]);
     }
+}
+
+/// Puts the key of each lane's code in the lane.
+fn put_keys(column: &Column, codes: &[u64; LANES], keys: &mut [u64; LANES])
+    requires { All (λ code. code ≤ span_of column.now) codes.now }
+    ensures { (lane : ℕ) → lane < 512 → number_of_key (slice_index keys.new lane)
+        ≡ value_of_code column.now (slice_index codes.now lane) }
+{
+    let (lo, hi) = (column.lo, column.hi);
+    let least = key(lo);
+    for lane in 0..LANES {
+        keys[lane] = key_of(lo, hi, least, codes[lane]);
+    }
+}
+
+/// The key of a code of a column, by its least and its greatest value, and the key of the least.
+fn key_of(lo: i64, hi: i64, least: u64, code: u64) -> u64
+    requires ordered { lo ≤ℤ hi }
+    requires narrow { (hi -ℤ lo) <ℤ pos (2 ^ 63) }
+    requires least { number_of_key least ≡ lo }
+    requires code { code ≤ unsigned_abs (hi -ℤ lo) }
+    ensures { number_of_key result ≡ lo +ℤ pos code }
+{
+    least + code
 }
 
 /// The value of a code of a column, by its least and its greatest value.

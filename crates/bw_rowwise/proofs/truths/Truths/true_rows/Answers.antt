@@ -1,0 +1,26 @@
+-- The lanes of the rows that are TRUE, and zeros.
+use Rattle.std.proofs.Common.{◌∙◌, ap, ◌-◌, ◌<◌, ◌&&◌, false, get_or, arith}
+use Rattle.bw_model.specs.Groups.{group_size}
+use Rattle.bw_lanes.specs.Lanes.{lanes_of_words}
+use Rattle.bw_rowwise.proofs.LaneLemmas.{first_lane, last_lane, marked}
+use Rattle.bw_rowwise.proofs.TruthLemmas.{and_true, and_false}
+use Rattle.bw_rowwise.proofs.truths.Truths.true_rows.Goals as goal
+
+pub returns : goal.returns
+unfolding group_size
+returns c = λ f rows keeps a many each.
+    let count = c.args.rows in
+    let lanes = lanes_of_words c.args.self.now.yes in
+    marked (lanes_of_words c.both_lanes.result) rows keeps (record {
+      all = c.both_lanes.ensures.long;
+      few = omega (arith, many, c.requires);
+      kept = λ lane below.
+          let within : lane < 512 = omega (arith, many, c.requires, below) in
+          c.both_lanes.ensures.each lane within
+          ∙ ap (λ b. get_or lanes lane false && b) (ap (λ l. get_or l lane false) c.mask.ensures ∙ first_lane count (512 - count) lane (omega (arith, many, below)))
+          ∙ and_true (get_or lanes lane false) ∙ a.yes lane within ∙ each lane (omega (arith, many, below));
+      past = λ lane above within.
+          c.both_lanes.ensures.each lane within
+          ∙ ap (λ b. get_or lanes lane false && b) (ap (λ l. get_or l lane false) c.mask.ensures ∙ last_lane count (512 - count) lane (omega (arith, many, above)))
+          ∙ and_false (get_or lanes lane false);
+    })

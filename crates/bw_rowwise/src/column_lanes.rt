@@ -1,0 +1,110 @@
+//! The values of a column or of another operand in 512 lanes, one a row, and comparisons of them.
+ghost use Rattle.std.specs.Prelude.{◌≡◌, ◌<◌, ℕ, Bool, false, slice_index, slice_index_or};
+ghost use Rattle.bw_lanes.specs.Lanes.{lanes_of_words};
+ghost use Rattle.bw_model.specs.Row.{Value};
+ghost use Rattle.bw_model.specs.Truth.{compared, holds, is_null, truth_from};
+ghost use Rattle.bw_rowwise.specs.Lanes.{AreTruths, value_at};
+ghost use Rattle.bw_rowwise.specs.Numbers.{among_numbers};
+ghost use Rattle.bw_segment.specs.Keys.{number_of_key};
+
+use crate::numbers::Numbers;
+use crate::planes::{both_lanes, either_lanes, every_lane, other_lanes};
+use crate::truths::Truths;
+use bw_lanes::{LANES, Plane, bytes_eq, codes_eq, codes_lt, lane};
+use bw_model::{Op, Truth, Value};
+use bw_segment::{key, number};
+
+/// A value in each lane: the lanes that have none, and the keys of the values in the others.
+#[derive(Drop)]
+pub struct ColumnLanes {
+    pub none: Plane,
+    pub keys: [u64; LANES],
+}
+
+impl ColumnLanes {
+    /// The same value in each lane.
+    pub fn all(value: Value) -> Self
+        ensures { (lane : ℕ) → lane < 512 → value_at result lane ≡ value }
+    {
+        match value {
+            Some(n) => ColumnLanes {
+                none: every_lane(false),
+                keys: same_in_lanes(key(n)),
+            },
+            None => ColumnLanes {
+                none: every_lane(true),
+                keys: same_in_lanes(0),
+            },
+        }
+    }
+
+    /// The truth of a comparison with other values in each lane.
+    pub fn compared(&self, op: Op, other: &ColumnLanes) -> Truths
+        ensures { AreTruths result (λ lane. compared op (value_at self.now lane) (value_at other.now lane)) }
+    {
+        let none = either_lanes(&self.none, &other.none);
+        let holds = holding(op, &self.keys, &other.keys);
+        Truths {
+            yes: both_lanes(&holds, &other_lanes(&none)),
+            maybe: either_lanes(&holds, &none),
+        }
+    }
+
+    /// Whether the value in each lane is one of some numbers, as `IN` says.
+    pub fn among(&self, numbers: &Numbers) -> Truths
+        ensures { AreTruths result (λ lane. among_numbers (value_at self.now lane) numbers.now.sorted.items) }
+    {
+        let mut yes = [0; LANES];
+        let mut maybe = [0; LANES];
+        for lane in 0..LANES {
+            let truth = numbers.among(self.value(lane));
+            yes[lane] = (truth == Truth::Yes) as u8;
+            maybe[lane] = (truth != Truth::No) as u8;
+        }
+        Truths {
+            yes: bytes_eq(&yes, 1),
+            maybe: bytes_eq(&maybe, 1),
+        }
+    }
+
+    /// Whether the value in each lane is null.
+    pub fn nulls(&self) -> Truths
+        ensures { AreTruths result (λ lane. truth_from (is_null (value_at self.now lane))) }
+    {
+        Truths::of(self.none)
+    }
+
+    /// The value in a lane.
+    fn value(&self, at: usize) -> Value
+        requires { at < 512 }
+        ensures { result ≡ value_at self.now at }
+    {
+        if lane(&self.none, at) {
+            None
+        } else {
+            Some(number(self.keys[at]))
+        }
+    }
+}
+
+/// The lanes in which a comparison holds of the numbers of two keys.
+fn holding(op: Op, xs: &[u64; LANES], ys: &[u64; LANES]) -> Plane
+    ensures { (lane : ℕ) → lane < 512 → slice_index_or (lanes_of_words result) lane false
+        ≡ holds op (number_of_key (slice_index xs.now lane)) (number_of_key (slice_index ys.now lane)) }
+{
+    match op {
+        Op::Eq => codes_eq(xs, ys),
+        Op::Ne => other_lanes(&codes_eq(xs, ys)),
+        Op::Lt => codes_lt(xs, ys),
+        Op::Gt => codes_lt(ys, xs),
+        Op::Le => other_lanes(&codes_lt(ys, xs)),
+        Op::Ge => other_lanes(&codes_lt(xs, ys)),
+    }
+}
+
+/// The same key in each lane.
+fn same_in_lanes(key: u64) -> [u64; LANES]
+    ensures { (lane : ℕ) → lane < 512 → slice_index result lane ≡ key }
+{
+    [key; LANES]
+}

@@ -1,0 +1,65 @@
+//! A condition that the rows of segments are filtered by.
+ghost use Rattle.std.specs.Prelude.{◌≡◌, ◌-◌, ◌++◌, false, length, map, replicate, IfOk, IsOkUnless};
+ghost use Rattle.bw_lanes.specs.Lanes.{lanes_of_words};
+ghost use Rattle.bw_model.specs.Fault.{no_memory};
+ghost use Rattle.bw_model.specs.Groups.{group_size};
+ghost use Rattle.bw_model.specs.Truth.{is_truth};
+ghost use Rattle.bw_model.specs.declared.cond.Truth.TheVariants.{Yes};
+ghost use Rattle.bw_rowwise.specs.Prepared.{prepared_truth, IsPreparedFrom};
+
+use crate::prepared::Prepared;
+use crate::unpacked::Unpacked;
+use bw_lanes::Selection;
+use bw_model::{Cond, Fault};
+use bw_segment::Segment;
+use std::alloc::Global;
+use std::marker::Model;
+
+/// A condition, made ready, and room for the columns that it names.
+#[derive(Drop)]
+pub struct Filter {
+    cond: Prepared,
+    unpacked: Unpacked,
+}
+
+impl Model for Filter {
+    ghost use Rattle.bw_rowwise.specs.contracts.prepared.Prepared as prepared;
+    ghost use Rattle.bw_rowwise.specs.declared.prepared.Prepared.{Prepared};
+    ghost use Rattle.std.specs.Coded.{codes};
+
+    ghost Value = { Prepared };
+
+    ghost coded = { Prim.hlevel (codes, prepared.the_row.coded) };
+
+    ghost view = { λ filter. filter.cond };
+}
+
+impl Filter {
+    /// A condition, made ready. Refuses as 801 alone.
+    pub fn new(alloc: Global, cond: &Cond) -> Result<Self, Fault>
+        ensures prepared { IfOk result (IsPreparedFrom cond.now) }
+        ensures only_memory { IsOkUnless result no_memory }
+    {
+        let cond = Prepared::new(alloc, cond)?;
+        let unpacked = Unpacked::new(alloc, &cond)?;
+        Ok(Filter { cond, unpacked })
+    }
+
+    /// The condition, in the form that rows are tested by.
+    pub fn cond(&self) -> &Prepared
+        ensures { result.now ≡ self.now }
+    {
+        &self.cond
+    }
+
+    /// The rows of a segment on which the condition is TRUE: neither FALSE nor UNKNOWN will do. Lane i is row i's, and
+    /// 0 past the last row. Each column that the condition names is unpacked once.
+    pub fn rows_kept<S: Segment>(&mut self, segment: &S) -> Selection
+        ensures kept { lanes_of_words result
+            ≡ map (λ row. is_truth (prepared_truth row self.old) Yes) (S.meaning segment.now).rows
+            ++ replicate (group_size - length (S.meaning segment.now).rows) false }
+        ensures same { self.new ≡ self.old }
+    {
+        self.cond.rows_kept(segment, &mut self.unpacked)
+    }
+}
