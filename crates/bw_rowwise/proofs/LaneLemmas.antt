@@ -8,10 +8,6 @@ use Rattle.bw_model.specs.declared.column.Column.{Column}
 use Rattle.bw_model.specs.Row.{Value, value_in}
 use Rattle.bw_rowwise.specs.Prepared.{row_at}
 
-pub one_or_zero : (t : Bool) → (cond t 1 0 == 1) ≡ t
-one_or_zero true = refl
-one_or_zero false = refl
-
 -- in a list of the same each is that
 pub same_at : {A : Type 0} (a : A) (count i : ℕ) → get_or (replicate count a) i a ≡ a
 same_at a zero i = refl

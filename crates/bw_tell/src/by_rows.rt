@@ -9,25 +9,117 @@ use bw_sql::parse;
 use std::alloc::{AllocError, Global};
 use std::fmt::{self, Write};
 
-/// Says which part of a statement's condition has no scan program by itself, and why; nothing where the condition has
-/// one, or the statement is refused.
+/// How many parts of a condition the planner is asked for at most, and how many operands these may have in all. So
+/// little is told at once, however long the condition is.
+const PARTS: usize = 16;
+
+const OPERANDS: usize = 48;
+
+/// Says which part of a statement's condition has no scan program by itself, and why; nothing where there is no
+/// condition, or the statement is refused.
 pub(crate) fn of_rows(alloc: Global, schema: &Schema, sql: &[u8]) -> Result<String, AllocError> {
     let mut text = String::new(alloc);
     let Ok(query) = parse(alloc, schema, sql) else {
         return Ok(text);
     };
-    if has_program(alloc, schema, &query.cond) {
+    if matches!(query.cond, Cond::Always) {
         return Ok(text);
     }
-    let part = smallest(alloc, schema, &query.cond);
     let columns = &schema.columns;
+    let mut search = Search {
+        parts: PARTS,
+        operands: OPERANDS,
+        first: None,
+    };
+    let part = match first_apart(&query.cond, columns) {
+        Some(part) => part,
+        None => smallest(alloc, schema, &query.cond, &mut search),
+    };
     writeln!(
         text,
         "each row was looked at: there is no program for {}",
         Spelled { part, columns }
     )?;
-    writeln!(text, "{}", Reason { part, columns })?;
+    let first = search.first;
+    writeln!(
+        text,
+        "{}",
+        Reason {
+            part,
+            columns,
+            first
+        }
+    )?;
     Ok(text)
+}
+
+/// What the planner may still be asked for.
+struct Search {
+    parts: usize,
+    operands: usize,
+    /// How many parts of the last condition it was asked for, if it wasn't asked for all.
+    first: Option<usize>,
+}
+
+impl Search {
+    /// Whether the planner may be asked for a part, which is counted then.
+    fn takes(&mut self, part: &Cond) -> bool {
+        let operands = operands_in(part);
+        if self.parts == 0 || operands > self.operands {
+            return false;
+        }
+        self.parts -= 1;
+        self.operands -= operands;
+        true
+    }
+}
+
+/// How many operands a condition has, a long list counting as two.
+#[cycle(operands_in)]
+fn operands_in(cond: &Cond) -> usize {
+    match cond {
+        Cond::Always => 0,
+        Cond::Cmp(..) => 2,
+        Cond::Between(..) | Cond::Among(..) => 3,
+        Cond::IsNull(_) => 1,
+        Cond::And(parts) => operands_of(parts),
+        Cond::Or(parts) => operands_of(parts),
+        Cond::Not(part) => operands_in(part),
+        Cond::Test(part, _) => operands_in(part),
+    }
+}
+
+/// The same of some conditions.
+#[cycle(operands_in)]
+fn operands_of(parts: &[Cond]) -> usize {
+    let mut count: usize = 0;
+    for part in parts {
+        count = count.saturating_add(operands_in(part));
+    }
+    count
+}
+
+/// The first comparison within a condition of two columns whose least values differ.
+#[cycle(first_apart)]
+fn first_apart<'a>(cond: &'a Cond, columns: &[Column]) -> Option<&'a Cond> {
+    match cond {
+        Cond::And(parts) => first_apart_of(parts, columns),
+        Cond::Or(parts) => first_apart_of(parts, columns),
+        Cond::Not(part) => first_apart(part, columns),
+        Cond::Test(part, _) => first_apart(part, columns),
+        _ => apart(cond, columns).map(|_| cond),
+    }
+}
+
+/// The same within the first of some conditions that has one.
+#[cycle(first_apart)]
+fn first_apart_of<'a>(parts: &'a [Cond], columns: &[Column]) -> Option<&'a Cond> {
+    for part in parts {
+        if let Some(found) = first_apart(part, columns) {
+            return Some(found);
+        }
+    }
+    None
 }
 
 /// Whether the planner has a program for a condition.
@@ -38,30 +130,41 @@ fn has_program(alloc: Global, schema: &Schema, cond: &Cond) -> bool
 }
 
 /// The smallest part of a condition that has no program by itself: within the first such part, or the condition where
-/// each of its parts has one.
+/// none of its parts that the planner was asked for is one.
 #[tactic(auto, using(bw_model::proofs::CondLemmas::names))]
 #[cycle(smallest)]
-fn smallest<'a>(alloc: Global, schema: &Schema, cond: &'a Cond) -> &'a Cond
+fn smallest<'a>(alloc: Global, schema: &Schema, cond: &'a Cond, search: &mut Search) -> &'a Cond
     requires { IsTrue (names_within (length schema.now.columns.items) cond.now) }
 {
     match cond {
-        Cond::And(parts) => smallest_of(alloc, schema, parts).unwrap_or(cond),
-        Cond::Or(parts) => smallest_of(alloc, schema, parts).unwrap_or(cond),
-        Cond::Not(part) => smallest(alloc, schema, part),
-        Cond::Test(part, _) => smallest(alloc, schema, part),
+        Cond::And(parts) => smallest_of(alloc, schema, parts, search).unwrap_or(cond),
+        Cond::Or(parts) => smallest_of(alloc, schema, parts, search).unwrap_or(cond),
+        Cond::Not(part) => smallest(alloc, schema, part, search),
+        Cond::Test(part, _) => smallest(alloc, schema, part, search),
         _ => cond,
     }
 }
 
 /// The same within the first of some parts that has no program.
 #[cycle(smallest)]
-fn smallest_of<'a>(alloc: Global, schema: &Schema, parts: &'a [Cond]) -> Option<&'a Cond>
+fn smallest_of<'a>(
+    alloc: Global,
+    schema: &Schema,
+    parts: &'a [Cond],
+    search: &mut Search,
+) -> Option<&'a Cond>
     requires { IsTrue (list_all (names_within (length schema.now.columns.items)) parts.now) }
 {
+    let mut asked: usize = 0;
     for part in parts {
-        if !has_program(alloc, schema, part) {
-            return Some(smallest(alloc, schema, part));
+        if !search.takes(part) {
+            search.first = Some(asked);
+            return None;
         }
+        if !has_program(alloc, schema, part) {
+            return Some(smallest(alloc, schema, part, search));
+        }
+        asked = asked.saturating_add(1);
     }
     None
 }
@@ -135,6 +238,8 @@ fn text_of(column: &Column) -> &str {
 struct Reason<'a> {
     part: &'a Cond,
     columns: &'a [Column],
+    /// How many of its parts the planner was asked for, if it wasn't asked for all.
+    first: Option<usize>,
 }
 
 impl fmt::Display for Reason<'_> {
@@ -148,6 +253,19 @@ impl fmt::Display for Reason<'_> {
                 text_of(other),
                 other.lo
             );
+        }
+        match (self.part, self.first) {
+            (Cond::And(_) | Cond::Or(_), Some(0)) => {
+                return f.write_str("its parts are too long to be looked at one by one");
+            }
+            (Cond::And(_) | Cond::Or(_), Some(first)) => {
+                return write!(
+                    f,
+                    "of its parts the first {} have one each, and the others weren't looked at",
+                    first
+                );
+            }
+            _ => {}
         }
         f.write_str(match self.part {
             Cond::Among(..) =>
