@@ -261,7 +261,7 @@ impl fmt::Display for Reason<'_> {
             (Cond::And(_) | Cond::Or(_), Some(first)) => {
                 return write!(
                     f,
-                    "of its parts the first {} have one each, and the others weren't looked at",
+                    "the planner was only asked for its first parts, {} of them, and has one for each",
                     first
                 );
             }
