@@ -54,6 +54,7 @@ pub(crate) fn of_rows(alloc: Global, schema: &Schema, sql: &[u8]) -> Result<Stri
 }
 
 /// What the planner may still be asked for.
+#[derive(Drop)]
 struct Search {
     parts: usize,
     operands: usize,
