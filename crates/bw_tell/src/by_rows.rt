@@ -31,10 +31,7 @@ pub(crate) fn of_rows(alloc: Global, schema: &Schema, sql: &[u8]) -> Result<Stri
         operands: OPERANDS,
         first: None,
     };
-    let part = match first_apart(&query.cond, columns) {
-        Some(part) => part,
-        None => smallest(alloc, schema, &query.cond, &mut search),
-    };
+    let part = part_without(alloc, schema, &query.cond, &mut search);
     writeln!(
         text,
         "each row was looked at: there is no program for {}",
@@ -51,6 +48,22 @@ pub(crate) fn of_rows(alloc: Global, schema: &Schema, sql: &[u8]) -> Result<Stri
         }
     )?;
     Ok(text)
+}
+
+/// The part of a condition that is to be named: its first comparison of columns whose least values differ, or else its
+/// smallest part without a program.
+fn part_without<'a>(
+    alloc: Global,
+    schema: &Schema,
+    cond: &'a Cond,
+    search: &mut Search,
+) -> &'a Cond
+    requires { IsTrue (names_within (length schema.now.columns.items) cond.now) }
+{
+    match first_apart(cond, &schema.columns) {
+        Some(part) => part,
+        None => smallest(alloc, schema, cond, search),
+    }
 }
 
 /// What the planner may still be asked for.
