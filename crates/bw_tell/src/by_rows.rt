@@ -52,12 +52,7 @@ pub(crate) fn of_rows(alloc: Global, schema: &Schema, sql: &[u8]) -> Result<Stri
 
 /// The part of a condition that is to be named: its first comparison of columns whose least values differ, or else its
 /// smallest part without a program.
-fn part_without<'a>(
-    alloc: Global,
-    schema: &Schema,
-    cond: &'a Cond,
-    search: &mut Search,
-) -> &'a Cond
+fn part_without<'a>(alloc: Global, schema: &Schema, cond: &'a Cond, search: &mut Search) -> &'a Cond
     requires { IsTrue (names_within (length schema.now.columns.items) cond.now) }
 {
     match first_apart(cond, &schema.columns) {
