@@ -199,6 +199,7 @@ fn answer_from<'a>(
     let mut source = ahead(rt, &mut table)?;
     let mut out = ToWrite::new(rt.stdout());
     let done = answer(rt.alloc(), &mut source, sql, program, &mut out);
+    drop(source);
     or_ended(done, &[(path, table.reads())])
 }
 
@@ -223,6 +224,7 @@ fn run_info<'a>(rt: &HostRuntime, table_path: &'a str) -> Result<(), Ended<'a>> 
     let mut table = open(rt, table_path)?;
     let mut source = ahead(rt, &mut table)?;
     let done = info(rt.alloc(), &mut source, &mut ToWrite::new(rt.stdout()));
+    drop(source);
     or_ended(done, &[(table_path, table.reads())])
 }
 
@@ -231,6 +233,7 @@ fn run_dump<'a>(rt: &HostRuntime, table_path: &'a str) -> Result<(), Ended<'a>> 
     let mut table = open(rt, table_path)?;
     let mut source = ahead(rt, &mut table)?;
     let done = dump(rt.alloc(), &mut source, &mut ToWrite::new(rt.stdout()));
+    drop(source);
     or_ended(done, &[(table_path, table.reads())])
 }
 
