@@ -1,17 +1,18 @@
 -- The truth of each kind of prepared condition.
-use Rattle.std.proofs.Common.{◌≡◌, ◌∙◌, List, map, Vec, Box, Global, sym, ap}
+use Rattle.std.proofs.Common.{IfSome, IsSomeAnd, Option, Some, None, ◌≡◌, ◌∙◌, ◌<◌, ◌+◌, ℕ, List, [], ◌∷◌, ◌++◌, get_or, length, map, take, Vec, Box, Global, sym, ap}
 use Rattle.bw_model.specs.declared.cond.Truth.{Truth}
 use Rattle.bw_model.specs.declared.cond.Truth.TheVariants.{Yes}
 use Rattle.bw_model.specs.declared.cond.Op.{Op}
 use Rattle.bw_model.specs.declared.cond.Operand.{Operand}
 use Rattle.bw_model.specs.Cond.{operand_value}
 use Rattle.bw_model.specs.Row.{Value}
-use Rattle.bw_model.specs.Truth.{all_of, among, any_of, between, compared, greatest, is_null, is_truth, negation, truth_from}
+use Rattle.bw_model.specs.Truth.{all_of, among, any_of, between, compared, greatest, is_null, is_truth, least, negation, truth_from}
 use Rattle.bw_rowwise.specs.declared.numbers.Numbers.{Numbers}
 use Rattle.bw_rowwise.specs.declared.prepared.Prepared.{Prepared, Prepared-F, fold-roll-Prepared}
 use Rattle.bw_rowwise.specs.declared.prepared.Prepared.TheVariants.{Always, Cmp, Between, Among, IsNull, And, Or, Not, Test, rolls-Always, rolls-Cmp, rolls-Between, rolls-Among, rolls-IsNull, rolls-And, rolls-Or, rolls-Not, rolls-Test}
 use Rattle.bw_rowwise.specs.Numbers.{among_numbers}
-use Rattle.bw_rowwise.specs.Prepared.{prepared_step, prepared_truth}
+use Rattle.bw_rowwise.specs.Prepared.{prepared_step, prepared_truth, JoinAlike}
+use Rattle.bw_rowwise.proofs.TruthLemmas.{all_more, all_pushed, any_more, any_pushed, greatest-twice, least-twice}
 
 pub truth-Always : (row : List Value) → prepared_truth row Always ≡ Yes
 unfolding prepared_truth
@@ -51,3 +52,39 @@ unfolding prepared_truth
 truth-Test row part t = ap (prepared_truth row) (sym (rolls-Test part t)) ∙ fold-roll-Prepared Truth (prepared_step row) (Prepared-F.Test part t)
 
 pub ruleset truths = (truth-Always, truth-Cmp, truth-Between, truth-Among, truth-IsNull, truth-And, truth-Or, truth-Not, truth-Test)
+
+-- AND of some truths is the same with one more, and so is OR
+pub record Absorbs (truths : List Truth) (t : Truth) : Type 0 where
+  pub all : least (all_of truths) t ≡ all_of truths
+  pub any : greatest (any_of truths) t ≡ any_of truths
+
+-- one part more that changes nothing
+pub alike_repeated : {A : Type 0} (f : A → Truth) (those : List Truth) (parts : List A) (i : ℕ) (x : A) (t : Truth)
+    → i < length parts → x ≡ get_or parts i x → t ≡ f x → Absorbs (map f (take i parts)) t
+    → JoinAlike those (map f (take i parts)) → JoinAlike those (map f (take (i + 1) parts))
+alike_repeated f those parts i x t within is same absorbs alike = record {
+  all = alike.all ∙ sym absorbs.all ∙ ap (least (all_of (map f (take i parts)))) same ∙ all_more f parts i x within is;
+  any = alike.any ∙ sym absorbs.any ∙ ap (greatest (any_of (map f (take i parts)))) same ∙ any_more f parts i x within is;
+}
+
+-- one part more at the end of both lists
+pub alike_pushed : {A B : Type 0} (g : B → Truth) (f : A → Truth) (made : List B) (parts : List A) (i : ℕ) (x : A) (y : B)
+    → i < length parts → x ≡ get_or parts i x → g y ≡ f x
+    → JoinAlike (map g made) (map f (take i parts)) → JoinAlike (map g (made ++ y ∷ [])) (map f (take (i + 1) parts))
+alike_pushed g f made parts i x y within is same alike = record {
+  all = all_pushed g made y ∙ ap (least (all_of (map g made))) same ∙ ap (λ t. least t (f x)) alike.all ∙ all_more f parts i x within is;
+  any = any_pushed g made y ∙ ap (greatest (any_of (map g made))) same ∙ ap (λ t. greatest t (f x)) alike.any ∙ any_more f parts i x within is;
+}
+
+-- the last part once more changes nothing
+pub last_absorbed : {A : Type 0} (f : A → Truth) (parts : List A) (i : ℕ) (x : A)
+    → i < length parts → x ≡ get_or parts i x → Absorbs (map f (take (i + 1) parts)) (f x)
+last_absorbed f parts i x within is = record {
+  all = ap (λ t. least t (f x)) (sym (all_more f parts i x within is)) ∙ least-twice (all_of (map f (take i parts))) (f x) ∙ all_more f parts i x within is;
+  any = ap (λ t. greatest t (f x)) (sym (any_more f parts i x within is)) ∙ greatest-twice (any_of (map f (take i parts))) (f x) ∙ any_more f parts i x within is;
+}
+
+-- what follows of the value that two statements are about
+pub some_both : {A : Type 0} {P Q : A → Type 0} {R : Type 0} (found : Option A) → IsSomeAnd found P → IfSome found Q → ((a : A) → P a → Q a → R) → R
+some_both (Some a) p q then = then a p q
+some_both None p q then = absurd p

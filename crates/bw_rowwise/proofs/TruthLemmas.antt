@@ -160,6 +160,32 @@ any_more f parts i x within is =
     sym (ap (λ l. any_of (map f l)) (take_more parts i x within ∙ ap (λ y. take i parts ++ y ∷ []) (sym is)) ∙ ap any_of (map-append f (take i parts) (x ∷ []))
     ∙ any_of-append (map f (take i parts)) (f x ∷ []) ∙ ap (greatest (any_of (map f (take i parts)))) (greatest-No (f x)))
 
+-- the same of one part more at a list's end
+pub all_pushed : {A : Type 0} (f : A → Truth) (parts : List A) (x : A) → all_of (map f (parts ++ x ∷ [])) ≡ least (all_of (map f parts)) (f x)
+all_pushed f parts x = ap all_of (map-append f parts (x ∷ [])) ∙ all_of-append (map f parts) (f x ∷ []) ∙ ap (least (all_of (map f parts))) (least-Yes (f x))
+
+pub any_pushed : {A : Type 0} (f : A → Truth) (parts : List A) (x : A) → any_of (map f (parts ++ x ∷ [])) ≡ greatest (any_of (map f parts)) (f x)
+any_pushed f parts x = ap any_of (map-append f parts (x ∷ [])) ∙ any_of-append (map f parts) (f x ∷ []) ∙ ap (greatest (any_of (map f parts))) (greatest-No (f x))
+
+-- AND with a truth twice is AND with it once, and so is OR
+pub least-twice : (a b : Truth) → least (least a b) b ≡ least a b
+least-twice No b = refl
+least-twice Yes No = refl
+least-twice Yes Unknown = refl
+least-twice Yes Yes = refl
+least-twice Unknown No = refl
+least-twice Unknown Unknown = refl
+least-twice Unknown Yes = refl
+
+pub greatest-twice : (a b : Truth) → greatest (greatest a b) b ≡ greatest a b
+greatest-twice Yes b = refl
+greatest-twice No No = refl
+greatest-twice No Unknown = refl
+greatest-twice No Yes = refl
+greatest-twice Unknown No = refl
+greatest-twice Unknown Unknown = refl
+greatest-twice Unknown Yes = refl
+
 -- once one is TRUE so are all
 pub any_true : {A : Type 0} (f : A → Truth) (parts : List A) (i : ℕ) → any_of (map f (take i parts)) ≡ Yes → Yes ≡ any_of (map f parts)
 any_true f parts i is =

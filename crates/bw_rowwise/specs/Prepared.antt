@@ -32,6 +32,11 @@ prepared_truth row cond = fold-Prepared Truth (prepared_step row) cond
 abbrev pub IsPreparedFrom : Cond → Prepared → Type 0
 IsPreparedFrom cond prepared = (row : List Value) → prepared_truth row prepared ≡ truth_of row cond
 
+-- AND of some truths is AND of others, and so is OR
+pub record JoinAlike (these those : List Truth) : Type 0 where
+  pub all : all_of these ≡ all_of those
+  pub any : any_of these ≡ any_of those
+
 -- the row in a lane, which past the last row has no values
 abbrev pub row_at : List (List Value) → ℕ → List Value
 row_at rows lane = slice_index_or rows lane []

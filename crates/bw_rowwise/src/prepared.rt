@@ -1,11 +1,11 @@
 //! Conditions made ready for many rows: the numbers of each list are sorted.
-ghost use Rattle.std.specs.Prelude.{◌≡◌, List, map, IfOk, IsOkUnless};
+ghost use Rattle.std.specs.Prelude.{◌≡◌, List, map, IfOk, IsOkUnless, IsSomeAnd, IsTrue};
 ghost use Rattle.bw_model.specs.Cond.{operand_value, truth_of};
 ghost use Rattle.bw_model.specs.Fault.{no_memory};
 ghost use Rattle.bw_model.specs.Row.{Value};
 ghost use Rattle.bw_model.specs.Truth.{among, greatest};
 ghost use Rattle.bw_rowwise.specs.Numbers.{among_numbers};
-ghost use Rattle.bw_rowwise.specs.Prepared.{prepared_truth, IsPreparedFrom};
+ghost use Rattle.bw_rowwise.specs.Prepared.{prepared_truth, IsPreparedFrom, JoinAlike};
 
 use crate::numbers::Numbers;
 use bw_model::{Cond, Fault, Op, Operand, Truth};
@@ -62,18 +62,51 @@ impl Prepared {
     }
 }
 
-/// Conditions, made ready, in their order.
+/// Conditions, made ready, in their order: of equal comparisons that follow one another the first one alone. AND and OR
+/// of them all have the truths that they have of the conditions.
 #[cycle(new)]
 fn all_of(alloc: Global, conds: &[Cond]) -> Result<Vec<Prepared>, Fault>
     ensures prepared { IfOk result (λ prepared. (row : List Value)
-        → map (prepared_truth row) prepared.items ≡ map (truth_of row) conds.now) }
+        → JoinAlike (map (prepared_truth row) prepared.items) (map (truth_of row) conds.now)) }
     ensures only_memory { IsOkUnless result no_memory }
 {
     let mut prepared = Vec::with_capacity(alloc, conds.len())?;
+    let mut last = None;
     for cond in conds {
-        prepared.push(Prepared::new(alloc, cond)?)?;
+        if !repeats(last, cond) {
+            prepared.push(Prepared::new(alloc, cond)?)?;
+        }
+        last = Some(cond);
     }
     Ok(prepared)
+}
+
+/// Whether a condition is the same comparison as the one before it.
+#[tactic(auto, using(bw_model::proofs::CondLemmas::truths))]
+fn repeats(last: Option<&Cond>, cond: &Cond) -> bool
+    ensures { IsTrue result → IsSomeAnd last.entry (λ last. (row : List Value)
+        → truth_of row last.now ≡ truth_of row cond.now) }
+{
+    match (last, cond) {
+        (Some(Cond::Cmp(op, x, y)), Cond::Cmp(other, z, w)) => {
+            is_same(*op, *other) && is_operand(*x, *z) && is_operand(*y, *w)
+        }
+        _ => false,
+    }
+}
+
+/// Whether two comparisons are of one kind.
+fn is_same(op: Op, other: Op) -> bool
+    ensures { IsTrue result → op ≡ other }
+{
+    op == other
+}
+
+/// Whether two operands are one.
+fn is_operand(x: Operand, y: Operand) -> bool
+    ensures { IsTrue result → x ≡ y }
+{
+    x == y
 }
 
 /// The numbers among the items of a list, sorted, and the other items.
