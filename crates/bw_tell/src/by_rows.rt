@@ -11,7 +11,7 @@ use std::fmt::{self, Write};
 
 /// How many parts of a condition the planner is asked for at most, and how many operands these may have in all. So
 /// little is told at once, however long the condition is.
-const PARTS: usize = 16;
+const PARTS: usize = 4;
 
 const OPERANDS: usize = 48;
 
