@@ -86,6 +86,11 @@ impl Chains {
         }
     }
 
+    /// Drops the chains from this number on.
+    pub(crate) fn truncate(&mut self, number: usize) {
+        self.links.truncate(number);
+    }
+
     /// The chain that compares bits of a column, from `start` on, with a number, with those of
     /// fewer bits added where they aren't there.
     pub(crate) fn bound(

@@ -1,7 +1,7 @@
 //! Instructions, with the node of each register.
 use crate::chains::Kind;
 use crate::digits::Digits;
-use crate::facts::Facts;
+use crate::facts::{Extent, Facts};
 use crate::order::VariableOrder;
 use crate::products::Logic;
 use crate::refusal::Refusal;
@@ -12,6 +12,11 @@ use std::alloc::Global;
 
 /// A program has at most this many instructions.
 const MAX_INSTRUCTIONS: usize = 4096;
+
+/// A program without skips looks at so many bytes at most. A look takes some 40 ns a segment, another instruction 3,
+/// and to look up the 512 rows of a segment some 50 microseconds: with more looks that is faster. With skips an
+/// instruction takes 10 ns, so that no program that fits is slower than that.
+const MAX_LOOKS: usize = 1000;
 
 /// All comparisons of two columns from the top down take six times as many nodes at most. A comparison takes six
 /// times the square of the number of its bits.
@@ -25,6 +30,13 @@ pub(crate) struct RegisterState {
     needed: bool,
     is_plane: bool,
 }
+
+/// A register that holds nothing.
+const UNUSED: RegisterState = RegisterState {
+    node: None,
+    needed: false,
+    is_plane: false,
+};
 
 /// A skip whose target is still to come: its number, the place of its line, the node of its
 /// register, and the nodes of all registers there.
@@ -57,21 +69,13 @@ pub(crate) struct Code<'a> {
     meeting: usize,
     /// Whether there are to be skips.
     with_skips: bool,
+    /// How many instructions look at a byte.
+    looks: usize,
 }
 
 impl<'a> Code<'a> {
-    /// No instructions, after the lines of a condition.
-    pub(crate) fn new(
-        alloc: Global,
-        facts: Facts<'a>,
-        lines: Vec<Entry>,
-        with_skips: bool,
-    ) -> Self {
-        let register = RegisterState {
-            node: None,
-            needed: false,
-            is_plane: false,
-        };
+    /// No instructions, after the lines of a condition. There are to be skips.
+    pub(crate) fn new(alloc: Global, facts: Facts<'a>, lines: Vec<Entry>) -> Self {
         Code {
             alloc,
             facts,
@@ -81,11 +85,28 @@ impl<'a> Code<'a> {
             digits: None,
             top_digit: None,
             has_few_skips: false,
-            registers: [register; 64],
+            registers: [UNUSED; 64],
             skips: Vec::new(alloc),
             meeting: usize::MAX,
-            with_skips,
+            with_skips: true,
+            looks: 0,
         }
+    }
+
+    /// Begins again, without skips, after so many facts and lines.
+    pub(crate) fn begin_again(&mut self, facts: Extent, lines: usize) {
+        self.facts.return_to(facts);
+        self.lines.truncate(lines);
+        self.instrs.clear();
+        self.order = VariableOrder::Whole;
+        self.digits = None;
+        self.top_digit = None;
+        self.has_few_skips = false;
+        self.registers = [UNUSED; 64];
+        self.skips.clear();
+        self.meeting = usize::MAX;
+        self.with_skips = false;
+        self.looks = 0;
     }
 
     /// Appends an instruction and its line.
@@ -236,6 +257,10 @@ impl<'a> Code<'a> {
         let cited = self.facts.bound(kind, column, start, len, u64::from(byte))?;
         if let Some(register) = self.held(cited.node)? {
             return Ok(register);
+        }
+        self.looks = self.looks.saturating_add(1);
+        if !self.with_skips && self.looks > MAX_LOOKS {
+            return Err(Refusal::NoProgram);
         }
         let register = self.claim()?;
         let instr = match kind {
@@ -509,14 +534,6 @@ impl<'a> Code<'a> {
         let skip = self.skips.get(at)?;
         let held = skip.nodes.get(register as usize).copied()?;
         Some((skip.tested, held?))
-    }
-
-    /// How many instructions look at a byte.
-    pub(crate) fn looks(&self) -> usize {
-        self.instrs
-            .iter()
-            .filter(|instr| matches!(instr, Instr::ByteLt(..) | Instr::ByteEq(..)))
-            .count()
     }
 
     /// Whether a skip stands among the instructions from a number on.

@@ -9,6 +9,14 @@ use bw_program::ColumnIndex;
 use indexmap::IndexMap;
 use std::alloc::Global;
 
+/// How many nodes, chains and product rows there are.
+#[derive(Clone, Copy)]
+pub(crate) struct Extent {
+    nodes: usize,
+    chains: usize,
+    products: usize,
+}
+
 /// The nodes, chains and product rows of a certificate, under a schema. Each stands once, after
 /// those that it follows from, and is added where it is first asked for.
 #[derive(Drop)]
@@ -33,6 +41,22 @@ impl<'a> Facts<'a> {
         })
     }
 
+    /// How many there are so far.
+    pub(crate) fn extent(&self) -> Extent {
+        Extent {
+            nodes: self.nodes().len(),
+            chains: self.chains.links.len(),
+            products: self.products.rows.len(),
+        }
+    }
+
+    /// Drops what came after there were so many.
+    pub(crate) fn return_to(&mut self, extent: Extent) {
+        self.products.truncate(extent.products);
+        self.chains.truncate(extent.chains);
+        self.nodes.truncate(extent.nodes);
+    }
+
     /// The nodes, of which the first has number 2.
     pub(crate) fn nodes(&self) -> &[Branch] {
         self.nodes.as_slice()
@@ -49,7 +73,7 @@ impl<'a> Facts<'a> {
     }
 
     /// The product row of a connective of nodes `a` and `b`, whose variables are tested in this
-    /// order. Refused is, as `NoProgram`, what would pass 65,534 nodes or 1,048,576 rows.
+    /// order. Refused is, as `NoProgram`, what would pass 65,534 nodes or the planner's limit of rows.
     pub(crate) fn row(
         &mut self,
         order: VariableOrder,

@@ -29,6 +29,11 @@ impl Nodes {
         }
     }
 
+    /// Drops the nodes but so many.
+    pub(crate) fn truncate(&mut self, count: usize) {
+        self.set.truncate(count);
+    }
+
     /// The nodes, of which the first has number 2.
     pub(crate) fn as_slice(&self) -> &[Branch] {
         self.set.as_slice()

@@ -19,11 +19,6 @@ use bw_model::{Cond, Fault, Schema};
 use bw_program::{Program, Register};
 use std::alloc::Global;
 
-/// A program without skips looks at so many bytes at most. A look takes some 40 ns a segment, another
-/// instruction 3, and to look up the 512 rows of a segment some 50 microseconds: with more looks that
-/// is faster. With skips an instruction takes 10 ns, so that no program that fits is slower than that.
-const MOST_LOOKS: usize = 1000;
-
 /// A program for a condition, and a certificate that is to show that it selects the right rows.
 #[derive(Drop)]
 pub struct Proposal {
@@ -43,51 +38,37 @@ pub fn propose(alloc: Global, schema: &Schema, cond: &Cond) -> Result<Proposal, 
         IsTrue (has_columns schema.now.columns.items (certificate_fields proposal.certificate))) }
     ensures fault { IfErr result IsRefusal }
 {
-    let made = match planned(alloc, schema, cond, true) {
-        Err(Refusal::NoProgram) => planned(alloc, schema, cond, false),
-        made => made,
-    };
-    match made {
+    match planned(alloc, schema, cond) {
         Ok(proposal) => Ok(proposal),
         Err(refusal) => Err(refusal.fault()),
     }
 }
 
-/// A program for a condition, with skips or without, when it takes fewer instructions and nodes.
-fn planned(
-    alloc: Global,
-    schema: &Schema,
-    cond: &Cond,
-    with_skips: bool,
-) -> Result<Proposal, Refusal>
+/// A program for a condition: with skips, or if that isn't to be had, without, when it takes fewer instructions and
+/// nodes.
+fn planned(alloc: Global, schema: &Schema, cond: &Cond) -> Result<Proposal, Refusal>
     ensures program { IfOk result (λ proposal.
         IsTrue (fits schema.now.columns.items proposal.program)) }
     ensures certificate { IfOk result (λ proposal.
         IsTrue (has_columns schema.now.columns.items (certificate_fields proposal.certificate))) }
 {
-    let (node, mut code) = begun(alloc, schema, cond, with_skips)?;
-    let (program, row) = programmed(schema, cond, node, &mut code, with_skips)?;
+    let mut facts = Facts::new(alloc, schema, cond)?;
+    let mut lines = Vec::new(alloc);
+    let node = steps_of(&mut facts, &mut lines, cond)?.yes;
+    let (extent, count) = (facts.extent(), lines.len());
+    let mut code = Code::new(alloc, facts, lines);
+    let (program, row) = match programmed(schema, cond, node, &mut code) {
+        Err(Refusal::NoProgram) => {
+            code.begin_again(extent, count);
+            programmed(schema, cond, node, &mut code)?
+        }
+        made => made?,
+    };
     let certificate = certified(schema, code, row)?;
     Ok(Proposal {
         program,
         certificate,
     })
-}
-
-/// The node of a condition, and no instructions yet after the lines that say so.
-fn begun<'a>(
-    alloc: Global,
-    schema: &'a Schema,
-    cond: &Cond,
-    with_skips: bool,
-) -> Result<(u32, Code<'a>), Refusal> {
-    let mut facts = Facts::new(alloc, schema, cond)?;
-    let mut lines = Vec::new(alloc);
-    let pair = match steps_of(&mut facts, &mut lines, cond) {
-        Err(Refusal::NoProgram) => return Err(Refusal::NoLines),
-        made => made?,
-    };
-    Ok((pair.yes, Code::new(alloc, facts, lines, with_skips)))
 }
 
 /// The program of a condition that has this node, and the row that says that its answer has it too.
@@ -96,14 +77,10 @@ fn programmed(
     cond: &Cond,
     node: u32,
     code: &mut Code<'_>,
-    with_skips: bool,
 ) -> Result<(Program, u32), Refusal>
     ensures { IfOk result (λ made. IsTrue (fits schema.now.columns.items made.0)) }
 {
     let answer = written(code, cond)?;
-    if !with_skips && code.looks() > MOST_LOOKS {
-        return Err(Refusal::NoProgram);
-    }
     let row = agreeing(code, answer, node)?;
     let program = emit::program(code.alloc, schema, &code.instrs, answer)?;
     Ok((program, row))

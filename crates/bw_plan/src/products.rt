@@ -6,11 +6,12 @@ use bw_diagram::Connective;
 use indexmap::IndexMap;
 use std::alloc::Global;
 
-/// A certificate has at most this many product rows.
-const MAX_PRODUCTS: usize = 1_048_576;
+/// The planner works out so many product rows for a condition at most, those of a program that it gives up among them. A
+/// certificate may have more, but to work them out takes longer than to look up the rows of a small table.
+const MAX_PRODUCTS: usize = 80_000;
 
-/// More steps than the rows of a certificate take: each is looked at three times at most.
-const MAX_STEPS: u32 = 4_000_000;
+/// More steps than so many rows take: each is begun, goes on twice, and is asked for twice at most.
+const MAX_STEPS: u32 = 1_000_000;
 
 /// A connective of two nodes: `Diff` is 1 where the first is 1 and the second 0.
 #[derive(Clone, Copy, PartialEq, Eq, Hash)]
@@ -66,11 +67,30 @@ pub(crate) struct Cited {
     pub(crate) node: u32,
 }
 
+/// A row that is being worked out: of what, the variable by which its nodes are split, what the row is of where that
+/// variable is 1, and the row where it is 0, once that is known.
+#[derive(Clone, Copy)]
+struct Pending {
+    question: Question,
+    variable: u32,
+    high: Question,
+    low: Option<Cited>,
+}
+
+/// What comes next: a row that is to be found, or one that was.
+#[derive(Clone, Copy)]
+enum Next {
+    Find(Question),
+    Found(Cited),
+}
+
 /// The product rows, in order.
 #[derive(Drop)]
 pub(crate) struct Products {
     pub(crate) rows: IndexMap<Question, Outcome>,
-    work: Vec<Question>,
+    pending: Vec<Pending>,
+    /// How many rows may still be worked out.
+    room: usize,
 }
 
 impl Products {
@@ -78,8 +98,14 @@ impl Products {
     pub(crate) fn new(alloc: Global) -> Self {
         Products {
             rows: IndexMap::new(alloc),
-            work: Vec::new(alloc),
+            pending: Vec::new(alloc),
+            room: MAX_PRODUCTS,
         }
+    }
+
+    /// Drops the rows from this number on. They count as worked out.
+    pub(crate) fn truncate(&mut self, number: usize) {
+        self.rows.truncate(number);
     }
 
     /// The row that answers a question, with those that it follows from added where they aren't
@@ -90,20 +116,62 @@ impl Products {
         nodes: &mut Nodes,
         asked: Question,
     ) -> Result<Cited, Refusal> {
-        if let Some(cited) = self.known(asked) {
-            return Ok(cited);
-        }
-        self.work.clear();
-        self.work.push(asked)?;
+        self.pending.clear();
+        let mut next = Next::Find(asked);
         for _ in 0..MAX_STEPS {
-            let Some(question) = self.work.pop() else {
-                break;
+            next = match next {
+                Next::Find(question) => self.find(ranks, nodes, question)?,
+                Next::Found(row) => {
+                    let Some(pending) = self.pending.pop() else {
+                        return Ok(row);
+                    };
+                    self.resume(nodes, pending, row)?
+                }
             };
-            if self.known(question).is_none() {
-                self.take(ranks, nodes, question)?;
-            }
         }
-        self.known(asked).ok_or(Refusal::NoProgram)
+        Err(Refusal::NoProgram)
+    }
+
+    /// The row of a question, if it is there or is a shortcut; else first that where the variable by which it is split
+    /// is 0.
+    fn find(&mut self, ranks: &Ranks, nodes: &Nodes, question: Question) -> Result<Next, Refusal> {
+        if let Some(row) = self.known(question) {
+            return Ok(Next::Found(row));
+        }
+        if let Some(node) = shortcut(question) {
+            return self.add(question, Outcome { node, reason: None });
+        }
+        let variable = top(ranks, nodes, question)?;
+        self.pending.push(Pending {
+            question,
+            variable,
+            high: cofactor(nodes, question, variable, true),
+            low: None,
+        })?;
+        Ok(Next::Find(cofactor(nodes, question, variable, false)))
+    }
+
+    /// Goes on with a row that waited for another one, which was found.
+    fn resume(
+        &mut self,
+        nodes: &mut Nodes,
+        pending: Pending,
+        found: Cited,
+    ) -> Result<Next, Refusal> {
+        let Some(low) = pending.low else {
+            self.pending.push(Pending {
+                low: Some(found),
+                ..pending
+            })?;
+            return Ok(Next::Find(pending.high));
+        };
+        let node = nodes.choice(pending.variable, low.node, found.node)?;
+        let reason = Some(Cofactors {
+            variable: pending.variable,
+            low: low.number,
+            high: found.number,
+        });
+        self.add(pending.question, Outcome { node, reason })
     }
 
     /// The row that answers a question, if it is there.
@@ -115,41 +183,18 @@ impl Products {
         })
     }
 
-    /// Adds the row of a question, or puts what it follows from before it.
-    fn take(
-        &mut self,
-        ranks: &Ranks,
-        nodes: &mut Nodes,
-        question: Question,
-    ) -> Result<(), Refusal> {
-        if let Some(node) = shortcut(question) {
-            return self.add(question, Outcome { node, reason: None });
-        }
-        let variable = top(ranks, nodes, question)?;
-        let low = cofactor(nodes, question, variable, false);
-        let high = cofactor(nodes, question, variable, true);
-        let (Some(first), Some(second)) = (self.known(low), self.known(high)) else {
-            self.work.push(question)?;
-            self.work.push(high)?;
-            self.work.push(low)?;
-            return Ok(());
-        };
-        let node = nodes.choice(variable, first.node, second.node)?;
-        let reason = Some(Cofactors {
-            variable,
-            low: first.number,
-            high: second.number,
-        });
-        self.add(question, Outcome { node, reason })
-    }
-
     /// Adds a row.
-    fn add(&mut self, question: Question, answer: Outcome) -> Result<(), Refusal> {
-        if self.rows.len() >= MAX_PRODUCTS {
+    fn add(&mut self, question: Question, answer: Outcome) -> Result<Next, Refusal> {
+        if self.room == 0 {
             return Err(Refusal::NoProgram);
         }
+        self.room -= 1;
+        let number = u32::try_from(self.rows.len()).map_err(|_| Refusal::NoProgram)?;
         self.rows.insert(question, answer)?;
-        Ok(())
+        Ok(Next::Found(Cited {
+            number,
+            node: answer.node,
+        }))
     }
 }
 

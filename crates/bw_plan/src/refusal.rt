@@ -9,8 +9,6 @@ use std::alloc::{AllocError, AllocFailed};
 pub(crate) enum Refusal {
     /// A limit of certificates or programs would be passed, or a form has no rule.
     NoProgram,
-    /// The same of the condition's own lines, so that no other program helps.
-    NoLines,
     /// Memory was refused.
     NoMemory,
 }
@@ -33,7 +31,7 @@ impl Refusal {
         ensures { IsRefusal result }
     {
         match self {
-            Refusal::NoProgram | Refusal::NoLines => Fault::new(code::NO_PROGRAM),
+            Refusal::NoProgram => Fault::new(code::NO_PROGRAM),
             Refusal::NoMemory => Fault::new(code::OUT_OF_MEMORY),
         }
     }

@@ -94,7 +94,7 @@ impl Code<'_> {
             }
         }
         for (number, part) in parts.iter().enumerate() {
-            if number == leading {
+            if number == leading || repeats(parts, number) {
                 continue;
             }
             let Some(before) = made else {
@@ -375,6 +375,17 @@ impl Code<'_> {
         let copy = self.fill(false)?;
         self.join(Logic::Or, copy, copy, register)?;
         Ok(copy)
+    }
+}
+
+/// Whether a part is the same comparison as the one before it, so that nothing needs to be done for it.
+fn repeats(parts: &[Cond], number: usize) -> bool {
+    let before = number.checked_sub(1).and_then(|before| parts.get(before));
+    match (before, parts.get(number)) {
+        (Some(Cond::Cmp(op, x, y)), Some(Cond::Cmp(other, z, w))) => {
+            op == other && x == z && y == w
+        }
+        _ => false,
     }
 }
 
