@@ -138,7 +138,7 @@ pub(crate) fn line_of(csv: &[u8], record: &ByteRecord) -> u64 {
     };
     let mut line = position.line();
     let begin = usize::try_from(position.byte()).unwrap_or(csv.len());
-    for byte in csv.iter().skip(begin) {
+    for byte in csv.get(begin..).unwrap_or(b"") {
         match byte {
             b'\n' => line = line.saturating_add(1),
             b'\r' => {}
