@@ -538,10 +538,8 @@ impl<'a> Code<'a> {
 
     /// Whether a skip stands among the instructions from a number on.
     pub(crate) fn has_skips_from(&self, number: usize) -> bool {
-        self.instrs
-            .iter()
-            .skip(number)
-            .any(|instr| matches!(instr, Instr::Skip(..)))
+        let rest = self.instrs.get(number..).unwrap_or(&[]);
+        rest.iter().any(|instr| matches!(instr, Instr::Skip(..)))
     }
 }
 
