@@ -1,8 +1,10 @@
 pub mod BareLemmas
+pub mod CutLemmas
 pub mod DigitsAlone
 pub mod FieldLemmas
 pub mod HeadingLemmas
 pub mod InputLemmas
+pub mod LongerLemmas
 pub mod Passed
 pub mod PlainFields
 pub mod PlainRecords

@@ -1,4 +1,5 @@
 pub mod Bare
+pub mod Fields
 pub mod Input
 pub mod Plain
 pub mod Records

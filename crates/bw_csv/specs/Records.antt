@@ -1,9 +1,10 @@
 -- The records that are still to be read of a text.
-use Rattle.std.specs.Prelude.{◌≡◌, ◌+◌, ℕ, List, [], length, Option, Some, None, IsSome, false}
+use Rattle.std.specs.Prelude.{◌≡◌, ◌+◌, ℕ, List, [], length, Option, Some, None, IsSome, false, true}
 use Rattle.std.specs.Borrow.{Bor}
 use Rattle.csv.specs.Reading.{Ready, has_failed, records_from, source_of, default_config}
 use Rattle.csv.specs.Records.{fields_of}
 use Rattle.csv.specs.declared.parser.State.{State}
+use Rattle.csv.specs.declared.parser.State.TheVariants as st
 use Rattle.csv.specs.declared.reader.Reader.{Reader}
 use Rattle.csv.specs.declared.reader.Trim.TheVariants as trim
 use Rattle.bw_csv.specs.declared.records.Records.{Records}
@@ -17,17 +18,24 @@ abbrev pub records_in : State → Option (List ℕ) → List (List (List ℕ))
 records_in state None = []
 records_in state (Some bytes) = records_from default_config (length bytes + 1) state bytes
 
+-- the records that a reader has still to read
+abbrev pub left_in : Reader (Bor (List ℕ)) → List (List (List ℕ))
+left_in reader = records_in reader.state (source_of bytes_under reader)
+
 -- the records that are still to be read
 unfoldable pub coming : Records → List (List (List ℕ))
-coming records = records_in records.reader.state (source_of bytes_under records.reader)
+coming records = left_in records.reader
 
--- a reader that was set up to read as the crate's defaults do, without a heading of its own, and that goes on
+-- a reader that was set up to read as the crate's defaults do, whose next record is no heading of its own, and that goes
+-- on
 abbrev pub IsOpenReader : Reader (Bor (List ℕ)) → Type 0
 IsOpenReader reader = (reader.config ≡ default_config) × (reader.trim ≡ trim.None) × Ready reader
     × (has_failed reader ≡ false) × IsSome (source_of bytes_under reader)
 
+-- so it is with the reader, and a text that is followed has the records that the reader has still to read
 unfoldable pub IsOpen : Records → Type 0
 IsOpen records = IsOpenReader records.reader
+    × (records.is_followed ≡ true → records_in st.StartRecord (Some records.text.now) ≡ left_in records.reader)
 
 -- the fields of the record that was read last
 abbrev pub fields_in : Records → List (List ℕ)

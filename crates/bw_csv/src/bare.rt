@@ -20,7 +20,7 @@ use csv::ByteRecord;
 /// what that was, or answers that there is no record. An `Err` is the first fault in the record: the number of its
 /// fields (203), a row past 2^24 (207), and then its fields from the left: no whole number (204), or one that 64 bits
 /// don't hold (205); or it is out of memory, or an error of the reader's own (209).
-#[tactic(auto, using(crate::proofs::BareLemmas::rows_of_records))]
+#[tactic(auto, using(crate::proofs::BareLemmas::rows_of_records, crate::proofs::LongerLemmas::bare_rows_longer))]
 pub fn read_bare_row(
     records: &mut Records<'_>,
     width: usize,
@@ -39,6 +39,9 @@ pub fn read_bare_row(
     ensures fault { IfErr result IsRowsFault }
     ensures place { IfErr result (λ fault. IsTrue (stands_at number fault)) }
 {
+    if records.is_longer(width) {
+        return Err(Fault::at_record(code::RECORD_LENGTH, number));
+    }
     if !records.next(number)? {
         return Ok(false);
     }

@@ -37,7 +37,7 @@ pub(crate) fn after_record(text: &[u8]) -> &[u8]
 }
 
 /// Whether a byte ends the record.
-fn ends_record(inside: Inside, c: u8) -> bool
+pub(crate) fn ends_record(inside: Inside, c: u8) -> bool
     ensures end { result ≡ is_end (step default_config (state_of inside) c).1 }
     ensures line { result ≡ true → ends_line c ≡ true }
 {
@@ -48,7 +48,7 @@ fn ends_record(inside: Inside, c: u8) -> bool
 }
 
 /// Where the byte after one stands that doesn't end the record.
-fn inside_after(inside: Inside, c: u8) -> Inside
+pub(crate) fn inside_after(inside: Inside, c: u8) -> Inside
     requires { is_end (step default_config (state_of inside) c).1 ≡ false }
     ensures { state_of result ≡ (step default_config (state_of inside) c).0 }
 {

@@ -13,7 +13,7 @@ use bw_model::{Column, Fault, MAX_ROWS, Row, code};
 use csv::ByteRecord;
 
 /// Reads the heading, which is the first record: refuses a text without a record (201), and other names (202).
-#[tactic(auto, using(crate::proofs::RowLemmas::after_heading))]
+#[tactic(auto, using(crate::proofs::RowLemmas::after_heading, crate::proofs::LongerLemmas::rows_after_longer))]
 pub(crate) fn read_heading(columns: &[Column], records: &mut Records<'_>) -> Result<(), Fault>
     requires { IsOpen records.old }
     ensures open { OnOk result (IsOpen records.new) }
@@ -24,6 +24,9 @@ pub(crate) fn read_heading(columns: &[Column], records: &mut Records<'_>) -> Res
     ensures fault { IfErr result IsRowsFault }
     ensures place { IfErr result (λ fault. IsTrue (stands_at 0 fault)) }
 {
+    if records.is_longer(columns.len()) {
+        return Err(Fault::at_record(code::HEADING, 0));
+    }
     if !records.next(0)? {
         return Err(Fault::at_record(code::NO_HEADING, 0));
     }
@@ -51,7 +54,7 @@ fn is_heading(columns: &[Column], fields: &ByteRecord) -> bool
 /// Puts the row of the next record, which has this number, into `row`, in the place of what that was, or answers
 /// that there is no record. An `Err` is the first fault in the record: the number of its fields (203), a row past
 /// 2^24 (207), and then its fields from the left; or it is out of memory, or an error of the reader's own (209).
-#[tactic(auto, using(crate::proofs::RowLemmas::rows_of_records))]
+#[tactic(auto, using(crate::proofs::RowLemmas::rows_of_records, crate::proofs::LongerLemmas::rows_from_longer))]
 pub(crate) fn read_row(
     columns: &[Column],
     records: &mut Records<'_>,
@@ -70,6 +73,9 @@ pub(crate) fn read_row(
     ensures fault { IfErr result IsRowsFault }
     ensures place { IfErr result (λ fault. IsTrue (stands_at number fault)) }
 {
+    if records.is_longer(columns.len()) {
+        return Err(Fault::at_record(code::RECORD_LENGTH, number));
+    }
     if !records.next(number)? {
         return Ok(false);
     }

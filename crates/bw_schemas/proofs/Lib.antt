@@ -1,6 +1,7 @@
 pub mod PrintedBounds
 pub mod PrintedText
 pub mod ColumnLemmas
+pub mod CutHeading
 pub mod ExactLemmas
 pub mod HeadingLemmas
 pub mod NarrowLemmas

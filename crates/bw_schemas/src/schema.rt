@@ -16,8 +16,8 @@ ghost use Rattle.bw_schemas.specs.Seen.{columns_after, nothing, with_records};
 use crate::columns::columns_seen;
 use crate::heading::heading_names;
 use crate::seen::{Seen, take_values};
-use bw_csv::{Records, read_bare_row};
-use bw_model::{Column, Fault, Name, Row, Schema, code};
+use bw_csv::{Records, read_bare_row, without_more_fields};
+use bw_model::{Column, Fault, MAX_COLUMNS, Name, Row, Schema, code};
 use std::alloc::{AllocError, Global};
 
 /// The schema of this name that is inferred from a CSV text. That the table's name is a name is the caller's condition.
@@ -26,8 +26,20 @@ use std::alloc::{AllocError, Global};
 /// 104); then for each record its number of fields (203), a row past 2^24 (207), and its fields from the left: no whole
 /// number (204), or one that 64 bits don't hold (205); and at last a column whose values are 2^63 or more apart (103,
 /// at record 0). 209 is any other error of the reader.
-#[tactic(auto, unfolding(crate::specs::Inferred::inferred_after))]
+///
+/// Of a heading of more than 64 columns no more than the first 64 is read.
 pub(crate) fn infer_schema(alloc: Global, table: &[u8], text: &[u8]) -> Result<Schema, Fault>
+    requires { IsTrue (is_name table.now) }
+    ensures schema { GivesButAside schema_shape result (inferred table.now text.now) }
+    ensures fault { IfErr result (λ fault. is_inferring_fault fault ≡ true) }
+    ensures reader { IfErr result (λ fault. is_reader_fault fault ≡ true → StopsInferring text.now fault) }
+{
+    schema_of(alloc, table, without_more_fields(text, MAX_COLUMNS))
+}
+
+/// The same for a text whose heading is read whole.
+#[tactic(auto, unfolding(crate::specs::Inferred::inferred_after))]
+fn schema_of(alloc: Global, table: &[u8], text: &[u8]) -> Result<Schema, Fault>
     requires { IsTrue (is_name table.now) }
     ensures schema { GivesButAside schema_shape result (inferred table.now text.now) }
     ensures fault { IfErr result (λ fault. is_inferring_fault fault ≡ true) }

@@ -1,30 +1,26 @@
--- The reader says what it read and what it has left.
-use Rattle.std.proofs.Common.{◌∙◌, inl}
-use Rattle.csv.specs.Records.{fields_of}
+-- The text is followed past the record that the reader read.
+use Rattle.std.proofs.Common.{◌∙◌}
 use Rattle.bw_csv.specs.Records.{IsOpen, coming}
-use Rattle.bw_csv.proofs.RecordLemmas.{next-found, next-none}
 use Rattle.bw_csv.proofs.records.Records.next.Goals as goal
 
-pub returns-in-Ok-clause-some : goal.returns-in-Ok-clause-some
-unfolding coming IsOpen
-returns-in-Ok-clause-some c = λ found.
-    let reads = rw found at (c.in-Ok.ensures.reads c.requires.1 c.requires.2) in
-    (next-found c.args.self.now.reader c.read_byte_record.new.self (fields_of c.read_byte_record.new.row) c.requires reads).0
-
-pub returns-in-Ok-clause-open : goal.returns-in-Ok-clause-open
+pub read_fields-requires : goal.read_fields-requires
 unfolding IsOpen
-returns-in-Ok-clause-open c = λ found.
-    let reads = c.in-Ok.ensures.reads c.requires.1 c.requires.2 in
-    let more = next-found c.args.self.now.reader c.read_byte_record.new.self (fields_of c.read_byte_record.new.row) c.requires (rw found at reads) in (
-      reads.2 ∙ c.requires.0,
-      reads.3 ∙ c.requires.1,
-      inl (c.in-Ok.ensures.ready c.requires.1),
-      c.in-Ok.ensures.goes ∙ c.requires.3,
-      more.1,
-    )
+read_fields-requires c = c.requires.0
 
-pub returns-in-Ok-clause-none : goal.returns-in-Ok-clause-none
-unfolding coming IsOpen
-returns-in-Ok-clause-none c = λ none.
-    let reads = rw none at (c.in-Ok.ensures.reads c.requires.1 c.requires.2) in
-    next-none c.args.self.now.reader c.read_byte_record.new.self (fields_of c.read_byte_record.new.row) c.requires reads
+pub returns-then-not-branch-clause-none : goal.returns-then-not-branch-clause-none
+unfolding coming
+returns-then-not-branch-clause-none c = λ _. c.in_ok-read_fields.ensures.none c.if-not-branch.true
+
+pub returns-clause-some : goal.returns-clause-some
+unfolding coming
+returns-clause-some c = λ _. c.in_ok-read_fields.ensures.some c.if-not-branch.false
+
+pub returns-clause-open : goal.returns-clause-open
+unfolding IsOpen
+returns-clause-open c = λ _.
+    let read = c.in_ok-read_fields.ensures in (
+      read.open c.if-not-branch.false,
+      λ on.
+          let is = c.goes_on-self.ensures on in
+          c.followed-self.ensures is _ _ (c.requires.1 is ∙ read.some c.if-not-branch.false),
+    )
