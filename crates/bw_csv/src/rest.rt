@@ -83,8 +83,21 @@ impl<'a> Rest<'a> {
         ensures to_come { to_come self.new ≡ to_come self.old }
     {
         if self.reads_text {
-            self.records = Records::new(self.alloc, self.text);
-            self.reads_text = false;
+            self.begin_reader();
         }
+    }
+
+    /// Has the csv reader read what is left of the text. It stays out of the loop over rows, which otherwise clears memory
+    /// for a reader at each row.
+    #[inline(never)]
+    fn begin_reader(&mut self)
+        requires text { self.old.reads_text ≡ true }
+        requires readable { IsReadable self.old }
+        ensures reader { self.new.reads_text ≡ false }
+        ensures readable { IsReadable self.new }
+        ensures to_come { to_come self.new ≡ to_come self.old }
+    {
+        self.records = Records::new(self.alloc, self.text);
+        self.reads_text = false;
     }
 }
