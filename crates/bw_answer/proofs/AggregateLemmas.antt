@@ -80,10 +80,7 @@ any_tally : (items : List Item) (item : Item) → list_any (λ (tally : Tally). 
 any_tally [] item = refl
 any_tally (x ∷ items) item = ap (λ b. is_same x item || b) (any_tally items item)
 
--- so a column changes nothing, nor does an aggregate that is there, and another one comes last
-pub plain_left_out : (items : List Item) (column : ℕ) → aggregates_of (items ++ Plain column ∷ []) ≡ aggregates_of items
-plain_left_out items column = ap each_once (filter-append is_aggregate items (Plain column ∷ []) ∙ append-nil (filter is_aggregate items))
-
+-- so an aggregate that is there changes nothing, and another one comes last
 with_one : (items : List Item) (item : Item) (found : Bool) → is_aggregate item ≡ true → list_any (λ (tally : Tally). is_same tally.item item) (map (λ item. tally_of item []) (aggregates_of items)) ≡ found
     → aggregates_of (items ++ item ∷ []) ≡ cond found (aggregates_of items) (aggregates_of items ++ item ∷ [])
 with_one items item found is f =
@@ -107,7 +104,7 @@ pub another_last : (items : List Item) (item : Item) → is_aggregate item ≡ t
 another_last items item is f = with_one items item false is f
 
 -- what holds of items holds of some of them, and of each once
-pub all_kept : (p q : Item → Bool) (items : List Item) → list_all p items ≡ true → list_all p (filter q items) ≡ true
+all_kept : (p q : Item → Bool) (items : List Item) → list_all p items ≡ true → list_all p (filter q items) ≡ true
 all_kept p q [] e = refl
 all_kept p q (item ∷ items) e = let parts = both (p item) (list_all p items) e in by item (filter q items) (q item) parts.0 (all_kept p q items parts.1)
   where
