@@ -6,12 +6,14 @@ use Rattle.bw_model.specs.declared.query.Item.{Item}
 use Rattle.bw_model.specs.declared.query.Item.TheVariants.{Plain, CountAll, Count, Sum, Min, Max}
 use Rattle.bw_model.specs.declared.query.Query.{Query}
 use Rattle.bw_model.specs.Row.{Value}
-use Rattle.bw_model.specs.Total.{is_aggregate, total}
+use Rattle.bw_model.specs.Total.{is_aggregate}
 use Rattle.bw_rowwise.specs.Accumulator.{Tally, tally_of}
 use Rattle.bw_sql.specs.Items.{AreOfOneKind}
 use Rattle.bw_model.specs.Selection.{kept}
 use Rattle.bw_answer.specs.Answer.{csv_text, heading_of, listed, lists_rows, meaning, record_text, value_text, totalled}
+use Rattle.bw_answer.specs.Aggregates.{aggregates_of, answer_for, each_once}
 use Rattle.bw_answer.specs.AreOver.{text_over}
+use Rattle.bw_answer.proofs.AggregateLemmas.{answers_for}
 use Rattle.bw_answer.proofs.Rows.{listed_more}
 use Rattle.bw_answer.proofs.TotalsLemmas.{both}
 
@@ -65,22 +67,19 @@ aggregates (Min column ∷ items) (true, kind) e = absurd (cc kind)
 aggregates (Max column ∷ items) (true, kind) e = absurd (cc kind)
 
 -- the totals of aggregates
-pub all_aggregates : (items : List Item) → list_all is_aggregate items ≡ true → filter is_aggregate items ≡ items
+all_aggregates : (items : List Item) → list_all is_aggregate items ≡ true → filter is_aggregate items ≡ items
 all_aggregates [] e = refl
 all_aggregates (item ∷ items) e = let parts = both (is_aggregate item) (list_all is_aggregate items) e in rw (parts.0, all_aggregates items parts.1) refl
 
 -- the record of totals over the rows that are kept
-spelled_totals : (items : List Item) (rows : List (List Value)) → map (λ (tally : Tally). value_text tally.answer) (map (λ item. tally_of item rows) items) ≡ map (λ item. value_text (total item rows)) items
-spelled_totals [] rows = refl
-spelled_totals (item ∷ items) rows = ap (λ (l : List (List ℕ)). value_text (total item rows) ∷ l) (spelled_totals items rows)
-
 pub totals_fields : (query : Query) (tallies : List Tally) (rows : List (List Value)) → list_all is_aggregate query.items.items ≡ true
-    → tallies ≡ map (λ item. tally_of item (kept query.cond rows)) (filter is_aggregate query.items.items)
-    → map (λ (tally : Tally). value_text tally.answer) tallies ≡ totalled query rows
+    → tallies ≡ map (λ item. tally_of item (kept query.cond rows)) (aggregates_of query.items.items)
+    → map (λ item. value_text (answer_for tallies item)) query.items.items ≡ totalled query rows
 totals_fields query tallies rows all is =
-    let those : tallies ≡ map (λ item. tally_of item (kept query.cond rows)) query.items.items =
-    is ∙ ap (λ (items : List Item). map (λ item. tally_of item (kept query.cond rows)) items) (all_aggregates query.items.items all) in
-    ap (map (λ (tally : Tally). value_text tally.answer)) those ∙ spelled_totals query.items.items (kept query.cond rows)
+    let items = query.items.items in
+    let those : tallies ≡ map (λ item. tally_of item (kept query.cond rows)) (each_once items) =
+    is ∙ ap (λ (items : List Item). map (λ item. tally_of item (kept query.cond rows)) (each_once items)) (all_aggregates items all) in
+    ap (λ (tallies : List Tally). map (λ item. value_text (answer_for tallies item)) items) those ∙ answers_for (kept query.cond rows) items
 
 -- over no rows there is the heading alone
 nothing_listed : (query : Query) → csv_text (listed query []) ≡ []

@@ -1,5 +1,5 @@
 -- Rows that are counted alone.
-use Rattle.std.proofs.Common.{◌≡◌, ℕ, ◌+◌, ◌≤◌, List, [], ◌∷◌, true, false, map, filter, length, refl, ap, arith, nat_le}
+use Rattle.std.proofs.Common.{◌≡◌, ℕ, ◌+◌, ◌≤◌, List, [], ◌∷◌, true, false, map, length, refl, ap, arith, nat_le}
 use Rattle.std.specs.List.{list_all}
 use Rattle.std.proofs.lemmas.Bool.{leb-true, le-leb}
 use Rattle.bw_model.specs.declared.cond.Cond.{Cond}
@@ -8,7 +8,7 @@ use Rattle.bw_model.specs.declared.query.Item.TheVariants.{Plain, CountAll, Coun
 use Rattle.bw_model.specs.Cond.{is_kept}
 use Rattle.bw_model.specs.Row.{Value}
 use Rattle.bw_model.specs.Selection.{kept}
-use Rattle.bw_model.specs.Total.{is_aggregate, item_within}
+use Rattle.bw_model.specs.Total.{item_within}
 use Rattle.bw_rowwise.specs.Accumulator.{Tally, tally_of, counted}
 use Rattle.bw_answer.specs.Answer.{is_count_all, lists_rows}
 use Rattle.bw_answer.specs.Totals.{is_of}
@@ -34,7 +34,7 @@ one_counted : (rows more : List (List Value)) (n : ℕ) → length more ≡ leng
 one_counted rows more n e = rw e refl
 
 pub all_counted : (items : List Item) (rows more : List (List Value)) (n : ℕ) → length more ≡ length rows + n → list_all is_count_all items ≡ true
-    → map (λ (tally : Tally). counted tally n) (map (λ item. tally_of item rows) (filter is_aggregate items)) ≡ map (λ item. tally_of item more) (filter is_aggregate items)
+    → map (λ (tally : Tally). counted tally n) (map (λ item. tally_of item rows) items) ≡ map (λ item. tally_of item more) items
 all_counted [] rows more n e all = refl
 all_counted (Plain column ∷ items) rows more n e all = absurd (cc all)
 all_counted (CountAll ∷ items) rows more n e all = λ i. one_counted rows more n e i ∷ all_counted items rows more n e all i

@@ -1,3 +1,4 @@
+pub mod AggregateLemmas
 pub mod AnswerLemmas
 pub mod ColumnLemmas
 pub mod CountLemmas

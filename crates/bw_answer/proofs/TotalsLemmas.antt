@@ -1,9 +1,9 @@
 -- Totals that rows are added to, all at once.
-use Rattle.std.proofs.Common.{◌≡◌, ℕ, zero, suc, ◌+◌, ◌<◌, ◌^◌, ◌≤◌, List, [], ◌∷◌, map, filter, Bool, true, false, ◌&&◌, cond, refl, sym, ap, ◌∙◌, arith, length, get_or, take, drop, ◌++◌, All, subst, nat_le, nat_lt}
+use Rattle.std.proofs.Common.{◌≡◌, ℕ, zero, suc, ◌+◌, ◌<◌, ◌^◌, ◌≤◌, List, [], ◌∷◌, map, Bool, true, false, ◌&&◌, refl, sym, ap, ◌∙◌, arith, length, get_or, take, drop, ◌++◌, All, subst, nat_le, nat_lt}
 use Rattle.std.specs.List.{list_all}
 use Rattle.bw_model.specs.declared.query.Item.{Item}
 use Rattle.bw_model.specs.Row.{Value}
-use Rattle.bw_model.specs.Total.{item_within, is_aggregate}
+use Rattle.bw_model.specs.Total.{item_within}
 use Rattle.bw_rowwise.specs.Accumulator.{Tally, tally_of, tally_with}
 use Rattle.bw_model.specs.declared.query.Query.{Query}
 use Rattle.bw_model.specs.Cond.{is_kept}
@@ -24,20 +24,6 @@ both false b e = absurd (cc e)
 pub and_true : (a b : Bool) → a ≡ true → b ≡ true → (a && b) ≡ true
 and_true true b e f = f
 and_true false b e f = absurd (cc e)
-
-is_of-new_by : (b : Bool) (width : ℕ) (item : Item) (items : List Item) → item_within width item ≡ true
-    → list_all (is_of width 0) (map (λ item. tally_of item []) (filter is_aggregate items)) ≡ true
-    → list_all (is_of width 0) (map (λ item. tally_of item []) (cond b (item ∷ filter is_aggregate items) (filter is_aggregate items))) ≡ true
-is_of-new_by true width item items within rest = and_true _ _ (and_true _ _ within refl) rest
-is_of-new_by false width item items within rest = rest
-
--- the totals over no rows
-pub is_of-new : (width : ℕ) (items : List Item) → list_all (item_within width) items ≡ true
-    → list_all (is_of width 0) (map (λ item. tally_of item []) (filter is_aggregate items)) ≡ true
-is_of-new width [] e = refl
-is_of-new width (item ∷ items) e =
-    let parts = both (item_within width item) (list_all (item_within width) items) e in
-    is_of-new_by (is_aggregate item) width item items parts.0 (is_of-new width items parts.1)
 
 -- totals of fewer rows than a table may have can take one more
 pub has_room-from : (width rows : ℕ) (tallies : List Tally) → rows < 2 ^ 24 → list_all (is_of width rows) tallies ≡ true → list_all (has_room width) tallies ≡ true
@@ -114,7 +100,5 @@ kept_none query row e = rw e refl
 -- what is kept of rows and one more, where the condition is the same
 pub kept_more : (here query : Query) (before : List (List Value)) (row : List Value) → here ≡ query → kept query.cond before ++ kept here.cond (row ∷ []) ≡ kept query.cond (before ++ row ∷ [])
 kept_more here query before row same = rw same (sym (filter-append (is_kept query.cond) before (row ∷ [])))
-
-pub ruleset totals_steps = (is_of-new, has_room-from, is_of-more)
 
 pub ruleset kept_steps = (is_of-more, kept_one, kept_none)

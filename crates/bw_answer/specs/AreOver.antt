@@ -1,12 +1,12 @@
 -- The text and the totals of an answer that has taken rows.
-use Rattle.std.specs.Prelude.{◌≡◌, ℕ, false, List, [], ◌++◌, map, filter, IsTrue, if◌then◌else◌}
+use Rattle.std.specs.Prelude.{◌≡◌, ℕ, false, List, [], ◌++◌, map, IsTrue, if◌then◌else◌}
 use Rattle.std.specs.List.{list_all}
 use Rattle.bw_model.specs.declared.query.Query.{Query}
 use Rattle.bw_model.specs.Cond.{is_kept}
 use Rattle.bw_model.specs.Row.{Value}
 use Rattle.bw_model.specs.Selection.{kept}
-use Rattle.bw_model.specs.Total.{is_aggregate}
 use Rattle.bw_rowwise.specs.Accumulator.{Tally, tally_of}
+use Rattle.bw_answer.specs.Aggregates.{aggregates_of}
 use Rattle.bw_answer.specs.Answer.{csv_text, heading_of, is_count_all, listed, lists_rows, record_text}
 
 -- the heading record of a query over columns of these names, and after it the records of the rows that are kept, where
@@ -21,7 +21,7 @@ pub record AreOver (names : List (List ℕ)) (query : Query) (rows : List (List 
     (totals : List Tally) : Type 0 where
   pub written : text ≡ text_over names query rows
   pub totalled : lists_rows query.items.items ≡ false
-      → totals ≡ map (λ item. tally_of item (kept query.cond rows)) (filter is_aggregate query.items.items)
+      → totals ≡ map (λ item. tally_of item (kept query.cond rows)) (aggregates_of query.items.items)
 
 -- the query keeps every row, and asks for nothing but how many they are
 pub record CountsRows (query : Query) : Type 0 where

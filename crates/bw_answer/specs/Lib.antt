@@ -1,3 +1,4 @@
+pub mod Aggregates
 pub mod Answer
 pub mod AreOver
 pub mod Columns

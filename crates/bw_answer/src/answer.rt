@@ -45,7 +45,7 @@ pub struct Answer<'a> {
     records: Listing,
     /// The heading, and then the records of the rows that are kept, where the query lists them.
     text: Vec<u8>,
-    /// The total of each aggregate, over the rows that are kept.
+    /// The total of each aggregate that is asked for, once, over the rows that are kept.
     totals: Vec<Accumulator>,
     ghost prepared: { IsPreparedFrom query.now.cond filter },
     ghost items: { IsTrue (list_all (item_within width) query.now.items.items) },
@@ -53,7 +53,6 @@ pub struct Answer<'a> {
     ghost listing: { lists ≡ lists_rows query.now.items.items },
     ghost names: { lists ≡ true → IsListing records width query.now.items.items },
     ghost totalling: { lists ≡ false → IsTrue (list_all is_aggregate query.now.items.items) },
-    ghost totalled: { lists ≡ false → 1 ≤ vec_len totals },
     ghost room: { IsTrue (list_all (is_of width rows) totals.items) },
 }
 
@@ -96,6 +95,21 @@ impl<'a> Answer<'a> {
         ensures { result.now ≡ asked_by self.now }
     {
         self.query
+    }
+
+    /// Reserves memory for the answer over so many rows, where the query lists each row. So an answer that is too long
+    /// for memory is refused before the first row is taken. Refuses as 801 alone.
+    pub fn reserve(&mut self, count: u32) -> Result<(), Fault>
+        ensures over { (names : List (List ℕ)) (query : Query) (rows : List (List Value))
+            → IsOver names query rows self.old → IsOver names query rows self.new }
+        ensures width { self.new.width ≡ self.old.width }
+        ensures rows { self.new.rows ≡ self.old.rows }
+        ensures only_memory { IfErr result (λ fault. fault ≡ no_memory) }
+    {
+        if self.lists && keeps_all(&self.query.cond) {
+            self.records.reserve(&mut self.text, count)?;
+        }
+        Ok(())
     }
 
     /// Whether the query keeps every row and asks for nothing but their number: then no row need be looked at.
@@ -202,7 +216,7 @@ impl<'a> Answer<'a> {
         let Answer {
             width: _,
             rows: _,
-            query: _,
+            query,
             filter: _,
             lists,
             records: _,
@@ -212,7 +226,7 @@ impl<'a> Answer<'a> {
         if lists {
             Ok(text)
         } else {
-            with_totals(text, &totals)
+            with_totals(text, &totals, &query.items)
         }
     }
 }

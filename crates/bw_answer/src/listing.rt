@@ -17,6 +17,9 @@ use bw_model::{Fault, Item, Row, code};
 use bw_segment::Segment;
 use std::alloc::Global;
 
+/// How many bytes a field takes at least: a digit, and the comma or the line feed after it.
+const SHORTEST: usize = 2;
+
 /// How many bytes of records are written at once, where one record has no more.
 const DRAFT: usize = 32768;
 
@@ -52,6 +55,18 @@ impl Listing {
             columns,
             at_once,
         })
+    }
+
+    /// Reserves memory after a text for the records of so many rows, each of which takes two bytes a field at least.
+    pub(crate) fn reserve(&self, text: &mut Vec<u8>, rows: u32) -> Result<(), Fault>
+        ensures text { text.new.items ≡ text.old.items }
+        ensures only_memory { IfErr result (λ fault. fault ≡ no_memory) }
+    {
+        let Some(size) = self.columns.len().checked_mul(SHORTEST * rows as usize) else {
+            return Err(Fault::new(code::OUT_OF_MEMORY));
+        };
+        text.reserve_exact(size)?;
+        Ok(())
     }
 
     /// Adds the record of a row to a text.

@@ -1,14 +1,14 @@
 //! The totals that a query asks for.
-ghost use Rattle.std.specs.Prelude.{◌≡◌, ◌≤◌, ◌+◌, ◌++◌, ◌∷◌, ℕ, List, [], IsTrue, IfOk, IfErr, OnOk, length, map, filter, All};
-ghost use Rattle.std.specs.List.{list_all};
+ghost use Rattle.std.specs.Prelude.{◌≡◌, ◌≤◌, ◌+◌, ◌++◌, ◌∷◌, ℕ, List, [], IsTrue, IfOk, IfErr, OnOk, length, map, All};
+ghost use Rattle.std.specs.List.{list_all, list_any};
 ghost use Rattle.bw_model.specs.declared.query.Item.{Item};
 ghost use Rattle.bw_model.specs.Fault.{no_memory};
 ghost use Rattle.bw_model.specs.Limits.{most_rows};
 ghost use Rattle.bw_model.specs.Row.{Value, values_of};
 ghost use Rattle.bw_model.specs.Selection.{kept};
-ghost use Rattle.bw_model.specs.Total.{is_aggregate};
 ghost use Rattle.bw_rowwise.specs.Accumulator.{counted, tally_of};
 ghost use Rattle.bw_rowwise.specs.Prepared.{IsPreparedFrom};
+ghost use Rattle.bw_answer.specs.Aggregates.{aggregates_of, answer_for, column_in, function_of, is_same};
 ghost use Rattle.bw_answer.specs.Answer.{record_text, value_text};
 ghost use Rattle.bw_answer.specs.Draft.{Holds};
 ghost use Rattle.bw_answer.specs.Totals.{is_of, has_room};
@@ -19,20 +19,88 @@ use bw_model::{Fault, Item, Query, Row};
 use bw_rowwise::{Accumulator, Prepared};
 use std::alloc::Global;
 
-/// The totals over no rows, one for each aggregate among the items.
+/// The totals over no rows, one for each aggregate among the items, however often it is asked for.
 pub(crate) fn totals_of(alloc: Global, items: &[Item]) -> Result<Vec<Accumulator>, Fault>
     ensures totals { IfOk result (λ totals. totals.items ≡ map (λ item. tally_of item [])
-        (filter is_aggregate items.now)) }
+        (aggregates_of items.now)) }
     ensures only_memory { IfErr result (λ fault. fault ≡ no_memory) }
 {
-    let mut totals = Vec::with_capacity(alloc, items.len())?;
+    let mut totals = Vec::new(alloc);
     for item in items {
-        if let Item::Plain(_) = item {
-            continue;
-        }
-        totals.push(Accumulator::new(*item))?;
+        include(&mut totals, *item)?;
     }
     Ok(totals)
+}
+
+/// Puts a total over no rows after others, if the item is an aggregate that has none among them.
+fn include(totals: &mut Vec<Accumulator>, item: Item) -> Result<(), Fault>
+    ensures totals { OnOk result ((items : List Item) → totals.old.items
+        ≡ map (λ item. tally_of item []) (aggregates_of items)
+        → totals.new.items ≡ map (λ item. tally_of item []) (aggregates_of (items ++ item ∷ []))) }
+    ensures only_memory { IfErr result (λ fault. fault ≡ no_memory) }
+{
+    if let Item::Plain(_) = item {
+        return Ok(());
+    }
+    if has_total(totals, item) {
+        return Ok(());
+    }
+    totals.push(Accumulator::new(item))?;
+    Ok(())
+}
+
+/// Whether there is a total of an item. There are at most 257 totals: COUNT(*), and four of each column.
+fn has_total(totals: &[Accumulator], item: Item) -> bool
+    ensures { result ≡ list_any (λ tally. is_same tally.item item) totals.now }
+{
+    totals.iter().any(|total| is_same(total.item(), item))
+}
+
+/// The total of an item, and null where there is none of it.
+fn total_for(totals: &[Accumulator], item: Item) -> Option<i128>
+    ensures { result ≡ answer_for totals.now item }
+{
+    for total in totals {
+        if is_same(total.item(), item) {
+            return total.finish();
+        }
+    }
+    None
+}
+
+/// Whether two items are the same.
+fn is_same(item: Item, other: Item) -> bool
+    ensures { result ≡ is_same item other }
+{
+    function_of(item) == function_of(other) && column_in(item) == column_in(other)
+}
+
+/// The number of an item's function.
+fn function_of(item: Item) -> u32
+    ensures { result ≡ function_of item }
+{
+    match item {
+        Item::Plain(_) => 0,
+        Item::CountAll => 1,
+        Item::Count(_) => 2,
+        Item::Sum(_) => 3,
+        Item::Min(_) => 4,
+        Item::Max(_) => 5,
+    }
+}
+
+/// The column that an item is of, or 0 for the number of rows.
+fn column_in(item: Item) -> usize
+    ensures { result ≡ column_in item }
+{
+    match item {
+        Item::CountAll => 0,
+        Item::Plain(column)
+        | Item::Count(column)
+        | Item::Sum(column)
+        | Item::Min(column)
+        | Item::Max(column) => column,
+    }
 }
 
 /// Adds a row to each total, if it is kept.
@@ -76,27 +144,31 @@ pub(crate) fn add_count(totals: &mut [Accumulator], count: u32)
     }
 }
 
-/// The text with totals more, as a record.
-pub(crate) fn with_totals(bytes: Vec<u8>, totals: &[Accumulator]) -> Result<Vec<u8>, Fault>
-    requires { 1 ≤ length totals.now }
+/// The text with a record more: the total of each item.
+pub(crate) fn with_totals(
+    bytes: Vec<u8>,
+    totals: &[Accumulator],
+    items: &[Item],
+) -> Result<Vec<u8>, Fault>
+    requires { 1 ≤ length items.now }
     ensures record { IfOk result (λ text. text.items
-        ≡ bytes.items ++ record_text (map (λ tally. value_text tally.answer) totals.now)) }
+        ≡ bytes.items ++ record_text (map (λ item. value_text (answer_for totals.now item)) items.now)) }
     ensures only_memory { IfErr result (λ fault. fault ≡ no_memory) }
 {
     let mut text = CsvText::onto(bytes);
-    push_totals(&mut text, totals)?;
+    push_totals(&mut text, totals, items)?;
     text.into_bytes()
 }
 
-/// Adds totals to a text, as a record.
-fn push_totals(text: &mut CsvText, totals: &[Accumulator]) -> Result<(), Fault>
-    requires { 1 ≤ length totals.now }
+/// Adds the total of each item to a text, as a record.
+fn push_totals(text: &mut CsvText, totals: &[Accumulator], items: &[Item]) -> Result<(), Fault>
+    requires { 1 ≤ length items.now }
     ensures record { OnOk result ((ended : List ℕ) → Holds text.old ended []
-        → Holds text.new (ended ++ record_text (map (λ tally. value_text tally.answer) totals.now)) []) }
+        → Holds text.new (ended ++ record_text (map (λ item. value_text (answer_for totals.now item)) items.now)) []) }
     ensures only_memory { IfErr result (λ fault. fault ≡ no_memory) }
 {
-    for total in totals {
-        text.push_number(total.finish())?;
+    for item in items {
+        text.push_number(total_for(totals, *item))?;
     }
     text.end_record()
 }

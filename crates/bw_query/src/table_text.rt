@@ -8,7 +8,7 @@ ghost use Rattle.bw_model.specs.Total.{item_within};
 ghost use Rattle.bw_model.specs.declared.query.Query.{Query};
 ghost use Rattle.bw_sql.specs.Items.{AreOfOneKind};
 ghost use Rattle.bw_answer.specs.AreOver.{CountsRows};
-ghost use Rattle.bw_answer.specs.Over.{GoesOver, asked_by};
+ghost use Rattle.bw_answer.specs.Over.{GoesOver, IsOver, asked_by};
 ghost use Rattle.bw_answer.specs.declared.answer.Answer.{Answer};
 ghost use Rattle.bw_device.specs.Sink.{is_write_fault};
 ghost use Rattle.bw_file.specs.AnySegment.{any_meaning};
@@ -60,12 +60,31 @@ pub(crate) fn table_text<S: Source>(
     ensures fault { IfErr result (λ fault. is_write_fault fault ≡ false) }
 {
     bytes_were_taken();
-    let mut answer = Answer::new(alloc, reader.schema(), query)?;
+    let mut answer = empty_answer(alloc, reader, query)?;
     let scanned = take_rows(reader, source, scan, &mut answer)?;
     Ok(TableText {
         text: answer.into_text()?,
         scanned,
     })
+}
+
+/// The answer to a query over no rows of a table file, with memory for all of them where each is listed.
+fn empty_answer<'a>(
+    alloc: Global,
+    reader: &TableReader,
+    query: &'a Query,
+) -> Result<Answer<'a>, Fault>
+    requires items { IsTrue (list_all (item_within (vec_len (schema_in reader.now).columns)) query.now.items.items) }
+    requires some { 1 ≤ length query.now.items.items }
+    requires kinds { AreOfOneKind query.now.items.items }
+    ensures over { IfOk result (λ answer. IsOver (names_of (schema_in reader.now).columns.items) query.now [] answer) }
+    ensures width { IfOk result (λ answer. answer.width ≡ vec_len (schema_in reader.now).columns) }
+    ensures rows { IfOk result (λ answer. answer.rows ≡ 0) }
+    ensures only_memory { IfErr result (λ fault. fault ≡ no_memory) }
+{
+    let mut answer = Answer::new(alloc, reader.schema(), query)?;
+    answer.reserve(reader.rows())?;
+    Ok(answer)
 }
 
 /// Takes the rows of all segments, and gives what was scanned.

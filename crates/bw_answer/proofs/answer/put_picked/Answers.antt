@@ -1,5 +1,5 @@
 -- What is picked is kept: more records in the text, or more rows in the totals.
-use Rattle.std.proofs.Common.{◌≡◌, ◌∙◌, ◌-◌, ◌≤◌, ◌++◌, sym, List, ℕ, map, filter, ap, length, arith}
+use Rattle.std.proofs.Common.{◌≡◌, ◌∙◌, ◌-◌, ◌≤◌, ◌++◌, sym, List, ℕ, map, ap, length, arith}
 use Rattle.std.proofs.lemmas.List.Elements.{filter-append}
 use Rattle.std.specs.List.{filter_map}
 use Rattle.bw_lanes.specs.Lanes.{lanes_of_words}
@@ -7,9 +7,9 @@ use Rattle.bw_model.specs.Cond.{is_kept}
 use Rattle.bw_model.specs.Groups.{group_size}
 use Rattle.bw_model.specs.Row.{Value}
 use Rattle.bw_model.specs.Selection.{kept, picked}
-use Rattle.bw_model.specs.Total.{is_aggregate}
 use Rattle.bw_rowwise.specs.Accumulator.{Tally, tally_of}
 use Rattle.bw_aggregate.specs.Picked.{with_picked}
+use Rattle.bw_answer.specs.Aggregates.{aggregates_of}
 use Rattle.bw_answer.specs.Answer.{csv_text, field_of}
 use Rattle.bw_answer.specs.AreOver.{text_over}
 use Rattle.bw_answer.specs.Columns.{fields_of}
@@ -51,7 +51,7 @@ returns-else-lists-clause-over g c = λ names rows over.
     let query = c.args.query.now in
     let more = (g.S.Segment.meaning c.args.segment.now).rows in
     let lists = sym c.requires.lists ∙ c.if-lists.false in
-    let items = filter is_aggregate query.items.items in
+    let items = aggregates_of query.items.items in
     let those = picked (lanes_of_words c.args.selection.now) more in
     let kept_all : those ≡ kept query.cond more =
     ap (λ lanes. picked lanes more) c.requires.picks ∙ picked_as_kept query.cond more (group_size - length more) in

@@ -1,8 +1,8 @@
 -- One more row, in the text or in the totals.
-use Rattle.std.proofs.Common.{◌∙◌, ◌++◌, ◌∷◌, sym, ap, refl, List, [], map, filter, length, arith}
+use Rattle.std.proofs.Common.{◌∙◌, ◌++◌, ◌∷◌, sym, ap, refl, List, [], map, length, arith}
 use Rattle.bw_model.specs.Row.{Value, values_of}
-use Rattle.bw_model.specs.Total.{is_aggregate}
 use Rattle.bw_rowwise.specs.Accumulator.{tally_of}
+use Rattle.bw_answer.specs.Aggregates.{aggregates_of}
 use Rattle.bw_answer.specs.Answer.{record_text}
 use Rattle.bw_answer.specs.Columns.{fields_of}
 use Rattle.bw_answer.proofs.AnswerLemmas.{text_over_more, text_over_same}
@@ -54,5 +54,5 @@ returns-then-not-lists-clause-over c = λ names rows over.
     let lists = sym c.requires.lists ∙ c.if-not-lists.true in
     record {
       written = over.written ∙ text_over_same names query rows (rows ++ row ∷ []) lists;
-      totalled = λ _. c.add_kept.ensures.totals _ _ (over.totalled lists) ∙ ap (λ (those : List (List Value)). map (λ item. tally_of item those) (filter is_aggregate query.items.items)) (kept_more query query rows row refl);
+      totalled = λ _. c.add_kept.ensures.totals _ _ (over.totalled lists) ∙ ap (λ (those : List (List Value)). map (λ item. tally_of item those) (aggregates_of query.items.items)) (kept_more query query rows row refl);
     }

@@ -1,8 +1,8 @@
-use Rattle.std.proofs.Common.{◌≡◌, [], map, filter, take}
-use Rattle.bw_model.specs.Total.{is_aggregate}
+use Rattle.std.proofs.Common.{◌≡◌, [], map, take}
 use Rattle.bw_rowwise.specs.Accumulator.{tally_of}
+use Rattle.bw_answer.specs.Aggregates.{aggregates_of}
 use Rattle.bw_answer.proofs.totals.totals_of.Given as goal
 
 -- the aggregates so far
 abbrev pub invariant-loop-item : goal.invariant-loop-item
-invariant-loop-item l = l.totals.items ≡ map (λ item. tally_of item []) (filter is_aggregate (take l.item-index l.items))
+invariant-loop-item l = l.totals.items ≡ map (λ item. tally_of item []) (aggregates_of (take l.item-index l.items))

@@ -5,9 +5,9 @@ use Rattle.bw_model.specs.declared.query.Item.{Item}
 use Rattle.bw_model.specs.Total.{item_within}
 use Rattle.bw_model.specs.Column.{names_of}
 use Rattle.bw_answer.specs.Answer.{lists_rows}
+use Rattle.bw_answer.proofs.AggregateLemmas.{is_of-new}
 use Rattle.bw_answer.proofs.AnswerLemmas.{aggregates, heading_first}
 use Rattle.std.proofs.lemmas.Bool.{eq-eqb}
-use Rattle.bw_answer.proofs.TotalsLemmas.{is_of-new}
 use Rattle.bw_answer.proofs.answer.Answer.new.Goals as goal
 
 pub invariant_of-result-clause-totalling : goal.invariant_of-result-clause-totalling

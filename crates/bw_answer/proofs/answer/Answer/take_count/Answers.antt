@@ -1,12 +1,13 @@
 -- Each total counts the rows, and the text stays.
-use Rattle.std.proofs.Common.{◌≡◌, ◌∙◌, ◌+◌, ◌≤◌, List, ◌++◌, true, length, length-append, map, filter, subst, sym, ap, arith}
+use Rattle.std.proofs.Common.{◌≡◌, ◌∙◌, ◌+◌, ◌≤◌, List, ◌++◌, true, length, length-append, map, subst, sym, ap, arith}
 use Rattle.std.specs.List.{list_all}
 use Rattle.std.proofs.lemmas.List.{with_items_is}
 use Rattle.bw_model.specs.Selection.{kept}
-use Rattle.bw_model.specs.Total.{is_aggregate}
 use Rattle.bw_rowwise.specs.Accumulator.{Tally, counted, tally_of}
+use Rattle.bw_answer.specs.Aggregates.{aggregates_of}
 use Rattle.bw_answer.specs.Answer.{is_count_all}
 use Rattle.bw_answer.specs.Totals.{is_of}
+use Rattle.bw_answer.proofs.AggregateLemmas.{all_asked}
 use Rattle.bw_answer.proofs.AnswerLemmas.{text_over_same}
 use Rattle.bw_answer.proofs.CountLemmas.{all_counted, counts_list_nothing, every_kept, is_of-counted}
 use Rattle.bw_answer.proofs.answer.Answer.take_count.Goals as goal
@@ -38,9 +39,9 @@ returns-clause-over c = λ start before rows long led. record {
       let every = rw so_far.0 at c.requires.counts.every in
       let long_new : length (kept query.cond new) ≡ length (kept query.cond old) + c.args.count =
       rw (every_kept query.cond new every, every_kept query.cond old every) (omega (arith, length-append first (before ++ rows), length-append first before, length-append before rows, long)) in
-      let totals : after ≡ map (λ item. tally_of item (kept query.cond new)) (filter is_aggregate items) =
+      let totals : after ≡ map (λ item. tally_of item (kept query.cond new)) (aggregates_of items) =
       c.add_count.ensures ∙ ap (map (λ (tally : Tally). counted tally c.args.count)) (c.deref_mut.ensures.value ∙ so_far.1.totalled none)
-      ∙ all_counted items (kept query.cond old) (kept query.cond new) c.args.count long_new all in (
+      ∙ all_counted (aggregates_of items) (kept query.cond old) (kept query.cond new) c.args.count long_new (all_asked is_count_all items all) in (
         so_far.0,
         record {
           written = so_far.1.written ∙ text_over_same names query old new none;

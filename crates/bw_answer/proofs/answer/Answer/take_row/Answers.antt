@@ -1,9 +1,11 @@
 -- One more row, after those that the answer had taken.
-use Rattle.std.proofs.Common.{◌≡◌, ◌∙◌, List, [], ◌∷◌, ◌++◌, length, subst, sym, append_assoc}
+use Rattle.std.proofs.Common.{◌≡◌, ◌∙◌, ◌+◌, true, List, [], ◌∷◌, ◌++◌, length, subst, sym, append_assoc}
+use Rattle.std.specs.List.{list_all}
 use Rattle.std.proofs.lemmas.List.{with_items_is}
 use Rattle.bw_model.specs.Row.{values_of}
 use Rattle.bw_rowwise.specs.Accumulator.{Tally}
 use Rattle.bw_answer.specs.AreOver.{AreOver}
+use Rattle.bw_answer.specs.Totals.{is_of}
 use Rattle.bw_answer.proofs.TotalsLemmas.{has_room-from}
 use Rattle.bw_answer.proofs.answer.Answer.take_row.Goals as goal
 
@@ -28,3 +30,12 @@ returns-clause-over c = λ start before led. record {
       rw (sym so_far.0, sym (append_assoc first before (row ∷ []))) put in
       (so_far.0, subst (λ (tallies : List Tally). AreOver names query (first ++ (before ++ row ∷ [])) c.put_row.new.text.items tallies) (sym (with_items_is self.totals after size)) there);
 }
+
+pub invariant_of-self-2-clause-room : goal.invariant_of-self-2-clause-room
+invariant_of-self-2-clause-room c =
+    let self = c.args.self.now in
+    let after = c.put_row.new.totals in
+    let size : length after ≡ self.totals.len = c.put_row.auto.totals ∙ c.deref_mut.ensures.len in
+    let old : list_all (is_of (length (values_of c.args.row.now)) self.rows) c.deref_mut.result.now ≡ true = rw (c.deref_mut.ensures.value, c.requires.wide) self.room in
+    let more : list_all (is_of self.width (self.rows + 1)) after ≡ true = rw (sym c.requires.wide) (c.in_ok-put_row.ensures.counts self.rows old) in
+    subst (λ (tallies : List Tally). list_all (is_of self.width (self.rows + 1)) tallies ≡ true) (sym (with_items_is self.totals after size)) more
