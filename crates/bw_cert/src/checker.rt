@@ -4,13 +4,14 @@ ghost use Rattle.bw_model.specs.Cond.{names_within};
 ghost use Rattle.bw_model.specs.CondTree.{tree_of};
 ghost use Rattle.bw_model.specs.Fault.{is_memory};
 ghost use Rattle.bw_diagram.specs.Facts.{Facts};
+ghost use Rattle.bw_cert_text.specs.BodyLines.{body_lines};
 ghost use Rattle.bw_cert.specs.Valid.{Valid, Checks, checked, end_on, is_check_fault};
 
 use crate::certified::Certified;
 use crate::laws::{valid_exactly_where_checked, valid_programs_select};
 use crate::stated::diagram_of;
 use bw_cert_parts::{AtEnd, known_at_end, pair};
-use bw_cert_text::{BodyLine, Certificate, EndLine};
+use bw_cert_text::{Certificate, EndLine};
 use bw_diagram::{Connective, Diagram};
 use bw_model::{Cond, Fault, Schema, code};
 use bw_program::Program;
@@ -85,14 +86,14 @@ fn check_end(
 ) -> Result<(), Fault>
     requires { answer < 64 }
     ensures right { OnOk result (end_on diagram.now end.line
-        (record { known = at_end.now.known; rest = at_end.now.rest.now }) answer first end.row
+        (record { known = at_end.now.known; rest = body_lines at_end.now.rest }) answer first end.row
         ≡ Ok diagram.now) }
     ensures fault { IfErr result (λ fault. end_on diagram.now end.line
-        (record { known = at_end.now.known; rest = at_end.now.rest.now }) answer first end.row
+        (record { known = at_end.now.known; rest = body_lines at_end.now.rest }) answer first end.row
         ≡ Err fault) }
     ensures code { IfErr result (λ fault. IsTrue (is_check_fault fault)) }
 {
-    if let Some(line) = at_end.rest.first() {
+    if let Some((line, _)) = at_end.rest.next() {
         return Err(Fault::at_line(code::END, line.line));
     }
     let Some(node) = at_end.known[answer as usize] else {

@@ -95,7 +95,7 @@ kept-said : (facts : Facts) (through : Known) (edges : List Edge) (least : ℕ) 
 unfolding is_kept kept_said
 kept-said facts through edges least keep =
     ap (λ b. nat_le least keep.register && is_register keep.register && is_zero (option_and_then (λ f. cited facts connective.Xor f keep.node keep.through) (node_of through keep.register)) && b)
-    (skips-said facts keep edges keep.edges.items)
+    (skips-said facts keep edges keep.edges)
 
 -- one step after another
 then-same : {A : Type 0} (read : Result A Fault) (f g : A → Result Taken Fault) → ((x : A) → told (f x) ≡ told (g x)) → told (read >>= f) ≡ told (read >>= g)

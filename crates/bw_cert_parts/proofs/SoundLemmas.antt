@@ -92,7 +92,7 @@ pair_there facts keep edge (e ∷ edges) (pair ∷ more) (inl same) is = (pair, 
 pair_there facts keep edge (e ∷ edges) (pair ∷ more) (inr there) is = pair_there facts keep edge edges more there (both _ _ is).1
 
 -- what is kept of a register
-kept_parts : (facts : Facts) (through : Known) (edges : List Edge) (least : ℕ) (keep : Keep) → is_kept facts through edges least keep ≡ true → (keeps_through facts through keep ≡ true) × (keeps_by_skips facts keep edges keep.edges.items ≡ true)
+kept_parts : (facts : Facts) (through : Known) (edges : List Edge) (least : ℕ) (keep : Keep) → is_kept facts through edges least keep ≡ true → (keeps_through facts through keep ≡ true) × (keeps_by_skips facts keep edges keep.edges ≡ true)
 unfolding is_kept
 kept_parts facts through edges least keep is =
     let skips = both _ _ is in
@@ -101,7 +101,7 @@ kept_parts facts through edges least keep is =
 
 -- what a join keeps holds, where each register that it keeps does
 all_kept : (facts : Facts) (lanes : List Assignment) (through : Known) (registers : ℕ → List Bool) (edges : List Edge) (least : ℕ) (known : Known) (keeps : List KeepLine) →
-    ((keep : Keep) → keeps_through facts through keep ≡ true → keeps_by_skips facts keep edges keep.edges.items ≡ true → registers keep.register ≡ values facts lanes keep.node) →
+    ((keep : Keep) → keeps_through facts through keep ≡ true → keeps_by_skips facts keep edges keep.edges ≡ true → registers keep.register ≡ values facts lanes keep.node) →
     Hold facts lanes known registers → are_kept facts through edges least keeps ≡ true → Hold facts lanes (kept_by known keeps) registers
 unfolding are_kept kept_by
 all_kept facts lanes through registers edges least known [] each holds is = holds
@@ -127,7 +127,7 @@ past_skip facts lanes through registers edge [] join worth there holds zeros is 
 past_skip facts lanes through registers edge (e ∷ edges) None worth there holds zeros is = cc
 past_skip facts lanes through registers edge (e ∷ edges) (Some join) worth there holds zeros is =
     all_kept facts lanes through registers (e ∷ edges) 0 nothing_known join.keeps
-    (λ keep falls skips. let pair = pair_there facts keep edge (e ∷ edges) keep.edges.items there skips in
+    (λ keep falls skips. let pair = pair_there facts keep edge (e ∷ edges) keep.edges there skips in
     kept_by_skip facts lanes registers keep edge pair.0 worth holds zeros pair.1)
     (holds_nothing facts lanes registers) is
 

@@ -64,4 +64,4 @@ keeps_by_skips facts keep (edge ∷ edges) (rows ∷ more) = keeps_by_skip facts
 unfoldable pub is_kept : Facts → Known → List Edge → ℕ → Keep → Bool
 is_kept facts through edges least keep =
     nat_le least keep.register && is_register keep.register && keeps_through facts through keep
-    && keeps_by_skips facts keep edges keep.edges.items
+    && keeps_by_skips facts keep edges keep.edges

@@ -1,7 +1,6 @@
 -- The pair of nodes of a condition: where it is TRUE, and where it is FALSE, as a certificate's lines make it step by
 -- step, operands first.
 use Rattle.std.specs.Prelude.{◌≡◌, ℕ, List, [], ◌∷◌, map, Option, Some, None, Result, Ok, Err}
-use Rattle.std.specs.Borrow.{Bor}
 use Rattle.std.specs.Option.{option_and_then}
 use Rattle.bw_model.specs.FaultTable.{CONDITION_LINE}
 use Rattle.bw_model.specs.declared.column.Column.{Column}
@@ -18,10 +17,12 @@ use Rattle.bw_model.specs.Variable.{null_variable}
 use Rattle.bw_diagram.specs.declared.product.Connective.TheVariants as connective
 use Rattle.bw_diagram.specs.Cited.{cited}
 use Rattle.bw_diagram.specs.Facts.{Facts}
+use Rattle.bw_cert_text.specs.declared.body.BodyLines.{BodyLines}
 use Rattle.bw_cert_text.specs.declared.lines.BodyLine.{BodyLine}
 use Rattle.bw_cert_text.specs.declared.lines.Entry.{Entry}
 use Rattle.bw_cert_text.specs.declared.lines.Entry.TheVariants.{Condition}
 use Rattle.bw_cert_text.specs.declared.lines.ConditionEntry.{ConditionEntry}
+use Rattle.bw_cert_text.specs.BodyLines.{body_lines}
 use Rattle.bw_cert_text.specs.CertificateFields.{BodyFields, body_fields}
 use Rattle.bw_cert_text.specs.declared.lines.ConditionEntry.TheVariants.{NullTest, And, Or, Not, Is, IsUnknown}
 use Rattle.bw_cert_parts.specs.declared.nodes.Pair.{Pair}
@@ -40,8 +41,8 @@ told (Ok read) = Ok (read.0, map body_fields read.1)
 told (Err fault) = Err fault
 
 -- what a reader answered is a reading
-abbrev pub Answers : Result (Pair × Bor (List BodyLine)) Fault → Reading → Type 0
-Answers (Ok read) reading = reading ≡ Ok (read.0, read.1.now)
+abbrev pub Answers : Result (Pair × BodyLines) Fault → Reading → Type 0
+Answers (Ok read) reading = reading ≡ Ok (read.0, body_lines read.1)
 Answers (Err fault) reading = reading ≡ Err fault
 
 -- what a line says of a condition, if it is a condition's

@@ -1,5 +1,6 @@
 //! The lines of joins, each judged by its rule.
 ghost use Rattle.std.specs.Prelude.{◌≡◌, ◌<◌, true, IsTrue, IfOk, IfErr, Ok, Err};
+ghost use Rattle.bw_cert_text.specs.BodyLines.{body_lines};
 ghost use Rattle.bw_cert_parts.specs.Join.{is_zero, is_kept, keeps_through, keeps_by_skip, keeps_by_skips};
 ghost use Rattle.bw_cert_parts.specs.Known.{is_known_fault, nothing_known};
 ghost use Rattle.bw_cert_parts.specs.Walk.{is_join, joined, keeps_taken};
@@ -7,7 +8,7 @@ ghost use Rattle.bw_cert_parts.specs.Walk.{is_join, joined, keeps_taken};
 use crate::edge::Edge;
 use crate::judge::Judge;
 use crate::known::Known;
-use bw_cert_text::{BodyLine, EdgeProducts, Entry, Keep};
+use bw_cert_text::{BodyLines, EdgeProducts, Entry, Keep};
 use bw_diagram::Connective;
 use bw_model::{Fault, code};
 
@@ -19,20 +20,20 @@ impl Judge<'_> {
         known: &mut Known,
         edges: &[Edge],
         place: usize,
-        lines: &'a [BodyLine],
+        lines: BodyLines<'a>,
         end: u64,
-    ) -> Result<&'a [BodyLine], Fault>
+    ) -> Result<BodyLines<'a>, Fault>
         ensures taken { IfOk result (λ rest. joined self.entry.diagram.now end place edges.now
-            (record { known = known.old; rest = lines.now })
-            ≡ Ok (record { known = known.new; rest = rest.now })) }
+            (record { known = known.old; rest = body_lines lines.entry })
+            ≡ Ok (record { known = known.new; rest = body_lines rest })) }
         ensures fault { IfErr result (λ fault. joined self.entry.diagram.now end place edges.now
-            (record { known = known.old; rest = lines.now }) ≡ Err fault) }
+            (record { known = known.old; rest = body_lines lines.entry }) ≡ Err fault) }
         ensures code { IfErr result (λ fault. IsTrue (is_known_fault fault)) }
     {
         if edges.is_empty() {
             return Ok(lines);
         }
-        let Some((line, rest)) = lines.split_first() else {
+        let Some((line, rest)) = lines.next() else {
             return Err(Fault::at_line(code::JOIN, end));
         };
         if !is_join(&line.entry, place) {
@@ -46,13 +47,13 @@ impl Judge<'_> {
         self,
         known: &mut Known,
         edges: &[Edge],
-        lines: &'a [BodyLine],
-    ) -> Result<&'a [BodyLine], Fault>
+        lines: BodyLines<'a>,
+    ) -> Result<BodyLines<'a>, Fault>
         ensures taken { IfOk result (λ rest.
-            keeps_taken self.entry.diagram.now known.old edges.now 0 nothing_known lines.now
-            ≡ Ok (record { known = known.new; rest = rest.now })) }
+            keeps_taken self.entry.diagram.now known.old edges.now 0 nothing_known (body_lines lines.entry)
+            ≡ Ok (record { known = known.new; rest = body_lines rest })) }
         ensures fault { IfErr result (λ fault.
-            keeps_taken self.entry.diagram.now known.old edges.now 0 nothing_known lines.now
+            keeps_taken self.entry.diagram.now known.old edges.now 0 nothing_known (body_lines lines.entry)
             ≡ Err fault) }
         ensures code { IfErr result (λ fault. IsTrue (is_known_fault fault)) }
     {
@@ -60,7 +61,7 @@ impl Judge<'_> {
         let mut kept: Known = [None; 64];
         let mut least = 0;
         let mut rest = lines;
-        while let Some((line, more)) = rest.split_first() {
+        while let Some((line, more)) = rest.next() {
             let Entry::Keep(keep) = &line.entry else {
                 break;
             };
@@ -78,7 +79,7 @@ impl Judge<'_> {
     /// Whether a register, not below the least, has the node that its line names, however the join
     /// is come to.
     #[tactic(auto, unfolding(crate::specs::Join::is_kept))]
-    fn is_kept(self, through: &Known, edges: &[Edge], least: u8, keep: &Keep) -> bool
+    fn is_kept(self, through: &Known, edges: &[Edge], least: u8, keep: &Keep<'_>) -> bool
         ensures kept { result
             ≡ is_kept self.entry.diagram.now through.now edges.now least keep.now }
         ensures register { result ≡ true → keep.now.register < 64 }
@@ -90,7 +91,7 @@ impl Judge<'_> {
     }
 
     /// Whether it has that node on falling through.
-    fn keeps_through(self, through: &Known, keep: &Keep) -> bool
+    fn keeps_through(self, through: &Known, keep: &Keep<'_>) -> bool
         requires { keep.now.register < 64 }
         ensures { result ≡ keeps_through self.entry.diagram.now through.now keep.now }
     {
@@ -103,10 +104,10 @@ impl Judge<'_> {
     }
 
     /// Whether it has that node by each skip, of which each has a pair of rows.
-    fn keeps_by_skips(self, keep: &Keep, edges: &[Edge]) -> bool
+    fn keeps_by_skips(self, keep: &Keep<'_>, edges: &[Edge]) -> bool
         requires { keep.now.register < 64 }
         ensures { result
-            ≡ keeps_by_skips self.entry.diagram.now keep.now edges.now keep.now.edges.items }
+            ≡ keeps_by_skips self.entry.diagram.now keep.now edges.now keep.now.edges }
     {
         let mut pairs = keep.edges.as_slice();
         let mut skips = edges;
@@ -123,7 +124,7 @@ impl Judge<'_> {
     }
 
     /// Whether its node at a skip differs from that one nowhere but where the skip's register is 1.
-    fn keeps_by_skip(self, keep: &Keep, edge: &Edge, rows: EdgeProducts) -> bool
+    fn keeps_by_skip(self, keep: &Keep<'_>, edge: &Edge, rows: EdgeProducts) -> bool
         requires { keep.now.register < 64 }
         ensures { result ≡ keeps_by_skip self.entry.diagram.now keep.now edge.now rows }
     {
@@ -147,7 +148,7 @@ impl Judge<'_> {
 }
 
 /// Whether a line is the line JOIN of a place.
-fn is_join(entry: &Entry, place: usize) -> bool
+fn is_join(entry: &Entry<'_>, place: usize) -> bool
     ensures { result ≡ is_join place entry.now }
 {
     match entry {

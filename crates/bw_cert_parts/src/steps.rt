@@ -6,17 +6,18 @@ ghost use Rattle.bw_model.specs.Cond.{names_within, is_within};
 ghost use Rattle.bw_model.specs.declared.cond.Op.TheVariants.{Eq, Le, Ge};
 ghost use Rattle.bw_model.specs.Fault.{at_line};
 ghost use Rattle.bw_cert_parts.specs.declared.steps.Junction.TheVariants.{All, Any};
+ghost use Rattle.bw_cert_text.specs.BodyLines.{body_lines};
 ghost use Rattle.bw_cert_parts.specs.Comparison.{fixed, comparison};
 ghost use Rattle.bw_cert_parts.specs.Pair.{Answers, next_entry, next_number, taken, by_line, null_test, is_null_test, joined_pair, negated_pair, with_opposite, tested_pair, joined_parts, one_more, equations, pair_of};
 
 use crate::comparison::{comparison, fixed};
 use crate::nodes::{Pair, null_cited};
-use bw_cert_text::{BodyLine, ConditionEntry, Entry};
+use bw_cert_text::{BodyLines, ConditionEntry, Entry};
 use bw_diagram::{Connective, Diagram};
 use bw_model::{Cond, Fault, Op, Operand, Schema, Truth, code};
 
 /// A pair, and the lines after those that made it.
-type Read<'a> = Result<(Pair, &'a [BodyLine]), Fault>;
+type Read<'a> = Result<(Pair, BodyLines<'a>), Fault>;
 
 /// What joins the parts of a condition: AND, or OR.
 #[derive(Clone, Copy)]
@@ -36,12 +37,12 @@ pub fn pair<'a>(
     schema: &Schema,
     diagram: &Diagram<'_>,
     cond: &Cond,
-    lines: &'a [BodyLine],
+    lines: BodyLines<'a>,
     end: u64,
 ) -> Read<'a>
     requires { IsTrue (names_within (length schema.now.columns.items) cond.now) }
     ensures pair { Answers result
-        (pair_of schema.now.columns.items diagram.now end cond.now lines.now) }
+        (pair_of schema.now.columns.items diagram.now end cond.now (body_lines lines.entry)) }
     ensures code { IfErr result (λ fault. fault.code ≡ CONDITION_LINE) }
 {
     match cond {
@@ -71,12 +72,12 @@ fn joined<'a>(
     diagram: &Diagram<'_>,
     junction: Junction,
     parts: &[Cond],
-    lines: &'a [BodyLine],
+    lines: BodyLines<'a>,
     end: u64,
 ) -> Read<'a>
     requires { IsTrue (list_all (names_within (length schema.now.columns.items)) parts.now) }
     ensures pair { Answers result (joined_parts schema.now.columns.items diagram.now end junction
-        (map (pair_of schema.now.columns.items diagram.now end) parts.now) lines.now) }
+        (map (pair_of schema.now.columns.items diagram.now end) parts.now) (body_lines lines.entry)) }
     ensures code { IfErr result (λ fault. fault.code ≡ CONDITION_LINE) }
 {
     let Some((first, others)) = parts.split_first() else {
@@ -98,13 +99,13 @@ fn among<'a>(
     diagram: &Diagram<'_>,
     x: Operand,
     items: &[Operand],
-    lines: &'a [BodyLine],
+    lines: BodyLines<'a>,
     end: u64,
 ) -> Read<'a>
     requires operand { IsTrue (is_within (length schema.now.columns.items) x) }
     requires items { IsTrue (list_all (is_within (length schema.now.columns.items)) items.now) }
     ensures pair { Answers result (joined_parts schema.now.columns.items diagram.now end Any
-        (equations schema.now.columns.items diagram.now end x items.now) lines.now) }
+        (equations schema.now.columns.items diagram.now end x items.now) (body_lines lines.entry)) }
     ensures code { IfErr result (λ fault. fault.code ≡ CONDITION_LINE) }
 {
     let Some((first, others)) = items.split_first() else {
@@ -124,13 +125,13 @@ fn one_more<'a>(
     x: Operand,
     item: Operand,
     made: Pair,
-    lines: &'a [BodyLine],
+    lines: BodyLines<'a>,
     end: u64,
 ) -> Read<'a>
     requires operand { IsTrue (is_within (length schema.now.columns.items) x) }
     requires item { IsTrue (is_within (length schema.now.columns.items) item) }
     ensures pair { Answers result (one_more schema.now.columns.items diagram.now end Any
-        (by_line end (comparison schema.now.columns.items diagram.now Eq x item)) (made, lines.now)) }
+        (by_line end (comparison schema.now.columns.items diagram.now Eq x item)) (made, (body_lines lines.entry))) }
     ensures code { IfErr result (λ fault. fault.code ≡ CONDITION_LINE) }
 {
     let (next, rest) = compared(schema, diagram, Op::Eq, x, item, lines, end)?;
@@ -144,7 +145,7 @@ fn between<'a>(
     x: Operand,
     y: Operand,
     z: Operand,
-    lines: &'a [BodyLine],
+    lines: BodyLines<'a>,
     end: u64,
 ) -> Read<'a>
     requires x { IsTrue (is_within (length schema.now.columns.items) x) }
@@ -152,7 +153,7 @@ fn between<'a>(
     requires z { IsTrue (is_within (length schema.now.columns.items) z) }
     ensures pair { Answers result (joined_parts schema.now.columns.items diagram.now end All
         (by_line end (comparison schema.now.columns.items diagram.now Ge x y)
-        ∷ by_line end (comparison schema.now.columns.items diagram.now Le x z) ∷ []) lines.now) }
+        ∷ by_line end (comparison schema.now.columns.items diagram.now Le x z) ∷ []) (body_lines lines.entry)) }
     ensures code { IfErr result (λ fault. fault.code ≡ CONDITION_LINE) }
 {
     let (lower, rest) = compared(schema, diagram, Op::Ge, x, y, lines, end)?;
@@ -168,13 +169,13 @@ fn compared<'a>(
     op: Op,
     x: Operand,
     y: Operand,
-    lines: &'a [BodyLine],
+    lines: BodyLines<'a>,
     end: u64,
 ) -> Read<'a>
     requires left { IsTrue (is_within (length schema.now.columns.items) x) }
     requires right { IsTrue (is_within (length schema.now.columns.items) y) }
     ensures pair { Answers result
-        (by_line end (comparison schema.now.columns.items diagram.now op x y) lines.now) }
+        (by_line end (comparison schema.now.columns.items diagram.now op x y) (body_lines lines.entry)) }
     ensures code { IfErr result (λ fault. fault.code ≡ CONDITION_LINE) }
 {
     let made = match next_entry(lines) {
@@ -186,8 +187,8 @@ fn compared<'a>(
 
 /// The pair of a step with one truth on every row, by the next line.
 #[tactic(auto, unfolding(crate::specs::Pair::by_line))]
-fn constant<'a>(truth: Truth, lines: &'a [BodyLine], end: u64) -> Read<'a>
-    ensures pair { Answers result (by_line end (fixed truth) lines.now) }
+fn constant<'a>(truth: Truth, lines: BodyLines<'a>, end: u64) -> Read<'a>
+    ensures pair { Answers result (by_line end (fixed truth) (body_lines lines.entry)) }
     ensures code { IfErr result (λ fault. fault.code ≡ CONDITION_LINE) }
 {
     let made = match next_entry(lines) {
@@ -203,12 +204,12 @@ fn null_tested<'a>(
     schema: &Schema,
     diagram: &Diagram<'_>,
     x: Operand,
-    lines: &'a [BodyLine],
+    lines: BodyLines<'a>,
     end: u64,
 ) -> Read<'a>
     requires { IsTrue (is_within (length schema.now.columns.items) x) }
     ensures pair { Answers result
-        (by_line end (is_null_test schema.now.columns.items diagram.now x) lines.now) }
+        (by_line end (is_null_test schema.now.columns.items diagram.now x) (body_lines lines.entry)) }
     ensures code { IfErr result (λ fault. fault.code ≡ CONDITION_LINE) }
 {
     let made = match next_entry(lines) {
@@ -256,11 +257,11 @@ fn join<'a>(
     junction: Junction,
     a: Pair,
     b: Pair,
-    lines: &'a [BodyLine],
+    lines: BodyLines<'a>,
     end: u64,
 ) -> Read<'a>
     ensures pair { Answers result
-        (by_line end (joined_pair diagram.now junction a b) lines.now) }
+        (by_line end (joined_pair diagram.now junction a b) (body_lines lines.entry)) }
     ensures code { IfErr result (λ fault. fault.code ≡ CONDITION_LINE) }
 {
     let made = match next_entry(lines) {
@@ -296,8 +297,8 @@ fn joined_pair(
 
 /// The pair of NOT, by the next line.
 #[tactic(auto, unfolding(crate::specs::Pair::by_line, crate::specs::Pair::negated_pair))]
-fn negated<'a>(pair: Pair, lines: &'a [BodyLine], end: u64) -> Read<'a>
-    ensures pair { Answers result (by_line end (negated_pair pair) lines.now) }
+fn negated<'a>(pair: Pair, lines: BodyLines<'a>, end: u64) -> Read<'a>
+    ensures pair { Answers result (by_line end (negated_pair pair) (body_lines lines.entry)) }
     ensures code { IfErr result (λ fault. fault.code ≡ CONDITION_LINE) }
 {
     let made = match next_entry(lines) {
@@ -313,11 +314,11 @@ fn tested<'a>(
     diagram: &Diagram<'_>,
     wanted: Truth,
     pair: Pair,
-    lines: &'a [BodyLine],
+    lines: BodyLines<'a>,
     end: u64,
 ) -> Read<'a>
     ensures pair { Answers result
-        (by_line end (tested_pair diagram.now wanted pair) lines.now) }
+        (by_line end (tested_pair diagram.now wanted pair) (body_lines lines.entry)) }
     ensures code { IfErr result (λ fault. fault.code ≡ CONDITION_LINE) }
 {
     let made = match next_entry(lines) {
@@ -356,12 +357,12 @@ fn with_opposite(diagram: &Diagram<'_>, node: u64, number: u64) -> Option<Pair>
 }
 
 /// What the next line says of a condition, if there is one and it is a condition's.
-fn next_entry(lines: &[BodyLine]) -> Option<ConditionEntry>
-    ensures { result ≡ next_entry lines.now }
+fn next_entry(lines: BodyLines<'_>) -> Option<ConditionEntry>
+    ensures { result ≡ next_entry (body_lines lines.entry) }
 {
-    match lines.first() {
-        Some(line) => match &line.entry {
-            Entry::Condition(entry) => Some(*entry),
+    match lines.next() {
+        Some((line, _)) => match line.entry {
+            Entry::Condition(entry) => Some(entry),
             _ => None,
         },
         None => None,
@@ -369,22 +370,22 @@ fn next_entry(lines: &[BodyLine]) -> Option<ConditionEntry>
 }
 
 /// The pair that the next line makes, and the lines after it, or the refusal of that line.
-fn taken<'a>(made: Option<Pair>, lines: &'a [BodyLine], end: u64) -> Read<'a>
-    ensures pair { Answers result (taken end made lines.now) }
+fn taken<'a>(made: Option<Pair>, lines: BodyLines<'a>, end: u64) -> Read<'a>
+    ensures pair { Answers result (taken end made (body_lines lines.entry)) }
     ensures code { IfErr result (λ fault. fault.code ≡ CONDITION_LINE) }
 {
-    match (made, lines) {
-        (Some(pair), [_, rest @ ..]) => Ok((pair, rest)),
+    match (made, lines.next()) {
+        (Some(pair), Some((_, rest))) => Ok((pair, rest)),
         _ => Err(refused(lines, end)),
     }
 }
 
 /// The refusal of the next line, or of END's where there is none.
-fn refused(lines: &[BodyLine], end: u64) -> Fault
-    ensures { result ≡ at_line CONDITION_LINE (next_number end lines.now) }
+fn refused(lines: BodyLines<'_>, end: u64) -> Fault
+    ensures { result ≡ at_line CONDITION_LINE (next_number end (body_lines lines.entry)) }
 {
-    let line = match lines.first() {
-        Some(line) => line.line,
+    let line = match lines.next() {
+        Some((line, _)) => line.line,
         None => end,
     };
     Fault::at_line(code::CONDITION_LINE, line)

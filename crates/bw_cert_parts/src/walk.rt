@@ -3,13 +3,14 @@ ghost use Rattle.std.specs.Prelude.{◌≡◌, ◌≤◌, IsTrue, IfOk, IfErr, O
 ghost use Rattle.bw_model.specs.Fault.{Gives};
 ghost use Rattle.bw_program.specs.Program.{named_by};
 ghost use Rattle.bw_text.specs.Register.{register_count};
+ghost use Rattle.bw_cert_text.specs.BodyLines.{body_lines};
 ghost use Rattle.bw_cert_parts.specs.Walk.{judged, instruction_taken};
 ghost use Rattle.bw_cert_parts.specs.Known.{is_known_fault};
 
 use crate::edge::Edges;
 use crate::judge::Judge;
 use crate::known::Known;
-use bw_cert_text::{BodyLine, Entry};
+use bw_cert_text::{BodyLines, Entry};
 use bw_diagram::Diagram;
 use bw_model::{Fault, Schema, code};
 use bw_program::{Instr, Program};
@@ -20,7 +21,7 @@ use std::alloc::Global;
 #[derive(Clone, Copy)]
 pub struct AtEnd<'a> {
     pub known: Known,
-    pub rest: &'a [BodyLine],
+    pub rest: BodyLines<'a>,
 }
 
 /// Takes the lines of a program's instructions and joins, and gives what is known of the registers
@@ -37,12 +38,12 @@ pub fn known_at_end<'a>(
     schema: &Schema,
     diagram: &Diagram<'_>,
     program: &Program,
-    lines: &'a [BodyLine],
+    lines: BodyLines<'a>,
     end: u64,
 ) -> Result<AtEnd<'a>, Fault>
     requires { diagram.now.columns ≡ schema.now.columns.items }
-    ensures judged { Gives (λ at. record { known = at.known; rest = at.rest.now }) result
-        (judged diagram.now program.now.instrs end lines.now) }
+    ensures judged { Gives (λ at. record { known = at.known; rest = body_lines at.rest }) result
+        (judged diagram.now program.now.instrs end (body_lines lines.entry)) }
     ensures code { IfErr result (λ fault. IsTrue (is_known_fault fault)) }
 {
     let judge = Judge { schema, diagram };
@@ -65,25 +66,25 @@ impl Judge<'_> {
         self,
         known: &mut Known,
         instr: Instr,
-        lines: &'a [BodyLine],
+        lines: BodyLines<'a>,
         end: u64,
-    ) -> Result<&'a [BodyLine], Fault>
+    ) -> Result<BodyLines<'a>, Fault>
         requires columns { self.diagram.now.columns ≡ self.schema.now.columns.items }
         requires registers { named_by instr ≤ register_count }
         ensures taken { IfOk result (λ rest.
-            instruction_taken self.entry.diagram.now end known.old instr lines.now
-            ≡ Ok (record { known = known.new; rest = rest.now })) }
+            instruction_taken self.entry.diagram.now end known.old instr (body_lines lines.entry)
+            ≡ Ok (record { known = known.new; rest = body_lines rest })) }
         ensures fault { IfErr result (λ fault.
-            instruction_taken self.entry.diagram.now end known.old instr lines.now ≡ Err fault) }
+            instruction_taken self.entry.diagram.now end known.old instr (body_lines lines.entry) ≡ Err fault) }
         ensures code { IfErr result (λ fault. IsTrue (is_known_fault fault)) }
     {
-        let Some((line, rest)) = lines.split_first() else {
+        let Some((line, rest)) = lines.next() else {
             return Err(Fault::at_line(code::INSTRUCTION_LINE, end));
         };
-        let Entry::Instruction(given) = &line.entry else {
+        let Entry::Instruction(given) = line.entry else {
             return Err(Fault::at_line(code::INSTRUCTION_LINE, line.line));
         };
-        self.after(known, line.line, instr, *given)?;
+        self.after(known, line.line, instr, given)?;
         Ok(rest)
     }
 }

@@ -4,6 +4,7 @@ pub mod LineSpelled
 pub mod PrintLemmas
 pub mod PrintedText
 pub mod SpelledNumbers
+pub mod StoredLemmas
 pub mod TextLemmas
 pub mod TextSpelling
 pub mod WordSpelling

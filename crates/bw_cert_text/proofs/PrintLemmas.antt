@@ -26,6 +26,21 @@ pub lines-end : {A : Type 0} (tokens : A → List Token) (xs : List A) (i : ℕ)
 unfolding lines_text
 lines-end tokens xs i le = rw (drop_all i xs le) refl
 
+-- the lines of a list, by its first one
+pub lines-first : {A : Type 0} (tokens : A → List Token) (xs ys : List A) (x : A) → xs ≡ x ∷ ys → lines_text tokens xs ≡ token_line (tokens x) ++ lines_text tokens ys
+unfolding lines_text
+lines-first tokens xs ys x is = ap (lines_text tokens) is
+
+pub lines-none : {A : Type 0} (tokens : A → List Token) (xs : List A) → xs ≡ [] → lines_text tokens xs ≡ []
+unfolding lines_text
+lines-none tokens xs is = ap (lines_text tokens) is
+
+pub fit-first : {A : Type 0} (fits : A → Bool) (xs ys : List A) (x : A) → xs ≡ x ∷ ys → fits x ≡ true → list_all fits ys ≡ true → list_all fits xs ≡ true
+fit-first fits xs ys x is here there = ap (list_all fits) is ∙ ap (λ b. b && list_all fits ys) here ∙ there
+
+pub fit-none : {A : Type 0} (fits : A → Bool) (xs : List A) → xs ≡ [] → list_all fits xs ≡ true
+fit-none fits xs is = ap (list_all fits) is
+
 pub edges-next : (xs : List EdgeProducts) (i : ℕ) (d : EdgeProducts) → i < length xs →
     spaced (token_words (edge_tokens (drop i xs)))
     ≡ spaced (token_words (Number (get_or xs i d).differs ∷ Number (get_or xs i d).within ∷ [])) ++ spaced (token_words (edge_tokens (drop (i + 1) xs)))

@@ -64,7 +64,7 @@ keep_fields keep = record {
   register = keep.register;
   node = keep.node;
   through = keep.through;
-  edges = keep.edges.items;
+  edges = keep.edges;
 }
 
 abbrev pub entry_fields : Entry → EntryFields

@@ -1,3 +1,4 @@
+pub mod BodyLines
 pub mod CertificateFields
 pub mod CertificateShape
 pub mod CertificateText
@@ -9,4 +10,5 @@ pub mod Parts
 pub mod PrintText
 pub mod Reprint
 pub mod SaidFields
+pub mod Stored
 pub mod Token

@@ -9,6 +9,6 @@ joined parts rest = record {
   nodes = parts.nodes.items ++ rest.nodes;
   chains = map chain_fields parts.chains.items ++ rest.chains;
   products = parts.products.items ++ rest.products;
-  body = map body_fields parts.body.items ++ rest.body;
+  body = map body_fields parts.body ++ rest.body;
   end = rest.end;
 }

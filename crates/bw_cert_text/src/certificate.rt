@@ -1,7 +1,9 @@
 //! Certificates.
 ghost use Rattle.std.specs.Prelude.{◌≡◌, length};
+ghost use Rattle.bw_cert_text.specs.BodyLines.{body_lines};
 
-use crate::lines::{BodyLine, ChainLine, EndLine, NodeLine, ProductLine};
+use crate::body::{Body, BodyLines};
+use crate::lines::{ChainLine, EndLine, NodeLine, ProductLine};
 use std::marker::Model;
 
 /// A certificate as its lines.
@@ -10,7 +12,7 @@ pub struct Certificate {
     pub(crate) nodes: Vec<NodeLine>,
     pub(crate) chains: Vec<ChainLine>,
     pub(crate) products: Vec<ProductLine>,
-    pub(crate) body: Vec<BodyLine>,
+    pub(crate) body: Body,
     pub(crate) end: EndLine,
 }
 
@@ -23,7 +25,7 @@ impl Model for Certificate {
       nodes = certificate.nodes.items;
       chains = certificate.chains.items;
       products = certificate.products.items;
-      body = certificate.body.items;
+      body = certificate.body;
       end = certificate.end;
     } };
 }
@@ -34,14 +36,14 @@ impl Certificate {
         nodes: Vec<NodeLine>,
         chains: Vec<ChainLine>,
         products: Vec<ProductLine>,
-        body: Vec<BodyLine>,
+        body: Body,
         end: EndLine,
     ) -> Self
         ensures { result ≡ record {
           nodes = nodes.items;
           chains = chains.items;
           products = products.items;
-          body = body.items;
+          body = body;
           end = end;
         } }
     {
@@ -97,10 +99,10 @@ impl Certificate {
     }
 
     /// The lines of conditions, instructions and joins, in order.
-    pub fn body(&self) -> &[BodyLine]
-        ensures { result.now ≡ self.now.body }
+    pub fn body(&self) -> BodyLines<'_>
+        ensures { body_lines result ≡ self.now.body }
     {
-        &self.body
+        self.body.lines()
     }
 
     /// The last line.

@@ -10,15 +10,20 @@
 //! `specs/CertificateText.antt` says in which order they stand.
 #![tactic(auto)]
 
+mod body;
 mod certificate;
 mod connective;
+mod edge_pairs;
+mod kind;
 mod line;
 mod lines;
 mod operand;
 mod parse;
 mod print;
 
+pub use body::{Body, BodyLines};
 pub use certificate::Certificate;
+pub use edge_pairs::EdgePairs;
 pub use lines::{
     BodyLine, ChainLine, ConditionEntry, EdgeProducts, EndLine, Entry, InstructionEntry, Keep,
     NodeLine, ProductLine,

@@ -3,10 +3,11 @@ ghost use Rattle.std.specs.Prelude.{◌≡◌, List, ℕ, map, option_map, IfOk}
 ghost use Rattle.bw_text.specs.Lines.{line_of};
 ghost use Rattle.bw_cert_text.specs.CertificateFields.{column_fields, chain_fields, keep_fields, entry_fields};
 ghost use Rattle.bw_cert_text.specs.LineText.{node_in, one_column_in, two_columns_in, columns_after, chain_in, reason_in, row_in, compare_in, compare_columns_in, is_in, condition_in, byte_in, instruction_in, edges_in, keep_in, body_at, said_after, said_in};
-ghost use Rattle.bw_cert_text.specs.declared.line.Said.TheVariants as said;
+ghost use Rattle.bw_text.specs.declared.line_kind.LineKind.TheVariants as kinds;
 ghost use Rattle.bw_cert_text.specs.SaidFields.{part_fields, said_fields};
 
 use crate::connective::connective_of;
+use crate::edge_pairs::EdgePairs;
 use crate::lines::{
     BodyLine, ChainLine, ConditionEntry, EdgeProducts, EndLine, Entry, InstructionEntry, Keep,
     NodeLine, ProductLine,
@@ -20,17 +21,17 @@ use std::alloc::{AllocError, Global};
 
 /// A line before the end.
 #[derive(Drop)]
-pub(crate) enum Part {
+pub(crate) enum Part<'a> {
     Node(NodeLine),
     Chain(ChainLine),
     Row(ProductLine),
-    Body(BodyLine),
+    Body(BodyLine<'a>),
 }
 
 /// A line.
 #[derive(Drop)]
-pub(crate) enum Said {
-    Before(Part),
+pub(crate) enum Said<'a> {
+    Before(Part<'a>),
     End(EndLine),
 }
 
@@ -348,8 +349,12 @@ fn edges_in(alloc: Global, words: &[&[u8]]) -> Result<Option<Vec<EdgeProducts>>,
     }
 }
 
-/// `r h x`, and whole pairs.
-fn keep_in(alloc: Global, words: &[&[u8]]) -> Result<Option<Keep>, AllocError>
+/// `r h x`, and whole pairs, which come to lie in this memory.
+fn keep_in<'a>(
+    alloc: Global,
+    words: &[&[u8]],
+    pairs: &'a mut Vec<EdgeProducts>,
+) -> Result<Option<Keep<'a>>, AllocError>
     ensures { IfOk result (λ keep. option_map keep_fields keep ≡ keep_in (map (λ word. word.now) words.now)) }
 {
     let [register, node, through, rest @ ..] = words else {
@@ -367,16 +372,21 @@ fn keep_in(alloc: Global, words: &[&[u8]]) -> Result<Option<Keep>, AllocError>
     let Some(edges) = edges_in(alloc, rest)? else {
         return Ok(None);
     };
+    *pairs = edges;
     Ok(Some(Keep {
         register,
         node,
         through,
-        edges,
+        edges: EdgePairs::new(pairs.as_slice()),
     }))
 }
 
-/// What a line says, in a line of any form.
-pub(crate) fn said_in(alloc: Global, line: &Line) -> Result<Option<Said>, AllocError>
+/// What a line says, in a line of any form. Its pairs come to lie in this memory.
+pub(crate) fn said_in<'a>(
+    alloc: Global,
+    line: &Line<'_>,
+    pairs: &'a mut Vec<EdgeProducts>,
+) -> Result<Option<Said<'a>>, AllocError>
     ensures { IfOk result (λ said. option_map said_fields said ≡ said_in (line_of line.now)) }
 {
     let Some((word, rest)) = line.words.as_slice().split_first() else {
@@ -385,48 +395,95 @@ pub(crate) fn said_in(alloc: Global, line: &Line) -> Result<Option<Said>, AllocE
     let Some(kind) = LineKind::of(word) else {
         return Ok(None);
     };
-    said_after(alloc, line.number, kind, rest)
+    said_after(alloc, line.number, kind, rest, pairs)
 }
 
 /// What the words after the first one say in a line of this kind.
-fn said_after(
+fn said_after<'a>(
     alloc: Global,
     line: u64,
     kind: LineKind,
     words: &[&[u8]],
-) -> Result<Option<Said>, AllocError>
+    pairs: &'a mut Vec<EdgeProducts>,
+) -> Result<Option<Said<'a>>, AllocError>
     ensures { IfOk result
         (λ said. option_map said_fields said ≡ said_after line kind (map (λ word. word.now) words.now)) }
 {
     match kind {
-        LineKind::Node => Ok(before(node_in(line, words).map(Part::Node))),
-        LineKind::Chain => Ok(before(chain_in(alloc, line, words)?.map(Part::Chain))),
-        LineKind::Row => Ok(before(row_in(line, words).map(Part::Row))),
-        LineKind::Condition(kind) => Ok(in_body(
-            line,
-            condition_in(kind, words).map(Entry::Condition),
-        )),
-        LineKind::Instruction(kind) => Ok(in_body(
-            line,
-            instruction_in(kind, words).map(Entry::Instruction),
-        )),
-        LineKind::Join => Ok(in_body(line, number_in(words).map(Entry::Join))),
-        LineKind::Keep => Ok(in_body(line, keep_in(alloc, words)?.map(Entry::Keep))),
-        LineKind::End => Ok(number_in(words).map(|row| Said::End(EndLine { line, row }))),
+        LineKind::Node => Ok(node_said(line, words)),
+        LineKind::Chain => {
+            let Some(chain) = chain_in(alloc, line, words)? else {
+                return Ok(None);
+            };
+            Ok(Some(Said::Before(Part::Chain(chain))))
+        }
+        LineKind::Row => Ok(row_said(line, words)),
+        LineKind::Condition(kind) => Ok(condition_said(line, kind, words)),
+        LineKind::Instruction(kind) => Ok(instruction_said(line, kind, words)),
+        LineKind::Join => Ok(join_said(line, words)),
+        LineKind::Keep => {
+            let Some(keep) = keep_in(alloc, words, pairs)? else {
+                return Ok(None);
+            };
+            Ok(Some(in_body(line, Entry::Keep(keep))))
+        }
+        LineKind::End => Ok(end_said(line, words)),
     }
 }
 
-/// A line before the end, if it was read.
-fn before(part: Option<Part>) -> Option<Said>
-    ensures { option_map said_fields result ≡ option_map (λ part. said_fields (said.Before part)) part }
+/// What the words after `NODE` say.
+fn node_said<'a>(line: u64, words: &[&[u8]]) -> Option<Said<'a>>
+    ensures { option_map said_fields result ≡ said_after line kinds.Node (map (λ word. word.now) words.now) }
 {
-    part.map(Said::Before)
+    let node = node_in(line, words)?;
+    Some(Said::Before(Part::Node(node)))
 }
 
-/// A line after the product rows, if it was read.
-fn in_body(line: u64, entry: Option<Entry>) -> Option<Said>
-    ensures { option_map said_fields result ≡ option_map (λ entry. body_at line (entry_fields entry)) entry }
+/// What the words after `ROW` say.
+fn row_said<'a>(line: u64, words: &[&[u8]]) -> Option<Said<'a>>
+    ensures { option_map said_fields result ≡ said_after line kinds.Row (map (λ word. word.now) words.now) }
 {
-    let entry = entry?;
-    Some(Said::Before(Part::Body(BodyLine { line, entry })))
+    let row = row_in(line, words)?;
+    Some(Said::Before(Part::Row(row)))
+}
+
+/// What they say in the line of a condition's step.
+fn condition_said<'a>(line: u64, kind: ConditionKind, words: &[&[u8]]) -> Option<Said<'a>>
+    ensures { option_map said_fields result
+        ≡ said_after line (kinds.Condition kind) (map (λ word. word.now) words.now) }
+{
+    let entry = condition_in(kind, words)?;
+    Some(in_body(line, Entry::Condition(entry)))
+}
+
+/// What they say in the line of an instruction.
+fn instruction_said<'a>(line: u64, kind: InstructionKind, words: &[&[u8]]) -> Option<Said<'a>>
+    ensures { option_map said_fields result
+        ≡ said_after line (kinds.Instruction kind) (map (λ word. word.now) words.now) }
+{
+    let entry = instruction_in(kind, words)?;
+    Some(in_body(line, Entry::Instruction(entry)))
+}
+
+/// What they say after `JOIN`.
+fn join_said<'a>(line: u64, words: &[&[u8]]) -> Option<Said<'a>>
+    ensures { option_map said_fields result ≡ said_after line kinds.Join (map (λ word. word.now) words.now) }
+{
+    let target = number_in(words)?;
+    Some(in_body(line, Entry::Join(target)))
+}
+
+/// What they say after `END`.
+fn end_said<'a>(line: u64, words: &[&[u8]]) -> Option<Said<'a>>
+    ensures { option_map said_fields result ≡ said_after line kinds.End (map (λ word. word.now) words.now) }
+{
+    let row = number_in(words)?;
+    Some(Said::End(EndLine { line, row }))
+}
+
+/// A line after the product rows.
+fn in_body<'a>(line: u64, entry: Entry<'a>) -> Said<'a>
+    ensures { said_fields result ≡ body_at line (entry_fields entry.entry) }
+{
+    Said::Before(Part::Body(BodyLine { line, entry }))
 }

@@ -1,6 +1,7 @@
 //! The lines of a certificate, by their sections. Each carries the number of its line in the file.
 ghost use Rattle.std.specs.Prelude.{◌<◌};
 
+use crate::edge_pairs::EdgePairs;
 use bw_diagram::{ChainColumns, Connective, Reason};
 
 /// `NODE n v low high`: node `n` tests variable `v`.
@@ -35,19 +36,19 @@ pub struct ProductLine {
 
 /// A line after the product rows and before the end.
 #[derive(Drop)]
-pub struct BodyLine {
+pub struct BodyLine<'a> {
     pub line: u64,
-    pub entry: Entry,
+    pub entry: Entry<'a>,
 }
 
 /// What such a line says.
 #[derive(Drop)]
-pub enum Entry {
+pub enum Entry<'a> {
     Condition(ConditionEntry),
     Instruction(InstructionEntry),
     /// `JOIN L`: the skips to instruction `L` meet here.
     Join(u64),
-    Keep(Keep),
+    Keep(Keep<'a>),
 }
 
 /// The line of one step of the condition. The numbers are those of a chain or of product rows.
@@ -103,11 +104,11 @@ pub enum InstructionEntry {
 /// `KEEP r h x { i j }`: after a join register `r`, one of r0 to r63, has node `h`, which row `x` shows of falling
 /// through, and a pair of rows of each skip.
 #[derive(Drop)]
-pub struct Keep {
+pub struct Keep<'a> {
     pub register: u8,
     pub node: u64,
     pub through: u64,
-    pub edges: Vec<EdgeProducts>,
+    pub edges: EdgePairs<'a>,
     pub ghost in_range: { register < 64 },
 }
 

@@ -8,9 +8,10 @@ ghost use Rattle.bw_cert_text.specs.Parts.{joined};
 ghost use Rattle.bw_cert_text.specs.Reprint.{numbers_fit};
 ghost use Rattle.bw_cert_text.specs.SaidFields.{part_fields, said_fields};
 
+use crate::body::Body;
 use crate::certificate::Certificate;
 use crate::line::{Part, Said, said_in};
-use crate::lines::{BodyLine, ChainLine, EndLine, NodeLine, ProductLine};
+use crate::lines::{ChainLine, EdgeProducts, EndLine, NodeLine, ProductLine};
 use bw_model::{Fault, code};
 use bw_text::{Line, Lines};
 use std::alloc::{AllocError, Global};
@@ -56,27 +57,27 @@ pub(crate) struct Parts {
     nodes: Vec<NodeLine>,
     chains: Vec<ChainLine>,
     products: Vec<ProductLine>,
-    body: Vec<BodyLine>,
+    body: Body,
 }
 
 impl Parts {
     /// Adds a line to those of its section.
-    fn push(&mut self, part: Part) -> Result<(), AllocError>
+    fn push(&mut self, part: Part<'_>) -> Result<(), AllocError>
         ensures { OnOk result ((rest : CertificateFields) → joined self.new rest
-            ≡ joined self.old (with_part (part_fields part) rest)) }
+            ≡ joined self.old (with_part (part_fields part.entry) rest)) }
     {
         match part {
             Part::Node(node) => self.nodes.push(node)?,
             Part::Chain(chain) => self.chains.push(chain)?,
             Part::Row(row) => self.products.push(row)?,
-            Part::Body(body) => self.body.push(body)?,
+            Part::Body(body) => self.body.push(&body)?,
         }
         Ok(())
     }
 }
 
 /// The section of a line: 0 the nodes, 1 the chains, 2 the product rows, 3 what stands after them.
-fn section_of(part: &Part) -> u8
+fn section_of(part: &Part<'_>) -> u8
     ensures { result ≡ section_of (part_fields part.now) }
 {
     match part {
@@ -98,7 +99,7 @@ fn read_certificate(alloc: Global, first_line: u64, text: &[u8]) -> Result<Certi
         nodes: Vec::new(alloc),
         chains: Vec::new(alloc),
         products: Vec::new(alloc),
-        body: Vec::new(alloc),
+        body: Body::new(alloc),
     };
     let end = read_parts(alloc, &mut lines, &mut parts)?;
     refuse_more(alloc, lines)?;
@@ -121,8 +122,9 @@ fn read_parts(alloc: Global, lines: &mut Lines<'_>, parts: &mut Parts) -> Result
     ensures code { IfErr result IsCertificateFault }
 {
     let mut section = 0;
+    let mut pairs = Vec::new(alloc);
     while let Some(line) = lines.next_line(alloc)? {
-        match said_on(alloc, section, &line)? {
+        match said_on(alloc, section, &line, &mut pairs)? {
             Said::Before(part) => {
                 section = section_of(&part);
                 parts.push(part)?;
@@ -133,12 +135,17 @@ fn read_parts(alloc: Global, lines: &mut Lines<'_>, parts: &mut Parts) -> Result
     Err(Fault::at_line(code::CERTIFICATE_FORM, lines.number()))
 }
 
-/// What a line says that no line of a section after this one may precede.
-fn said_on(alloc: Global, section: u8, line: &Line) -> Result<Said, Fault>
+/// What a line says that no line of a section after this one may precede. Its pairs come to lie in this memory.
+fn said_on<'a>(
+    alloc: Global,
+    section: u8,
+    line: &Line<'_>,
+    pairs: &'a mut Vec<EdgeProducts>,
+) -> Result<Said<'a>, Fault>
     ensures said { Gives said_fields result (said_on section (line_of line.now)) }
     ensures code { IfErr result IsCertificateFault }
 {
-    let Some(said) = said_in(alloc, line)? else {
+    let Some(said) = said_in(alloc, line, pairs)? else {
         return Err(Fault::at_line(code::CERTIFICATE_FORM, line.number));
     };
     if is_before(section, &said) {
@@ -148,7 +155,7 @@ fn said_on(alloc: Global, section: u8, line: &Line) -> Result<Said, Fault>
 }
 
 /// Whether a line is of a section before this one.
-fn is_before(section: u8, said: &Said) -> bool
+fn is_before(section: u8, said: &Said<'_>) -> bool
     ensures { result ≡ is_before section (said_fields said.now) }
 {
     match said {

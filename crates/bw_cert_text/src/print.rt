@@ -6,6 +6,7 @@ ghost use Rattle.bw_model.specs.declared.column.Column.{Column};
 ghost use Rattle.bw_model.specs.Column.{names_of};
 ghost use Rattle.bw_model.specs.Fault.{no_memory};
 ghost use Rattle.bw_model.specs.Name.{is_name};
+ghost use Rattle.bw_cert_text.specs.BodyLines.{body_lines};
 ghost use Rattle.bw_cert_text.specs.CertificateText.{IsCertificateText};
 ghost use Rattle.bw_cert_text.specs.Columns.{are_columns, has_columns};
 ghost use Rattle.bw_cert_text.specs.Reprint.{is_small, are_small, numbers_fit, renumbered};
@@ -14,11 +15,12 @@ ghost use Rattle.bw_cert_text.specs.PrintText.{token_text, token_words, token_li
 ghost use Rattle.bw_text.specs.Printed.{piece_text, spaced};
 ghost use Rattle.bw_cert_text.specs.Token.{Key, Number, Perhaps, one_key, two_key, node_tokens, chain_tokens, row_tokens, condition_tokens, instruction_tokens, edge_tokens, keep_tokens, entry_tokens, end_tokens};
 
+use crate::body::BodyLines;
 use crate::certificate::Certificate;
 use crate::connective::connective_spelling;
 use crate::lines::{
-    BodyLine, ChainLine, ConditionEntry, EdgeProducts, EndLine, Entry, InstructionEntry, Keep,
-    NodeLine, ProductLine,
+    ChainLine, ConditionEntry, EdgeProducts, EndLine, Entry, InstructionEntry, Keep, NodeLine,
+    ProductLine,
 };
 use bw_diagram::{ChainColumns, ChainKind, Reason};
 use bw_model::{Fault, Schema};
@@ -276,20 +278,22 @@ fn put_row(alloc: Global, row: ProductLine, text: &mut Vec<u8>) -> Result<(), Al
 }
 
 /// Appends the lines of conditions, instructions and joins.
-fn put_body(alloc: Global, body: &[BodyLine], text: &mut Vec<u8>) -> Result<(), AllocError>
+fn put_body(alloc: Global, body: BodyLines<'_>, text: &mut Vec<u8>) -> Result<(), AllocError>
     ensures text { OnOk result (text.new.items ≡ text.old.items
-        ++ lines_text (λ line. body_tokens (body_fields line)) body.now) }
+        ++ lines_text (λ line. body_tokens (body_fields line)) (body_lines body.entry)) }
     ensures fit { OnOk result
-        (IsTrue (list_all (λ line. are_small (body_tokens (body_fields line))) body.now)) }
+        (IsTrue (list_all (λ line. are_small (body_tokens (body_fields line))) (body_lines body.entry))) }
 {
-    for line in body {
+    let mut rest = body;
+    while let Some((line, more)) = rest.next() {
         put_entry(alloc, &line.entry, text)?;
+        rest = more;
     }
     Ok(())
 }
 
 /// Appends such a line.
-fn put_entry(alloc: Global, entry: &Entry, text: &mut Vec<u8>) -> Result<(), AllocError>
+fn put_entry(alloc: Global, entry: &Entry<'_>, text: &mut Vec<u8>) -> Result<(), AllocError>
     ensures text { OnOk result (text.new.items ≡ text.old.items
         ++ token_line (entry_tokens (entry_fields entry.now))) }
     ensures fit { OnOk result (IsTrue (are_small (entry_tokens (entry_fields entry.now)))) }
@@ -376,7 +380,7 @@ fn put_instruction(
 }
 
 /// Appends the line of a register that a join keeps.
-fn put_keep(alloc: Global, keep: &Keep, text: &mut Vec<u8>) -> Result<(), AllocError>
+fn put_keep(alloc: Global, keep: &Keep<'_>, text: &mut Vec<u8>) -> Result<(), AllocError>
     ensures text { OnOk result (text.new.items ≡ text.old.items
         ++ token_line (keep_tokens (keep_fields keep.now))) }
     ensures fit { OnOk result (IsTrue (are_small (keep_tokens (keep_fields keep.now)))) }
@@ -388,7 +392,7 @@ fn put_keep(alloc: Global, keep: &Keep, text: &mut Vec<u8>) -> Result<(), AllocE
     ];
     text.extend_from_slice(b"KEEP")?;
     push_spaced(alloc, &pieces, text)?;
-    put_edges(alloc, &keep.edges, text)?;
+    put_edges(alloc, keep.edges.as_slice(), text)?;
     text.push(b'\n')?;
     Ok(())
 }

@@ -2,10 +2,11 @@
 use crate::chains::Kind;
 use crate::digits::Digits;
 use crate::facts::{Extent, Facts};
+use crate::line::{KeepLine, PlannedLine};
 use crate::order::VariableOrder;
 use crate::products::Logic;
 use crate::refusal::Refusal;
-use bw_cert_text::{EdgeProducts, Entry, InstructionEntry, Keep};
+use bw_cert_text::{EdgeProducts, InstructionEntry};
 use bw_program::{ColumnIndex, Instr, Register, SliceIndex};
 use bw_text::REGISTERS;
 use std::alloc::Global;
@@ -53,7 +54,7 @@ pub(crate) struct Skip {
 pub(crate) struct Code<'a> {
     pub(crate) alloc: Global,
     pub(crate) facts: Facts<'a>,
-    pub(crate) lines: Vec<Entry>,
+    pub(crate) lines: Vec<PlannedLine>,
     pub(crate) instrs: Vec<Instr>,
     /// The order of variables in which registers' nodes are worked out.
     pub(crate) order: VariableOrder,
@@ -75,7 +76,7 @@ pub(crate) struct Code<'a> {
 
 impl<'a> Code<'a> {
     /// No instructions, after the lines of a condition. There are to be skips.
-    pub(crate) fn new(alloc: Global, facts: Facts<'a>, lines: Vec<Entry>) -> Self {
+    pub(crate) fn new(alloc: Global, facts: Facts<'a>, lines: Vec<PlannedLine>) -> Self {
         Code {
             alloc,
             facts,
@@ -115,7 +116,7 @@ impl<'a> Code<'a> {
             return Err(Refusal::NoProgram);
         }
         self.instrs.push(instr)?;
-        self.lines.push(Entry::Instruction(entry))?;
+        self.lines.push(PlannedLine::Instruction(entry))?;
         Ok(())
     }
 
@@ -402,7 +403,7 @@ impl<'a> Code<'a> {
         for at in first..self.skips.len() {
             self.aim(at, target);
         }
-        self.lines.push(Entry::Join(target as u64))?;
+        self.lines.push(PlannedLine::Join(target as u64))?;
         for register in 0..64u8 {
             self.keep(register, first)?;
         }
@@ -449,7 +450,7 @@ impl<'a> Code<'a> {
             }
         }
         for entry in self.lines.iter_mut() {
-            if let Entry::Join(target) = entry {
+            if let PlannedLine::Join(target) = entry {
                 if *target > number as u64 {
                     *target -= 1;
                 }
@@ -549,11 +550,11 @@ fn keep_line(
     node: u32,
     through: u32,
     edges: Vec<EdgeProducts>,
-) -> Option<Entry> {
+) -> Option<PlannedLine> {
     if u64::from(register) >= REGISTERS {
         return None;
     }
-    Some(Entry::Keep(Keep {
+    Some(PlannedLine::Keep(KeepLine {
         register,
         node: u64::from(node),
         through: u64::from(through),

@@ -7,10 +7,11 @@ ghost use Rattle.bw_plan.specs.Named.{is_chain_named, are_chains_named};
 
 use crate::chains::{Compared, Link};
 use crate::facts::Facts;
+use crate::line::PlannedLine;
 use crate::nodes::Branch;
 use crate::products::{Outcome, Question};
 use crate::refusal::Refusal;
-use bw_cert_text::{BodyLine, Certificate, ChainLine, EndLine, Entry, NodeLine, ProductLine};
+use bw_cert_text::{Body, BodyLine, Certificate, ChainLine, EndLine, NodeLine, ProductLine};
 use bw_diagram::{ChainColumns, Reason};
 use bw_model::{Schema, code};
 use bw_program::{ColumnIndex, Instr, Program, Register, SliceIndex};
@@ -129,7 +130,7 @@ pub(crate) fn certificate(
     alloc: Global,
     schema: &Schema,
     facts: &Facts<'_>,
-    entries: Vec<Entry>,
+    entries: Vec<PlannedLine>,
     row: u32,
     before: usize,
 ) -> Result<Certificate, Refusal>
@@ -194,11 +195,14 @@ fn product_lines(
 }
 
 /// The lines of the condition, the instructions and the joins.
-fn body_lines(alloc: Global, entries: Vec<Entry>, first: u64) -> Result<Vec<BodyLine>, Refusal> {
-    let mut lines = Vec::new(alloc);
-    for entry in entries {
+fn body_lines(alloc: Global, entries: Vec<PlannedLine>, first: u64) -> Result<Body, Refusal> {
+    let mut lines = Body::new(alloc);
+    for entry in &entries {
         let line = first.saturating_add(lines.len() as u64);
-        lines.push(BodyLine { line, entry })?;
+        lines.push(&BodyLine {
+            line,
+            entry: entry.entry(),
+        })?;
     }
     Ok(lines)
 }

@@ -2,10 +2,11 @@
 use crate::chains::Kind;
 use crate::comparison::{ColumnComparison, Comparison, LiteralComparison, compare};
 use crate::facts::Facts;
+use crate::line::PlannedLine;
 use crate::order::VariableOrder;
 use crate::products::Logic;
 use crate::refusal::Refusal;
-use bw_cert_text::{ConditionEntry, Entry};
+use bw_cert_text::ConditionEntry;
 use bw_model::{Cond, Op, Operand, Truth};
 use bw_program::ColumnIndex;
 
@@ -40,7 +41,7 @@ impl TruthNodes {
 #[cycle(steps)]
 pub(crate) fn steps_of(
     facts: &mut Facts<'_>,
-    lines: &mut Vec<Entry>,
+    lines: &mut Vec<PlannedLine>,
     cond: &Cond,
 ) -> Result<TruthNodes, Refusal> {
     match cond {
@@ -71,7 +72,7 @@ pub(crate) fn steps_of(
 #[cycle(steps)]
 fn all_joined(
     facts: &mut Facts<'_>,
-    lines: &mut Vec<Entry>,
+    lines: &mut Vec<PlannedLine>,
     any: bool,
     parts: &[Cond],
 ) -> Result<TruthNodes, Refusal> {
@@ -89,7 +90,7 @@ fn all_joined(
 /// The nodes of a list of equations with one operand, of which one is to hold.
 fn among(
     facts: &mut Facts<'_>,
-    lines: &mut Vec<Entry>,
+    lines: &mut Vec<PlannedLine>,
     x: Operand,
     items: &[Operand],
 ) -> Result<TruthNodes, Refusal> {
@@ -105,13 +106,13 @@ fn among(
 }
 
 /// Appends a line.
-fn put(lines: &mut Vec<Entry>, entry: ConditionEntry) -> Result<(), Refusal> {
-    lines.push(Entry::Condition(entry))?;
+fn put(lines: &mut Vec<PlannedLine>, entry: ConditionEntry) -> Result<(), Refusal> {
+    lines.push(PlannedLine::Condition(entry))?;
     Ok(())
 }
 
 /// The nodes of a step with one truth on every row.
-fn constant(lines: &mut Vec<Entry>, truth: Truth) -> Result<TruthNodes, Refusal> {
+fn constant(lines: &mut Vec<PlannedLine>, truth: Truth) -> Result<TruthNodes, Refusal> {
     put(lines, ConditionEntry::Fixed)?;
     Ok(TruthNodes::constant(truth))
 }
@@ -119,7 +120,7 @@ fn constant(lines: &mut Vec<Entry>, truth: Truth) -> Result<TruthNodes, Refusal>
 /// The nodes of two parts that are joined by OR, or else by AND.
 fn joined(
     facts: &mut Facts<'_>,
-    lines: &mut Vec<Entry>,
+    lines: &mut Vec<PlannedLine>,
     any: bool,
     a: TruthNodes,
     b: TruthNodes,
@@ -149,7 +150,7 @@ fn joined(
 /// The nodes of `IS TRUE`, `IS FALSE` or `IS UNKNOWN`.
 fn tested(
     facts: &mut Facts<'_>,
-    lines: &mut Vec<Entry>,
+    lines: &mut Vec<PlannedLine>,
     wanted: Truth,
     made: TruthNodes,
 ) -> Result<TruthNodes, Refusal> {
@@ -178,7 +179,7 @@ fn tested(
 /// The nodes of `IS NULL`.
 fn null_tested(
     facts: &mut Facts<'_>,
-    lines: &mut Vec<Entry>,
+    lines: &mut Vec<PlannedLine>,
     x: Operand,
 ) -> Result<TruthNodes, Refusal> {
     let column = match x {
@@ -200,7 +201,7 @@ fn null_tested(
 /// The nodes of a comparison.
 fn compared(
     facts: &mut Facts<'_>,
-    lines: &mut Vec<Entry>,
+    lines: &mut Vec<PlannedLine>,
     op: Op,
     x: Operand,
     y: Operand,
@@ -224,7 +225,7 @@ fn values(facts: &mut Facts<'_>, column: ColumnIndex) -> Result<(Option<u64>, u3
 /// The nodes of a comparison of a column with a number.
 fn bounded(
     facts: &mut Facts<'_>,
-    lines: &mut Vec<Entry>,
+    lines: &mut Vec<PlannedLine>,
     bound: LiteralComparison,
 ) -> Result<TruthNodes, Refusal> {
     let (value, m) = values(facts, bound.column)?;
@@ -262,7 +263,7 @@ fn bounded(
 /// The nodes of a comparison of two columns.
 fn related(
     facts: &mut Facts<'_>,
-    lines: &mut Vec<Entry>,
+    lines: &mut Vec<PlannedLine>,
     relation: ColumnComparison,
 ) -> Result<TruthNodes, Refusal> {
     let order = relation.order();

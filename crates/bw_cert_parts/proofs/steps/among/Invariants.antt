@@ -1,4 +1,5 @@
 use Rattle.std.proofs.Common.{◌≡◌, drop}
+use Rattle.bw_cert_text.specs.BodyLines.{body_lines}
 use Rattle.bw_cert_parts.specs.declared.steps.Junction.TheVariants.{Any}
 use Rattle.bw_cert_parts.specs.Pair.{joined_parts, more_parts, equations}
 use Rattle.bw_cert_parts.proofs.steps.among.Given as goal
@@ -7,4 +8,4 @@ use Rattle.bw_cert_parts.proofs.steps.among.Given as goal
 abbrev pub invariant-loop-item : goal.invariant-loop-item
 invariant-loop-item l =
     let columns = l.schema.columns.items in
-    joined_parts columns l.diagram l.end Any (equations columns l.diagram l.end l.x l.items) l.lines ≡ more_parts columns l.diagram l.end Any (equations columns l.diagram l.end l.x (drop l.item-index l.others)) (l.made, l.left)
+    joined_parts columns l.diagram l.end Any (equations columns l.diagram l.end l.x l.items) (body_lines l.lines) ≡ more_parts columns l.diagram l.end Any (equations columns l.diagram l.end l.x (drop l.item-index l.others)) (l.made, body_lines l.left)

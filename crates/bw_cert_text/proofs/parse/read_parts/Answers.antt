@@ -11,25 +11,25 @@ pub returns-in_err-part-clause-fault : goal.returns-in_err-part-clause-fault
 returns-in_err-part-clause-fault c =
     let p = err_from_is_err_and c.from_residual-in_err-part.result c.from_residual-in_err-part.ensures.1 in
     let line = rw c.in-Some.is at c.in_ok-line.ensures.line in
-    rw (p.1, p.2) (λ aside. told-next _ _ _ _ _ _ _ c.loop-line.invariant.told line (Err c.in_err-part.field-0.0) (c.in_err-part.ensures.said aside))
+    rw (p.1, p.2) (λ aside. told-next _ _ _ _ _ _ _ c.loop-pairs.invariant.told line (Err c.in_err-part.field-0.0) (c.in_err-part.ensures.said aside))
 
 pub returns-in-End-clause-read : goal.returns-in-End-clause-read
 returns-in-End-clause-read c =
     let line = rw c.in-Some.is at c.in_ok-line.ensures.line in
-    told-last _ _ _ _ _ _ _ c.loop-line.invariant.told line c.in-End.end (rw c.in-End.is at c.in_ok-part.ensures.said)
+    told-last _ _ _ _ _ _ _ c.loop-pairs.invariant.told line c.in-End.end (rw c.in-End.is at c.in_ok-part.ensures.said)
 
-pub loop-line-preserved : goal.loop-line-preserved
-loop-line-preserved c =
+pub loop-pairs-preserved : goal.loop-pairs-preserved
+loop-pairs-preserved c =
     let line = rw c.in-Some.is at c.in_ok-line.ensures.line in
     record {
-      told = told-before _ _ _ _ _ _ _ c.loop-line.invariant.told line (part_fields c.in-Before.part) (joined c.push.new.self) _
+      told = told-before _ _ _ _ _ _ _ c.loop-pairs.invariant.told line (part_fields c.in-Before.part) (joined c.push.new.self) _
           (rw c.in-Before.is at c.in_ok-part.ensures.said) c.section_of-section.ensures c.in_ok-push-in-Before.ensures;
-      end = c.loop-line.invariant.end ∙ sym c.in_ok-line.ensures.end;
+      end = c.loop-pairs.invariant.end ∙ sym c.in_ok-line.ensures.end;
     }
 
 pub returns-clause-fault : goal.returns-clause-fault
 returns-clause-fault c = λ _.
     let none = rw c.in_default.is at c.in_ok-line.ensures.none in
-    told-end _ _ _ _ _ c.loop-line.invariant.told none.0
-    ∙ ap (λ (n : ℕ). Err (form_fault n)) (c.loop-line.invariant.end ∙ none.1 ∙ sym c.number.ensures)
+    told-end _ _ _ _ _ c.loop-pairs.invariant.told none.0
+    ∙ ap (λ (n : ℕ). Err (form_fault n)) (c.loop-pairs.invariant.end ∙ none.1 ∙ sym c.number.ensures)
     ∙ ap Err (sym c.at_line.ensures)

@@ -6,12 +6,12 @@ use Rattle.bw_cert_text.specs.Parts.{joined}
 use Rattle.bw_cert_text.proofs.parse.read_parts.Given as goal
 
 -- the certificate is that of the lines so far and the lines to come
-abbrev pub invariant-loop-line : goal.invariant-loop-line
-invariant-loop-line l = record {
+abbrev pub invariant-loop-pairs : goal.invariant-loop-pairs
+invariant-loop-pairs l = record {
   told : certificate_from 0 (lines_in l.initial.lines) (end_in l.initial.lines)
       ≡ (certificate_from l.section (lines_in l.lines) (end_in l.initial.lines) >>= λ rest. Ok (joined l.parts rest));
   end : end_in l.initial.lines ≡ end_in l.lines;
 }
 
-abbrev pub decreases-loop-line : goal.decreases-loop-line
-decreases-loop-line l = length (lines_in l.lines)
+abbrev pub decreases-loop-pairs : goal.decreases-loop-pairs
+decreases-loop-pairs l = length (lines_in l.lines)

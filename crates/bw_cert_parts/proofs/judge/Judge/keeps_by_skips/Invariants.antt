@@ -5,7 +5,7 @@ use Rattle.bw_cert_parts.proofs.judge.Judge.keeps_by_skips.Given as goal
 -- what is left to show is so of the skips and the pairs that are left
 abbrev pub invariant-loop-edge : goal.invariant-loop-edge
 invariant-loop-edge l = record {
-  told : keeps_by_skips l.self.diagram.now l.keep l.initial.edges l.keep.edges.items
+  told : keeps_by_skips l.self.diagram.now l.keep l.initial.edges l.keep.edges
       ≡ keeps_by_skips l.self.diagram.now l.keep l.skips l.pairs;
 }
 

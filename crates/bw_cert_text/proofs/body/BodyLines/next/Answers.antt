@@ -1,0 +1,34 @@
+-- The first line is taken off.
+use Rattle.std.proofs.Common.{◌∙◌, sym, ap, ap₂, ◌∷◌, take, drop, arith}
+use Rattle.bw_cert_text.specs.BodyLines.{body_lines}
+use Rattle.bw_cert_text.specs.Stored.{pairs_of, lines_of, line_of}
+use Rattle.bw_cert_text.proofs.StoredLemmas.{no_kinds, too_short, too_few, line_there}
+use Rattle.bw_cert_text.proofs.body.BodyLines.next.Goals as goal
+
+pub returns-in_default : goal.returns-in_default
+unfolding body_lines
+returns-in_default c = record { cases = no_kinds _ _ _ c.in_default.ensures.cases }
+
+pub returns-then-size-self : goal.returns-then-size-self
+unfolding body_lines
+returns-then-size-self c =
+    record { cases = too_short _ _ c.args.self.numbers.now _ _ c.in-Some.ensures.cases.0 (omega (arith, c.if-size-self.true, c.size-size.ensures)) }
+
+pub returns-then-count-self : goal.returns-then-count-self
+unfolding body_lines
+returns-then-count-self c =
+    let own = c.split_at.ensures.front ∙ ap (λ n. take n c.args.self.numbers.now) c.size-size.ensures in
+    let count = c.pairs_in-count.ensures ∙ ap (pairs_of c.in-Some.kind.now) own in
+    record { cases = too_few _ _ c.args.self.numbers.now _ _ c.in-Some.ensures.cases.0 (omega (arith, c.if-size-self.false, c.size-size.ensures)) (omega (arith, c.if-count-self.true, count)) }
+
+pub returns : goal.returns
+unfolding body_lines
+returns c =
+    let own = c.split_at.ensures.front ∙ ap (λ n. take n c.args.self.numbers.now) c.size-size.ensures in
+    let left = c.split_at.ensures.back ∙ ap (λ n. drop n c.args.self.numbers.now) c.size-size.ensures in
+    let count = c.pairs_in-count.ensures ∙ ap (pairs_of c.in-Some.kind.now) own in
+    let edges = c.split_at-2.ensures.front ∙ ap (λ n. take n c.args.self.pairs.now) count in
+    let more = c.split_at-2.ensures.back ∙ ap (λ n. drop n c.args.self.pairs.now) count in
+    let line = c.line_in-line.ensures ∙ ap₂ (line_of c.in-Some.kind.now) own edges in
+    let all = line_there _ _ c.args.self.numbers.now c.args.self.pairs.now _ c.in-Some.ensures.cases.0 (omega (arith, c.if-size-self.false, c.size-size.ensures)) (omega (arith, c.if-count-self.false, count)) in
+    record { cases = all ∙ sym (ap₂ ◌∷◌ line (ap₂ (lines_of c.in-Some.kinds.now) left more)) }

@@ -1,0 +1,320 @@
+//! The lines after the product rows, kept in little memory.
+ghost use Rattle.std.specs.Prelude.{◌≡◌, ◌++◌, ◌∷◌, [], length, MatchOption, OnOk, OnErr, is_ok, is_some, if◌then◌else◌};
+ghost use Rattle.bw_cert_text.specs.Stored.{line_of, entry_of, condition_of, pairs_of, number_if};
+ghost use Rattle.bw_cert_text.specs.declared.lines.Entry.TheVariants as said;
+
+use crate::edge_pairs::EdgePairs;
+use crate::kind::{KeptRegister, Kind};
+use crate::lines::{BodyLine, ConditionEntry, EdgeProducts, Entry, InstructionEntry, Keep};
+use std::alloc::{AllocError, Global};
+use std::marker::Model;
+
+/// The lines of conditions, instructions and joins, in order.
+///
+/// A line takes four bytes for what it is, eight for its own number and for each number on it, and eight for how many
+/// pairs a line KEEP has. As a number takes two bytes of text, a digit and a blank, that is at most four bytes for
+/// each byte of the text.
+#[derive(Drop)]
+pub struct Body {
+    kinds: Vec<Kind>,
+    /// The numbers of all lines, one line after another: of each its own number, and then those on it.
+    numbers: Vec<u64>,
+    /// The pairs of all lines KEEP, one line after another.
+    pairs: Vec<EdgeProducts>,
+}
+
+impl Model for Body {
+    ghost use Rattle.std.specs.Prelude.{List, IsTrue};
+    ghost use Rattle.bw_cert_text.specs.declared.lines.BodyLine.{BodyLine};
+    ghost use Rattle.bw_cert_text.specs.Stored.{lines_of, are_all};
+
+    ghost Value = { List BodyLine };
+
+    ghost view = { λ body. lines_of body.kinds.items body.numbers.items body.pairs.items };
+
+    ghost invariant = { λ body. IsTrue (are_all body.kinds.items body.numbers.items body.pairs.items) };
+}
+
+impl Body {
+    ghost use Rattle.bw_cert_text.specs.BodyLines.{body_lines};
+    ghost use Rattle.bw_cert_text.specs.Stored.{size, pairs_of, line_of};
+
+    /// No lines.
+    #[tactic(auto, unfolding(crate::specs::Stored::lines_of, crate::specs::Stored::are_all))]
+    pub fn new(alloc: Global) -> Self
+        ensures { result ≡ [] }
+    {
+        Body {
+            kinds: Vec::new(alloc),
+            numbers: Vec::new(alloc),
+            pairs: Vec::new(alloc),
+        }
+    }
+
+    /// The lines, to be read from the first one on.
+    #[tactic(auto, unfolding(crate::specs::BodyLines::body_lines))]
+    pub fn lines(&self) -> BodyLines<'_>
+        ensures { body_lines result ≡ self.now }
+    {
+        BodyLines {
+            kinds: self.kinds.as_slice(),
+            numbers: self.numbers.as_slice(),
+            pairs: self.pairs.as_slice(),
+        }
+    }
+
+    /// How many lines there are.
+    pub fn len(&self) -> usize
+        ensures { result ≡ length self.now }
+    {
+        self.kinds.len()
+    }
+
+    /// Adds a line, or leaves the lines as they were where memory runs out.
+    pub fn push(&mut self, line: &BodyLine<'_>) -> Result<(), AllocError>
+        ensures { self.new ≡ (if is_ok result then self.old ++ line.now ∷ [] else self.old) }
+    {
+        match &line.entry {
+            Entry::Condition(entry) => self.push_condition(line.line, *entry),
+            Entry::Instruction(entry) => self.push_instruction(line.line, *entry),
+            Entry::Join(target) => self.put(Kind::Join, &[line.line, *target], &[]),
+            Entry::Keep(keep) => self.push_keep(line.line, keep),
+        }
+    }
+
+    /// Adds the line of a condition's step.
+    fn push_condition(&mut self, line: u64, entry: ConditionEntry) -> Result<(), AllocError>
+        ensures { self.new ≡ (if is_ok result then self.old
+            ++ record { line = line; entry = said.Condition entry } ∷ [] else self.old) }
+    {
+        match entry {
+            ConditionEntry::Compare {
+                chain,
+                value,
+                yes,
+                no,
+            } => {
+                let kind = Kind::Compare {
+                    chain: chain.is_some(),
+                    value: value.is_some(),
+                };
+                self.put(kind, &[line, or_0(chain), or_0(value), yes, no], &[])
+            }
+            ConditionEntry::CompareColumns {
+                chain,
+                left,
+                right,
+                both,
+                yes,
+                no,
+            } => {
+                let kind = Kind::CompareColumns {
+                    chain: chain.is_some(),
+                    left: left.is_some(),
+                    right: right.is_some(),
+                };
+                let (chain, left, right) = (or_0(chain), or_0(left), or_0(right));
+                self.put(kind, &[line, chain, left, right, both, yes, no], &[])
+            }
+            ConditionEntry::Fixed => self.put(Kind::Fixed, &[line], &[]),
+            ConditionEntry::NullTest(i) => self.put(Kind::NullTest, &[line, i], &[]),
+            ConditionEntry::And(i, j) => self.put(Kind::And, &[line, i, j], &[]),
+            ConditionEntry::Or(i, j) => self.put(Kind::Or, &[line, i, j], &[]),
+            ConditionEntry::Not => self.put(Kind::Not, &[line], &[]),
+            ConditionEntry::Is(i) => self.put(Kind::Is, &[line, i], &[]),
+            ConditionEntry::IsUnknown(i, j) => self.put(Kind::IsUnknown, &[line, i, j], &[]),
+        }
+    }
+
+    /// Adds the line of an instruction.
+    fn push_instruction(&mut self, line: u64, entry: InstructionEntry) -> Result<(), AllocError>
+        ensures { self.new ≡ (if is_ok result then self.old
+            ++ record { line = line; entry = said.Instruction entry } ∷ [] else self.old) }
+    {
+        match entry {
+            InstructionEntry::Load(node) => self.put(Kind::Load, &[line, node], &[]),
+            InstructionEntry::Fill => self.put(Kind::Fill, &[line], &[]),
+            InstructionEntry::Op(i) => self.put(Kind::Op, &[line, i], &[]),
+            InstructionEntry::Byte(chain) => {
+                let kind = Kind::Byte {
+                    chain: chain.is_some(),
+                };
+                self.put(kind, &[line, or_0(chain)], &[])
+            }
+            InstructionEntry::Skip => self.put(Kind::Skip, &[line], &[]),
+        }
+    }
+
+    /// Adds the line of a register that a join keeps.
+    fn push_keep(&mut self, line: u64, keep: &Keep<'_>) -> Result<(), AllocError>
+        ensures { self.new ≡ (if is_ok result then self.old
+            ++ record { line = line; entry = said.Keep keep.now } ∷ [] else self.old) }
+    {
+        let pairs = keep.edges.as_slice();
+        let kind = Kind::Keep(KeptRegister {
+            register: keep.register,
+        });
+        let numbers = [line, keep.node, keep.through, pairs.len() as u64];
+        self.put(kind, &numbers, pairs)
+    }
+
+    /// Adds a line of this kind, with these numbers and pairs.
+    fn put(&mut self, kind: Kind, numbers: &[u64], pairs: &[EdgeProducts]) -> Result<(), AllocError>
+        requires numbers { length numbers.now ≡ size kind }
+        requires pairs { length pairs.now ≡ pairs_of kind numbers.now }
+        ensures { self.new ≡ (if is_ok result then self.old
+            ++ line_of kind numbers.now pairs.now ∷ [] else self.old) }
+    {
+        self.kinds.reserve(1)?;
+        self.numbers.reserve(numbers.len())?;
+        self.pairs.extend_from_slice(pairs)?;
+        self.numbers.extend_from_slice(numbers)?;
+        self.kinds.push(kind)?;
+        Ok(())
+    }
+}
+
+/// A number, or 0 where there is none.
+fn or_0(number: Option<u64>) -> u64
+    ensures { number_if (is_some number) result ≡ number }
+{
+    match number {
+        Some(number) => number,
+        None => 0,
+    }
+}
+
+/// How many pairs a line of this kind has.
+fn pairs_in(kind: Kind, numbers: &[u64]) -> u64
+    ensures { result ≡ pairs_of kind numbers.now }
+{
+    match (kind, numbers) {
+        (Kind::Keep(_), [_, _, _, count]) => *count,
+        _ => 0,
+    }
+}
+
+/// Lines that are still to be read.
+#[derive(Clone, Copy)]
+pub struct BodyLines<'a> {
+    pub(crate) kinds: &'a [Kind],
+    pub(crate) numbers: &'a [u64],
+    pub(crate) pairs: &'a [EdgeProducts],
+}
+
+impl<'a> BodyLines<'a> {
+    ghost use Rattle.bw_cert_text.specs.BodyLines.{body_lines};
+
+    /// The next line and those after it, if there is one.
+    pub fn next(self) -> Option<(BodyLine<'a>, BodyLines<'a>)>
+        ensures cases { MatchOption result (body_lines self.entry ≡ [])
+            (λ next. body_lines self.entry ≡ next.0 ∷ body_lines next.1) }
+    {
+        let Some((kind, kinds)) = self.kinds.split_first() else {
+            return None;
+        };
+        let size = kind.size();
+        if size > self.numbers.len() {
+            return None;
+        }
+        let (own, numbers) = self.numbers.split_at(size);
+        let count = pairs_in(*kind, own);
+        if count > self.pairs.len() as u64 {
+            return None;
+        }
+        let (edges, pairs) = self.pairs.split_at(count as usize);
+        let line = line_in(*kind, own, edges);
+        Some((
+            line,
+            BodyLines {
+                kinds,
+                numbers,
+                pairs,
+            },
+        ))
+    }
+}
+
+/// The line of this kind with these numbers and pairs.
+fn line_in<'a>(kind: Kind, numbers: &[u64], pairs: &'a [EdgeProducts]) -> BodyLine<'a>
+    ensures { result ≡ line_of kind numbers.now pairs.now }
+{
+    match numbers {
+        [line, rest @ ..] => BodyLine {
+            line: *line,
+            entry: entry_in(kind, rest, pairs),
+        },
+        [] => BodyLine {
+            line: 0,
+            entry: entry_in(kind, numbers, pairs),
+        },
+    }
+}
+
+/// What a line of this kind says, with these numbers after its own and these pairs.
+fn entry_in<'a>(kind: Kind, numbers: &[u64], pairs: &'a [EdgeProducts]) -> Entry<'a>
+    ensures { result ≡ entry_of kind numbers.now pairs.now }
+{
+    match (kind, numbers) {
+        (Kind::Join, [target]) => Entry::Join(*target),
+        (Kind::Keep(kept), [node, through, _]) => Entry::Keep(Keep {
+            register: kept.register,
+            node: *node,
+            through: *through,
+            edges: EdgePairs::new(pairs),
+        }),
+        (Kind::Load, [node]) => Entry::Instruction(InstructionEntry::Load(*node)),
+        (Kind::Fill, []) => Entry::Instruction(InstructionEntry::Fill),
+        (Kind::Op, [i]) => Entry::Instruction(InstructionEntry::Op(*i)),
+        (Kind::Byte { chain: c }, [chain]) => {
+            Entry::Instruction(InstructionEntry::Byte(number_if(c, *chain)))
+        }
+        (Kind::Skip, []) => Entry::Instruction(InstructionEntry::Skip),
+        _ => Entry::Condition(condition_in(kind, numbers)),
+    }
+}
+
+/// What the line of a condition's step says.
+fn condition_in(kind: Kind, numbers: &[u64]) -> ConditionEntry
+    ensures { result ≡ condition_of kind numbers.now }
+{
+    match (kind, numbers) {
+        (Kind::Compare { chain: c, value: v }, [chain, value, yes, no]) => {
+            ConditionEntry::Compare {
+                chain: number_if(c, *chain),
+                value: number_if(v, *value),
+                yes: *yes,
+                no: *no,
+            }
+        }
+        (
+            Kind::CompareColumns {
+                chain: c,
+                left: l,
+                right: r,
+            },
+            [chain, left, right, both, yes, no],
+        ) => ConditionEntry::CompareColumns {
+            chain: number_if(c, *chain),
+            left: number_if(l, *left),
+            right: number_if(r, *right),
+            both: *both,
+            yes: *yes,
+            no: *no,
+        },
+        (Kind::NullTest, [i]) => ConditionEntry::NullTest(*i),
+        (Kind::And, [i, j]) => ConditionEntry::And(*i, *j),
+        (Kind::Or, [i, j]) => ConditionEntry::Or(*i, *j),
+        (Kind::Not, []) => ConditionEntry::Not,
+        (Kind::Is, [i]) => ConditionEntry::Is(*i),
+        (Kind::IsUnknown, [i, j]) => ConditionEntry::IsUnknown(*i, *j),
+        _ => ConditionEntry::Fixed,
+    }
+}
+
+/// A number, where there is one.
+fn number_if(is_there: bool, number: u64) -> Option<u64>
+    ensures { result ≡ number_if is_there number }
+{
+    if is_there { Some(number) } else { None }
+}

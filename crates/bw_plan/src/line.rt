@@ -1,0 +1,42 @@
+//! The lines of a certificate after those of its facts, as long as instructions may be taken back.
+ghost use Rattle.std.specs.Prelude.{◌<◌};
+
+use bw_cert_text::{ConditionEntry, EdgePairs, EdgeProducts, Entry, InstructionEntry, Keep};
+use bw_program::Register;
+
+/// What a line says.
+#[derive(Drop)]
+pub(crate) enum PlannedLine {
+    Condition(ConditionEntry),
+    Instruction(InstructionEntry),
+    /// The skips to this instruction meet here.
+    Join(u64),
+    Keep(KeepLine),
+}
+
+/// A line KEEP, with its pairs in memory of its own.
+#[derive(Drop)]
+pub(crate) struct KeepLine {
+    pub(crate) register: Register,
+    pub(crate) node: u64,
+    pub(crate) through: u64,
+    pub(crate) edges: Vec<EdgeProducts>,
+    pub ghost in_range: { register < 64 },
+}
+
+impl PlannedLine {
+    /// The same, as a certificate's line says it.
+    pub(crate) fn entry(&self) -> Entry<'_> {
+        match self {
+            PlannedLine::Condition(entry) => Entry::Condition(*entry),
+            PlannedLine::Instruction(entry) => Entry::Instruction(*entry),
+            PlannedLine::Join(target) => Entry::Join(*target),
+            PlannedLine::Keep(keep) => Entry::Keep(Keep {
+                register: keep.register,
+                node: keep.node,
+                through: keep.through,
+                edges: EdgePairs::new(&keep.edges),
+            }),
+        }
+    }
+}
