@@ -1,5 +1,4 @@
-use Rattle.std.proofs.Common.{◌∙◌, arith, ap₂}
-use Rattle.bw_cert_text.specs.Stored.{entry_of}
+use Rattle.std.proofs.Common.{arith}
 use Rattle.bw_cert_text.proofs.StoredLemmas.{keep_read}
 use Rattle.bw_cert_text.proofs.body.entry_in.Goals as goal
 

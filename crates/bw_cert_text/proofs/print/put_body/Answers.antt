@@ -1,5 +1,4 @@
 -- Each line that is written goes over from what is left, and its numbers are below 2^64.
-use Rattle.std.proofs.Common.{refl}
 use Rattle.bw_cert_text.specs.CertificateFields.{body_fields}
 use Rattle.bw_cert_text.specs.PrintText.{body_tokens}
 use Rattle.bw_cert_text.specs.Reprint.{are_small}

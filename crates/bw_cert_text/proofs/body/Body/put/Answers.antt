@@ -1,5 +1,4 @@
 -- One line more is kept.
-use Rattle.std.proofs.Common.{◌∙◌, sym}
 use Rattle.bw_cert_text.proofs.StoredLemmas.{one_more}
 use Rattle.bw_cert_text.proofs.body.Body.put.Goals as goal
 
