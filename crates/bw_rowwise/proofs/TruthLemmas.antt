@@ -105,6 +105,31 @@ compared_maybe op false false m n = off (holds op m n)
     off true = refl
     off false = refl
 
+-- the same where the second side is a number
+pub compared_one_yes : (op : Op) (p : Bool) (m n : ℤ) → (holds op m n && not p) ≡ is_truth (compared op (cond p None (Some m)) (Some n)) Yes
+compared_one_yes op true m n = off (holds op m n)
+  where
+    off : (h : Bool) → (h && false) ≡ false
+    off true = refl
+    off false = refl
+compared_one_yes op false m n = on (holds op m n)
+  where
+    on : (h : Bool) → (h && true) ≡ is_truth (truth_from h) Yes
+    on true = refl
+    on false = refl
+
+pub compared_one_maybe : (op : Op) (p : Bool) (m n : ℤ) → (holds op m n || p) ≡ not (is_truth (compared op (cond p None (Some m)) (Some n)) No)
+compared_one_maybe op true m n = on (holds op m n)
+  where
+    on : (h : Bool) → (h || true) ≡ true
+    on true = refl
+    on false = refl
+compared_one_maybe op false m n = off (holds op m n)
+  where
+    off : (h : Bool) → (h || false) ≡ not (is_truth (truth_from h) No)
+    off true = refl
+    off false = refl
+
 pub and_true : (b : Bool) → (b && true) ≡ b
 and_true true = refl
 and_true false = refl

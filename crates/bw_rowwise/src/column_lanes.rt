@@ -1,5 +1,5 @@
 //! The values of a column or of another operand in 512 lanes, one a row, and comparisons of them.
-ghost use Rattle.std.specs.Prelude.{◌≡◌, ◌<◌, ℕ, Bool, false, slice_index, slice_index_or};
+ghost use Rattle.std.specs.Prelude.{◌≡◌, ◌<◌, ℕ, Bool, Some, false, slice_index, slice_index_or};
 ghost use Rattle.bw_lanes.specs.Lanes.{lanes_of_words};
 ghost use Rattle.bw_model.specs.Row.{Value};
 ghost use Rattle.bw_model.specs.Truth.{compared, holds, is_null, truth_from};
@@ -47,6 +47,18 @@ impl ColumnLanes {
         Truths {
             yes: both_lanes(&holds, &other_lanes(&none)),
             maybe: either_lanes(&holds, &none),
+        }
+    }
+
+    /// The truth of a comparison with a number in each lane.
+    pub fn compared_with(&self, op: Op, n: i64) -> Truths
+        ensures { AreTruths result (λ lane. compared op (value_at self.now lane) (Some n)) }
+    {
+        let keys = [key(n); LANES];
+        let holds = holding(op, &self.keys, &keys);
+        Truths {
+            yes: both_lanes(&holds, &other_lanes(&self.none)),
+            maybe: either_lanes(&holds, &self.none),
         }
     }
 

@@ -1,9 +1,10 @@
 //! The truth of a prepared condition on the rows of a segment, a lane a row.
-ghost use Rattle.std.specs.Prelude.{◌≡◌, ◌<◌, ◌-◌, ◌++◌, ℕ, false, length, map, replicate};
+ghost use Rattle.std.specs.Prelude.{◌≡◌, ◌<◌, ◌-◌, ◌++◌, ℕ, Some, false, length, map, replicate};
 ghost use Rattle.bw_lanes.specs.Lanes.{lanes_of_words};
 ghost use Rattle.bw_model.specs.Cond.{operand_value};
 ghost use Rattle.bw_model.specs.Groups.{group_size};
-ghost use Rattle.bw_model.specs.Truth.{all_of, among, any_of, between, compared, greatest, is_truth};
+ghost use Rattle.bw_model.specs.Row.{value_in};
+ghost use Rattle.bw_model.specs.Truth.{all_of, among, any_of, between, compared, greatest, is_null, is_truth, truth_from};
 ghost use Rattle.bw_model.specs.declared.cond.Truth.TheVariants.{Yes};
 ghost use Rattle.bw_rowwise.specs.Lanes.{AreTruths, AreUnpacked, lanes_in, value_at};
 ghost use Rattle.bw_rowwise.specs.Numbers.{among_numbers};
@@ -43,7 +44,7 @@ fn truths<S: Segment>(cond: &Prepared, segment: &S, unpacked: &Unpacked) -> Trut
         Prepared::Cmp(op, x, y) => compared(*op, *x, *y, segment, unpacked),
         Prepared::Between(x, y, z) => between(*x, *y, *z, segment, unpacked),
         Prepared::Among(x, numbers, others) => among(*x, numbers, others, segment, unpacked),
-        Prepared::IsNull(x) => side_of(*x, segment, unpacked).lanes().nulls(),
+        Prepared::IsNull(x) => null_tested(*x, segment, unpacked),
         Prepared::And(parts) => all_of(parts, segment, unpacked),
         Prepared::Or(parts) => any_of(parts, segment, unpacked),
         Prepared::Not(part) => truths(part, segment, unpacked).opposite(),
@@ -85,14 +86,88 @@ fn any_of<S: Segment>(parts: &[Prepared], segment: &S, unpacked: &Unpacked) -> T
     greatest
 }
 
+/// Whether an operand is null in each lane.
+fn null_tested<S: Segment>(x: Operand, segment: &S, unpacked: &Unpacked) -> Truths
+    requires { AreUnpacked (S.meaning segment.now).rows unpacked.now }
+    ensures { AreTruths result
+        (λ lane. truth_from (is_null (operand_value (row_at (S.meaning segment.now).rows lane) x))) }
+{
+    if let Operand::Col(column) = x {
+        if let Some(lanes) = unpacked.find(column) {
+            return lanes.nulls();
+        }
+    }
+    side_of(x, segment, unpacked).lanes().nulls()
+}
+
 /// The truth of a comparison in each lane.
 fn compared<S: Segment>(op: Op, x: Operand, y: Operand, segment: &S, unpacked: &Unpacked) -> Truths
     requires { AreUnpacked (S.meaning segment.now).rows unpacked.now }
     ensures { AreTruths result (λ lane. compared op (operand_value (row_at (S.meaning segment.now).rows lane) x)
         (operand_value (row_at (S.meaning segment.now).rows lane) y)) }
 {
-    let (x, y) = (side_of(x, segment, unpacked), side_of(y, segment, unpacked));
-    x.lanes().compared(op, y.lanes())
+    match (x, y) {
+        (Operand::Col(column), Operand::Lit(n)) => {
+            column_compared(op, column, n, segment, unpacked)
+        }
+        (Operand::Col(left), Operand::Col(right)) => {
+            columns_compared(op, left, right, segment, unpacked)
+        }
+        _ => sides_compared(op, x, y, segment, unpacked),
+    }
+}
+
+/// The truth of a comparison of two columns in each lane.
+fn columns_compared<S: Segment>(
+    op: Op,
+    left: usize,
+    right: usize,
+    segment: &S,
+    unpacked: &Unpacked,
+) -> Truths
+    requires { AreUnpacked (S.meaning segment.now).rows unpacked.now }
+    ensures { AreTruths result (λ lane. compared op (value_in (row_at (S.meaning segment.now).rows lane) left)
+        (value_in (row_at (S.meaning segment.now).rows lane) right)) }
+{
+    match (unpacked.find(left), unpacked.find(right)) {
+        (Some(x), Some(y)) => x.compared(op, y),
+        _ => column_lanes(left, segment).compared(op, &column_lanes(right, segment)),
+    }
+}
+
+/// The truth of a comparison of any operands in each lane.
+fn sides_compared<S: Segment>(
+    op: Op,
+    x: Operand,
+    y: Operand,
+    segment: &S,
+    unpacked: &Unpacked,
+) -> Truths
+    requires { AreUnpacked (S.meaning segment.now).rows unpacked.now }
+    ensures { AreTruths result (λ lane. compared op (operand_value (row_at (S.meaning segment.now).rows lane) x)
+        (operand_value (row_at (S.meaning segment.now).rows lane) y)) }
+{
+    let left = side_of(x, segment, unpacked);
+    let right = side_of(y, segment, unpacked);
+    left.lanes().compared(op, right.lanes())
+}
+
+/// The truth of a comparison of a column with a number in each lane.
+fn column_compared<S: Segment>(
+    op: Op,
+    column: usize,
+    n: i64,
+    segment: &S,
+    unpacked: &Unpacked,
+) -> Truths
+    requires { AreUnpacked (S.meaning segment.now).rows unpacked.now }
+    ensures { AreTruths result
+        (λ lane. compared op (value_in (row_at (S.meaning segment.now).rows lane) column) (Some n)) }
+{
+    match unpacked.find(column) {
+        Some(lanes) => lanes.compared_with(op, n),
+        None => column_lanes(column, segment).compared_with(op, n),
+    }
 }
 
 /// The truth of `x BETWEEN y AND z` in each lane.

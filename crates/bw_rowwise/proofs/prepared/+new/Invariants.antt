@@ -1,4 +1,4 @@
-use Rattle.std.proofs.Common.{◌≡◌, IfSome, List, ◌<◌, ◌+◌, map, take}
+use Rattle.std.proofs.Common.{IfSome, List, map, take}
 use Rattle.bw_model.specs.Cond.{truth_of}
 use Rattle.bw_model.specs.Row.{Value}
 use Rattle.bw_rowwise.specs.Prepared.{prepared_truth, JoinAlike}
