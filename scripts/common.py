@@ -42,12 +42,12 @@ def program(path=None):
 
 @contextlib.contextmanager
 def new_folder(bw):
-    """A new folder with the examples, the cases and the scripts, and with `bin`, in which `bw` is the program."""
+    """A new folder with the examples, the cases, the scripts and the tools, and with `bin`, in which `bw` is the program."""
     with tempfile.TemporaryDirectory() as name:
         folder = pathlib.Path(name)
         (folder / "bin").mkdir()
         (folder / "bin" / "bw").symlink_to(bw)
-        for each in ("examples", "cases", "scripts"):
+        for each in ("examples", "cases", "scripts", "tools"):
             (folder / each).symlink_to(ROOT / each)
         yield folder
 

@@ -9,7 +9,7 @@ import fractions
 import operator
 import re
 
-from kinds import GREATEST, LEAST, RESERVED, Refused
+from .kinds import GREATEST, LEAST, RESERVED, Refused
 
 PIECES = re.compile(r"""(?P<gap>[ \t\r\n]+|--[^\n]*)
     |(?P<text>'(?:[^']|'')*')
