@@ -6,8 +6,8 @@ use bw_diagram::Connective;
 use indexmap::IndexMap;
 use std::alloc::Global;
 
-/// The planner works out so many product rows for a condition at most, those of a program that it gives up among them. A
-/// certificate may have more, but to work them out takes longer than to look up the rows of a small table.
+/// The planner works out so many product rows for a program at most. A certificate may have more, but to work them out
+/// takes longer than to look up the rows of a small table.
 const MAX_PRODUCTS: usize = 80_000;
 
 /// More steps than so many rows take: each is begun, goes on twice, and is asked for twice at most.
@@ -89,8 +89,6 @@ enum Next {
 pub(crate) struct Products {
     pub(crate) rows: IndexMap<Question, Outcome>,
     pending: Vec<Pending>,
-    /// How many rows may still be worked out.
-    room: usize,
 }
 
 impl Products {
@@ -99,11 +97,10 @@ impl Products {
         Products {
             rows: IndexMap::new(alloc),
             pending: Vec::new(alloc),
-            room: MAX_PRODUCTS,
         }
     }
 
-    /// Drops the rows from this number on. They count as worked out.
+    /// Drops the rows from this number on.
     pub(crate) fn truncate(&mut self, number: usize) {
         self.rows.truncate(number);
     }
@@ -185,14 +182,13 @@ impl Products {
 
     /// Adds a row.
     fn add(&mut self, question: Question, answer: Outcome) -> Result<Next, Refusal> {
-        if self.room == 0 {
+        let number = self.rows.len();
+        if number >= MAX_PRODUCTS {
             return Err(Refusal::NoProgram);
         }
-        self.room -= 1;
-        let number = u32::try_from(self.rows.len()).map_err(|_| Refusal::NoProgram)?;
         self.rows.insert(question, answer)?;
         Ok(Next::Found(Cited {
-            number,
+            number: number as u32,
             node: answer.node,
         }))
     }
