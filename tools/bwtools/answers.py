@@ -7,7 +7,7 @@ from . import source  # noqa: F401  (it lifts csv's limits)
 from .kinds import Refused, counted
 
 QUOTE, QUOTED = '"', re.compile('[",\r\n]')
-WHOLE = re.compile("(?:-?(?:0|[1-9][0-9]*)\\n)*")
+WHOLE = re.compile("(?:(?:-?(?:0|[1-9][0-9]*)|NULL)\\n)*")
 MOST_KNOWN, ROWS_AT_ONCE = 1 << 17, 8192
 
 
@@ -16,10 +16,11 @@ class Back(dict):
 
     def __init__(self, heading, columns):
         super().__init__()
+        self.turn_many = None
         found = re.fullmatch(r"(?:(COUNT|SUM|MIN|MAX)\()?([^()]+)\)?", heading)
         named = [column for column in columns if found and column.name.lower() == found.group(2).lower()]
+        self.heading, self.null, self.turn, self.is_whole = heading, "", str, True
         if heading == "COUNT(*)":
-            self.heading, self.null, self.turn, self.is_whole = heading, "", str, True
             return
         if not named:
             raise Refused(f"the answer has a column {heading}, which the file of columns doesn't say")
@@ -29,17 +30,31 @@ class Back(dict):
         self.turn = {"COUNT": str, "SUM": column.kind.sum}.get(function, column.kind.text)
         if self.turn is None:
             raise Refused(no_sum(column))
+        self.turn_many = column.kind.spell if function is None else None
 
     def __missing__(self, field):
         self[field] = quoted(self.null if field == "NULL" else self.turn(int(field)))
         return self[field]
 
+    def many(self, fields):
+        """The texts of many fields: those that weren't met are turned at once."""
+        distinct = dict.fromkeys(fields)
+        is_mixed = len(distinct) * 2 < len(fields) or "NULL" in distinct
+        fresh = [field for field in distinct if field not in self and field != "NULL"] if is_mixed else fields
+        texts = self.turn_many(list(map(int, fresh))) if fresh else []
+        texts = list(map(quoted, texts)) if QUOTED.search("".join(texts)) else texts
+        if not is_mixed:
+            return texts
+        self.update(zip(fresh, texts))
+        return list(map(self.__getitem__, fields))
+
     def texts(self, fields, line):
         """The texts of the fields of some rows, in quotes where these are needed. `line` gives the line of a row."""
         if self.is_whole and WHOLE.fullmatch("\n".join(fields) + "\n"):
-            return fields
+            null = quoted(self.null)
+            return [null if field == "NULL" else field for field in fields]
         try:
-            return list(map(self.__getitem__, fields))
+            return self.many(fields) if self.turn_many else list(map(self.__getitem__, fields))
         except (ValueError, IndexError, OverflowError):
             for place, field in enumerate(fields):
                 try:

@@ -76,6 +76,8 @@ class Seen:
         self.styles.add("plain")
         if digits:
             self.marks.setdefault(".", fields[0])
+            is_grouped = digits == 3 and greatest < 10 ** 6 and least > -10 ** 6 and min(map(abs, numbers)) >= 1000
+            self.grouped = is_grouped and self.grouped is not False
             self.has_zero = self.has_zero or any(field[-1] == "0" for field in fields)
         self.widen(digits, least, greatest)
         return True
@@ -188,13 +190,19 @@ class Seen:
         if least < kinds.LEAST or greatest > kinds.GREATEST or greatest - least > kinds.GREATEST:
             self.become_texts("its numbers are too far apart for 64 bits")
             return None
-        if "," in self.marks and self.grouped and not self.is_number:
-            text = self.marks[","]
-            self.become_texts(f"{shown(text)} may be {text.replace(',', '')} or {text.replace(',', '.')}; --number reads the second")
+        if "," in self.marks and self.may_be_thousands():
             return None
         if not digits:
             return kinds.Whole()
         return kinds.Decimals(digits, len(self.ends) > 1 and not self.has_zero, "," if "," in self.marks else ".")
+
+    def may_be_thousands(self):
+        """Whether the decimal signs of all fields may part thousands, which then makes the column one of texts."""
+        if not self.marks or not self.grouped or self.is_number or self.why:
+            return False
+        (mark, text), = self.marks.items()
+        self.become_texts(f"{shown(text)} may be {text.replace(mark, '')} or {text.replace(mark, '.')}; --number reads the second")
+        return True
 
     def is_exact(self):
         """Whether all fields come back as they stand."""
@@ -247,6 +255,10 @@ def decide(source, given):
             except Refused as refused:
                 raise Refused(f"{source.path}: {refused}") from None
     decided = [seen.kind() for seen in columns]
+    # beside decimal commas a point may part thousands
+    if any(kind and kind.name == "decimals" and kind.mark == "," for kind in decided):
+        decided = [None if kind and kind.name == "decimals" and seen.may_be_thousands() else kind
+                   for seen, kind in zip(columns, decided)]
     gathered = [(place, seen.texts) for place, seen in enumerate(columns) if seen.why and not seen.is_all]
     if gathered:
         for chunk in source.chunks():

@@ -30,6 +30,9 @@ class Whole:
 
     sum = text
 
+    def spell(self, numbers):
+        return list(map(self.text, numbers))
+
     def place(self, literal):
         """The place of a literal, or None where it's of another kind."""
         if not isinstance(literal, fractions.Fraction):
@@ -68,6 +71,12 @@ class Decimals(Whole):
         return text.rstrip("0").rstrip(self.mark) if self.trimmed else text
 
     sum = text
+
+    def spell(self, numbers):
+        if self.trimmed:
+            return Whole.spell(self, numbers)
+        power, digits, mark = 10 ** self.digits, self.digits, self.mark
+        return [f"{number // power}{mark}{number % power:0{digits}}" if number >= 0 else self.text(number) for number in numbers]
 
     def place(self, literal):
         return Whole.place(self, literal * 10 ** self.digits) if isinstance(literal, fractions.Fraction) else None
@@ -153,6 +162,12 @@ class Times(Dates):
         first, last = self.parts
         text = spelling.written_by(first, day, 0 if last else second) + (spelling.written_by(last, 0, second) if last else "")
         return f"{text}{f'.{part:0{self.digits}}' if self.digits else ''}{self.zone}"
+
+    def spell(self, numbers):
+        if self.digits or not self.parts[1]:
+            return Whole.spell(self, numbers)
+        (first, last), write, zone = self.parts, spelling.written_by, self.zone
+        return [f"{write(first, number // 86400, 0)}{write(last, 0, number % 86400)}{zone}" for number in numbers]
 
     def place(self, literal):
         found = self.read(literal) if isinstance(literal, str) else None

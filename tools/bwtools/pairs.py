@@ -23,6 +23,13 @@ class Meanings:
         except (ValueError, KeyError, TypeError, AttributeError):
             raise Refused(f"{path} is no file of columns that import or to-numbers wrote") from None
 
+    def compare(self, table, file):
+        """Refuses an open table file that the columns don't belong to."""
+        if {name: self.table.get(name) for name in ("size", "changed", "inode")} != marks_of(file) and \
+                self.table.get("sha256") != sum_of(file):
+            raise Refused(f"{self.path} belongs to another table than {table}, which has changed since or was put there: "
+                          "import writes both anew")
+
 
 def write_columns(path, columns, table=None):
     """Writes a file of columns: a record a line."""
@@ -69,8 +76,5 @@ def meanings_of(table, file):
     found = Meanings(path)
     if not found.table:
         raise Refused(f"{path} belongs to no table: to-numbers wrote it, and import writes one for {table}")
-    if {name: found.table.get(name) for name in ("size", "changed", "inode")} != marks_of(file) and \
-            found.table.get("sha256") != sum_of(file):
-        raise Refused(f"{path} belongs to another table than {table}, which has changed since or was put there: "
-                      "import writes both anew")
+    found.compare(table, file)
     return found

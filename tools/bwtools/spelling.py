@@ -12,7 +12,9 @@ TRUTHS = (("false", "true"), ("False", "True"), ("FALSE", "TRUE"))
 TRUTH_OF = {word: (value, words) for words in TRUTHS for value, word in enumerate(words)}
 
 NUMBER = re.compile(r"([+-]?)([0-9]*)(?:([.,])([0-9]*))?(?:[eE]([+-]?[0-9]{1,6}))?")
-GROUPED = re.compile(r"[+-]?[1-9][0-9]{0,2},[0-9]{3}")
+GROUPED = re.compile(r"[+-]?[1-9][0-9]{0,2}[,.][0-9]{3}")
+# a number of more characters is past 64 bits
+LONGEST = 100
 DATE = re.compile(r"([0-9]{1,2}|[0-9]{4})([-./])([0-9]{1,2})\2([0-9]{4}|[0-9]{1,2})")
 CLOCK = re.compile(r"([0-9]{1,2}):([0-9]{2})(?::([0-9]{2})(?:([.,])([0-9]{1,6}))?)?(Z|[+-][0-9]{2}(?::?[0-9]{2})?)?")
 # the formats of dates that are read without being asked for, by their mark and whether the year is first
@@ -21,7 +23,7 @@ FORMATS = {("-", True): ("%Y-%m-%d",), ("/", True): ("%Y/%m/%d",), (".", False):
 OWN = re.compile("(?:{})(?:[T ]%H:%M(?::%S)?)?".format("|".join(form for forms in FORMATS.values() for form in forms)))
 
 # A number: `value` is all its digits, `digits` of them after the decimal sign `mark`. `is_plain` where it's spelled as such
-# numbers come back, `has_zeros` where zeros are in front, `is_grouped` where its comma may part thousands
+# numbers come back, `has_zeros` where zeros are in front, `is_grouped` where its decimal sign may part thousands
 Number = collections.namedtuple("Number", "value digits mark is_plain has_zeros is_grouped")
 
 # A date, a time or a time of day: the day since 1970 by each format that it may be of, the second of the day times ten to
@@ -32,6 +34,8 @@ Moment = collections.namedtuple("Moment", "days part digits between clock zone i
 def number_of(text):
     """The number that a text spells, or None; and why not, where it's a number that is too long."""
     found = NUMBER.fullmatch(text)
+    if found and len(text) > LONGEST:
+        return None, " is past 64 bits"
     if not found or not (found.group(2) or found.group(4)):
         return None, ""
     sign, whole, mark, part, power = found.groups()
@@ -65,6 +69,8 @@ def plain_numbers(fields):
     """The numbers of fields that all are spelled as numbers come back, with the same number of digits after the point, and
     that number; or None where one isn't."""
     digits = len(fields[0].partition(".")[2])
+    if max(map(len, fields)) > LONGEST:
+        return None
     joined = "\n".join(fields) + "\n"
     if digits and not plain_of(digits).fullmatch(joined):
         return None

@@ -31,7 +31,9 @@ class Written(dict):
 
     def written(self, fields):
         """What is written for the fields of some rows."""
-        plain = self.plain(fields) or self.plain([field for field in fields if field not in self.nulls])
+        plain = None
+        if self.digits is not None:
+            plain = self.plain(fields) or self.plain([field for field in fields if field not in self.nulls])
         if plain:
             if len(plain) == len(fields):
                 return plain
@@ -48,7 +50,7 @@ class Written(dict):
 
     def plain(self, fields):
         """What is written for fields that all are spelled as they come back, where that can be told of many at once."""
-        if not fields or self.digits is None:
+        if not fields:
             return None
         if isinstance(self.digits, int):
             digits, numbers = spelling.plain_numbers(fields) or (None, None)
