@@ -1,32 +1,16 @@
-"""What to-numbers, from-numbers and ask share: the kinds of column, how a text is a number in each and comes back, where a
-literal stands among a column's numbers, the file that says what was done with each column, and turning an answer back.
+"""The kinds of column: how a text is a number in each and comes back, and where a literal stands among a column's numbers.
 
-A kind has `number`, which gives the number of a text, or None; `text`, which gives the text of a number, and has to be asked
-whether a text comes back as it stood; and `place`, which gives the greatest number that a literal isn't below, and whether it
-is that number. `sum` gives the text of a sum of the column, or is None where a sum means nothing."""
+A kind has `number`, which gives the number of a text, or None; `text`, which gives the text of a number; and `place`, which
+gives the greatest number that a literal isn't below, and whether it is that number. `sum` gives the text of a sum of the
+column, or is None where a sum means nothing. `plural` names what a column holds, and `example` how a literal of it looks."""
 import bisect
-import csv
-import datetime
 import fractions
-import json
 import math
-import pathlib
-import re
-import sys
+
+from . import spelling
 
 LEAST, GREATEST = -1 << 63, (1 << 63) - 1
 RESERVED = set("AND BETWEEN COUNT FALSE FROM IN IS MAX MIN NOT NULL OR SELECT SUM TRUE UNKNOWN WHERE".split())
-FIRST_DAY = datetime.date(1970, 1, 1).toordinal()
-FIRST_SECOND = datetime.datetime(1970, 1, 1)
-TRUTHS = (("false", "true"), ("False", "True"), ("FALSE", "TRUE"))
-DATE = re.compile(r"[0-9]{4}-[0-9]{2}-[0-9]{2}")
-TIME = re.compile(r"[0-9]{4}-[0-9]{2}-[0-9]{2}([ T])[0-9]{2}:[0-9]{2}:[0-9]{2}(Z?)")
-QUOTE, QUOTED = '"', re.compile('[",\r\n]')
-NUMBER = re.compile(r"-?(?:0|[1-9][0-9]*)(?:\.([0-9]+))?")
-
-csv.field_size_limit(1 << 30)
-# newer Pythons take no number of more than some digits where nothing is said
-getattr(sys, "set_int_max_str_digits", int)(0)
 
 
 class Refused(Exception):
@@ -35,22 +19,24 @@ class Refused(Exception):
 
 class Whole:
     """Whole numbers, which stay as they are."""
-    name = "whole"
+    name, plural, example = "whole", "whole numbers", "5"
 
     def number(self, text):
-        try:
-            return int(text)
-        except ValueError:
-            return None
+        found = spelling.number_of(text)[0]
+        return found.value // 10 ** found.digits if found and found.value % 10 ** found.digits == 0 else None
 
     def text(self, number):
         return str(number)
 
     sum = text
 
+    def spell(self, numbers):
+        return list(map(self.text, numbers))
+
     def place(self, literal):
+        """The place of a literal, or None where it's of another kind."""
         if not isinstance(literal, fractions.Fraction):
-            raise Refused("holds whole numbers")
+            return None
         return math.floor(literal), literal.denominator == 1
 
     def record(self):
@@ -62,35 +48,41 @@ class Whole:
     def told(self):
         return "whole numbers as they are"
 
+    def plain(self):
+        """What many fields of the column that come back as they stand have in common: the digits, or the signs of a time."""
+        return 0 if self.name == "whole" else None
+
 
 class Decimals(Whole):
-    """Decimals times a power of ten. All have so many digits after the point; or none has a zero at its end there, and
-    then a whole number has no point."""
-    name = "decimals"
+    """Decimals times a power of ten. All come back with so many digits after the decimal sign; or, trimmed, without zeros at
+    the end there, and then a whole number has no decimal sign."""
+    name, plural, example = "decimals", "decimals", "12.50"
 
-    def __init__(self, digits, trimmed):
-        self.digits, self.trimmed = digits, trimmed
+    def __init__(self, digits, trimmed, mark="."):
+        self.digits, self.trimmed, self.mark = digits, trimmed, mark
 
     def number(self, text):
-        found = NUMBER.fullmatch(text)
-        if not found or len(found.group(1) or "") > self.digits:
-            return None
-        return int(text.replace(".", "") + "0" * (self.digits - len(found.group(1) or "")))
+        found = spelling.number_of(text)[0]
+        return None if not found or found.digits > self.digits else found.value * 10 ** (self.digits - found.digits)
 
     def text(self, number):
         digits = str(abs(number)).rjust(self.digits + 1, "0")
-        text = f"{'-' if number < 0 else ''}{digits[:-self.digits]}.{digits[-self.digits:]}"
-        return text.rstrip("0").rstrip(".") if self.trimmed else text
+        text = f"{'-' if number < 0 else ''}{digits[:-self.digits]}{self.mark}{digits[-self.digits:]}"
+        return text.rstrip("0").rstrip(self.mark) if self.trimmed else text
 
     sum = text
 
+    def spell(self, numbers):
+        if self.trimmed:
+            return Whole.spell(self, numbers)
+        power, digits, mark = 10 ** self.digits, self.digits, self.mark
+        return [f"{number // power}{mark}{number % power:0{digits}}" if number >= 0 else self.text(number) for number in numbers]
+
     def place(self, literal):
-        if not isinstance(literal, fractions.Fraction):
-            raise Refused("holds decimals")
-        return Whole.place(self, literal * 10 ** self.digits)
+        return Whole.place(self, literal * 10 ** self.digits) if isinstance(literal, fractions.Fraction) else None
 
     def record(self):
-        return {"digits": self.digits, "trimmed": self.trimmed}
+        return {"digits": self.digits, "trimmed": self.trimmed, "mark": self.mark}
 
     def alike(self, other):
         return self.name == other.name and self.digits == other.digits
@@ -98,68 +90,137 @@ class Decimals(Whole):
     def told(self):
         return f"decimals times 10^{self.digits}"
 
+    def plain(self):
+        return self.digits if not self.trimmed and self.mark == "." else None
+
 
 class Dates(Whole):
-    """Days since 1970-01-01."""
-    name = "dates"
-    sum = None
+    """Days since 1970-01-01, which come back in a format."""
+    name, plural, sum = "dates", "dates", None
+
+    def __init__(self, form="%Y-%m-%d"):
+        # the format of the date alone, where it's one that is read without being asked for
+        self.form, self.date = form, form[:8] if spelling.OWN.fullmatch(form) else None
+        # what is written of a time by its day, and then by its second of the day
+        self.parts = (form[:9], form[9:]) if self.date else (form, "")
+        self.example = f"'{spelling.written_by(form, 19844, 45000)}'"
+
+    def read(self, text):
+        """The seconds since 1970 of a date or a time, times ten to a number of digits, and whether a time is said, and its
+        zone. None of any other text."""
+        found = None if self.date else spelling.read_by(self.form, text)
+        if found:
+            return found[0] * 86400 + found[1], 0, "%H" in self.form, ""
+        moment = spelling.moment_of(text)
+        day = moment and moment.days.get(self.date, moment.days.get("%Y-%m-%d"))
+        if day is None:
+            return None
+        return day * 86400 * 10 ** moment.digits + moment.part, moment.digits, bool(moment.clock), moment.zone
 
     def number(self, text):
-        day = day_of(text)
-        return None if day is None else day - FIRST_DAY
+        found = self.read(text)
+        return None if found is None or found[2] else found[0] // 86400
 
     def text(self, number):
-        return datetime.date.fromordinal(number + FIRST_DAY).isoformat()
+        return spelling.written_by(self.form, number, 0)
 
     def place(self, literal):
-        seconds, zone = seconds_of(literal)
-        if seconds is None or zone:
-            raise Refused("holds dates as '2024-05-01'")
-        return seconds // 86400, seconds % 86400 == 0
-
-    def told(self):
-        return "dates as days since 1970"
-
-
-class Times(Whole):
-    """Seconds since the first one of 1970: a date, a T or a blank, a time of day, and a Z or none."""
-    name = "times"
-    sum = None
-
-    def __init__(self, between, zone):
-        self.between, self.zone = between, zone
-
-    def number(self, text):
-        return seconds_of(text)[0]
-
-    def text(self, number):
-        return (FIRST_SECOND + datetime.timedelta(seconds=number)).isoformat(self.between) + self.zone
-
-    def place(self, literal):
-        seconds, zone = seconds_of(literal)
-        if seconds is None or zone and not self.zone:
-            raise Refused(f"holds times as '2024-05-01{self.between}12:30:00{self.zone}'")
-        return seconds, True
+        found = self.read(literal) if isinstance(literal, str) else None
+        return None if found is None or found[3] else Whole.place(self, fractions.Fraction(found[0], 86400 * 10 ** found[1]))
 
     def record(self):
-        return {"between": self.between, "zone": self.zone}
+        return {"format": self.form}
 
     def alike(self, other):
-        return self.name == other.name and self.zone == other.zone
+        return self.name == other.name
 
     def told(self):
-        return "times as seconds since 1970"
+        return f"dates{self.shown()} as days since 1970"
+
+    def shown(self):
+        return "" if self.form.startswith("%Y-%m-%d") else f" {self.form}"
+
+
+class Times(Dates):
+    """Seconds since the first one of 1970, times ten to the number of digits after the point. With a zone Z all are of UTC."""
+    name, plural, second = "times", "times", 1714566600
+
+    def __init__(self, form, digits=0, zone=""):
+        Dates.__init__(self, form)
+        self.digits, self.zone = digits, zone
+        self.example = f"'{self.text(self.second * 10 ** digits)}'"
+
+    def number(self, text):
+        found = self.read(text)
+        if found is None or found[1] > self.digits or found[3] and not self.zone:
+            return None
+        return found[0] * 10 ** (self.digits - found[1])
+
+    def text(self, number):
+        seconds, part = divmod(number, 10 ** self.digits)
+        day, second = divmod(seconds, 86400)
+        first, last = self.parts
+        text = spelling.written_by(first, day, 0 if last else second) + (spelling.written_by(last, 0, second) if last else "")
+        return f"{text}{f'.{part:0{self.digits}}' if self.digits else ''}{self.zone}"
+
+    def spell(self, numbers):
+        if self.digits or not self.parts[1]:
+            return Whole.spell(self, numbers)
+        (first, last), write, zone = self.parts, spelling.written_by, self.zone
+        return [f"{write(first, number // 86400, 0)}{write(last, 0, number % 86400)}{zone}" for number in numbers]
+
+    def place(self, literal):
+        found = self.read(literal) if isinstance(literal, str) else None
+        if found is None or found[3] and not self.zone:
+            return None
+        return Whole.place(self, fractions.Fraction(found[0] * 10 ** self.digits, 10 ** found[1]))
+
+    def record(self):
+        return {"format": self.form, "digits": self.digits, "zone": self.zone}
+
+    def alike(self, other):
+        return self.name == other.name and (self.digits, self.zone) == (other.digits, other.zone)
+
+    def told(self):
+        return f"times{self.shown()}{' of UTC' if self.zone else ''} as {self.unit()} since 1970"
+
+    def plain(self):
+        is_plain = self.form in ("%Y-%m-%dT%H:%M:%S", "%Y-%m-%d %H:%M:%S") and not self.digits
+        return [self.form[8], self.zone] if is_plain else None
+
+    def unit(self):
+        return {0: "seconds", 3: "milliseconds", 6: "microseconds"}.get(self.digits, f"seconds times 10^{self.digits}")
+
+
+class Clocks(Times):
+    """Times of day, as seconds since midnight, times ten to the number of digits after the point."""
+    name, plural, second = "clocks", "times of day", 45000
+
+    def read(self, text):
+        found = spelling.read_by(self.form, text)
+        if found:
+            return found[1], 0, True, ""
+        moment = spelling.moment_of(text)
+        return None if not moment or moment.days else (moment.part, moment.digits, True, "")
+
+    def text(self, number):
+        if not 0 <= number < 86400 * 10 ** self.digits:
+            raise IndexError
+        return Times.text(self, number)
+
+    def told(self):
+        return f"times of day as {self.unit()} since midnight"
 
 
 class Truths(Whole):
     """False as 0 and true as 1, in the column's own words."""
-    name = "truths"
+    name, plural, example = "truths", "true and false", "TRUE"
 
     def __init__(self, words):
         self.words = tuple(words)
 
     def number(self, text):
-        return self.words.index(text) if text in self.words else None
+        return spelling.TRUTH_OF[text][0] if text in spelling.TRUTH_OF else None
 
     def text(self, number):
         if number not in (0, 1):
@@ -170,11 +231,9 @@ class Truths(Whole):
         return str(number)
 
     def place(self, literal):
-        if isinstance(literal, str) and literal.lower() in TRUTHS[0]:
+        if isinstance(literal, str) and literal.lower() in spelling.TRUTHS[0]:
             literal = literal.lower() == "true"
-        if isinstance(literal, str):
-            raise Refused(f"holds '{self.words[0]}' and '{self.words[1]}'")
-        return math.floor(literal), math.floor(literal) == literal
+        return None if isinstance(literal, str) else (math.floor(literal), math.floor(literal) == literal)
 
     def record(self):
         return {"words": self.words}
@@ -187,22 +246,15 @@ class Truths(Whole):
 
 
 class Texts(Whole):
-    """Texts as their places in a list, which is sorted by code points and stands in a file: a JSON string a line."""
-    name = "texts"
-    sum = None
+    """Texts as their places in a list, which is sorted by code points."""
+    name, plural, example, sum = "texts", "texts", "'this'", None
 
-    def __init__(self, path, texts=None):
-        self.path, self.held = pathlib.Path(path), texts
+    def __init__(self, texts):
+        self.texts = texts
 
-    @property
-    def texts(self):
-        if self.held is None:
-            try:
-                with open(self.path, encoding="utf-8", newline="\n") as lines:
-                    self.held = [json.loads(line) for line in lines]
-            except ValueError:
-                raise Refused(f"{self.path} is no list that to-numbers wrote") from None
-        return self.held
+    def number(self, text):
+        place = bisect.bisect_left(self.texts, text)
+        return place if self.texts[place:place + 1] == [text] else None
 
     def text(self, number):
         if number < 0:
@@ -211,12 +263,12 @@ class Texts(Whole):
 
     def place(self, literal):
         if not isinstance(literal, str):
-            raise Refused("holds texts, which stand in quotes as 'this'")
+            return None
         place = bisect.bisect_right(self.texts, literal) - 1
         return place, place >= 0 and self.texts[place] == literal
 
     def record(self):
-        return {"texts": self.path.name}
+        return {"texts": self.texts}
 
     def alike(self, other):
         return self.name == other.name and (self is other or self.texts == other.texts)
@@ -227,7 +279,7 @@ class Texts(Whole):
 
 class Nulls(Whole):
     """Nulls alone."""
-    name = "nulls"
+    name, plural, example = "nulls", "nulls alone", "NULL"
 
     def number(self, text):
         return None
@@ -242,131 +294,39 @@ class Nulls(Whole):
         return "nulls alone"
 
 
-def day_of(text):
-    """The number of the day of a date, or None."""
-    try:
-        return datetime.date.fromisoformat(text).toordinal() if DATE.fullmatch(text) else None
-    except ValueError:
-        return None
-
-
-def seconds_of(literal):
-    """The second of a date or a time since 1970, or None, and its Z."""
-    found = TIME.fullmatch(literal) if isinstance(literal, str) else None
-    if not found:
-        day = day_of(literal) if isinstance(literal, str) else None
-        return None if day is None else (day - FIRST_DAY) * 86400, ""
-    try:
-        since = datetime.datetime.fromisoformat(literal[:19]) - FIRST_SECOND
-    except ValueError:
-        return None, ""
-    return since.days * 86400 + since.seconds, found.group(2)
-
-
 class Column:
-    """A column: its name, the heading that it had, its kind, and the word that its nulls come back as."""
+    """A column: its name, the heading that it had, its kind, the word that its nulls come back as, the words that were null,
+    the texts of its least and its greatest number, and why it's one of texts."""
 
-    def __init__(self, name, heading, kind, null=""):
+    def __init__(self, name, heading, kind, null="", nulls=(), ends=(), why=""):
         self.name, self.heading, self.kind, self.null = name, heading, kind, null
+        self.nulls, self.ends, self.why = list(nulls), list(ends), why
 
     def record(self):
-        return {"name": self.name, "heading": self.heading, "kind": self.kind.name, **self.kind.record(), "null": self.null}
+        return {"name": self.name, "heading": self.heading, "kind": self.kind.name, "null": self.null, "nulls": self.nulls,
+                "ends": self.ends, "why": self.why, **self.kind.record()}
 
 
-def kind_of(record, folder):
-    """The kind that a record of the columns' file says."""
+def kind_of(record):
+    """The kind that a column's record says."""
     if record["kind"] == "decimals":
-        return Decimals(record["digits"], record["trimmed"])
-    if record["kind"] == "times":
-        return Times(record["between"], record["zone"])
+        return Decimals(record["digits"], record["trimmed"], record["mark"])
+    if record["kind"] == "dates":
+        return Dates(record["format"])
+    if record["kind"] in ("times", "clocks"):
+        return {"times": Times, "clocks": Clocks}[record["kind"]](record["format"], record["digits"], record["zone"])
     if record["kind"] == "truths":
         return Truths(record["words"])
     if record["kind"] == "texts":
-        return Texts(folder / record["texts"])
-    return {"whole": Whole, "dates": Dates, "nulls": Nulls}[record["kind"]]()
+        return Texts(record["texts"])
+    return {"whole": Whole, "nulls": Nulls}[record["kind"]]()
 
 
-def columns_of(path):
-    """The columns that a file of them says."""
-    path = pathlib.Path(path)
-    try:
-        records = json.loads(path.read_text(encoding="utf-8"))["columns"]
-        return [Column(each["name"], each["heading"], kind_of(each, path.parent), each["null"]) for each in records]
-    except (ValueError, KeyError, TypeError):
-        raise Refused(f"{path} is no file that to-numbers wrote") from None
-
-
-def write_columns(path, columns):
-    """Writes the file of the columns: a record a line."""
-    records = ",\n".join(json.dumps(column.record(), ensure_ascii=False) for column in columns)
-    path.write_text(f'{{"columns": [\n{records}\n]}}\n', encoding="utf-8")
-
-
-class Back:
-    """How the fields under one heading of an answer are turned back."""
-
-    def __init__(self, heading, columns):
-        found = re.fullmatch(r"(?:(COUNT|SUM|MIN|MAX)\()?([^()]+)\)?", heading)
-        named = [column for column in columns if found and column.name.lower() == found.group(2).lower()]
-        if heading == "COUNT(*)":
-            self.heading, self.null, self.turn = heading, "", str
-            return
-        if not named:
-            raise Refused(f"the answer has a column {heading}, which the file of columns doesn't say")
-        column, function = named[0], found.group(1)
-        self.heading = f"{function}({column.heading})" if function else column.heading
-        self.null = column.null
-        self.turn = {"COUNT": str, "SUM": column.kind.sum}.get(function, column.kind.text)
-        if self.turn is None:
-            raise Refused(f"{heading}: a sum of {column.kind.name} means nothing")
-
-    def text(self, field, line):
-        if field == "NULL":
-            return self.null
-        try:
-            return self.turn(int(field))
-        except (ValueError, IndexError, OverflowError):
-            raise Refused(f"line {line} of the answer: {field} is no number of the column {self.heading}") from None
+def column_of(record):
+    """The column that a record says."""
+    return Column(record["name"], record["heading"], kind_of(record), record["null"], record["nulls"], record["ends"],
+                  record["why"])
 
 
 def counted(number, thing):
     return f"{number:,} {thing}{'' if number == 1 else 's'}"
-
-
-def csv_line(fields):
-    """A line of CSV. A line of one empty field has quotes, since an empty line is no record."""
-    line = ",".join([f'"{field.replace(QUOTE, QUOTE * 2)}"' if QUOTED.search(field) else field for field in fields])
-    return f"{line or QUOTE * 2}\n"
-
-
-def turn_back(columns, answer, out):
-    """Turns an answer, lines of CSV, back, and writes it as CSV. Nothing is written where its heading is refused."""
-    records = csv.reader(answer)
-    heading = next(records, None)
-    if heading is None:
-        raise Refused("the answer is empty")
-    backs = [Back(each, columns) for each in heading]
-    out.write(csv_line([back.heading for back in backs]))
-    for record in records:
-        if len(record) != len(backs):
-            raise Refused(f"line {records.line_num} of the answer has {counted(len(record), 'field')} and not {len(backs)}")
-        out.write(csv_line([back.text(field, records.line_num) for back, field in zip(backs, record)]))
-
-
-def status_of(name, work):
-    """Does a script's work, and gives its status: 3 where something was refused, 5 where a file failed."""
-    try:
-        status = work() or 0
-        sys.stdout.flush()
-        return status
-    except (Refused, UnicodeError, csv.Error) as refused:
-        print(f"{name}: {refused}", file=sys.stderr)
-        return 3
-    except KeyboardInterrupt:
-        return 130
-    except BrokenPipeError:
-        sys.stdout = None
-        return 5
-    except OSError as error:
-        print(f"{name}: {f'{error.filename}: ' if error.filename else ''}{error.strerror}", file=sys.stderr)
-        return 5

@@ -9,6 +9,7 @@ import fractions
 import operator
 import re
 
+from .answers import no_sum
 from .kinds import GREATEST, LEAST, RESERVED, Refused
 
 PIECES = re.compile(r"""(?P<gap>[ \t\r\n]+|--[^\n]*)
@@ -53,14 +54,21 @@ def always(column):
     return f"{column.name} = {column.name}"
 
 
-def place_of(column, literal):
+def held(column):
+    """What a column holds, in a message."""
+    ends = f" from {column.ends[0]} to {column.ends[1]}" if column.ends and column.kind.name not in ("texts", "truths") else ""
+    return f"{column.name} holds {column.kind.plural}{ends}{f' ({column.why})' if column.why else ''}"
+
+
+def place_of(column, literal, is_equal=False):
     """Where a literal stands among the numbers of a column."""
-    if column.null and literal.value == column.null:
-        raise Refused(f"{literal.text} is null in {column.name}: ask for IS NULL")
-    try:
-        return column.kind.place(literal.value)
-    except Refused as refused:
-        raise Refused(f"{literal.text} can't be compared with {column.name}, which {refused}") from None
+    if literal.value in column.nulls and (is_equal or column.kind.name != "texts"):
+        raise Refused(f"{literal.text} is null in {column.name}: ask for {column.name} IS NULL")
+    place = column.kind.place(literal.value)
+    if place is None:
+        raise Refused(f"{literal.text} can't be compared with {column.name}: {held(column)}, and a literal of that kind is "
+                      f"written as {column.kind.example}")
+    return place
 
 
 def compared(left, sign, right):
@@ -70,12 +78,13 @@ def compared(left, sign, right):
     if left.column and right.column:
         if left.column is not right.column and not (left.column.kind.alike(right.column.kind)
                                                     or right.column.kind.alike(left.column.kind)):
-            raise Refused(f"{left.column.name} and {right.column.name} can't be compared: their numbers mean other things")
+            raise Refused(f"{left.column.name} and {right.column.name} can't be compared: {held(left.column)}, and "
+                          f"{held(right.column)}, of which the same number means something else")
         return f"{left.column.name} {sign} {right.column.name}"
     if right.column:
         return compared(right, SWAPPED[sign], left)
     if left.column:
-        return placed(left.column, sign, *place_of(left.column, right))
+        return placed(left.column, sign, *place_of(left.column, right, sign in ("=", "<>")))
     if isinstance(left.value, str) != isinstance(right.value, str):
         raise Refused(f"{left.text} and {right.text} can't be compared")
     return "1 = 1" if MEANING[sign](left.value, right.value) else "1 = 0"
@@ -123,9 +132,9 @@ def among(operand, negated, members):
 class Turner:
     """Turns the pieces of a statement, from the first on."""
 
-    def __init__(self, statement, columns):
+    def __init__(self, statement, columns, table):
         self.pieces = [*pieces_of(statement), Piece("end", "", len(statement))]
-        self.columns, self.place, self.out = columns, 0, []
+        self.columns, self.table, self.place, self.out = columns, table, 0, []
 
     def next(self):
         return self.pieces[self.place]
@@ -236,7 +245,7 @@ class Turner:
                 continue
             column = self.column()
             if self.out[-2:] == ["SUM", "("] and column.kind.sum is None:
-                raise Refused(f"SUM({column.name}): a sum of {column.kind.name} means nothing")
+                raise Refused(no_sum(column))
             self.out.append(column.name)
 
     def statement(self):
@@ -246,7 +255,10 @@ class Turner:
         self.out.append(self.wants("FROM"))
         if self.next().kind not in ("word", "quoted"):
             self.refuse("a table")
-        self.out.append(self.take().text.strip('"'))
+        table = self.take().text.strip('"')
+        if self.table and table.lower() != self.table.lower():
+            raise Refused(f"there is no table {table}: the file is table {self.table}")
+        self.out.append(table)
         if self.takes("WHERE"):
             self.out.append("WHERE")
             self.condition()
@@ -254,6 +266,36 @@ class Turner:
         return " ".join(text for text in self.out if text)
 
 
-def turned(statement, columns):
+def turned(statement, columns, table=None):
     """The statement over the numbers of a table's columns."""
-    return Turner(statement, columns).statement()
+    return Turner(statement, columns, table).statement()
+
+
+def statements_in(lines):
+    """The statements of lines, each of which ends with a semicolon, an empty line or the last line."""
+    text, quote = "", ""
+    for line in lines:
+        at = 0
+        if not quote and not line.strip():
+            yield text
+            text = ""
+        while at < len(line):
+            if not quote and line.startswith("--", at):
+                text += line[at:]
+                break
+            character, at = line[at], at + 1
+            text += character
+            if quote or character in "'\"":
+                quote = "" if character == quote else quote or character
+            elif character == ";":
+                yield text
+                text = ""
+    yield text
+
+
+def is_empty(statement):
+    """Whether a statement has nothing but comments, blanks and a semicolon."""
+    try:
+        return all(piece.text == ";" for piece in pieces_of(statement))
+    except Refused:
+        return False

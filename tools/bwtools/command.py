@@ -1,0 +1,100 @@
+"""What the tools share as commands: their options, the program that they call, and how they end."""
+import argparse
+import csv
+import gc
+import os
+import pathlib
+import shutil
+import signal
+import subprocess
+import sys
+
+from .kinds import Refused
+from .source import SEPARATORS
+
+
+def program():
+    """The program bw: that of the environment variable BW, or the one on the PATH, or the repository's own."""
+    own = pathlib.Path(__file__).resolve().parent.parent.parent / "bw"
+    found = os.environ.get("BW") or shutil.which("bw") or (own if os.access(own, os.X_OK) and own.is_file() else None)
+    if not found:
+        raise Refused("there is no program bw on the PATH; BW=FILE says where it is")
+    return str(found)
+
+
+def call(words, output=subprocess.PIPE):
+    """Runs a command of bw, which ends where the tool does. Its faults are passed on, and end the tool with their status."""
+    status = subprocess.run([program(), *map(str, words)], stdin=subprocess.DEVNULL, stdout=output, check=False).returncode
+    if status:
+        print(f"bw {words[0]} ended with status {status}", file=sys.stderr)
+        sys.exit(status if status > 0 else 128 - status)
+
+
+def one_character(text):
+    if len(SEPARATORS.get(text, text)) != 1 or text in "\r\n":
+        raise argparse.ArgumentTypeError("is one character")
+    return text
+
+
+class Format(argparse.Action):
+    """Takes COLUMN=FORMAT, as often as it's given."""
+
+    def __call__(self, parser, namespace, values, option_string=None):
+        column, sign, form = values.rpartition("=")
+        if not sign or not form:
+            parser.error(f"{option_string} takes COLUMN=FORMAT, as day=%d/%m/%Y")
+        setattr(namespace, self.dest, {**getattr(namespace, self.dest), column: form})
+
+
+def add_options(parser):
+    """Adds the options that say how a file is read."""
+    parser.add_argument("--separator", type=one_character,
+                        help="what parts the fields: comma, semicolon, tab, bar or a character; else the heading tells")
+    parser.add_argument("--encoding", help="as latin-1 or cp1252; else what a byte order mark says, or UTF-8")
+    parser.add_argument("--quote", type=one_character, default='"', help='what stands round a field, else "')
+    parser.add_argument("--escape", type=one_character, help="what takes the meaning of the next character")
+    heading = parser.add_mutually_exclusive_group()
+    heading.add_argument("--heading", action="store_true", default=None, help="the first line is a heading, whatever it looks like")
+    heading.add_argument("--no-heading", action="store_false", dest="heading",
+                         help="the first line is a row; the columns are c1, c2 and so on")
+    parser.add_argument("--null", metavar="WORD", action="append", default=[],
+                        help="a word for null in every column, texts too; this and the next ones may be given more than once")
+    parser.add_argument("--text", metavar="COLUMN", action="append", default=[], help="a column to keep as texts, by its heading")
+    parser.add_argument("--number", metavar="COLUMN", action="append", default=[],
+                        help="a column to read as numbers, also with zeros in front, or with a comma as the decimal sign")
+    parser.add_argument("--date", metavar="COLUMN=FORMAT", action=Format, default={},
+                        help="the format of a column's dates or times, of %%d, %%m, %%Y, %%H, %%M and %%S")
+    parser.add_argument("--keep-spelling", action="store_true",
+                        help="make texts of a column of which a field wouldn't come back as it stands, as 2.0 beside 1.25")
+
+
+def stop(number, _):
+    """Ends as an interrupt does, so that what was begun is taken away."""
+    raise SystemExit(128 + number)
+
+
+def status_of(name, work):
+    """Does a tool's work, and gives its status: 3 where something was refused, 5 where a file failed."""
+    for number in (signal.SIGTERM, signal.SIGHUP):
+        if signal.getsignal(number) == signal.SIG_DFL:
+            signal.signal(number, stop)
+    # much is made and nothing of it goes round in a circle
+    gc.disable()
+    if sys.stdout:
+        sys.stdout.reconfigure(errors="backslashreplace")
+    try:
+        status = work() or 0
+        if sys.stdout:
+            sys.stdout.flush()
+        return status
+    except (Refused, UnicodeError, csv.Error) as refused:
+        print(f"{name}: {refused}", file=sys.stderr)
+        return 3
+    except KeyboardInterrupt:
+        return 130
+    except BrokenPipeError:
+        sys.stdout = None
+        return 5
+    except OSError as error:
+        print(f"{name}: {f'{error.filename}: ' if error.filename else ''}{error.strerror}", file=sys.stderr)
+        return 5

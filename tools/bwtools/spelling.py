@@ -1,0 +1,230 @@
+"""What a field spells: a number, a truth, or a date, a time or a time of day, each as whole numbers that lose nothing."""
+import collections
+import datetime
+import functools
+import re
+
+FIRST_DAY = datetime.date(1970, 1, 1).toordinal()
+LAST_SECOND = (datetime.date(9999, 12, 31).toordinal() - FIRST_DAY + 1) * 86400
+FIRST_SECOND = (1 - FIRST_DAY) * 86400
+MOST_DIGITS = 18
+TRUTHS = (("false", "true"), ("False", "True"), ("FALSE", "TRUE"))
+TRUTH_OF = {word: (value, words) for words in TRUTHS for value, word in enumerate(words)}
+
+NUMBER = re.compile(r"([+-]?)([0-9]*)(?:([.,])([0-9]*))?(?:[eE]([+-]?[0-9]{1,6}))?")
+GROUPED = re.compile(r"[+-]?[1-9][0-9]{0,2}[,.][0-9]{3}")
+# a number of more characters is past 64 bits
+LONGEST = 100
+DATE = re.compile(r"([0-9]{1,2}|[0-9]{4})([-./])([0-9]{1,2})\2([0-9]{4}|[0-9]{1,2})")
+CLOCK = re.compile(r"([0-9]{1,2}):([0-9]{2})(?::([0-9]{2})(?:([.,])([0-9]{1,6}))?)?(Z|[+-][0-9]{2}(?::?[0-9]{2})?)?")
+# the formats of dates that are read without being asked for, by their mark and whether the year is first
+FORMATS = {("-", True): ("%Y-%m-%d",), ("/", True): ("%Y/%m/%d",), (".", False): ("%d.%m.%Y",),
+           ("/", False): ("%d/%m/%Y", "%m/%d/%Y"), ("-", False): ("%d-%m-%Y", "%m-%d-%Y")}
+OWN = re.compile("(?:{})(?:[T ]%H:%M(?::%S)?)?".format("|".join(form for forms in FORMATS.values() for form in forms)))
+
+# A number: `value` is all its digits, `digits` of them after the decimal sign `mark`. `is_plain` where it's spelled as such
+# numbers come back, `has_zeros` where zeros are in front, `is_grouped` where its decimal sign may part thousands
+Number = collections.namedtuple("Number", "value digits mark is_plain has_zeros is_grouped")
+
+# A date, a time or a time of day: the day since 1970 by each format that it may be of, the second of the day times ten to
+# `digits`, and how it's spelled: `clock` is the format of the time of day, `zone` is Z where it's of UTC
+Moment = collections.namedtuple("Moment", "days part digits between clock zone is_plain")
+
+
+def number_of(text):
+    """The number that a text spells, or None; and why not, where it's a number that is too long."""
+    found = NUMBER.fullmatch(text)
+    if found and len(text) > LONGEST:
+        return None, " is past 64 bits"
+    if not found or not (found.group(2) or found.group(4)):
+        return None, ""
+    sign, whole, mark, part, power = found.groups()
+    part = part or ""
+    value = int(f"{sign}{whole}{part}")
+    has_zeros = len(whole) > 1 and whole[0] == "0"
+    is_plain = power is None and sign != "+" and whole != "" and (mark is None or part != "") and not has_zeros and \
+        (sign == "" or value != 0)
+    digits = len(part)
+    if power is not None:
+        value, digits = exact(value, digits, int(power))
+        if digits is None:
+            return None, f" has more than {MOST_DIGITS} digits"
+    return Number(value, digits, mark, is_plain, has_zeros, GROUPED.fullmatch(text) is not None), ""
+
+
+def exact(value, digits, power):
+    """A number times a power of ten, without zeros at its end after the point; no digits where it has too many."""
+    while value and digits and value % 10 == 0:
+        value, digits = value // 10, digits - 1
+    digits -= power
+    if value == 0:
+        return 0, 0
+    length = max(len(str(abs(value))), digits) - min(digits, 0)
+    if length > MOST_DIGITS:
+        return value, None
+    return (value, digits) if digits >= 0 else (value * 10 ** -digits, 0)
+
+
+def plain_numbers(fields):
+    """The numbers of fields that all are spelled as numbers come back, with the same number of digits after the point, and
+    that number; or None where one isn't."""
+    digits = len(fields[0].partition(".")[2])
+    if max(map(len, fields)) > LONGEST:
+        return None
+    joined = "\n".join(fields) + "\n"
+    if digits and not plain_of(digits).fullmatch(joined):
+        return None
+    try:
+        numbers = list(map(int, joined.replace(".", "").split() if digits else fields))
+    except ValueError:
+        return None
+    return (digits, numbers) if digits or list(map(str, numbers)) == list(fields) else None
+
+
+class Seconds(dict):
+    """The second of the day of each time of day that was met."""
+
+    def __missing__(self, text):
+        self[text] = int(text[:2]) * 3600 + int(text[3:5]) * 60 + int(text[6:])
+        return self[text]
+
+
+SECONDS = Seconds()
+
+
+def plain_times(fields):
+    """The seconds since 1970 of fields that all are times as 2024-05-01 12:30:00, with the same sign between and the same zone,
+    with these two; or None where one isn't."""
+    between, zone = fields[0][10:11], fields[0][19:]
+    if between not in ("T", " ") or zone not in ("", "Z") or not plain_time_of(between, zone).fullmatch("\n".join(fields) + "\n"):
+        return None
+    days = {text: date_part(text)[0].get("%Y-%m-%d") for text in {field[:10] for field in fields}}
+    if None in days.values():
+        return None
+    days = {text: day * 86400 for text, day in days.items()}
+    return between, zone, [days[field[:10]] + SECONDS[field[11:19]] for field in fields]
+
+
+@functools.lru_cache(4)
+def plain_time_of(between, zone):
+    """What finds lines of times."""
+    day = "[0-9]{4}-[0-9]{2}-[0-9]{2}"
+    return re.compile(rf"(?:{day}{between}(?:[01][0-9]|2[0-3]):[0-5][0-9]:[0-5][0-9]{zone}\n)*")
+
+
+@functools.lru_cache(64)
+def plain_of(digits):
+    """What finds lines of decimals with so many digits after the point, none of them negative nothing."""
+    return re.compile(r"(?:(?!-0\.0+\n)-?(?:0|[1-9][0-9]*)\.[0-9]{%d}\n)*" % digits)
+
+
+@functools.lru_cache(1 << 16)
+def day_of(year, month, day):
+    """The day since 1970, or None where there is none."""
+    try:
+        return datetime.date(year, month, day).toordinal() - FIRST_DAY
+    except ValueError:
+        return None
+
+
+@functools.lru_cache(1 << 16)
+def date_part(text):
+    """The days that a date may mean, by the format, and whether it has all its zeros; no days where it's no date."""
+    found, days = DATE.fullmatch(text), {}
+    if not found:
+        return days, False
+    first, mark, second, third = found.groups()
+    for form in FORMATS.get((mark, len(first) == 4), ()):
+        parts = dict(zip((letter for letter in form if letter in "Ymd"), (first, second, third)))
+        day = day_of(*(int(parts[letter]) for letter in "Ymd")) if len(parts["Y"]) == 4 else None
+        if day is not None:
+            days[form] = day
+    return days, len(text) == 10
+
+
+@functools.lru_cache(1 << 17)
+def clock_part(text):
+    """The second of a time of day times ten to a number of digits, that number, the seconds that its zone is ahead of UTC, its
+    format, its zone, and whether it's spelled as it comes back; or None."""
+    found = CLOCK.fullmatch(text)
+    if not found:
+        return None
+    hour, minute, second, mark, part, zone = found.groups()
+    hours, minutes, seconds, offset, part = int(hour), int(minute), int(second or 0), offset_of(zone), part or ""
+    if hours > 23 or minutes > 59 or seconds > 59 or offset is None:
+        return None
+    is_plain = len(hour) == 2 and mark != "," and zone in (None, "Z")
+    number = (hours * 3600 + minutes * 60 + seconds) * 10 ** len(part) + int(part or 0)
+    return number, len(part), offset, "%H:%M:%S" if second else "%H:%M", "Z" if zone else "", is_plain
+
+
+def moment_of(text):
+    """The date, the time or the time of day that a text spells, or None."""
+    if text[2:3] == ":" or text[1:2] == ":":
+        clock = clock_part(text)
+        return Moment({}, clock[0], clock[1], "", clock[3], "", clock[5]) if clock and not clock[4] else None
+    place = 10 if text[10:11] in ("T", " ") else text.find(" ") if " " in text else text.find("T")
+    if place < 0:
+        days, is_plain = date_part(text)
+        return Moment(days, 0, 0, "", "", "", is_plain) if days else None
+    days, is_plain = date_part(text[:place])
+    clock = clock_part(text[place + 1:]) if days else None
+    if not clock:
+        return None
+    number, digits, offset, form, zone, is_kept = clock
+    if offset:
+        number -= offset * 10 ** digits
+        ends = [day * 86400 * 10 ** digits + number for day in days.values()]
+        if min(ends) < FIRST_SECOND * 10 ** digits or max(ends) >= LAST_SECOND * 10 ** digits:
+            return None
+    return Moment(days, number, digits, text[place], form, zone, is_plain and is_kept)
+
+
+def offset_of(zone):
+    """The seconds that a zone is ahead of UTC, or None where there is no such zone."""
+    if not zone or zone == "Z":
+        return 0
+    hours, minutes = int(zone[1:3]), int(zone[3:].lstrip(":") or 0)
+    return None if hours > 23 or minutes > 59 else (hours * 3600 + minutes * 60) * (-1 if zone[0] == "-" else 1)
+
+
+@functools.lru_cache(64)
+def reader_of(form):
+    """What reads the texts of a format of %Y, %m, %d, %H, %M and %S."""
+    parts = {"%Y": "(?P<Y>[0-9]{4})", "%%": "%", **{f"%{letter}": f"(?P<{letter}>[0-9]{{1,2}})" for letter in "mdHMS"}}
+    return re.compile("".join(parts[piece] if len(piece) == 2 else re.escape(piece) for piece in re.findall("%.|[^%]", form)))
+
+
+def read_by(form, text):
+    """The day and the second of the day that a text of a format spells, or None."""
+    found = reader_of(form).fullmatch(text)
+    if not found:
+        return None
+    parts = {"Y": 1970, "m": 1, "d": 1, "H": 0, "M": 0, "S": 0, **{name: int(part) for name, part in found.groupdict().items()}}
+    day = day_of(parts["Y"], parts["m"], parts["d"])
+    if day is None or parts["H"] > 23 or parts["M"] > 59 or parts["S"] > 59:
+        return None
+    return day, parts["H"] * 3600 + parts["M"] * 60 + parts["S"]
+
+
+@functools.lru_cache(1 << 17)
+def written_by(form, day, second):
+    """The text of a day and a second of the day in a format."""
+    date = datetime.date.fromordinal(day + FIRST_DAY)
+    parts = {"%Y": f"{date.year:04}", "%m": f"{date.month:02}", "%d": f"{date.day:02}", "%H": f"{second // 3600:02}",
+             "%M": f"{second // 60 % 60:02}", "%S": f"{second % 60:02}", "%%": "%"}
+    return re.sub("%.", lambda found: parts[found.group()], form)
+
+
+def form_of(text):
+    """What a text spells: `number`, `truth`, `date`, `time` or `clock`, or None for anything else."""
+    if text in TRUTH_OF:
+        return "truth"
+    if number_of(text)[0]:
+        return "number"
+    moment = moment_of(text)
+    return moment and moment_form(moment)
+
+
+def moment_form(moment):
+    return "clock" if not moment.days else "time" if moment.clock else "date"
