@@ -21,7 +21,11 @@ const MAX_LOOKS: usize = 1000;
 
 /// All comparisons of two columns from the top down take six times as many nodes at most. A comparison takes six
 /// times the square of the number of its bits.
-const MAX_SQUARES: usize = 4000;
+const MAX_SQUARES: usize = 1000;
+
+/// A condition whose own lines take as many product rows has no skips from part to part: to show these takes several
+/// times as many.
+const MAX_ROWS_TO_SKIP_PARTS: usize = 10_000;
 
 /// What is known of a register: the node that it holds, whether it's needed, and whether it holds a plane
 /// as it was loaded, which may be wanted again.
@@ -56,6 +60,8 @@ pub(crate) struct Code<'a> {
     pub(crate) facts: Facts<'a>,
     pub(crate) lines: Vec<PlannedLine>,
     pub(crate) instrs: Vec<Instr>,
+    /// The pairs of all lines KEEP.
+    pub(crate) edges: Vec<EdgeProducts>,
     /// The order of variables in which registers' nodes are worked out.
     pub(crate) order: VariableOrder,
     /// The digits of a byte of the column whose codes are compared, and those of its top byte, where
@@ -72,16 +78,20 @@ pub(crate) struct Code<'a> {
     with_skips: bool,
     /// How many instructions look at a byte.
     looks: usize,
+    /// Whether there are skips from part to part of a condition, which are shown by products of whole diagrams.
+    pub(crate) skips_parts: bool,
 }
 
 impl<'a> Code<'a> {
     /// No instructions, after the lines of a condition. There are to be skips.
     pub(crate) fn new(alloc: Global, facts: Facts<'a>, lines: Vec<PlannedLine>) -> Self {
+        let skips_parts = facts.products().len() < MAX_ROWS_TO_SKIP_PARTS;
         Code {
             alloc,
             facts,
             lines,
             instrs: Vec::new(alloc),
+            edges: Vec::new(alloc),
             order: VariableOrder::Whole,
             digits: None,
             top_digit: None,
@@ -91,6 +101,7 @@ impl<'a> Code<'a> {
             meeting: usize::MAX,
             with_skips: true,
             looks: 0,
+            skips_parts,
         }
     }
 
@@ -99,6 +110,7 @@ impl<'a> Code<'a> {
         self.facts.return_to(facts);
         self.lines.truncate(lines);
         self.instrs.clear();
+        self.edges.clear();
         self.order = VariableOrder::Whole;
         self.digits = None;
         self.top_digit = None;
@@ -419,7 +431,10 @@ impl<'a> Code<'a> {
             let Some(node) = needed.and_then(|register| register.node) else {
                 continue;
             };
-            if self.edge(register, node, at)?.is_none() {
+            let Some((tested, held)) = self.at_skip(register, at) else {
+                return Ok(false);
+            };
+            if held != node && self.edge(tested, held, node)?.is_none() {
                 return Ok(false);
             }
         }
@@ -485,21 +500,36 @@ impl<'a> Code<'a> {
             return Ok(());
         }
         let through = self.facts.row(self.order, Logic::Xor, node, node)?;
-        let mut edges = Vec::new(self.alloc);
+        let begin = self.edges.len();
         for at in first..self.skips.len() {
-            let edge = self.edge(register, node, at)?;
-            edges.push(edge.ok_or(Refusal::NoProgram)?)?;
+            let (tested, held) = self.at_skip(register, at).ok_or(Refusal::NoProgram)?;
+            let edge = if held == node {
+                Some(self.same(tested, through.number)?)
+            } else {
+                self.edge(tested, held, node)?
+            };
+            self.edges.push(edge.ok_or(Refusal::NoProgram)?)?;
         }
-        let line = keep_line(register, node, through.number, edges).ok_or(Refusal::NoProgram)?;
-        self.lines.push(line)?;
+        let line = keep_line(register, node, through.number, begin, self.edges.len());
+        self.lines.push(line.ok_or(Refusal::NoProgram)?)?;
         Ok(())
+    }
+
+    /// The rows of a register that holds the same node by a skip as from above, of which one says that the node differs
+    /// from itself nowhere. They show so whatever the skip's own node is.
+    fn same(&mut self, tested: u32, differs: u32) -> Result<EdgeProducts, Refusal> {
+        let within = self.facts.row(self.order, Logic::Diff, 0, tested)?;
+        Ok(EdgeProducts {
+            differs: u64::from(differs),
+            within: u64::from(within.number),
+        })
     }
 
     /// Whether a register holds this node by each skip.
     fn is_everywhere(&self, register: Register, node: u32, first: usize) -> bool {
         for at in first..self.skips.len() {
-            let known = self.skips.get(at).map(|skip| skip.nodes);
-            let held = known.and_then(|nodes| nodes.get(register as usize).copied());
+            let known = self.skips.get(at);
+            let held = known.and_then(|skip| skip.nodes.get(register as usize).copied());
             if held != Some(Some(node)) {
                 return false;
             }
@@ -507,16 +537,9 @@ impl<'a> Code<'a> {
         true
     }
 
-    /// The rows of a register that is to hold a node, for one skip, if they show so.
-    fn edge(
-        &mut self,
-        register: Register,
-        node: u32,
-        at: usize,
-    ) -> Result<Option<EdgeProducts>, Refusal> {
-        let Some((tested, held)) = self.at_skip(register, at) else {
-            return Ok(None);
-        };
+    /// The rows by which a register that holds a node at a skip may be taken to hold another where skips meet, if they
+    /// show so: the two differ nowhere where the skip's own node is 0.
+    fn edge(&mut self, tested: u32, held: u32, node: u32) -> Result<Option<EdgeProducts>, Refusal> {
         let differs = self.facts.row(self.order, Logic::Xor, held, node)?;
         let within = self
             .facts
@@ -549,7 +572,8 @@ fn keep_line(
     register: Register,
     node: u32,
     through: u32,
-    edges: Vec<EdgeProducts>,
+    first: usize,
+    end: usize,
 ) -> Option<PlannedLine> {
     if u64::from(register) >= REGISTERS {
         return None;
@@ -558,6 +582,7 @@ fn keep_line(
         register,
         node: u64::from(node),
         through: u64::from(through),
-        edges,
+        first,
+        end,
     }))
 }

@@ -9,9 +9,11 @@ use crate::chains::{Compared, Link};
 use crate::facts::Facts;
 use crate::line::PlannedLine;
 use crate::nodes::Branch;
-use crate::products::{Outcome, Question};
+use crate::products::Row;
 use crate::refusal::Refusal;
-use bw_cert_text::{Body, BodyLine, Certificate, ChainLine, EndLine, NodeLine, ProductLine};
+use bw_cert_text::{
+    Body, BodyLine, Certificate, ChainLine, EdgeProducts, EndLine, NodeLine, ProductLine,
+};
 use bw_diagram::{ChainColumns, Reason};
 use bw_model::{Schema, code};
 use bw_program::{ColumnIndex, Instr, Program, Register, SliceIndex};
@@ -130,7 +132,8 @@ pub(crate) fn certificate(
     alloc: Global,
     schema: &Schema,
     facts: &Facts<'_>,
-    entries: Vec<PlannedLine>,
+    entries: &[PlannedLine],
+    edges: &[EdgeProducts],
     row: u32,
     before: usize,
 ) -> Result<Certificate, Refusal>
@@ -144,7 +147,7 @@ pub(crate) fn certificate(
     let line = line.saturating_add(chains.len() as u64);
     let rows = product_lines(alloc, facts.products(), line)?;
     let line = line.saturating_add(rows.len() as u64);
-    let body = body_lines(alloc, entries, line)?;
+    let body = body_lines(alloc, entries, edges, line)?;
     let end = EndLine {
         line: line.saturating_add(body.len() as u64),
         row: u64::from(row),
@@ -154,7 +157,7 @@ pub(crate) fn certificate(
 
 /// The lines of nodes, from a number of a line on.
 fn node_lines(alloc: Global, nodes: &[Branch], first: u64) -> Result<Vec<NodeLine>, Refusal> {
-    let mut lines = Vec::new(alloc);
+    let mut lines = Vec::with_capacity(alloc, nodes.len())?;
     for node in nodes {
         let number = lines.len() as u64;
         lines.push(node_line(first.saturating_add(number), number, *node))?;
@@ -171,7 +174,7 @@ fn chain_lines(
 ) -> Result<Vec<ChainLine>, Refusal>
     ensures { IfOk result (λ lines. IsTrue (are_chains_named schema.now.columns.items lines.items)) }
 {
-    let mut lines = Vec::new(alloc);
+    let mut lines = Vec::with_capacity(alloc, chains.len())?;
     for (compared, link) in chains {
         let number = lines.len() as u64;
         let line = first.saturating_add(number);
@@ -181,27 +184,28 @@ fn chain_lines(
 }
 
 /// The lines of product rows.
-fn product_lines(
-    alloc: Global,
-    rows: &IndexMap<Question, Outcome>,
-    first: u64,
-) -> Result<Vec<ProductLine>, Refusal> {
-    let mut lines = Vec::new(alloc);
-    for (question, answer) in rows {
+fn product_lines(alloc: Global, rows: &[Row], first: u64) -> Result<Vec<ProductLine>, Refusal> {
+    let mut lines = Vec::with_capacity(alloc, rows.len())?;
+    for row in rows {
         let number = lines.len() as u64;
-        lines.push(row_line(first.saturating_add(number), number, *question, *answer))?;
+        lines.push(row_line(first.saturating_add(number), number, *row))?;
     }
     Ok(lines)
 }
 
 /// The lines of the condition, the instructions and the joins.
-fn body_lines(alloc: Global, entries: Vec<PlannedLine>, first: u64) -> Result<Body, Refusal> {
+fn body_lines(
+    alloc: Global,
+    entries: &[PlannedLine],
+    edges: &[EdgeProducts],
+    first: u64,
+) -> Result<Body, Refusal> {
     let mut lines = Body::new(alloc);
-    for entry in &entries {
+    for entry in entries {
         let line = first.saturating_add(lines.len() as u64);
         lines.push(&BodyLine {
             line,
-            entry: entry.entry(),
+            entry: entry.entry(edges),
         })?;
     }
     Ok(lines)
@@ -219,7 +223,12 @@ fn node_line(line: u64, number: u64, node: Branch) -> NodeLine {
 }
 
 /// The line of a product row.
-fn row_line(line: u64, number: u64, question: Question, answer: Outcome) -> ProductLine {
+fn row_line(line: u64, number: u64, row: Row) -> ProductLine {
+    let Row {
+        question,
+        outcome: answer,
+        ..
+    } = row;
     let reason = match answer.reason {
         None => Reason::Shortcut,
         Some(cofactors) => Reason::Cofactors {

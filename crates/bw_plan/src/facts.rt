@@ -2,7 +2,7 @@
 use crate::chains::{self, Chains, Compared, Kind, Link};
 use crate::nodes::{Branch, Nodes};
 use crate::order::{Ranks, VariableOrder};
-use crate::products::{Cited, Logic, Outcome, Products, Question};
+use crate::products::{Cited, Logic, Products, Question, Row};
 use crate::refusal::Refusal;
 use bw_model::{Cond, Schema};
 use bw_program::ColumnIndex;
@@ -12,9 +12,9 @@ use std::alloc::Global;
 /// How many nodes, chains and product rows there are.
 #[derive(Clone, Copy)]
 pub(crate) struct Extent {
-    nodes: usize,
+    pub(crate) nodes: usize,
     chains: usize,
-    products: usize,
+    pub(crate) products: usize,
 }
 
 /// The nodes, chains and product rows of a certificate, under a schema. Each stands once, after
@@ -46,7 +46,7 @@ impl<'a> Facts<'a> {
         Extent {
             nodes: self.nodes().len(),
             chains: self.chains.links.len(),
-            products: self.products.rows.len(),
+            products: self.products.as_slice().len(),
         }
     }
 
@@ -68,8 +68,8 @@ impl<'a> Facts<'a> {
     }
 
     /// The product rows, of which the first has number 0.
-    pub(crate) fn products(&self) -> &IndexMap<Question, Outcome> {
-        &self.products.rows
+    pub(crate) fn products(&self) -> &[Row] {
+        self.products.as_slice()
     }
 
     /// The product row of a connective of nodes `a` and `b`, whose variables are tested in this

@@ -24,6 +24,7 @@ mod comparison;
 mod digits;
 mod emit;
 mod facts;
+mod growth;
 mod line;
 mod nodes;
 mod order;

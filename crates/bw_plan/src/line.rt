@@ -5,7 +5,7 @@ use bw_cert_text::{ConditionEntry, EdgePairs, EdgeProducts, Entry, InstructionEn
 use bw_program::Register;
 
 /// What a line says.
-#[derive(Drop)]
+#[derive(Clone, Copy)]
 pub(crate) enum PlannedLine {
     Condition(ConditionEntry),
     Instruction(InstructionEntry),
@@ -14,28 +14,29 @@ pub(crate) enum PlannedLine {
     Keep(KeepLine),
 }
 
-/// A line KEEP, with its pairs in memory of its own.
-#[derive(Drop)]
+/// A line KEEP. Its pairs stand in a list that all lines share, from one place on and before another.
+#[derive(Clone, Copy)]
 pub(crate) struct KeepLine {
     pub(crate) register: Register,
     pub(crate) node: u64,
     pub(crate) through: u64,
-    pub(crate) edges: Vec<EdgeProducts>,
+    pub(crate) first: usize,
+    pub(crate) end: usize,
     pub ghost in_range: { register < 64 },
 }
 
 impl PlannedLine {
-    /// The same, as a certificate's line says it.
-    pub(crate) fn entry(&self) -> Entry<'_> {
+    /// The same, as a certificate's line says it, with the pairs of all lines.
+    pub(crate) fn entry(self, edges: &[EdgeProducts]) -> Entry<'_> {
         match self {
-            PlannedLine::Condition(entry) => Entry::Condition(*entry),
-            PlannedLine::Instruction(entry) => Entry::Instruction(*entry),
-            PlannedLine::Join(target) => Entry::Join(*target),
+            PlannedLine::Condition(entry) => Entry::Condition(entry),
+            PlannedLine::Instruction(entry) => Entry::Instruction(entry),
+            PlannedLine::Join(target) => Entry::Join(target),
             PlannedLine::Keep(keep) => Entry::Keep(Keep {
                 register: keep.register,
                 node: keep.node,
                 through: keep.through,
-                edges: EdgePairs::new(&keep.edges),
+                edges: EdgePairs::new(edges.get(keep.first..keep.end).unwrap_or(&[])),
             }),
         }
     }

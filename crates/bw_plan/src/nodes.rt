@@ -4,7 +4,7 @@ use indexmap::IndexSet;
 use std::alloc::Global;
 
 /// A certificate has at most this many nodes besides the two terminals.
-const MAX_NODES: usize = 65_534;
+pub(crate) const MAX_NODES: usize = 65_534;
 
 /// A node: the variable that it tests, and the numbers of its children, where the variable is 0 and
 /// where it is 1. Numbers 0 and 1 are the terminals.
@@ -67,14 +67,5 @@ impl Nodes {
             return Ok(low);
         }
         self.test(variable, low, high)
-    }
-
-    /// What a node is where a variable has a bit, if it tests that variable: its child; else itself.
-    pub(crate) fn cofactor(&self, number: u32, variable: u32, bit: bool) -> u32 {
-        match self.get(number) {
-            Some(node) if node.variable == variable && bit => node.high,
-            Some(node) if node.variable == variable => node.low,
-            _ => number,
-        }
     }
 }

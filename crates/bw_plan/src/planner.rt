@@ -109,10 +109,11 @@ fn certified(schema: &Schema, code: Code<'_>, row: u32) -> Result<Certificate, R
         facts,
         lines,
         instrs,
+        edges,
         ..
     } = code;
     let before = instrs.len().saturating_add(2);
-    emit::certificate(alloc, schema, &facts, lines, row, before)
+    emit::certificate(alloc, schema, &facts, &lines, &edges, row, before)
 }
 
 /// Writes the instructions of a condition, and gives the result register.

@@ -55,6 +55,20 @@ impl Set {
         Ok(set)
     }
 
+    /// About how many looks at bytes tell its numbers: one for each range and the lowest byte, and for each byte above
+    /// one for each group of numbers that have it and the bytes above it in common; but for the byte with the most
+    /// groups, whose digits are kept.
+    pub(crate) fn looks(&self) -> usize {
+        let mut looks = self.bounds.len() / 2;
+        let mut most = 0;
+        for slice in 1..8u32 {
+            let groups = groups_from(&self.bounds, slice * 8);
+            looks = looks.saturating_add(groups);
+            most = groups.max(most);
+        }
+        looks.saturating_sub(most)
+    }
+
     /// Sorts the bounds, and drops those that stand twice, which cancel.
     pub(crate) fn finish(&mut self) -> Result<(), Refusal> {
         self.bounds.sort_unstable();

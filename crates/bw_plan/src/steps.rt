@@ -2,6 +2,7 @@
 use crate::chains::Kind;
 use crate::comparison::{ColumnComparison, Comparison, LiteralComparison, compare};
 use crate::facts::Facts;
+use crate::growth::Growth;
 use crate::line::PlannedLine;
 use crate::order::VariableOrder;
 use crate::products::Logic;
@@ -80,9 +81,11 @@ fn all_joined(
         return Err(Refusal::NoProgram);
     };
     let mut made = steps_of(facts, lines, first)?;
+    let mut growth = Growth::of(others.len(), facts);
     for part in others {
         let next = steps_of(facts, lines, part)?;
         made = joined(facts, lines, any, made, next)?;
+        growth.join(facts)?;
     }
     Ok(made)
 }

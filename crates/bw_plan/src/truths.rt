@@ -1,6 +1,7 @@
 //! Instructions that work out where a condition is TRUE, and where it is FALSE.
 use crate::code::Code;
 use crate::comparison::{ColumnComparison, Comparison, LiteralComparison, compare};
+use crate::growth::Growth;
 use crate::order::VariableOrder;
 use crate::products::Logic;
 use crate::refusal::Refusal;
@@ -57,6 +58,10 @@ impl Halves {
 /// So many parts of a condition are looked at for an early end.
 const SKIPPED_PARTS: usize = 16;
 
+/// A list is scanned for by so many looks at bytes at most. Even where skips leave many out, with more it takes longer
+/// than to search the list for each row by halving.
+const MAX_LIST_LOOKS: usize = 800;
+
 impl Code<'_> {
     /// The registers of a condition.
     #[cycle(truths)]
@@ -93,6 +98,7 @@ impl Code<'_> {
                 made = Some(self.truths(part, wanted)?);
             }
         }
+        let mut growth = Growth::of(parts.len().saturating_sub(1), &self.facts);
         for (number, part) in parts.iter().enumerate() {
             if number == leading || repeats(parts, number) {
                 continue;
@@ -100,11 +106,12 @@ impl Code<'_> {
             let Some(before) = made else {
                 break;
             };
-            if number < SKIPPED_PARTS && !is_quick(part) {
+            if number < SKIPPED_PARTS && self.skips_parts && !is_quick(part) {
                 self.skip_if_settled(any, before)?;
             }
             let next = self.truths(part, wanted)?;
             self.join_parts(any, before, next)?;
+            growth.join(&self.facts)?;
         }
         self.meet_from(first);
         made.ok_or(Refusal::NoProgram)
@@ -307,6 +314,9 @@ impl Code<'_> {
             last = Some(*code);
         }
         set.finish()?;
+        if set.looks() > MAX_LIST_LOOKS {
+            return Err(Refusal::NoProgram);
+        }
         Ok(Some(self.in_set(column, &set, wanted)?))
     }
 

@@ -1,0 +1,76 @@
+//! How many facts the parts of a condition take, foretold before all are joined.
+use crate::facts::{Extent, Facts};
+use crate::nodes::MAX_NODES;
+use crate::products::MAX_PRODUCTS;
+use crate::refusal::Refusal;
+
+/// So many product rows are worked out for the first parts before anything is foretold of the others.
+const FEWEST_ROWS: usize = 10_000;
+
+/// How many parts were joined, and which facts there were then.
+#[derive(Clone, Copy)]
+struct Mark {
+    joined: usize,
+    extent: Extent,
+}
+
+/// The parts of a condition, as they are joined one after another. A part takes as many nodes and product rows as those
+/// before it or more, since what it is joined with has grown.
+#[derive(Clone, Copy)]
+pub(crate) struct Growth {
+    parts: usize,
+    joined: usize,
+    start: Extent,
+    /// How it was after the last number of parts that is a power of two, and after half of these.
+    late: Mark,
+    early: Mark,
+}
+
+impl Growth {
+    /// So many parts, of which none is joined.
+    pub(crate) fn of(parts: usize, facts: &Facts<'_>) -> Self {
+        let start = facts.extent();
+        let none = Mark {
+            joined: 0,
+            extent: start,
+        };
+        Growth {
+            parts,
+            joined: 0,
+            start,
+            late: none,
+            early: none,
+        }
+    }
+
+    /// One part more is joined. Refused is, as `NoProgram`, what would pass the limit of nodes or the planner's limit
+    /// of product rows, if each part that is left took as many as the last half of the parts so far.
+    pub(crate) fn join(&mut self, facts: &Facts<'_>) -> Result<(), Refusal> {
+        self.joined = self.joined.saturating_add(1);
+        let now = facts.extent();
+        if now.products.saturating_sub(self.start.products) >= FEWEST_ROWS {
+            let early = self.early.extent;
+            let nodes = self.foretold(early.nodes, now.nodes);
+            let rows = self.foretold(early.products, now.products);
+            if nodes > MAX_NODES || rows > MAX_PRODUCTS {
+                return Err(Refusal::NoProgram);
+            }
+        }
+        if self.joined.is_power_of_two() {
+            self.early = self.late;
+            self.late = Mark {
+                joined: self.joined,
+                extent: now,
+            };
+        }
+        Ok(())
+    }
+
+    /// How many there will be once all parts are joined, if there are so many now and were so many early.
+    fn foretold(&self, early: usize, now: usize) -> usize {
+        let parts = self.joined.saturating_sub(self.early.joined).max(1);
+        let each = now.saturating_sub(early) / parts;
+        let left = self.parts.saturating_sub(self.joined);
+        now.saturating_add(left.saturating_mul(each))
+    }
+}
