@@ -4,7 +4,7 @@ use Rattle.std.proofs.lemmas.Result.{err_from_is_err_and}
 use Rattle.bw_model.specs.Column.{names_of}
 use Rattle.bw_model.specs.Groups.{together}
 use Rattle.bw_file.specs.TableReader.{found_so_far, schema_in}
-use Rattle.bw_query.proofs.TableLemmas.{memory_answers}
+use Rattle.bw_file.proofs.MemoryAnswers.{memory_answers}
 use Rattle.bw_query.proofs.table_text.table_text.Goals as goal
 
 pub returns-in_err-answer-clause-refused : goal.returns-in_err-answer-clause-refused
