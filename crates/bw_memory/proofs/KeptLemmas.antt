@@ -1,9 +1,9 @@
 -- Segments that are kept column by column, one after the other.
-use Rattle.std.proofs.Common.{◌≡◌, ◌∙◌, refl, sym, ap, ap₂, subst, ℕ, zero, suc, ◌+◌, ◌-◌, ◌*◌, ◌<◌, ◌≤◌, min, List, [], ◌∷◌, ◌++◌, map, Result, Ok, Err, inl, inr, arith}
+use Rattle.std.proofs.Common.{◌≡◌, ◌∙◌, refl, sym, ap, ap₂, subst, ℕ, zero, suc, ◌+◌, ◌-◌, ◌*◌, ◌<◌, ◌≤◌, min, List, [], ◌∷◌, ◌++◌, map, length, Result, Ok, Err, inl, inr, arith}
 use Rattle.std.specs.Prelude.{OnOk}
 use Rattle.std.specs.List.{range_with_len}
 use Rattle.std.proofs.lemmas.Bool.{cases_lt}
-use Rattle.std.proofs.lemmas.List.FromFn.{map-range_with_len_more}
+use Rattle.std.proofs.lemmas.List.FromFn.{length-map-range_with_len, map-range_with_len_more}
 use Rattle.bw_device.specs.Shared.{bytes_in}
 use Rattle.bw_model.specs.declared.column.Column.{Column}
 use Rattle.bw_model.specs.Groups.{group_size}
@@ -56,9 +56,9 @@ none_kept layout columns kept blocks = record { blocks = blocks; some = λ numbe
 -- one segment more, after full ones
 module _ (layout : Layout) (columns : List Column) (rows count more : ℕ) (old new : List ColumnBlocks) (bytes : List ℕ) (keep : KeepSegments layout columns rows count old)
     (full : rows ≡ group_size * count) (some : 1 ≤ more) (few : more ≤ group_size) (sound : IsSound layout columns more bytes) (add : AddSegment layout columns bytes old new) where
-  rows_before : (number : ℕ) → number < count → rows_numbered (rows + more) number ≡ rows_numbered rows number
+  same_rows : (number : ℕ) → number < count → rows_numbered (rows + more) number ≡ rows_numbered rows number
   unfolding group_size
-  rows_before number there = omega (arith, full)
+  same_rows number there = omega (arith, full)
 
   rows_last : rows_numbered (rows + more) count ≡ more
   unfolding group_size
@@ -72,7 +72,7 @@ module _ (layout : Layout) (columns : List Column) (rows count more : ℕ) (old 
     sound = λ number lt. elim (cases_lt number count) [
       | inl before ↦
           let same = add.others count number keep.blocks before in
-          subst (λ (n : ℕ). IsSound layout columns n (segment_numbered new number)) (sym (rows_before number before)) (subst (λ (l : List ℕ). IsSound layout columns (rows_numbered rows number) l) (sym same) (keep.sound number before))
+          subst (λ (n : ℕ). IsSound layout columns n (segment_numbered new number)) (sym (same_rows number before)) (subst (λ (l : List ℕ). IsSound layout columns (rows_numbered rows number) l) (sym same) (keep.sound number before))
       | inr not_before ↦
           let here : number ≡ count = omega arith in
           subst (λ (k : ℕ). IsSound layout columns (rows_numbered (rows + more) k) (segment_numbered new k)) (sym here)
@@ -82,7 +82,7 @@ module _ (layout : Layout) (columns : List Column) (rows count more : ℕ) (old 
 
   group_before : (number : ℕ) → number < count → group_kept layout columns (rows + more) new number ≡ group_kept layout columns rows old number
   group_before number there =
-      ap₂ (rows_spelled layout columns) (rows_before number there) (add.others count number keep.blocks there)
+      ap₂ (rows_spelled layout columns) (same_rows number there) (add.others count number keep.blocks there)
 
   group_last : group_kept layout columns (rows + more) new count ≡ rows_spelled layout columns more bytes
   group_last = ap₂ (rows_spelled layout columns) rows_last (add.last count keep.blocks)
@@ -97,3 +97,27 @@ module _ (layout : Layout) (columns : List Column) (rows count more : ℕ) (old 
   groups_added =
       map-range_with_len_more (group_kept layout columns (rows + more) new) 0 count count (omega arith)
       ∙ ap₂ (λ (groups : List (List (List Value))) (group : List (List Value)). groups ++ group ∷ []) (same_before 0 count (omega arith)) group_last
+
+-- a segment more of those that are kept
+pub groups_more : (layout : Layout) (columns : List Column) (rows number : ℕ) (kept : List ColumnBlocks)
+    → groups_kept layout columns rows (number + 1) kept ≡ groups_kept layout columns rows number kept ++ group_kept layout columns rows kept number ∷ []
+unfolding groups_kept
+groups_more layout columns rows number kept = map-range_with_len_more (group_kept layout columns rows kept) 0 number number (omega arith)
+
+pub length-groups : (layout : Layout) (columns : List Column) (rows number : ℕ) (kept : List ColumnBlocks) → length (groups_kept layout columns rows number kept) ≡ number
+unfolding groups_kept
+length-groups layout columns rows number kept = length-map-range_with_len (group_kept layout columns rows kept) 0 number
+
+-- there is room for the rows of a segment after those of the segments before it
+pub room_for : (layout : Layout) (columns : List Column) (rows number taken : ℕ) (kept : List ColumnBlocks) → group_size * number < rows → taken ≤ group_size * number
+    → taken + length (group_kept layout columns rows kept number) ≤ rows
+unfolding group_size
+room_for layout columns rows number taken kept some so_far =
+    omega (arith, some, so_far, length-rows_spelled (form_of layout) columns (rows_numbered rows number) (segment_numbered kept number))
+
+-- and no more than 512 for each segment
+pub rows_before : (layout : Layout) (columns : List Column) (rows number taken : ℕ) (kept : List ColumnBlocks) → taken ≤ group_size * number
+    → taken + length (group_kept layout columns rows kept number) ≤ group_size * (number + 1)
+unfolding group_size
+rows_before layout columns rows number taken kept so_far =
+    omega (arith, so_far, length-rows_spelled (form_of layout) columns (rows_numbered rows number) (segment_numbered kept number))

@@ -24,7 +24,7 @@ returns-in_err-into_text-clause-refused g c =
 pub returns-clause-text : goal.returns-clause-text
 returns-clause-text g c = λ start read.
     let all = c.in_ok-scanned.ensures.took in
-    let over = c.in_ok-answer.ensures.over in
+    let over = rw c.schema.ensures at c.in_ok-answer.ensures.over in
     record {
       found = found_so_far c.args.reader.now all.groups;
       groups = all.groups;

@@ -1,14 +1,11 @@
 -- Each segment's rows are taken after those of the segments before it.
-use Rattle.std.proofs.Common.{◌≡◌, ◌∙◌, ℕ, ◌+◌, List, [], ◌∷◌, ◌++◌, length, length-append, refl, sym, ap, subst, arith}
+use Rattle.std.proofs.Common.{◌∙◌, ℕ, ◌+◌, List, [], ◌∷◌, ◌++◌, length, length-append, refl, sym, ap, subst, arith}
 use Rattle.std.proofs.lemmas.Result.{err_from_is_err_and}
 use Rattle.bw_model.specs.declared.column.Column.{Column}
 use Rattle.bw_model.specs.declared.query.Query.{Query}
-use Rattle.bw_model.specs.declared.schema.Schema.{Schema}
 use Rattle.bw_answer.specs.AreOver.{CountsRows}
 use Rattle.bw_answer.specs.Over.{asked_by}
-use Rattle.bw_file.specs.declared.segments.AnySegment.{AnySegment}
-use Rattle.bw_file.specs.declared.table_reader.TableReader.{TableReader}
-use Rattle.bw_file.specs.TableReader.{IsSegmentOf, SameTable, schema_in}
+use Rattle.bw_file.specs.TableReader.{schema_in}
 use Rattle.bw_query.specs.Scan.{IsFor, loads_in, skips_in}
 use Rattle.bw_file.specs.AnySegment.{any_is_group, any_meaning}
 use Rattle.bw_file.proofs.NextLemmas.{end_of, refusal_of, segment_of}
