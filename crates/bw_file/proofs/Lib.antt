@@ -4,6 +4,7 @@ pub mod EncoderLemmas
 pub mod FaultLemmas
 pub mod FileSpelling
 pub mod HeaderLemmas
+pub mod MemoryAnswers
 pub mod NextLemmas
 pub mod ReaderLemmas
 pub mod ReaderSpelling

@@ -22,6 +22,7 @@ use Rattle.bw_file.specs.TableReading.{IsTableFault, header, is_table_fault}
 use Rattle.bw_file.specs.TableReader.{AnswersFault, schema_in, version_in, header_stated}
 use Rattle.bw_file.specs.declared.table_reader.TableReader.{TableReader}
 use Rattle.bw_file.proofs.FileSpelling.{read_is_spelled_by}
+use Rattle.bw_query.specs.MemoryAnswer.{is_output_fault}
 use Rattle.bw_query.specs.TableAnswer.{AnswersFile, HeaderRead, TableGave, TableText, is_no_verdict}
 use Rattle.bw_query.specs.declared.scan.Scan.{Scan}
 use Rattle.bw_query.specs.declared.served.Scanned.{Scanned}
@@ -213,6 +214,14 @@ input_verdict fault is = either (is_input_fault fault) (is_write_fault fault) is
 
 pub memory_verdict : (fault : Fault) → is_memory fault ≡ true → is_no_verdict fault ≡ true
 memory_verdict fault is = input_verdict fault (either (is_memory fault) (is_read_fault fault) is)
+  where
+    either : (a b : Bool) → a ≡ true → (a || b) ≡ true
+    either true b e = refl
+    either false b e = absurd (cc e)
+
+-- out of memory is a refusal that no statement calls for
+pub memory_output : (fault : Fault) → is_memory fault ≡ true → is_output_fault fault ≡ true
+memory_output fault is = either (is_memory fault) (is_write_fault fault) is
   where
     either : (a b : Bool) → a ≡ true → (a || b) ≡ true
     either true b e = refl

@@ -1,4 +1,5 @@
 pub mod AnswerText
+pub mod MemoryAnswer
 pub mod Plan
 pub mod Scan
 pub mod Served

@@ -86,9 +86,9 @@ pub fn answer<S: Source, K: Sink>(
 
 /// The text of an answer, and how it was found.
 #[derive(Drop)]
-struct AnswerText {
-    text: Vec<u8>,
-    served: Served,
+pub(crate) struct AnswerText {
+    pub(crate) text: Vec<u8>,
+    pub(crate) served: Served,
 }
 
 /// The text of the answer to a statement over the rows of a table file, once the last segment was found good and the
@@ -159,14 +159,14 @@ fn answered_after_header<S: Source>(
 
 /// What a statement asks, and who finds its rows.
 #[derive(Drop)]
-struct Prepared {
-    query: Query,
-    scan: Scan,
+pub(crate) struct Prepared {
+    pub(crate) query: Query,
+    pub(crate) scan: Scan,
 }
 
 /// What a statement asks of the rows of a table of this schema, and who finds them. Refuses the statement (401 to 408),
 /// and then the program file, as [`scan_for`] does.
-fn prepare(
+pub(crate) fn prepare(
     alloc: Global,
     schema: &Schema,
     sql: &[u8],

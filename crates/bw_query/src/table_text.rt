@@ -22,7 +22,7 @@ use crate::served::Scanned;
 use bw_answer::Answer;
 use bw_device::Source;
 use bw_file::{AnySegment, TableReader, bytes_were_taken};
-use bw_model::{Fault, Query};
+use bw_model::{Fault, Query, Schema};
 use bw_run::Counts;
 use bw_segment::Segment;
 use std::alloc::Global;
@@ -60,7 +60,7 @@ pub(crate) fn table_text<S: Source>(
     ensures fault { IfErr result (λ fault. is_write_fault fault ≡ false) }
 {
     bytes_were_taken();
-    let mut answer = empty_answer(alloc, reader, query)?;
+    let mut answer = empty_answer(alloc, reader.schema(), reader.rows(), query)?;
     let scanned = take_rows(reader, source, scan, &mut answer)?;
     Ok(TableText {
         text: answer.into_text()?,
@@ -68,22 +68,23 @@ pub(crate) fn table_text<S: Source>(
     })
 }
 
-/// The answer to a query over no rows of a table file, with memory for all of them where each is listed.
-fn empty_answer<'a>(
+/// The answer to a query over no rows of a table, with memory for so many rows where each is listed.
+pub(crate) fn empty_answer<'a>(
     alloc: Global,
-    reader: &TableReader,
+    schema: &Schema,
+    rows: u32,
     query: &'a Query,
 ) -> Result<Answer<'a>, Fault>
-    requires items { IsTrue (list_all (item_within (vec_len (schema_in reader.now).columns)) query.now.items.items) }
+    requires items { IsTrue (list_all (item_within (vec_len schema.now.columns)) query.now.items.items) }
     requires some { 1 ≤ length query.now.items.items }
     requires kinds { AreOfOneKind query.now.items.items }
-    ensures over { IfOk result (λ answer. IsOver (names_of (schema_in reader.now).columns.items) query.now [] answer) }
-    ensures width { IfOk result (λ answer. answer.width ≡ vec_len (schema_in reader.now).columns) }
+    ensures over { IfOk result (λ answer. IsOver (names_of schema.now.columns.items) query.now [] answer) }
+    ensures width { IfOk result (λ answer. answer.width ≡ vec_len schema.now.columns) }
     ensures rows { IfOk result (λ answer. answer.rows ≡ 0) }
     ensures only_memory { IfErr result (λ fault. fault ≡ no_memory) }
 {
-    let mut answer = Answer::new(alloc, reader.schema(), query)?;
-    answer.reserve(reader.rows())?;
+    let mut answer = Answer::new(alloc, schema, query)?;
+    answer.reserve(rows)?;
     Ok(answer)
 }
 
@@ -156,7 +157,7 @@ fn take_either(
 }
 
 /// Takes the rows of a segment: those that a program picks, or each.
-fn take_segment<S: Segment>(
+pub(crate) fn take_segment<S: Segment>(
     segment: &S,
     scan: &Scan,
     counts: bool,

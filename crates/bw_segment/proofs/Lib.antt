@@ -1,5 +1,6 @@
 pub mod ByteLemmas
 pub mod CodeLemmas
+pub mod ColumnBlockLemmas
 pub mod ColumnLemmas
 pub mod DescentLemmas
 pub mod FaultLemmas

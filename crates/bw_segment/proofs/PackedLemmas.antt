@@ -1,6 +1,7 @@
 -- What the blocks of a segment hold.
-use Rattle.std.proofs.Common.{◌≡◌, ◌∙◌, sym, ap, ap₂, subst, ℕ, ◌+◌, ◌-◌, ◌^◌, ◌<◌, ◌≤◌, Bool, false, List, [], map, length, take, drop, get_or, All, add-one, arith}
+use Rattle.std.proofs.Common.{◌≡◌, ◌∙◌, sym, ap, ap₂, subst, ℕ, ◌+◌, ◌-◌, ◌^◌, ◌<◌, ◌≤◌, Bool, false, List, [], map, length, take, drop, slice_range, get_or, All, add-one, leb, ◌&&◌, refl, arith}
 use Rattle.std.proofs.lemmas.List.{take_all, length-drop, length-map}
+use Rattle.std.proofs.lemmas.Bool.{le-leb}
 use Rattle.std.proofs.lemmas.Simd.{map-map}
 use Rattle.bw_model.specs.declared.column.Column.{Column}
 use Rattle.bw_model.specs.declared.row.Row.{Row}
@@ -11,13 +12,20 @@ use Rattle.bw_model.specs.Stored.{byte_of}
 use Rattle.bw_segment.specs.declared.placement.Placement.{Placement}
 use Rattle.bw_segment.specs.BlockFault.{IsSound}
 use Rattle.bw_segment.specs.Meaning.{Meaning, IsGroup, byte_lanes, code_lanes, null_bits, meaning_of}
-use Rattle.bw_segment.specs.Packed.{IsPacked}
+use Rattle.bw_segment.specs.Packed.{HoldBlocks, IsPacked}
 use Rattle.bw_segment.specs.Packing.{Packing, IsPacking, bytes_before, block_at, block_codes, block_nulls, block_size, meaning_spelled, null_size, rows_spelled, segment_bytes, value_held}
 use Rattle.bw_segment.proofs.LaneLemmas.{bytes_in_lanes}
-use Rattle.bw_segment.proofs.LayoutLemmas.{before_in_order, piece_within}
+use Rattle.bw_segment.proofs.LayoutLemmas.{before_in_order}
 use Rattle.bw_segment.proofs.SoundLemmas.{length-rows_spelled, length-cut, nulls_again, codes_again}
 use Rattle.bw_segment.proofs.BytesLemmas.{small_codes, null_of_row, code_of_row, row_admitted, text_is_sound, rows_of_bytes}
 use Rattle.bw_segment.proofs.ValueLemmas.{held_admitted, stored_within}
+
+-- a block that is cut out from its start to its end
+pub slice_is_block : (packing : Packing) (columns : List Column) (bytes : List ℕ) (col : ℕ)
+    → slice_range bytes (bytes_before packing columns col) (bytes_before packing columns (col + 1)) ≡ block_at packing columns col bytes
+slice_is_block packing columns bytes col =
+    ap (λ n. take n (drop (bytes_before packing columns col) bytes))
+    {x = bytes_before packing columns (col + 1) - bytes_before packing columns col} {y = block_size packing columns col} (omega (arith, ap (bytes_before packing columns) (add-one col)))
 
 module _ {packing : Packing} {placement : Placement} {count : ℕ} {bytes : List ℕ} (packed : IsPacked packing placement count bytes) where
   abbrev columns : List Column
@@ -34,37 +42,35 @@ module _ {packing : Packing} {placement : Placement} {count : ℕ} {bytes : List
 
   pub ruleset counted = (few, length-rows_spelled)
 
-  -- a block ends within the bytes
-  pub block_within : (col : ℕ) → col < length columns → bytes_before packing columns (col + 1) ≤ length bytes
-  block_within col there = omega (arith, before_in_order packing columns (col + 1) (length columns) (omega arith), packed.sound.size)
+  pub length-block : (col : ℕ) → col < length columns → length (block col) ≡ block_size packing columns col
+  length-block = length-cut packing packed.law columns count bytes few packed.sound
 
   pub nulls_held : (col : ℕ) → col < length columns → block_nulls columns col (block col) ≡ null_bits meaning.rows col
   nulls_held col there = sym (nulls_again packing packed.law columns count bytes few packed.sound col there)
 
-  -- the bytes before a block's end that keep the codes
-  module _ (col width size end : ℕ) (there : col < length columns) (wide : width ≡ width_at columns col) (long : size ≡ packing.size width) (is_end : end ≡ bytes_before packing columns (col + 1)) where
-    abbrev cut : List ℕ
-    cut = take (end - (end - size)) (drop (end - size) bytes)
+  -- the bytes at a block's end that keep the codes
+  module _ (col width size : ℕ) (cut : List ℕ) (there : col < length columns) (wide : width ≡ width_at columns col) (long : size ≡ packing.size width) (is : cut ≡ block col) where
+    abbrev kept : List ℕ
+    kept = take (length cut - (length cut - size)) (drop (length cut - size) cut)
 
-    cut_is : cut ≡ drop (null_size columns col) (block col)
-    cut_is =
-        let first = bytes_before packing columns col in
-        let nulls = null_size columns col in
-        let sized : size ≡ packing.size (width_at columns col) = long ∙ ap packing.size wide in
-        let ends : end ≡ first + block_size packing columns col = is_end ∙ ap (bytes_before packing columns) (add-one col) in
-        ap₂ (λ n k. take n (drop k bytes)) (omega (arith, sized, ends)) (omega (arith, sized, ends)) ∙ sym (piece_within size first nulls (block_size packing columns col) bytes (omega (arith, sized)))
-        ∙ take_all size (drop nulls (block col)) (omega (arith, length-drop nulls (block col), length-cut packing packed.law columns count bytes few packed.sound col there, sized))
+    sized : length cut ≡ null_size columns col + size
+    sized = omega (arith, ap length is, length-cut packing packed.law columns count bytes few packed.sound col there, long, ap packing.size wide)
 
-    pub codes_are : packing.codes width cut ≡ block_codes packing columns col (block col)
+    kept_is : kept ≡ drop (null_size columns col) (block col)
+    kept_is =
+        take_all (length cut - (length cut - size)) (drop (length cut - size) cut) (omega (arith, length-drop (length cut - size) cut))
+        ∙ ap₂ (λ n l. drop n l) {x = length cut - size} {y = null_size columns col} (omega (arith, sized)) is
+
+    pub length-kept : length kept ≡ packing.size width
+    length-kept = omega (arith, ap length kept_is, length-drop (null_size columns col) (block col), ap length is, sized, long)
+
+    pub codes_held : packing.codes width kept ≡ code_lanes meaning col
     unfolding block_codes
-    codes_are = ap₂ packing.codes wide cut_is
+    codes_held = ap₂ packing.codes wide kept_is ∙ sym (codes_again packing packed.law columns count bytes few packed.sound col there)
 
-    pub codes_held : packing.codes width cut ≡ code_lanes meaning col
-    codes_held = codes_are ∙ sym (codes_again packing packed.law columns count bytes few packed.sound col there)
-
-    pub codes_small : All (λ code. code < 2 ^ width) (packing.codes width cut)
+    pub codes_small : All (λ code. code < 2 ^ width) (packing.codes width kept)
     codes_small =
-        subst (λ w. All (λ code. code < 2 ^ w) (packing.codes width cut)) (sym wide)
+        subst (λ w. All (λ code. code < 2 ^ w) (packing.codes width kept)) (sym wide)
         (subst (All (λ code. code < 2 ^ width_at columns col)) (sym codes_held) (small_codes packing packed.law meaning packed.group col there))
 
   -- a test of a byte of the codes
@@ -86,6 +92,15 @@ module _ {packing : Packing} {placement : Placement} {count : ℕ} {bytes : List
     row_held =
         ap₂ (value_held columns col) (null_of_row packing packed.law meaning packed.group col row lt) (code_of_row packing packed.law meaning packed.group col row lt)
         ∙ held_admitted columns (get_or meaning.rows row []) col (row_admitted packing packed.law meaning packed.group row lt) there
+
+-- blocks without fault stand one after the other in one piece
+pub held_in_one_piece : (packing : Packing) (columns : List Column) (count : ℕ) (bytes : List ℕ) → IsSound packing columns count bytes
+    → HoldBlocks (λ column start end. leb start end && leb end (length bytes)) packing columns
+held_in_one_piece packing columns count bytes sound = λ column lt.
+    let ordered = le-leb _ _ (before_in_order packing columns column (column + 1) (omega arith)) in
+    let within : bytes_before packing columns (column + 1) ≤ length bytes = omega (arith, before_in_order packing columns (column + 1) (length columns) (omega arith), sound.size) in
+    let inside = le-leb _ _ within in
+    rw (ordered, inside) refl
 
 -- what is built of rows
 module _ (packing : Packing) (law : IsPacking packing) (given kept : Placement) (rows : List Row) (bytes : List ℕ) (group : IsGroup (meaning_of given.schema rows)) (is_kept : kept ≡ given)

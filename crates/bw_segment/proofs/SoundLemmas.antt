@@ -26,7 +26,7 @@ use Rattle.bw_segment.proofs.ValueLemmas.{admits_at, is_null_held, stored_held, 
 use Rattle.bw_segment.proofs.LayoutLemmas.{before_in_order, cuts_are_all}
 use Rattle.bw_segment.proofs.BytesLemmas.{get_or-same, padded_is}
 
-same_in_range : (f g : ℕ → List ℕ) (a k : ℕ) → ((at : ℕ) → a ≤ at → at < a + k → f at ≡ g at) → flat_map f (range_with_len a k) ≡ flat_map g (range_with_len a k)
+pub same_in_range : (f g : ℕ → List ℕ) (a k : ℕ) → ((at : ℕ) → a ≤ at → at < a + k → f at ≡ g at) → flat_map f (range_with_len a k) ≡ flat_map g (range_with_len a k)
 same_in_range f g a zero each = refl
 same_in_range f g a (suc k) each = ap₂ ◌++◌ (each a (omega arith) (omega arith)) (same_in_range f g (a + 1) k (λ at from to. each at (omega arith) (omega arith)))
 

@@ -1,4 +1,5 @@
 pub mod BlockFault
+pub mod ColumnBlocks
 pub mod Columns
 pub mod Keys
 pub mod Meaning

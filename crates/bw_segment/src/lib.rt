@@ -22,8 +22,10 @@
 #![tactic(auto)]
 
 mod block;
+mod blocks;
 mod build;
 mod codes;
+mod column_blocks;
 mod columns;
 mod few;
 mod group;
@@ -38,7 +40,9 @@ mod segment;
 mod values;
 
 pub use block::fault_of_lanes;
+pub use blocks::Blocks;
 pub use codes::{bytes_of, push_byte, put_byte, slices_of};
+pub use column_blocks::{ColumnBlocks, NumberedBlocks, no_blocks, push_blocks};
 pub use columns::{ColumnCodes, clear_rows, columns_of, keep_row, no_rows};
 pub use group::is_group;
 pub use lanes::lanes_hold_codes;

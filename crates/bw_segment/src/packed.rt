@@ -4,8 +4,9 @@ ghost use Rattle.bw_device.specs.Shared.{bytes_in};
 ghost use Rattle.bw_model.specs.Groups.{group_size};
 ghost use Rattle.bw_segment.specs.BlockFault.{IsSound};
 ghost use Rattle.bw_segment.specs.Packing.{block_size, meaning_spelled, segment_size, segment_bytes};
-ghost use Rattle.bw_segment.specs.Packed.{IsPacked, IsPlaced};
+ghost use Rattle.bw_segment.specs.Packed.{HoldBlocks, IsPacked, IsPlaced};
 
+use crate::blocks::Blocks;
 use crate::few::{greatest_in, least_in};
 use crate::layout::CodeLayout;
 use crate::placement::Placement;
@@ -18,19 +19,20 @@ use std::rc::Rc;
 
 /// A segment kept as bytes: for each column one block, of its null plane, if it is nullable, in 64 bytes, of which bit
 /// i mod 8, the least first, of byte i / 8 is row i's, and then its codes in a layout. Past the last row there are
-/// zeros.
+/// zeros. The bytes stand in one piece, or each block in a piece of its own.
 #[derive(Drop)]
-pub struct PackedSegment<L: CodeLayout> {
+pub struct PackedSegment<L: CodeLayout, B: Blocks = SharedBytes> {
     pub placement: Rc<Placement>,
     pub rows: u32,
-    pub bytes: SharedBytes,
+    pub bytes: B,
     layout: PhantomData<L>,
-    pub ghost packed: { IsPacked L.packing placement.value rows (bytes_in bytes) },
+    pub ghost packed: { IsPacked L.packing placement.value rows (B.bytes bytes) },
+    ghost held: { HoldBlocks (B.holds bytes) L.packing placement.value.schema.columns.items },
 }
 
-impl<L: CodeLayout> Segment for PackedSegment<L> {
+impl<L: CodeLayout, B: Blocks> Segment for PackedSegment<L, B> {
     ghost meaning = { λ segment.
-        meaning_spelled L.packing segment.placement.value.schema segment.rows (bytes_in segment.bytes) };
+        meaning_spelled L.packing segment.placement.value.schema segment.rows (B.bytes segment.bytes) };
 
     fn schema(&self) -> &Schema {
         &self.placement.schema
@@ -101,10 +103,7 @@ impl<L: CodeLayout> Segment for PackedSegment<L> {
 }
 
 impl<L: CodeLayout> PackedSegment<L> {
-    ghost use Rattle.std.specs.Prelude.{All, ◌<◌, ◌^◌};
-    ghost use Rattle.bw_model.specs.Code.{width_at};
-    ghost use Rattle.bw_segment.specs.Meaning.{code_lanes};
-    ghost use Rattle.bw_segment.specs.Packing.{block_at};
+    ghost use Rattle.std.specs.Prelude.{◌<◌};
 
     /// The segment of so many rows whose blocks are these bytes, each without fault.
     pub fn of_blocks(placement: Rc<Placement>, rows: u32, bytes: SharedBytes) -> Self
@@ -115,14 +114,7 @@ impl<L: CodeLayout> PackedSegment<L> {
         ensures means { ⟦<PackedSegment<L> as Segment>⟧.meaning result
             ≡ meaning_spelled L.packing placement.value.schema rows (bytes_in bytes) }
     {
-        bytes.are_bytes();
-        L::keeps_codes();
-        PackedSegment {
-            placement,
-            rows,
-            bytes,
-            layout: PhantomData,
-        }
+        PackedSegment::of_held_blocks(placement, rows, bytes)
     }
 
     /// How many bytes a column's block takes.
@@ -148,20 +140,50 @@ impl<L: CodeLayout> PackedSegment<L> {
             (⟦<PackedSegment<L> as Segment>⟧.meaning self.now).columns
             (⟦<PackedSegment<L> as Segment>⟧.meaning self.now).rows }
     {
+        L::keeps_codes();
+        self.bytes.are_bytes();
         self.bytes.as_slice()
+    }
+}
+
+impl<L: CodeLayout, B: Blocks> PackedSegment<L, B> {
+    ghost use Rattle.std.specs.Prelude.{All, ◌<◌, ◌^◌};
+    ghost use Rattle.bw_model.specs.Code.{width_at};
+    ghost use Rattle.bw_segment.specs.Meaning.{code_lanes};
+    ghost use Rattle.bw_segment.specs.Packing.{block_at};
+
+    /// The segment of so many rows whose blocks stand in these bytes, each without fault.
+    pub(crate) fn of_held_blocks(placement: Rc<Placement>, rows: u32, bytes: B) -> Self
+        requires placed { IsPlaced L.packing placement.value }
+        requires some { 1 ≤ rows }
+        requires few { rows ≤ group_size }
+        requires sound { IsSound L.packing placement.value.schema.columns.items rows (B.bytes bytes) }
+        requires held { HoldBlocks (B.holds bytes) L.packing placement.value.schema.columns.items }
+        ensures means { ⟦<PackedSegment<L, B> as Segment>⟧.meaning result
+            ≡ meaning_spelled L.packing placement.value.schema rows (B.bytes bytes) }
+    {
+        L::keeps_codes();
+        PackedSegment {
+            placement,
+            rows,
+            bytes,
+            layout: PhantomData,
+        }
     }
 
     /// A column's block.
     #[inline(always)]
-    fn block(&self, col: usize) -> &[u8]
+    pub(crate) fn block(&self, col: usize) -> &[u8]
         requires { col < length self.now.placement.value.schema.columns.items }
         ensures block { result.now
-            ≡ block_at L.packing self.now.placement.value.schema.columns.items col (bytes_in self.now.bytes) }
+            ≡ block_at L.packing self.now.placement.value.schema.columns.items col (B.bytes self.now.bytes) }
         ensures size { length result.now
             ≡ block_size L.packing self.now.placement.value.schema.columns.items col }
     {
         let placement: &Placement = &self.placement;
-        &self.bytes.as_slice()[placement.start::<L>(col)..placement.start::<L>(col + 1)]
+        let start = placement.start::<L>(col);
+        let end = placement.start::<L>(col + 1);
+        self.bytes.block(col, start, end)
     }
 
     /// How many digits a column's codes have, and the bytes that keep them, which end its block.
@@ -172,12 +194,12 @@ impl<L: CodeLayout> PackedSegment<L> {
         ensures bounds { (1 ≤ result.0) × (result.0 ≤ 63) }
         ensures size { length result.1.now ≡ L.packing.size result.0 }
         ensures lanes { L.packing.codes result.0 result.1.now
-            ≡ code_lanes (⟦<PackedSegment<L> as Segment>⟧.meaning self.now) col }
+            ≡ code_lanes (⟦<PackedSegment<L, B> as Segment>⟧.meaning self.now) col }
         ensures small { All (λ code. code < 2 ^ result.0) (L.packing.codes result.0 result.1.now) }
     {
         let placement: &Placement = &self.placement;
         let width = placement.width(col);
-        let end = placement.start::<L>(col + 1);
-        (width, &self.bytes.as_slice()[end - L::size(width)..end])
+        let block = self.block(col);
+        (width, &block[block.len() - L::size(width)..])
     }
 }

@@ -4,7 +4,7 @@ use Rattle.std.proofs.lemmas.Result.{err_from_is_err_and}
 use Rattle.bw_model.specs.Column.{names_of}
 use Rattle.bw_model.specs.Groups.{together}
 use Rattle.bw_file.specs.TableReader.{found_so_far, schema_in}
-use Rattle.bw_query.proofs.TableLemmas.{memory_answers}
+use Rattle.bw_file.proofs.MemoryAnswers.{memory_answers}
 use Rattle.bw_query.proofs.table_text.table_text.Goals as goal
 
 pub returns-in_err-answer-clause-refused : goal.returns-in_err-answer-clause-refused
@@ -24,7 +24,7 @@ returns-in_err-into_text-clause-refused g c =
 pub returns-clause-text : goal.returns-clause-text
 returns-clause-text g c = λ start read.
     let all = c.in_ok-scanned.ensures.took in
-    let over = c.in_ok-answer.ensures.over in
+    let over = rw c.schema.ensures at c.in_ok-answer.ensures.over in
     record {
       found = found_so_far c.args.reader.now all.groups;
       groups = all.groups;

@@ -1,18 +1,16 @@
 -- Each segment's rows are taken after those of the segments before it.
-use Rattle.std.proofs.Common.{◌≡◌, ◌∙◌, ℕ, ◌+◌, List, [], ◌∷◌, ◌++◌, length, length-append, refl, sym, ap, subst, arith}
+use Rattle.std.proofs.Common.{◌∙◌, ℕ, ◌+◌, List, [], ◌∷◌, ◌++◌, length, length-append, refl, sym, ap, subst, arith}
 use Rattle.std.proofs.lemmas.Result.{err_from_is_err_and}
 use Rattle.bw_model.specs.declared.column.Column.{Column}
 use Rattle.bw_model.specs.declared.query.Query.{Query}
-use Rattle.bw_model.specs.declared.schema.Schema.{Schema}
 use Rattle.bw_answer.specs.AreOver.{CountsRows}
 use Rattle.bw_answer.specs.Over.{asked_by}
-use Rattle.bw_file.specs.declared.segments.AnySegment.{AnySegment}
-use Rattle.bw_file.specs.declared.table_reader.TableReader.{TableReader}
-use Rattle.bw_file.specs.TableReader.{IsSegmentOf, SameTable, schema_in}
+use Rattle.bw_file.specs.TableReader.{schema_in}
 use Rattle.bw_query.specs.Scan.{IsFor, loads_in, skips_in}
 use Rattle.bw_file.specs.AnySegment.{any_is_group, any_meaning}
 use Rattle.bw_file.proofs.NextLemmas.{end_of, refusal_of, segment_of}
-use Rattle.bw_query.proofs.TableLemmas.{goes_nowhere, goes_on, later_answers, memory_answers, one_more, same_table}
+use Rattle.bw_file.proofs.MemoryAnswers.{columns_of, later_answers, memory_answers, same_table}
+use Rattle.bw_query.proofs.TableLemmas.{goes_nowhere, goes_on, one_more}
 use Rattle.bw_query.proofs.TableExits.{table_writes_nothing}
 use Rattle.bw_query.proofs.table_text.take_rows.Goals as goal
 
@@ -55,11 +53,6 @@ loop-segment-smaller g c =
     let gave = segment_of (rw c.in-Some.is at c.in_ok-segment.ensures) in
     let group = any_is_group c.in-Some.segment in
     omega (arith, gave.of_table.count, gave.counted, group.some, gave.same.rows)
-
--- the columns of a segment that was read are those of the table
-columns_of : (first reader : TableReader) (segment : AnySegment) → SameTable first reader → IsSegmentOf reader segment
-    → (any_meaning segment).columns ≡ (schema_in first).columns.items
-columns_of first reader segment same is = is.columns ∙ ap (λ (schema : Schema). schema.columns.items) same.schema
 
 pub take_either-taken-requires-clause-scan : goal.take_either-taken-requires-clause-scan
 take_either-taken-requires-clause-scan g c =

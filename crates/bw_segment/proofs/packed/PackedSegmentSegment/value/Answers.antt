@@ -1,6 +1,5 @@
 use Rattle.std.proofs.Common.{◌≡◌, ◌∙◌, sym, ap, ap₂, ℕ, w64, FitsSigned, Some, get_or, false, rules, arith}
 use Rattle.std.proofs.lemmas.Int.{to_z-of_z}
-use Rattle.bw_device.specs.Shared.{bytes_in}
 use Rattle.bw_model.specs.Code.{span_at, value_at}
 use Rattle.bw_segment.specs.Meaning.{code_lanes}
 use Rattle.bw_segment.specs.Packing.{meaning_spelled, value_held}
@@ -18,7 +17,7 @@ pub returns-then-lane : goal.returns-then-lane
 returns-then-lane g c =
     let segment = c.args.self.now in
     let columns = segment.placement.value.schema.columns.items in
-    let code = get_or (code_lanes (meaning_spelled g.L.CodeLayout.packing segment.placement.value.schema segment.rows (bytes_in segment.bytes)) c.args.col) c.args.row 0 in
+    let code = get_or (code_lanes (meaning_spelled g.L.CodeLayout.packing segment.placement.value.schema segment.rows (g.B.Blocks.bytes segment.bytes)) c.args.col) c.args.row 0 in
     let null = sym c.if-lane.true ∙ c.lane.ensures ∙ ap (λ l. get_or l c.args.row false) c.nulls.ensures in
     ap (λ b. value_held columns c.args.col b code) null ∙ row_held segment.packed c.args.col c.args.row c.requires.column c.requires.row
 
@@ -26,7 +25,7 @@ pub returns : goal.returns
 returns g c =
     let segment = c.args.self.now in
     let columns = segment.placement.value.schema.columns.items in
-    let here = get_or (code_lanes (meaning_spelled g.L.CodeLayout.packing segment.placement.value.schema segment.rows (bytes_in segment.bytes)) c.args.col) c.args.row 0 in
+    let here = get_or (code_lanes (meaning_spelled g.L.CodeLayout.packing segment.placement.value.schema segment.rows (g.B.Blocks.bytes segment.bytes)) c.args.col) c.args.row 0 in
     let null = sym c.if-lane.false ∙ c.lane.ensures ∙ ap (λ l. get_or l c.args.row false) c.nulls.ensures in
     let code = c.code.ensures ∙ ap (λ l. get_or l c.args.row 0) c.kept-width.ensures.lanes in
     let value : c.value.result ≡ value_at columns c.args.col here = c.value.ensures ∙ ap₂ (λ (placement : Placement) (n : ℕ). value_at placement.schema.columns.items c.args.col n) c.deref.ensures code in

@@ -6,7 +6,7 @@ use Rattle.bw_segment.specs.Packing.{segment_bytes}
 use Rattle.bw_segment.specs.declared.placement.Placement.{Placement}
 use Rattle.bw_segment.proofs.CodeLemmas.{few_rows}
 use Rattle.bw_segment.proofs.PackedLemmas.{built_sound, built_means}
-use Rattle.bw_segment.proofs.packed.PackedSegment.build_shared.Goals as goal
+use Rattle.bw_segment.proofs.build.PackedSegment+L.build_shared.Goals as goal
 
 pub overflow_cast-count : goal.overflow_cast-count
 overflow_cast-count g c = omega (arith, few_rows c.args.placement.now.value.schema c.args.rows.now c.requires.group)

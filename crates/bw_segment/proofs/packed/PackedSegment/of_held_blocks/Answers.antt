@@ -1,12 +1,10 @@
-use Rattle.std.proofs.Common.{sym}
-use Rattle.bw_device.specs.Shared.{bytes_in}
-use Rattle.bw_segment.proofs.SoundLemmas.{spelled_group, bytes_again}
-use Rattle.bw_segment.proofs.packed.PackedSegment.of_blocks.Goals as goal
+use Rattle.bw_segment.proofs.SoundLemmas.{spelled_group}
+use Rattle.bw_segment.proofs.packed.PackedSegment.of_held_blocks.Goals as goal
 
 pub invariant_of-result : goal.invariant_of-result
 invariant_of-result g c =
     let schema = c.args.placement.value.schema in
-    let bytes = bytes_in c.args.bytes in
+    let bytes = g.B.Blocks.bytes c.args.bytes in
     let packing = g.L.CodeLayout.packing in
     let law = c.keeps_codes.ensures in
     record {
@@ -15,6 +13,6 @@ invariant_of-result g c =
         placed = c.requires.placed;
         sound = c.requires.sound;
         group = spelled_group packing law schema.columns.items c.args.rows bytes c.requires.few c.requires.sound schema.name c.requires.some;
-        text = sym (bytes_again packing law schema.columns.items c.args.rows bytes c.requires.few c.requires.sound c.are_bytes.ensures);
       };
+      held = c.requires.held;
     }

@@ -1,0 +1,66 @@
+//! What is made for a table in one of the two layouts.
+ghost use Rattle.std.specs.Prelude.{◌≡◌, ℕ, List, length, IfOk, OnOk, IsOkUnless};
+ghost use Rattle.bw_model.specs.Fault.{no_memory};
+ghost use Rattle.bw_segment.specs.ColumnBlocks.{KeepBlocks};
+ghost use Rattle.bw_file.specs.AnySegment.{any_layout, any_meaning};
+ghost use Rattle.bw_file.specs.Blocks.{IsPlaced, form_of};
+ghost use Rattle.bw_memory.specs.Kept.{AddSegment, AreOf};
+
+use bw_file::{AnySegment, Layout};
+use bw_model::{Fault, Schema};
+use bw_planes::Planes;
+use bw_segment::{ColumnBlocks, Placement, no_blocks, push_blocks};
+use bw_slices::Slices;
+use std::alloc::Global;
+use std::rc::Rc;
+
+/// The placement of a table whose schema is an equal one, in a layout.
+#[tactic(auto, unfolding(bw_file::specs::Blocks::form_of))]
+pub(crate) fn placement_of(
+    alloc: Global,
+    layout: Layout,
+    schema: &Schema,
+) -> Result<Rc<Placement>, Fault>
+    ensures name { IfOk result (λ placement. placement.value.schema.name ≡ schema.now.name) }
+    ensures columns { IfOk result (λ placement.
+        placement.value.schema.columns.items ≡ schema.now.columns.items) }
+    ensures placed { IfOk result (λ placement. IsPlaced layout placement.value) }
+    ensures only_memory { IsOkUnless result no_memory }
+{
+    let placement = match layout {
+        Layout::Planes => Placement::of::<Planes>(alloc, schema)?,
+        Layout::Slices => Placement::of::<Slices>(alloc, schema)?,
+    };
+    Ok(Rc::new(alloc, placement)?)
+}
+
+/// The columns of a table in a layout, without a block.
+#[tactic(auto, unfolding(bw_file::specs::Blocks::form_of))]
+pub(crate) fn no_columns(
+    alloc: Global,
+    layout: Layout,
+    placement: &Placement,
+) -> Result<Vec<ColumnBlocks>, Fault>
+    ensures keep { IfOk result (λ columns.
+        KeepBlocks (form_of layout) placement.now.schema.columns.items 0 columns.items) }
+    ensures only_memory { IsOkUnless result no_memory }
+{
+    match layout {
+        Layout::Planes => no_blocks::<Planes>(alloc, placement),
+        Layout::Slices => no_blocks::<Slices>(alloc, placement),
+    }
+}
+
+/// Adds the blocks of a segment that was read, each to its column.
+#[tactic(auto, unfolding(bw_file::specs::Blocks::form_of, bw_file::specs::AnySegment::any_meaning))]
+pub(crate) fn push_segment(columns: &mut [ColumnBlocks], segment: &AnySegment) -> Result<(), Fault>
+    requires { length columns.old ≡ length (any_meaning segment.now).columns }
+    ensures added { OnOk result ((bytes : List ℕ) × AreOf segment.now bytes
+        × AddSegment (any_layout segment.now) (any_meaning segment.now).columns bytes columns.old columns.new) }
+    ensures only_memory { IsOkUnless result no_memory }
+{
+    match segment {
+        AnySegment::Planes(segment) => push_blocks::<Planes>(columns, segment),
+        AnySegment::Slices(segment) => push_blocks::<Slices>(columns, segment),
+    }
+}

@@ -1,0 +1,119 @@
+//! A table read into memory.
+ghost use Rattle.std.specs.Prelude.{◌≡◌, ◌-◌, ◌^◌, ◌<◌, ℕ, List, [], None, Some, IsTrue, IfOk, IfErr};
+ghost use Rattle.bw_model.specs.declared.schema.Schema.{Schema};
+ghost use Rattle.bw_model.specs.Row.{Value};
+ghost use Rattle.bw_segment.specs.ColumnBlocks.{KeepBlocks};
+ghost use Rattle.bw_device.specs.Source.{TellsFailure, is_input_fault};
+ghost use Rattle.bw_file.specs.declared.layout.Layout.{Layout};
+ghost use Rattle.bw_file.specs.Blocks.{form_of};
+ghost use Rattle.bw_file.specs.FileBytes.{IsFileBytes};
+ghost use Rattle.bw_file.specs.Reading.{State, state};
+ghost use Rattle.bw_file.specs.TableReader.{AnswersFault, SoFar, bytes_taken, layout_in, rows_given, schema_in, settled};
+ghost use Rattle.bw_file.specs.TableReading.{IsTableFault};
+ghost use Rattle.bw_memory.specs.MemoryTable.{CameWhole, layout_of, rows_of, schema_of};
+ghost use Rattle.bw_memory.specs.ReadSegments.{KeptAll};
+
+use crate::layouts::{no_columns, placement_of, push_segment};
+use crate::table::MemoryTable;
+use bw_device::Source;
+use bw_file::{TableReader, a_file_is_read_whole, bytes_were_taken};
+use bw_model::Fault;
+use bw_segment::ColumnBlocks;
+use std::alloc::Global;
+
+impl MemoryTable {
+    /// Reads a table file into memory, judging each of its segments. Memory grows as bytes come, by a sixteenth at
+    /// most, and no header makes it grow.
+    ///
+    /// Refuses as [`TableReader`] does: 301 to 310 by the file's first fault, 701 where a read fails, and out of memory
+    /// (801). That the source's count of failures can rise is the caller's condition.
+    pub fn read<S: Source>(alloc: Global, source: &mut S) -> Result<Self, Fault>
+        requires { S.failures source.old < 2 ^ 64 - 1 }
+        ensures table { IfOk result (λ table. (offset : ℕ) × CameWhole
+            (state (S.to_come source.old) 0 (S.failures source.old))
+            (state (S.to_come source.new) offset (S.failures source.new))
+            (layout_of table) (schema_of table) (rows_of table)) }
+        ensures refused { IfErr result (λ fault. (offset : ℕ) × AnswersFault
+            (state (S.to_come source.old) 0 (S.failures source.old))
+            (state (S.to_come source.old) 0 (S.failures source.old))
+            (state (S.to_come source.new) offset (S.failures source.new)) fault) }
+        ensures fault { IfErr result IsTableFault }
+
+        // Where the bytes to come are known: they were the table's file; and where they are one, it's only a failed read
+        // or memory that can refuse it.
+        ensures file { (bytes : List ℕ) → S.to_come source.old ≡ Some bytes
+            → IfOk result (λ table. IsFileBytes bytes (layout_of table) (schema_of table) (rows_of table)) }
+        ensures accepted { (bytes : List ℕ) (layout : Layout) (schema : Schema) (rows : List (List Value))
+            → S.to_come source.old ≡ Some bytes → IsFileBytes bytes layout schema rows
+            → IfErr result (λ fault. IsTrue (is_input_fault fault)) }
+        ensures source { TellsFailure (S.failures source.old) (S.failures source.new) result }
+    {
+        a_file_is_read_whole();
+        let mut reader = TableReader::begin(alloc, source)?;
+        read_table(alloc, &mut reader, source)
+    }
+}
+
+/// The table of a file whose header was read, and no segment.
+fn read_table<S: Source>(
+    alloc: Global,
+    reader: &mut TableReader,
+    source: &mut S,
+) -> Result<MemoryTable, Fault>
+    requires countable { S.failures source.old < 2 ^ 64 - 1 }
+    requires fresh { (rows_given reader.old ≡ 0) × (settled reader.old ≡ None) }
+    requires began { (start : State) × SoFar start
+        (state (S.to_come source.old) (bytes_taken reader.old) (S.failures source.old)) reader.old [] }
+    ensures table { IfOk result (λ table. (start : State)
+        → SoFar start (state (S.to_come source.old) (bytes_taken reader.old) (S.failures source.old)) reader.old []
+        → CameWhole start (state (S.to_come source.new) (bytes_taken reader.new) (S.failures source.new))
+        (layout_of table) (schema_of table) (rows_of table)) }
+    ensures refused { IfErr result (λ fault. (start : State)
+        → SoFar start (state (S.to_come source.old) (bytes_taken reader.old) (S.failures source.old)) reader.old []
+        → AnswersFault start (state (S.to_come source.old) (bytes_taken reader.old) (S.failures source.old))
+        (state (S.to_come source.new) (bytes_taken reader.new) (S.failures source.new)) fault) }
+    ensures fault { IfErr result IsTableFault }
+{
+    bytes_were_taken();
+    let layout = reader.layout();
+    let placement = placement_of(alloc, layout, reader.schema())?;
+    let mut columns = no_columns(alloc, layout, &placement)?;
+    let segments = read_segments(reader, source, &mut columns)?;
+    Ok(MemoryTable {
+        layout,
+        placement,
+        rows: reader.given(),
+        segments,
+        columns,
+    })
+}
+
+/// Reads all segments, and adds their blocks to the columns. Gives how many they were.
+fn read_segments<S: Source>(
+    reader: &mut TableReader,
+    source: &mut S,
+    columns: &mut [ColumnBlocks],
+) -> Result<u32, Fault>
+    requires countable { S.failures source.old < 2 ^ 64 - 1 }
+    requires fresh { (rows_given reader.old ≡ 0) × (settled reader.old ≡ None) }
+    requires none { KeepBlocks (form_of (layout_in reader.old)) (schema_in reader.old).columns.items 0 columns.old }
+    ensures kept { IfOk result (λ count. KeptAll
+        (state (S.to_come source.old) (bytes_taken reader.old) (S.failures source.old))
+        (state (S.to_come source.new) (bytes_taken reader.new) (S.failures source.new))
+        reader.old (rows_given reader.new) count columns.new) }
+    ensures refused { IfErr result (λ fault. (start : State)
+        → SoFar start (state (S.to_come source.old) (bytes_taken reader.old) (S.failures source.old)) reader.old []
+        → AnswersFault start (state (S.to_come source.old) (bytes_taken reader.old) (S.failures source.old))
+        (state (S.to_come source.new) (bytes_taken reader.new) (S.failures source.new)) fault) }
+    ensures fault { IfErr result IsTableFault }
+{
+    bytes_were_taken();
+    let mut count = 0;
+    while let Some(segment) = reader.next_segment(source)? {
+        let pushed = push_segment(columns, &segment);
+        drop(segment);
+        pushed?;
+        count += 1;
+    }
+    Ok(count)
+}

@@ -1,0 +1,76 @@
+//! A table in memory.
+ghost use Rattle.std.specs.Prelude.{◌≡◌, ◌<◌, ◌≤◌, length, vec_len, IfOk, IsOkUnless};
+ghost use Rattle.bw_model.specs.Fault.{no_memory};
+ghost use Rattle.bw_model.specs.Groups.{groups_of, together};
+ghost use Rattle.bw_model.specs.Limits.{most_rows};
+ghost use Rattle.bw_file.specs.Blocks.{IsPlaced, form_of};
+ghost use Rattle.bw_memory.specs.Kept.{KeepSegments, groups_kept};
+
+use bw_file::Layout;
+use bw_lanes::LANES;
+use bw_model::{Fault, Schema};
+use bw_segment::{CodeLayout, ColumnBlocks, NumberedBlocks, PackedSegment, Placement, Segment};
+use std::rc::Rc;
+
+/// A table in memory: its schema and its rows, in segments of 512, of which the last may have fewer. All blocks of a
+/// column stand back to back.
+#[derive(Drop)]
+pub struct MemoryTable {
+    pub(crate) layout: Layout,
+    pub(crate) placement: Rc<Placement>,
+    pub(crate) rows: u32,
+    pub(crate) segments: u32,
+    pub(crate) columns: Vec<ColumnBlocks>,
+    ghost placed: { IsPlaced layout placement.value },
+    ghost few: { rows ≤ most_rows },
+    ghost kept: { KeepSegments layout placement.value.schema.columns.items rows segments columns.items },
+    ghost cut: { groups_kept layout placement.value.schema.columns.items rows segments columns.items
+        ≡ groups_of (together
+        (groups_kept layout placement.value.schema.columns.items rows segments columns.items)) },
+}
+
+impl MemoryTable {
+    ghost use Rattle.bw_memory.specs.MemoryTable.{layout_of, meaning_numbered, schema_of, segments_in};
+
+    /// The table's schema.
+    pub fn schema(&self) -> &Schema
+        ensures { result.now ≡ schema_of self.now }
+    {
+        &self.placement.schema
+    }
+
+    /// How the table keeps its segments.
+    pub fn layout(&self) -> Layout
+        ensures { result ≡ layout_of self.now }
+    {
+        self.layout
+    }
+
+    /// How many rows the table has.
+    pub fn rows(&self) -> u32 {
+        self.rows
+    }
+
+    /// How many segments the table has.
+    pub fn segments(&self) -> u32
+        ensures { result ≡ segments_in self.now }
+    {
+        self.segments
+    }
+
+    /// The segment of a number, from 0, in the table's layout. It borrows the columns, and nothing is judged again.
+    pub fn segment<'a, L: CodeLayout>(
+        &'a self,
+        number: u32,
+    ) -> Result<PackedSegment<L, NumberedBlocks<'a>>, Fault>
+        requires layout { form_of (layout_of self.now) ≡ L.packing }
+        requires number { number < segments_in self.now }
+        ensures means { IfOk result (λ segment.
+            ⟦<PackedSegment<L, NumberedBlocks<'a>> as Segment>⟧.meaning segment ≡ meaning_numbered self.now number) }
+        ensures only_memory { IsOkUnless result no_memory }
+    {
+        let placement = self.placement.clone()?;
+        let rows = (self.rows - LANES as u32 * number).min(LANES as u32);
+        Ok(PackedSegment::of_columns(placement, rows, &self.columns, number as usize))
+    }
+}

@@ -1,0 +1,68 @@
+-- Each segment's rows are taken after those of the segments before it.
+use Rattle.std.proofs.Common.{◌∙◌, ◌+◌, ◌<◌, length, refl, sym, ap, subst, arith}
+use Rattle.bw_model.specs.declared.query.Query.{Query}
+use Rattle.bw_answer.specs.AreOver.{CountsRows}
+use Rattle.bw_memory.specs.Kept.{groups_kept}
+use Rattle.bw_memory.specs.MemoryTable.{schema_of, meaning_numbered}
+use Rattle.bw_memory.proofs.KeptLemmas.{groups_more, length-groups, room_for, rows_before}
+use Rattle.bw_memory.proofs.ReadLemmas.{no_groups}
+use Rattle.bw_query.specs.Scan.{IsFor, loads_in, skips_in}
+use Rattle.bw_query.proofs.TableLemmas.{goes_nowhere, goes_on, one_more}
+use Rattle.bw_query.proofs.memory_text.take_segments.Goals as goal
+
+pub loop-number-init : goal.loop-number-init
+loop-number-init c =
+    let table = c.args.table.now in
+    let none = no_groups table.layout (schema_of table).columns.items table.rows table.columns.items in
+    record {
+      over = rw none (goes_nowhere c.args.answer.now);
+      scanned = rw none (record { segments = refl; loads = refl; skips = refl });
+      few_loads = omega arith;
+      few_skips = omega arith;
+      rows = omega (arith, c.requires.none);
+      width = c.requires.width;
+      asked = refl;
+      counts = c.counts_rows-counts.ensures;
+    }
+
+pub take_numbered-requires-clause-scan : goal.take_numbered-requires-clause-scan
+take_numbered-requires-clause-scan c =
+    subst (λ (query : Query). IsFor (schema_of c.args.table.now).columns.items query.cond c.args.scan.now) (sym c.loop-number.invariant.asked) c.requires.scan
+
+pub take_numbered-requires-clause-room : goal.take_numbered-requires-clause-room
+take_numbered-requires-clause-room c =
+    let table = c.args.table.now in
+    let number = c.loop-number.number in
+    let there : number < table.segments = omega (arith, c.segments-number-end.ensures) in
+    omega (arith, table.few, room_for table.layout (schema_of table).columns.items table.rows number c.loop-number.answer.rows table.columns.items (table.kept.some number there) c.loop-number.invariant.rows)
+
+pub loop-number-preserved : goal.loop-number-preserved
+loop-number-preserved c =
+    let table = c.args.table.now in
+    let columns = (schema_of table).columns.items in
+    let number = c.loop-number.number in
+    let so_far = c.loop-number.invariant in
+    let taken = c.in_ok-more.ensures in
+    let rows = (meaning_numbered table number).rows in
+    let groups = groups_kept table.layout columns table.rows number table.columns.items in
+    let more = groups_more table.layout columns table.rows number table.columns.items in
+    let count = length-groups table.layout columns table.rows number table.columns.items in
+    record {
+      over = rw more (goes_on _ _ _ groups rows so_far.over taken.over);
+      scanned = rw more (record {
+        segments = omega (arith, so_far.scanned.segments, count, length-groups table.layout columns table.rows (number + 1) table.columns.items, ap length more);
+        loads = one_more (loads_in columns c.args.scan.now) groups rows _ _ so_far.scanned.loads taken.loads;
+        skips = one_more (skips_in columns c.args.scan.now) groups rows _ _ so_far.scanned.skips taken.skips;
+      });
+      few_loads = omega (arith, so_far.few_loads, taken.bounded);
+      few_skips = omega (arith, so_far.few_skips, taken.bounded);
+      rows = omega (arith, taken.rows, rows_before table.layout columns table.rows number c.loop-number.answer.rows table.columns.items so_far.rows);
+      width = taken.width ∙ so_far.width;
+      asked = taken.over.same ∙ so_far.asked;
+      counts = λ is. subst CountsRows (sym taken.over.same) (so_far.counts is);
+    }
+
+pub overflow_add-scanned : goal.overflow_add-scanned
+overflow_add-scanned c =
+    let table = c.args.table.now in
+    omega (arith, c.loop-number.invariant.scanned.segments, length-groups table.layout (schema_of table).columns.items table.rows c.loop-number.number table.columns.items)

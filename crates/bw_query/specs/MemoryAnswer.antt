@@ -1,0 +1,36 @@
+-- What an answer over a table in memory is to be.
+use Rattle.std.specs.Prelude.{◌≡◌, ℕ, ◌||◌, Bool, false, List, Option, Result, Ok, Err}
+use Rattle.std.specs.Io.KnownBytes.{Appends}
+use Rattle.bw_model.specs.declared.fault.Fault.{Fault}
+use Rattle.bw_model.specs.declared.query.Query.{Query}
+use Rattle.bw_model.specs.declared.schema.Schema.{Schema}
+use Rattle.bw_model.specs.Column.{names_of}
+use Rattle.bw_model.specs.Fault.{is_memory}
+use Rattle.bw_model.specs.Row.{Value}
+use Rattle.bw_answer.specs.Answer.{csv_text, meaning}
+use Rattle.bw_device.specs.Sink.{is_write_fault}
+
+-- the text of the meaning of what is asked under a schema, over rows
+pub record RowsText (asks : Schema → Result Query Fault → Type 0) (schema : Schema) (rows : List (List Value))
+    (text : List ℕ) : Type 0 where
+  pub query : Query
+  pub asked : asks schema (Ok query)
+  pub is : text ≡ csv_text (meaning (names_of schema.columns.items) query rows)
+
+-- What is asked of a table in memory, of this schema and these rows, is answered by this text, or by its fault; out of
+-- memory may be answered to anything.
+abbrev pub IsMemoryAnswer : (Schema → Result Query Fault → Type 0) → Schema → List (List Value)
+    → Result (List ℕ) Fault → Type 0
+IsMemoryAnswer asks schema rows (Ok text) = RowsText asks schema rows text
+IsMemoryAnswer asks schema rows (Err fault) = is_memory fault ≡ false → asks schema (Err fault)
+
+-- a sink took the text of the meaning of what is asked, over the rows
+pub record AnswersRows (asks : Schema → Result Query Fault → Type 0) (schema : Schema) (rows : List (List Value))
+    (old new : Option (List ℕ)) : Type 0 where
+  pub query : Query
+  pub asked : asks schema (Ok query)
+  pub text : Appends old new (csv_text (meaning (names_of schema.columns.items) query rows))
+
+-- a refusal that no statement calls for: a failed write, or out of memory
+abbrev pub is_output_fault : Fault → Bool
+is_output_fault fault = is_memory fault || is_write_fault fault

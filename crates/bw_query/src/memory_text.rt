@@ -1,0 +1,117 @@
+//! The text of an answer over the rows of a table in memory, one segment at a time.
+ghost use Rattle.std.specs.Prelude.{◌≡◌, ◌+◌, ◌<◌, ◌≤◌, true, IsTrue, IfOk, IfErr, OnOk, length, vec_len};
+ghost use Rattle.std.specs.List.{list_all};
+ghost use Rattle.bw_model.specs.Column.{names_of};
+ghost use Rattle.bw_model.specs.Fault.{no_memory};
+ghost use Rattle.bw_model.specs.Limits.{most_rows};
+ghost use Rattle.bw_model.specs.Total.{item_within};
+ghost use Rattle.bw_sql.specs.Items.{AreOfOneKind};
+ghost use Rattle.bw_answer.specs.Answer.{csv_text, meaning};
+ghost use Rattle.bw_answer.specs.AreOver.{CountsRows};
+ghost use Rattle.bw_answer.specs.Over.{GoesOver, asked_by};
+ghost use Rattle.bw_memory.specs.MemoryTable.{groups_in, meaning_numbered, rows_of, schema_of, segments_in};
+ghost use Rattle.bw_query.specs.Scan.{IsFor, loads_in, skips_in};
+ghost use Rattle.bw_query.specs.TableText.{IsScanOf};
+
+use crate::scan::Scan;
+use crate::served::Scanned;
+use crate::table_text::{TableText, empty_answer, take_segment};
+use bw_answer::Answer;
+use bw_file::Layout;
+use bw_memory::MemoryTable;
+use bw_model::{Fault, Query};
+use bw_planes::Planes;
+use bw_run::Counts;
+use bw_slices::Slices;
+use std::alloc::Global;
+
+/// The text of the answer to a query over the rows of a table in memory. Refuses as 801 alone.
+pub(crate) fn memory_text(
+    alloc: Global,
+    table: &MemoryTable,
+    query: &Query,
+    scan: &Scan,
+) -> Result<TableText, Fault>
+    requires items { IsTrue (list_all (item_within (vec_len (schema_of table.now).columns)) query.now.items.items) }
+    requires some { 1 ≤ length query.now.items.items }
+    requires kinds { AreOfOneKind query.now.items.items }
+    requires scan { IsFor (schema_of table.now).columns.items query.now.cond scan.now }
+    ensures text { IfOk result (λ found. found.text.items
+        ≡ csv_text (meaning (names_of (schema_of table.now).columns.items) query.now (rows_of table.now))) }
+    ensures counts { IfOk result (λ found.
+        IsScanOf (schema_of table.now).columns.items scan.now (groups_in table.now) found.scanned) }
+    ensures only_memory { IfErr result (λ fault. fault ≡ no_memory) }
+{
+    let mut answer = empty_answer(alloc, table.schema(), table.rows(), query)?;
+    let scanned = take_segments(table, scan, &mut answer)?;
+    Ok(TableText {
+        text: answer.into_text()?,
+        scanned,
+    })
+}
+
+/// Takes the rows of all segments, and gives what was scanned.
+fn take_segments(
+    table: &MemoryTable,
+    scan: &Scan,
+    answer: &mut Answer<'_>,
+) -> Result<Scanned, Fault>
+    requires none { answer.old.rows ≡ 0 }
+    requires width { answer.old.width ≡ length (schema_of table.now).columns.items }
+    requires scan { IsFor (schema_of table.now).columns.items (asked_by answer.old).cond scan.now }
+    ensures over { OnOk result (GoesOver answer.old (rows_of table.now) answer.new) }
+    ensures counts { IfOk result (λ scanned.
+        IsScanOf (schema_of table.now).columns.items scan.now (groups_in table.now) scanned) }
+    ensures only_memory { IfErr result (λ fault. fault ≡ no_memory) }
+{
+    let counts = answer.counts_rows();
+    let mut scanned = Scanned {
+        segments: 0,
+        loads: 0,
+        skips: 0,
+    };
+    for number in 0..table.segments() {
+        let more = take_numbered(table, number, scan, counts, answer)?;
+        scanned.segments += 1;
+        scanned.loads += more.loads as u64;
+        scanned.skips += more.skips as u64;
+    }
+    Ok(scanned)
+}
+
+/// Takes the rows of the segment of a number.
+#[tactic(auto, unfolding(bw_file::specs::Blocks::form_of))]
+fn take_numbered(
+    table: &MemoryTable,
+    number: u32,
+    scan: &Scan,
+    counts: bool,
+    answer: &mut Answer<'_>,
+) -> Result<Counts, Fault>
+    requires number { number < segments_in table.now }
+    requires scan { IsFor (schema_of table.now).columns.items (asked_by answer.old).cond scan.now }
+    requires counts { counts ≡ true → CountsRows (asked_by answer.old) }
+    requires width { answer.old.width ≡ length (schema_of table.now).columns.items }
+    requires room { answer.old.rows + length (meaning_numbered table.now number).rows ≤ most_rows }
+    ensures over { OnOk result (GoesOver answer.old (meaning_numbered table.now number).rows answer.new) }
+    ensures width { OnOk result (answer.new.width ≡ answer.old.width) }
+    ensures rows { OnOk result
+        (answer.new.rows ≡ answer.old.rows + length (meaning_numbered table.now number).rows) }
+    ensures loads { IfOk result (λ counts. counts.loads
+        ≡ loads_in (schema_of table.now).columns.items scan.now (meaning_numbered table.now number).rows) }
+    ensures skips { IfOk result (λ counts. counts.skips
+        ≡ skips_in (schema_of table.now).columns.items scan.now (meaning_numbered table.now number).rows) }
+    ensures bounded { IfOk result (λ counts. counts.loads + counts.skips ≤ 4096) }
+    ensures only_memory { IfErr result (λ fault. fault ≡ no_memory) }
+{
+    match table.layout() {
+        Layout::Planes => {
+            let segment = table.segment::<Planes>(number)?;
+            take_segment(&segment, scan, counts, answer)
+        }
+        Layout::Slices => {
+            let segment = table.segment::<Slices>(number)?;
+            take_segment(&segment, scan, counts, answer)
+        }
+    }
+}

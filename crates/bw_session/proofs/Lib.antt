@@ -1,0 +1,4 @@
+mod KeptLemmas
+mod ReadingLemmas
+mod SessionLemmas
+mod WriteLemmas

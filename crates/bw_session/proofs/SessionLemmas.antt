@@ -1,0 +1,151 @@
+-- One statement more of a session, and how it ends.
+use Rattle.std.proofs.Common.{◌≡◌, refl, sym, ap, ◌∙◌, subst, ℕ, ◌+◌, Bool, true, false, List, [], ◌++◌, Option, None, length, arith, length-append, IsTrue}
+use Rattle.std.proofs.Math.Seq.{take-append-add}
+use Rattle.std.proofs.KnownBytes.{Appends-nil, Appends-trans, Consumes-nil, Consumes-trans}
+use Rattle.std.specs.Io.KnownBytes.{Appends}
+use Rattle.bw_model.specs.FaultTable.{WRITE_FAILED}
+use Rattle.bw_model.specs.declared.fault.Fault.{Fault}
+use Rattle.bw_model.specs.declared.schema.Schema.{Schema}
+use Rattle.bw_model.specs.Fault.{nowhere}
+use Rattle.bw_model.specs.Row.{Value}
+use Rattle.bw_device.specs.Sink.{TookPart, is_write_fault}
+use Rattle.bw_device.specs.Source.{failed_reads, is_input_fault}
+use Rattle.bw_device.proofs.SinkLemmas.{no_write_fault}
+use Rattle.bw_session.specs.Reading.{TookStatement}
+use Rattle.std.specs.Prelude.{if◌then◌else◌}
+use Rattle.bw_session.specs.Session.{Ended, IsOutput, SoFar, Stopped, WroteOutput, WrotePart, begun, failed_writes, first_of, more, whole}
+use Rattle.bw_session.proofs.KeptLemmas.{kept_output}
+
+true_is_not_false : true ≡ false → ⊥
+true_is_not_false p = cc
+
+pub begins : (schema : Schema) (rows : List (List Value)) (known taken : Option (List ℕ))
+    → SoFar schema rows known known taken taken None
+begins schema rows known taken = record {
+  text = [];
+  output = [];
+  came = Consumes-nil known;
+  went = Appends-nil taken;
+  answered = begun;
+}
+
+-- what a statement's kept bytes are answered by, all its bytes are
+of_all : (schema : Schema) (rows : List (List Value)) (old new : Option (List ℕ)) (statement : List ℕ) (goes_on : Bool)
+    (fault : Option Fault) (out : List ℕ) → (took : TookStatement old new statement goes_on)
+    → IsOutput schema rows statement fault out → IsOutput schema rows took.bytes fault out
+of_all schema rows old new statement goes_on fault out took is =
+    kept_output schema rows took.bytes fault out (subst (λ kept. IsOutput schema rows kept fault out) took.kept is)
+
+pub goes_on : (schema : Schema) (rows : List (List Value)) (old before now taken_old taken_before taken_now : Option (List ℕ))
+    (statement : List ℕ) (first fault : Option Fault) → SoFar schema rows old before taken_old taken_before first
+    → TookStatement before now statement true → WroteOutput schema rows statement taken_before taken_now fault
+    → SoFar schema rows old now taken_old taken_now (first_of first fault)
+goes_on schema rows old before now taken_old taken_before taken_now statement first fault so_far took wrote = record {
+  text = so_far.text ++ took.bytes;
+  output = so_far.output ++ wrote.out;
+  came = Consumes-trans old before now so_far.text took.bytes so_far.came took.came;
+  went = Appends-trans taken_old taken_before taken_now so_far.output wrote.out so_far.went wrote.went;
+  answered = more took.bytes wrote.out fault so_far.answered (took.whole refl)
+      (of_all schema rows before now statement true fault wrote.out took wrote.is);
+}
+
+pub ends : (schema : Schema) (rows : List (List Value)) (old before now taken_old taken_before taken_now : Option (List ℕ))
+    (statement : List ℕ) (first fault : Option Fault) → SoFar schema rows old before taken_old taken_before first
+    → TookStatement before now statement false → WroteOutput schema rows statement taken_before taken_now fault
+    → Ended schema rows old now taken_old taken_now (first_of first fault)
+ends schema rows old before now taken_old taken_before taken_now statement first fault so_far took wrote = record {
+  text = so_far.text ++ took.bytes;
+  output = so_far.output ++ wrote.out;
+  came = Consumes-trans old before now so_far.text took.bytes so_far.came took.came;
+  end = took.end refl;
+  went = Appends-trans taken_old taken_before taken_now so_far.output wrote.out so_far.went wrote.went;
+  answered = whole took.bytes wrote.out fault so_far.answered (took.last refl)
+      (of_all schema rows before now statement false fault wrote.out took wrote.is);
+}
+
+-- it ended by another fault than that of a failed write
+pub stops : (schema : Schema) (rows : List (List Value)) (old now taken_old taken_now : Option (List ℕ))
+    (first : Option Fault) (fault : Fault) → SoFar schema rows old now taken_old taken_now first
+    → is_write_fault fault ≡ false → Stopped schema rows taken_old taken_now fault
+stops schema rows old now taken_old taken_now first fault so_far other = record {
+  text = so_far.text;
+  output = so_far.output;
+  first = first;
+  answered = so_far.answered;
+  went = λ _. so_far.went;
+  part = λ write. absurd (true_is_not_false (sym write ∙ other));
+}
+
+-- a text went out, and then a part of what follows it
+part_after : (old mid new : Option (List ℕ)) (text rest : List ℕ) → Appends old mid text → TookPart mid new rest
+    → TookPart old new (text ++ rest)
+part_after old mid new text rest went part = (
+  length text + part.0,
+  omega (arith, length-append text rest, part.1),
+  subst (Appends old new) (sym (take-append-add text rest part.0)) (Appends-trans old mid new text _ went part.2),
+)
+
+-- it ended by a failed write
+pub stops_writing : (schema : Schema) (rows : List (List Value)) (old now taken_old taken_before taken_now : Option (List ℕ))
+    (statement : List ℕ) (first : Option Fault) (fault : Fault) → SoFar schema rows old now taken_old taken_before first
+    → WrotePart schema rows statement taken_before taken_now → fault ≡ nowhere WRITE_FAILED
+    → Stopped schema rows taken_old taken_now fault
+stops_writing schema rows old now taken_old taken_before taken_now statement first fault so_far wrote failed = record {
+  text = so_far.text;
+  output = so_far.output;
+  first = first;
+  answered = so_far.answered;
+  went = λ other. absurd (true_is_not_false (ap is_write_fault (sym failed) ∙ other));
+  part = λ _. (
+    statement,
+    wrote.out,
+    wrote.fault,
+    wrote.is,
+    part_after taken_old taken_before taken_now so_far.output wrote.out so_far.went wrote.went,
+  );
+}
+
+-- what is read and written once more, as the loop has it
+pub goes_on_as : (schema : Schema) (rows : List (List Value)) (old before now taken_old taken_before taken_now : Option (List ℕ))
+    (statement sql : List ℕ) (first fault result : Option Fault) (goes : Bool)
+    → SoFar schema rows old before taken_old taken_before first → TookStatement before now statement goes → goes ≡ true
+    → WroteOutput schema rows sql taken_before taken_now fault → sql ≡ statement → result ≡ first_of first fault
+    → SoFar schema rows old now taken_old taken_now result
+goes_on_as schema rows old before now taken_old taken_before taken_now statement sql first fault result goes so_far took on wrote same is =
+    subst (SoFar schema rows old now taken_old taken_now) (sym is)
+    (goes_on schema rows old before now taken_old taken_before taken_now statement first fault so_far
+    (subst (TookStatement before now statement) on took)
+    (subst (λ text. WroteOutput schema rows text taken_before taken_now fault) same wrote))
+
+pub ends_as : (schema : Schema) (rows : List (List Value)) (old before now taken_old taken_before taken_now : Option (List ℕ))
+    (statement sql : List ℕ) (first fault result : Option Fault) (goes : Bool)
+    → SoFar schema rows old before taken_old taken_before first → TookStatement before now statement goes → goes ≡ false
+    → WroteOutput schema rows sql taken_before taken_now fault → sql ≡ statement → result ≡ first_of first fault
+    → Ended schema rows old now taken_old taken_now result
+ends_as schema rows old before now taken_old taken_before taken_now statement sql first fault result goes so_far took off wrote same is =
+    subst (Ended schema rows old now taken_old taken_now) (sym is)
+    (ends schema rows old before now taken_old taken_before taken_now statement first fault so_far
+    (subst (TookStatement before now statement) off took)
+    (subst (λ text. WroteOutput schema rows text taken_before taken_now fault) same wrote))
+
+-- a fault that isn't that of a failed write counts for none
+pub no_writes : (fault : Fault) (before after : ℕ) → is_write_fault fault ≡ false → after ≡ before
+    → after ≡ before + failed_writes fault
+no_writes fault before after other same =
+    let none : failed_writes fault ≡ 0 = ap (λ write. if write then 1 else 0) other in
+    omega (arith, same, none)
+
+-- a failed write counts for one, and for no failed read
+pub one_write : (fault : Fault) (before after : ℕ) → fault ≡ nowhere WRITE_FAILED → after ≡ before + 1
+    → after ≡ before + failed_writes fault
+one_write fault before after failed rose = rose ∙ ap (λ f. before + failed_writes f) (sym failed)
+
+pub no_reads : (fault : Fault) (before after : ℕ) → fault ≡ nowhere WRITE_FAILED → after ≡ before
+    → after ≡ before + failed_reads fault
+no_reads fault before after failed same =
+    let none : failed_reads fault ≡ 0 = ap failed_reads failed in
+    omega (arith, same, none)
+
+-- a fault of an input is no failed write
+pub input_alone : (fault : Fault) → IsTrue (is_input_fault fault) → is_write_fault fault ≡ false
+input_alone fault input = no_write_fault is_input_fault fault input refl

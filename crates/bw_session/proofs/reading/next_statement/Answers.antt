@@ -1,0 +1,24 @@
+use Rattle.std.proofs.Common.{◌≡◌, refl, sym, ◌∙◌, ap, rules, false, true}
+use Rattle.bw_session.specs.Standing.{after, is_ended}
+use Rattle.bw_session.proofs.ReadingLemmas.{begun, more, whole}
+use Rattle.bw_session.proofs.reading.next_statement.Goals as goal
+
+pub loop-init : goal.loop-init
+loop-init g c = record { reads = begun _ _ c.clear.ensures.items; count = refl }
+
+pub returns-then-is_ended-clause-statement : goal.returns-then-is_ended-clause-statement
+returns-then-is_ended-clause-statement g c =
+    let came = rw c.in-Some.is at c.in_ok-byte.ensures.byte in
+    let end : is_ended (after c.loop.standing c.in-Some.byte) ≡ true =
+    ap is_ended (sym c.after-standing.ensures) ∙ sym c.is_ended.ensures ∙ c.if-is_ended.true in
+    rw c.in_ok-keep_byte.ensures (whole _ _ _ _ _ _ c.loop.invariant.reads came end)
+
+pub loop-preserved : goal.loop-preserved
+loop-preserved g c =
+    let came = rw c.in-Some.is at c.in_ok-byte.ensures.byte in
+    let goes_on : is_ended (after c.loop.standing c.in-Some.byte) ≡ false =
+    ap is_ended (sym c.after-standing.ensures) ∙ sym c.is_ended.ensures ∙ c.if-is_ended.false in
+    record {
+      reads = rw c.in_ok-keep_byte.ensures (rw c.after-standing.ensures (more _ _ _ _ _ _ c.loop.invariant.reads came goes_on));
+      count = search rules;
+    }

@@ -1,0 +1,43 @@
+use Rattle.std.proofs.Common.{◌≡◌, refl, ap, ◌∙◌, ◌+◌, false, arith}
+use Rattle.bw_device.specs.Sink.{is_write_fault}
+use Rattle.bw_device.specs.Source.{failed_reads}
+use Rattle.bw_session.proofs.SessionLemmas.{begins, ends_as, goes_on_as, input_alone, no_reads, no_writes, one_write, stops, stops_writing}
+use Rattle.bw_session.proofs.session.answer_statements.Goals as goal
+
+pub loop-init : goal.loop-init
+loop-init g c = record { so_far = begins _ _ _ _; reads = refl; writes = refl }
+
+pub returns-in-Err : goal.returns-in-Err
+returns-in-Err g c =
+    let other : is_write_fault c.in-Err.fault ≡ false = input_alone c.in-Err.fault c.in-Err.ensures.fault in (
+      stops _ _ _ _ _ _ _ c.in-Err.fault c.loop.invariant.so_far other,
+      c.in-Err.ensures.failed ∙ ap (λ n. n + failed_reads c.in-Err.fault) c.loop.invariant.reads,
+      no_writes c.in-Err.fault _ _ other c.loop.invariant.writes,
+    )
+
+pub returns-in-Err-answer_one : goal.returns-in-Err-answer_one
+returns-in-Err-answer_one g c =
+    let failed = c.in-Err-answer_one.ensures in (
+      stops_writing _ _ _ _ _ _ _ _ _ c.in-Err-answer_one.fault c.loop.invariant.so_far failed.1 failed.0,
+      no_reads c.in-Err-answer_one.fault _ _ failed.0 (omega (arith, c.in-Ok.ensures.failed, c.loop.invariant.reads)),
+      one_write c.in-Err-answer_one.fault _ _ failed.0 (omega (arith, failed.2, c.loop.invariant.writes)),
+    )
+
+pub returns-then-not-more : goal.returns-then-not-more
+returns-then-not-more g c =
+    let wrote = c.in-Ok-answer_one.ensures in (
+      ends_as _ _ _ _ _ _ _ _ _ _ _ _ _ _ c.loop.invariant.so_far c.in-Ok.ensures.statement c.if-not-more.true wrote.0
+          c.deref.ensures.value c.first_of-first.ensures,
+      omega (arith, c.in-Ok.ensures.failed, c.loop.invariant.reads),
+      omega (arith, wrote.1, c.loop.invariant.writes),
+    )
+
+pub loop-preserved : goal.loop-preserved
+loop-preserved g c =
+    let wrote = c.in-Ok-answer_one.ensures in
+    record {
+      so_far = goes_on_as _ _ _ _ _ _ _ _ _ _ _ _ _ _ c.loop.invariant.so_far c.in-Ok.ensures.statement c.if-not-more.false
+          wrote.0 c.deref.ensures.value c.first_of-first.ensures;
+      reads = omega (arith, c.in-Ok.ensures.failed, c.loop.invariant.reads);
+      writes = omega (arith, wrote.1, c.loop.invariant.writes);
+    }

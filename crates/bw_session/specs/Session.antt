@@ -1,0 +1,127 @@
+-- What a session writes: for each statement its answer and an LF, or an LF alone, or nothing.
+use Rattle.std.specs.Prelude.{◌≡◌, ℕ, ◌+◌, Bool, true, false, List, [], ◌∷◌, ◌++◌, length, ◌&&◌, leb, if◌then◌else◌, Option, Some, None, Result, Ok, Err}
+use Rattle.std.specs.Io.KnownBytes.{Appends, Consumes, IsAtEnd}
+use Rattle.bw_model.specs.declared.fault.Fault.{Fault}
+use Rattle.bw_model.specs.declared.query.Query.{Query}
+use Rattle.bw_model.specs.declared.schema.Schema.{Schema}
+use Rattle.bw_model.specs.Column.{names_of}
+use Rattle.bw_model.specs.FaultTable.{WRITE_FAILED}
+use Rattle.bw_model.specs.Fault.{is_memory, nowhere}
+use Rattle.bw_model.specs.Row.{Value}
+use Rattle.bw_sql.specs.Limits.{longest_statement}
+use Rattle.bw_sql.specs.Statement.{IsReadAs}
+use Rattle.bw_answer.specs.Answer.{csv_text, meaning}
+use Rattle.bw_device.specs.Sink.{TookPart, is_write_fault}
+use Rattle.bw_device.specs.Source.{failed_reads}
+use Rattle.bw_session.specs.Silent.{is_silent}
+use Rattle.bw_session.specs.Standing.{IsWhole, is_open}
+
+-- a statement asks for nothing: it isn't too long, and has nothing but blanks, line ends and comments
+abbrev pub asks_nothing : List ℕ → Bool
+asks_nothing sql = leb (length sql) longest_statement && is_silent sql
+
+-- What a statement over rows is answered by, and its fault if it is refused. One that asks for nothing writes nothing. One
+-- that spells a query writes the CSV text of its meaning, and an LF. One that is refused writes an LF alone; where memory
+-- runs out any statement may be.
+pub data IsOutput (schema : Schema) (rows : List (List Value)) (sql : List ℕ) : Option Fault → List ℕ → Type 0 where
+  nothing : asks_nothing sql ≡ true → IsOutput schema rows sql None []
+  answer : (query : Query) → asks_nothing sql ≡ false → IsReadAs schema sql (Ok query)
+      → IsOutput schema rows sql None (csv_text (meaning (names_of schema.columns.items) query rows) ++ 10 ∷ [])
+  refusal : {fault : Fault} → asks_nothing sql ≡ false
+      → (is_memory fault ≡ false → IsReadAs schema sql (Err fault)) → IsOutput schema rows sql (Some fault) (10 ∷ [])
+
+-- what a statement is answered by went out
+pub record WroteOutput (schema : Schema) (rows : List (List Value)) (sql : List ℕ) (old new : Option (List ℕ))
+    (fault : Option Fault) : Type 0 where
+  pub out : List ℕ
+  pub is : IsOutput schema rows sql fault out
+  pub went : Appends old new out
+
+-- a part of it went out
+pub record WrotePart (schema : Schema) (rows : List (List Value)) (sql : List ℕ)
+    (old new : Option (List ℕ)) : Type 0 where
+  pub out : List ℕ
+  pub fault : Option Fault
+  pub is : IsOutput schema rows sql fault out
+  pub went : TookPart old new out
+
+-- how many writes failed in a call that refuses by this fault: one, if it is that of a failed write, and else none
+abbrev pub failed_writes : Fault → ℕ
+failed_writes fault = if is_write_fault fault then 1 else 0
+
+-- the first of two faults, if there is one
+abbrev pub first_of : Option Fault → Option Fault → Option Fault
+first_of (Some fault) other = Some fault
+first_of None other = other
+
+-- A text is statements one after another, each with what ends it, and what they are answered by follows one another too;
+-- so does their first fault.
+pub data AreAnswered (schema : Schema) (rows : List (List Value)) : List ℕ → Option Fault → List ℕ → Type 0 where
+  begun : AreAnswered schema rows [] None []
+  more : {text output : List ℕ} {first : Option Fault} (sql out : List ℕ) (fault : Option Fault) →
+      AreAnswered schema rows text first output → IsWhole sql → IsOutput schema rows sql fault out
+      → AreAnswered schema rows (text ++ sql) (first_of first fault) (output ++ out)
+
+-- A whole text is answered: its statements, and then what is left after the last one that ends.
+pub data IsAnswered (schema : Schema) (rows : List (List Value)) : List ℕ → Option Fault → List ℕ → Type 0 where
+  whole : {text output : List ℕ} {first : Option Fault} (sql out : List ℕ) (fault : Option Fault) →
+      AreAnswered schema rows text first output → is_open sql → IsOutput schema rows sql fault out
+      → IsAnswered schema rows (text ++ sql) (first_of first fault) (output ++ out)
+
+-- What went on so far in a session: a text came, and what its statements are answered by went out.
+pub record SoFar (schema : Schema) (rows : List (List Value)) (old now taken_old taken_now : Option (List ℕ))
+    (first : Option Fault) : Type 0 where
+  pub text : List ℕ
+  pub output : List ℕ
+  pub came : Consumes old now text
+  pub went : Appends taken_old taken_now output
+  pub answered : AreAnswered schema rows text first output
+
+-- A session over all of a source: its text came, and what it is answered by went out.
+pub record Ended (schema : Schema) (rows : List (List Value)) (old new taken_old taken_new : Option (List ℕ))
+    (first : Option Fault) : Type 0 where
+  pub text : List ℕ
+  pub output : List ℕ
+  pub came : Consumes old new text
+  pub end : IsAtEnd new
+  pub went : Appends taken_old taken_new output
+  pub answered : IsAnswered schema rows text first output
+
+-- A session that ended early: what some statements are answered by went out, and if a write failed, so did a part of what
+-- the next one is answered by.
+pub record Stopped (schema : Schema) (rows : List (List Value)) (taken_old taken_new : Option (List ℕ))
+    (fault : Fault) : Type 0 where
+  pub text : List ℕ
+  pub output : List ℕ
+  pub first : Option Fault
+  pub answered : AreAnswered schema rows text first output
+  pub went : is_write_fault fault ≡ false → Appends taken_old taken_new output
+  pub part : is_write_fault fault ≡ true → (sql out : List ℕ) × (refused : Option Fault)
+      × IsOutput schema rows sql refused out × TookPart taken_old taken_new (output ++ out)
+
+-- A session answered all statements of its source, and gives their first fault; or it ended early. The counts of failures
+-- rise by one where a failed read or write ended it, and else stay.
+abbrev pub Answers : Schema → List (List Value) → (old new taken_old taken_new : Option (List ℕ))
+    → (reads_before reads_after writes_before writes_after : ℕ) → Result (Option Fault) Fault → Type 0
+Answers schema rows old new taken_old taken_new reads_before reads_after writes_before writes_after (Ok first) =
+    Ended schema rows old new taken_old taken_new first
+    × (reads_after ≡ reads_before) × (writes_after ≡ writes_before)
+Answers schema rows old new taken_old taken_new reads_before reads_after writes_before writes_after (Err fault) =
+    Stopped schema rows taken_old taken_new fault
+    × (reads_after ≡ reads_before + failed_reads fault) × (writes_after ≡ writes_before + failed_writes fault)
+
+-- one statement is answered, or a write failed
+abbrev pub AnswersOne : Schema → List (List Value) → List ℕ → (old new : Option (List ℕ)) → (before after : ℕ)
+    → Result (Option Fault) Fault → Type 0
+AnswersOne schema rows sql old new before after (Ok fault) =
+    WroteOutput schema rows sql old new fault × (after ≡ before)
+AnswersOne schema rows sql old new before after (Err fault) =
+    (fault ≡ nowhere WRITE_FAILED) × WrotePart schema rows sql old new × (after ≡ before + 1)
+
+-- an LF went out, and this is given; or a write failed
+abbrev pub EndsLine : (old new : Option (List ℕ)) → (before after : ℕ) → Option Fault
+    → Result (Option Fault) Fault → Type 0
+EndsLine old new before after refused (Ok fault) =
+    (fault ≡ refused) × Appends old new (10 ∷ []) × (after ≡ before)
+EndsLine old new before after refused (Err fault) =
+    (fault ≡ nowhere WRITE_FAILED) × TookPart old new (10 ∷ []) × (after ≡ before + 1)

@@ -1,0 +1,57 @@
+-- Where a text of statements is cut: after the first ; outside a comment, and after an empty line.
+use Rattle.std.specs.Prelude.{◌≡◌, ℕ, Bool, true, false, List, [], ◌∷◌, ◌++◌, ◌==◌, ◌||◌, if◌then◌else◌}
+use Rattle.bw_session.specs.declared.standing.Standing.{Standing}
+use Rattle.bw_session.specs.declared.standing.Standing.TheVariants.{Blank, Text, Dash, Comment, Ended}
+
+-- a space, a tab or a CR
+abbrev pub is_blank : ℕ → Bool
+is_blank byte = (byte == 32) || (byte == 9) || (byte == 13)
+
+-- A text goes on after a part of it: with an LF begins a line of which only blanks came so far; a ; ends the statement;
+-- a dash may begin a comment; all else is text.
+abbrev pub after_text : ℕ → Standing
+after_text byte =
+    if byte == 10 then Blank else if byte == 59 then Ended else if byte == 45 then Dash else Text
+
+-- in a line of which only blanks came so far, an LF ends the statement: the line is empty
+abbrev pub after_blank : ℕ → Standing
+after_blank byte = if byte == 10 then Ended else if is_blank byte then Blank else after_text byte
+
+-- a second dash begins a comment, which an LF ends
+abbrev pub after_dash : ℕ → Standing
+after_dash byte = if byte == 45 then Comment else after_text byte
+
+abbrev pub after_comment : ℕ → Standing
+after_comment byte = if byte == 10 then Blank else Comment
+
+-- where a statement stands after one more byte
+abbrev pub after : Standing → ℕ → Standing
+after Blank byte = after_blank byte
+after Text byte = after_text byte
+after Dash byte = after_dash byte
+after Comment byte = after_comment byte
+after Ended byte = Ended
+
+-- where it stands after some bytes
+unfoldable pub standing_after : Standing → List ℕ → Standing
+standing_after standing [] = standing
+standing_after standing (byte ∷ rest) = standing_after (after standing byte) rest
+
+abbrev pub is_ended : Standing → Bool
+is_ended Blank = false
+is_ended Text = false
+is_ended Dash = false
+is_ended Comment = false
+is_ended Ended = true
+
+-- no statement ends in these bytes
+abbrev pub is_open : List ℕ → Type 0
+is_open bytes = is_ended (standing_after Blank bytes) ≡ false
+
+-- these bytes are a statement with what ends it: none ends before their last one, and it ends there
+pub record IsWhole (bytes : List ℕ) : Type 0 where
+  pub front : List ℕ
+  pub last : ℕ
+  pub is : bytes ≡ front ++ last ∷ []
+  pub before : is_open front
+  pub ended : is_ended (standing_after Blank bytes) ≡ true

@@ -1,0 +1,69 @@
+//! Reads statements from a source, one at a time.
+ghost use Rattle.std.specs.Prelude.{◌≡◌, ◌-◌, ◌^◌, ◌<◌, IfOk, IfErr, OnOk, IsTrue};
+ghost use Rattle.bw_model.specs.FaultTable.{READ_FAILED};
+ghost use Rattle.bw_model.specs.Fault.{nowhere};
+ghost use Rattle.bw_device.specs.Source.{TellsFailure, is_input_fault};
+ghost use Rattle.bw_session.specs.Reading.{TookByte, TookStatement, with_byte};
+
+use crate::standing::Standing;
+use bw_device::{Failed, Source};
+use bw_model::{Fault, code};
+use std::alloc::AllocError;
+
+/// A statement has at most this many bytes.
+pub(crate) const MAX_LEN: usize = 65_536;
+
+/// Reads the next statement with what ends it: a `;` outside a comment, an empty line or the end of the source. Of one
+/// that is longer than a statement may be, the first bytes are kept, one more than that. Gives whether more may come:
+/// false at the end of the source.
+///
+/// Takes one byte at a time, so that nothing after the statement is taken: hand it a source that reads ahead.
+pub(crate) fn next_statement<S: Source>(
+    source: &mut S,
+    statement: &mut Vec<u8>,
+) -> Result<bool, Fault>
+    requires { S.failures source.old < 2 ^ 64 - 1 }
+    ensures statement { IfOk result
+        (TookStatement (S.to_come source.old) (S.to_come source.new) statement.new.items) }
+    ensures failed { TellsFailure (S.failures source.old) (S.failures source.new) result }
+    ensures fault { IfErr result (λ fault. IsTrue (is_input_fault fault)) }
+{
+    statement.clear();
+    let mut standing = Standing::Blank;
+    for _ in 0..u64::MAX {
+        let Some(byte) = read_byte(source)? else {
+            return Ok(false);
+        };
+        keep_byte(statement, byte)?;
+        standing = standing.after(byte);
+        if standing.is_ended() {
+            return Ok(true);
+        }
+    }
+    Err(Fault::new(code::OUT_OF_MEMORY))
+}
+
+/// Reads one byte: none at the end of the source.
+fn read_byte<S: Source>(source: &mut S) -> Result<Option<u8>, Fault>
+    requires { S.failures source.old < 2 ^ 64 - 1 }
+    ensures byte { IfOk result (TookByte (S.to_come source.old) (S.to_come source.new)) }
+    ensures failed { TellsFailure (S.failures source.old) (S.failures source.new) result }
+    ensures fault { IfErr result (λ fault. fault ≡ nowhere READ_FAILED) }
+{
+    let mut byte = [0u8; 1];
+    match source.read(&mut byte) {
+        Ok(0) => Ok(None),
+        Ok(_) => Ok(Some(byte[0])),
+        Err(Failed) => Err(Fault::new(code::READ_FAILED)),
+    }
+}
+
+/// Keeps a byte of a statement, if no more than it may have are kept.
+fn keep_byte(statement: &mut Vec<u8>, byte: u8) -> Result<(), AllocError>
+    ensures { OnOk result (statement.new.items ≡ with_byte statement.old.items byte) }
+{
+    if statement.len() <= MAX_LEN {
+        statement.push(byte)?;
+    }
+    Ok(())
+}

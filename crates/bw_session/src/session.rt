@@ -1,0 +1,123 @@
+//! A session: statements of a source, answered one after another.
+ghost use Rattle.std.specs.Prelude.{◌≡◌, ◌-◌, ◌^◌, ◌<◌};
+ghost use Rattle.bw_device.specs.Sink.{is_write_fault};
+ghost use Rattle.bw_memory.specs.MemoryTable.{rows_of, schema_of};
+ghost use Rattle.bw_session.specs.Session.{Answers, AnswersOne, EndsLine, asks_nothing, first_of};
+
+use crate::listener::Listener;
+use crate::reading::{MAX_LEN, next_statement};
+use crate::silence::is_silent;
+use bw_device::{Sink, Source, write_whole};
+use bw_memory::MemoryTable;
+use bw_model::{Fault, code};
+use bw_query::answer_in_memory;
+use std::alloc::Global;
+
+/// Answers the statements of a source over a table in memory, one after another. A statement ends with a `;` outside a
+/// comment, with an empty line, or with the source. The sink takes, statement by statement, the CSV text of its meaning
+/// over the rows and an LF; an LF alone if it is refused; and nothing if it has nothing but blanks, line ends and
+/// comments. Each answer is written before the next statement is read. Gives the fault of the first statement that was
+/// refused, if one was.
+///
+/// A statement is refused as [`answer_in_memory`] does without a program file (401 to 408, 801), which doesn't end the
+/// session. That ends early by a failed read (701) or write (702), and if there is no memory for a statement's text
+/// (801). That each device's count of failures can rise is the caller's condition.
+pub fn answer_statements<S: Source, K: Sink, L: Listener>(
+    alloc: Global,
+    table: &MemoryTable,
+    input: &mut S,
+    sink: &mut K,
+    listener: &mut L,
+) -> Result<Option<Fault>, Fault>
+    requires input { S.failures input.old < 2 ^ 64 - 1 }
+    requires sink { K.failures sink.old < 2 ^ 64 - 1 }
+    ensures { Answers (schema_of table.now) (rows_of table.now) (S.to_come input.old) (S.to_come input.new)
+        (K.taken sink.old) (K.taken sink.new) (S.failures input.old) (S.failures input.new)
+        (K.failures sink.old) (K.failures sink.new) result }
+{
+    let mut statement = Vec::new(alloc);
+    let mut first = None;
+    for _ in 0..u64::MAX {
+        if input.share(1).is_none() {
+            listener.wait();
+        }
+        let more = match next_statement(input, &mut statement) {
+            Ok(more) => more,
+            Err(fault) => return Err(fault),
+        };
+        match answer_one(alloc, table, &statement, sink, listener) {
+            Ok(fault) => first = first_of(first, fault),
+            Err(fault) => return Err(fault),
+        }
+        if !more {
+            return Ok(first);
+        }
+    }
+    Err(Fault::new(code::OUT_OF_MEMORY))
+}
+
+/// Answers a statement, with an LF after its answer, and gives its fault, if it is refused. Refuses as 702 alone.
+fn answer_one<K: Sink, L: Listener>(
+    alloc: Global,
+    table: &MemoryTable,
+    sql: &[u8],
+    sink: &mut K,
+    listener: &mut L,
+) -> Result<Option<Fault>, Fault>
+    requires { K.failures sink.old < 2 ^ 64 - 1 }
+    ensures { AnswersOne (schema_of table.now) (rows_of table.now) sql.now (K.taken sink.old) (K.taken sink.new)
+        (K.failures sink.old) (K.failures sink.new) result }
+{
+    if asks_nothing(sql) {
+        return Ok(None);
+    }
+    match answer_in_memory(alloc, table, sql, None, sink) {
+        Ok(served) => {
+            listener.note_answer(&served);
+            end_line(sink, None)
+        }
+        Err(fault) => {
+            if is_write_fault(&fault) {
+                return Err(fault);
+            }
+            listener.note_refusal(sql, &fault);
+            end_line(sink, Some(fault))
+        }
+    }
+}
+
+/// Writes an LF, and gives back the fault of the statement before it. Refuses as 702 alone.
+fn end_line<K: Sink>(sink: &mut K, fault: Option<Fault>) -> Result<Option<Fault>, Fault>
+    requires { K.failures sink.old < 2 ^ 64 - 1 }
+    ensures { EndsLine (K.taken sink.old) (K.taken sink.new) (K.failures sink.old) (K.failures sink.new) fault
+        result }
+{
+    match write_whole(sink, b"\n") {
+        Ok(()) => Ok(fault),
+        Err(failed) => Err(failed),
+    }
+}
+
+/// Whether a write failed.
+fn is_write_fault(fault: &Fault) -> bool
+    ensures { result ≡ is_write_fault fault.now }
+{
+    fault.code == code::WRITE_FAILED
+}
+
+/// Whether a statement asks for nothing: it isn't too long, and has nothing but blanks, line ends and comments.
+fn asks_nothing(sql: &[u8]) -> bool
+    ensures { result ≡ asks_nothing sql.now }
+{
+    sql.len() <= MAX_LEN && is_silent(sql)
+}
+
+/// The first of two faults, if there is one.
+fn first_of(first: Option<Fault>, other: Option<Fault>) -> Option<Fault>
+    ensures { result ≡ first_of first other }
+{
+    match first {
+        Some(fault) => Some(fault),
+        None => other,
+    }
+}
