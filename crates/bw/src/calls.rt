@@ -3,7 +3,7 @@ ghost use Rattle.std.specs.Prelude.{◌-◌, ◌^◌, ◌<◌};
 
 use bw_file::{Layout, Sink, Source};
 use bw_model::Fault;
-use bw_shell::{Accepted, Served};
+use bw_shell::{Accepted, Listener, MemoryTable, Served};
 use std::alloc::Global;
 
 pub fn direct<S: Source, C: Source, K: Sink>(
@@ -57,6 +57,25 @@ pub fn answer<S: Source, K: Sink>(
     requires out { K.failures out.old < 2 ^ 64 - 1 }
 {
     bw_shell::answer(alloc, table, sql.as_bytes(), program, out)
+}
+
+pub fn read_table<S: Source>(alloc: Global, table: &mut S) -> Result<MemoryTable, Fault>
+    requires { S.failures table.old < 2 ^ 64 - 1 }
+{
+    MemoryTable::read(alloc, table)
+}
+
+pub fn answer_all<S: Source, K: Sink, L: Listener>(
+    alloc: Global,
+    table: &MemoryTable,
+    statements: &mut S,
+    out: &mut K,
+    listener: &mut L,
+) -> Result<Option<Fault>, Fault>
+    requires statements { S.failures statements.old < 2 ^ 64 - 1 }
+    requires out { K.failures out.old < 2 ^ 64 - 1 }
+{
+    bw_shell::answer_statements(alloc, table, statements, out, listener)
 }
 
 pub fn info<S: Source, K: Sink>(alloc: Global, table: &mut S, out: &mut K) -> Result<(), Fault>

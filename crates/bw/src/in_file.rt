@@ -80,7 +80,7 @@ impl Read for InFile {
     fn read(&mut self, buffer: &mut [u8]) -> io::Result<usize> {
         let done = self.file.read(buffer);
         match done {
-            Err(_) => self.reads = Reads::Failed,
+            Err(error) => self.reads = Reads::Failed(error),
             Ok(0) if !buffer.is_empty() && self.has_changed() => {
                 self.reads = Reads::Changed;
                 return Err(ErrorKind::Other.into());

@@ -11,7 +11,9 @@
 mod calls;
 mod in_file;
 mod out_file;
+mod out_stream;
 mod run;
+mod session;
 
 use std::process::ExitCode;
 

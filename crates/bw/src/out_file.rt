@@ -3,7 +3,7 @@ ghost use Rattle.std.specs.Prelude.{◌≡◌, None};
 
 use bw_file::{Failed, Sink};
 use std::fs::{self, File};
-use std::io::Write;
+use std::io::{self, Write};
 use std::os::unix::fs::MetadataExt;
 
 /// A file to write to. It's created, or emptied, at the first write, so that a call that writes nothing leaves it as it
@@ -14,6 +14,7 @@ pub struct OutFile<'a> {
     path: &'a str,
     file: Option<File>,
     failures: u64,
+    error: Option<io::Error>,
 }
 
 impl<'a> OutFile<'a> {
@@ -25,7 +26,13 @@ impl<'a> OutFile<'a> {
             path,
             file: None,
             failures: 0,
+            error: None,
         }
+    }
+
+    /// Why the system failed to create the file or to write to it, if it did.
+    pub fn error(&self) -> Option<io::Error> {
+        self.error
     }
 }
 
@@ -47,12 +54,16 @@ impl Sink for OutFile<'_> {
 
     fn write(&mut self, bytes: &[u8]) -> Result<usize, Failed> {
         if self.file.is_none() {
-            self.file = File::create(self.rt, self.path).ok();
+            match File::create(self.rt, self.path) {
+                Ok(file) => self.file = Some(file),
+                Err(error) => self.error = Some(error),
+            }
         }
         if let Some(file) = &mut self.file {
             match file.write(bytes) {
                 Ok(n) if n > 0 || bytes.is_empty() => return Ok(n),
-                _ => {}
+                Ok(_) => {}
+                Err(error) => self.error = Some(error),
             }
         }
         self.failures += 1;

@@ -2,19 +2,24 @@
 ghost use Rattle.std.specs.Prelude.{◌≡◌, IfOk};
 ghost use Rattle.bw_device.specs.ReadAhead.{read_failures};
 
-use crate::calls::{answer, check, direct, dump, infer, info, load, plan};
+use crate::calls::{
+    answer, answer_all, check, direct, dump, infer, info, load, plan, read_table,
+};
 use crate::in_file::InFile;
 use crate::out_file::{OutFile, is_same_file};
+use crate::out_stream::OutStream;
+use crate::session::Teller;
 use bw_device::ReadAhead;
 use bw_file::{FromRead, Layout, Source, ToWrite};
 use bw_model::{Fault, MAX_SCHEMA_LEN, code};
 use bw_shell::{
-    By, Input, MAX_PROGRAM_FILE_LEN, Served, accepted_line, read_limited, report, stats_line,
+    By, Input, MAX_PROGRAM_FILE_LEN, MemoryTable, Served, accepted_line, read_limited, report,
+    stats_line,
 };
 use bw_tell::{Ended, Reads, explain, explain_rows};
 use bw_words::{Asked, USAGE, Words, asked_by, words_given};
 use std::fs::File;
-use std::io::IsTerminal;
+use std::io::{self, IsTerminal, Stdin};
 use std::rt::{Env, Files};
 
 /// How many bytes of a table file are asked for at once.
@@ -46,9 +51,15 @@ fn run_asked(rt: &HostRuntime, asked: Asked<'_>) -> u8 {
     }
     let told = is_explained || rt.stderr().is_terminal();
     match run_words(rt, words, told) {
-        Ok(()) => 0,
+        Ok(status) => status,
+        Err(ended) if told && !is_explained && ended.is_closed_pipe() => status_alone(&ended.fault),
         Err(ended) => tell_fault(rt, &words, &ended, told),
     }
+}
+
+/// The status of a fault of which a person needn't read.
+fn status_alone(fault: &Fault) -> u8 {
+    report(fault, &mut ToWrite::new(io::sink()))
 }
 
 /// The input of a command that is the same file as what it is to write, by any name.
@@ -71,17 +82,18 @@ fn tell_fault(rt: &HostRuntime, words: &Words<'_>, ended: &Ended<'_>, told: bool
     status
 }
 
-/// Runs a command, and reports how it was done where that is wanted.
-fn run_words<'a>(rt: &HostRuntime, words: Words<'a>, told: bool) -> Result<(), Ended<'a>> {
+/// Runs a command, reports how it was done where that is wanted, and gives the status.
+fn run_words<'a>(rt: &HostRuntime, words: Words<'a>, told: bool) -> Result<u8, Ended<'a>> {
     match words {
-        Words::Direct { schema, csv, sql } => run_direct(rt, schema, csv, sql),
-        Words::Infer { name, csv } => run_infer(rt, name, csv),
+        Words::Session { stats, table } => return run_session(rt, stats, table, told),
+        Words::Direct { schema, csv, sql } => run_direct(rt, schema, csv, sql)?,
+        Words::Infer { name, csv } => run_infer(rt, name, csv)?,
         Words::Load {
             layout,
             schema,
             csv,
             out,
-        } => run_load(rt, layout, schema, csv, out),
+        } => run_load(rt, layout, schema, csv, out)?,
         Words::Query {
             program,
             stats,
@@ -92,13 +104,13 @@ fn run_words<'a>(rt: &HostRuntime, words: Words<'a>, told: bool) -> Result<(), E
             if told && matches!(served.by, By::Rows) {
                 explain_rows(rt, table, sql);
             }
-            Ok(())
         }
-        Words::Info { table } => run_info(rt, table),
-        Words::Dump { table } => run_dump(rt, table),
-        Words::Plan { schema, sql } => run_plan(rt, schema, sql),
-        Words::Check { schema, sql, file } => run_check(rt, schema, sql, file),
+        Words::Info { table } => run_info(rt, table)?,
+        Words::Dump { table } => run_dump(rt, table)?,
+        Words::Plan { schema, sql } => run_plan(rt, schema, sql)?,
+        Words::Check { schema, sql, file } => run_check(rt, schema, sql, file)?,
     }
+    Ok(0)
 }
 
 /// Runs `bw direct`: both files are opened before either is read.
@@ -111,27 +123,26 @@ fn run_direct<'a>(
     let (mut schema, mut csv) = open_both(rt, schema_path, csv_path)?;
     let mut schema_source = FromRead::new(&mut schema);
     let mut csv_source = FromRead::new(&mut csv);
-    let mut out = ToWrite::new(rt.stdout());
+    let mut out = OutStream::new(rt.stdout());
     let done = direct(
         rt.alloc(),
         &mut schema_source,
         &mut csv_source,
         sql,
-        &mut out,
+        &mut ToWrite::new(&mut out),
     );
-    or_ended(
-        done,
-        &[(schema_path, schema.reads()), (csv_path, csv.reads())],
-    )
+    let files = [(schema_path, schema.reads()), (csv_path, csv.reads())];
+    or_unwritten(done, &files, out.error())
 }
 
 /// Runs `bw infer`.
 fn run_infer<'a>(rt: &HostRuntime, name: Option<&str>, csv_path: &'a str) -> Result<(), Ended<'a>> {
     let mut csv = open(rt, csv_path)?;
     let mut source = FromRead::new(&mut csv);
-    let mut out = ToWrite::new(rt.stdout());
-    let done = infer(rt.alloc(), name.unwrap_or("t"), &mut source, &mut out);
-    or_ended(done, &[(csv_path, csv.reads())])
+    let mut out = OutStream::new(rt.stdout());
+    let name = name.unwrap_or("t");
+    let done = infer(rt.alloc(), name, &mut source, &mut ToWrite::new(&mut out));
+    or_unwritten(done, &[(csv_path, csv.reads())], out.error())
 }
 
 /// Runs `bw load`: both files are opened before either is read, and the third is created at the first write.
@@ -153,10 +164,8 @@ fn run_load<'a>(
         layout,
         &mut out,
     );
-    or_ended(
-        done,
-        &[(schema_path, schema.reads()), (csv_path, csv.reads())],
-    )
+    let files = [(schema_path, schema.reads()), (csv_path, csv.reads())];
+    or_unwritten(done, &files, out.error())
 }
 
 /// Runs `bw query`: the files are opened before any is read, and the program file is read first. Tells how the query
@@ -175,6 +184,48 @@ fn run_query<'a>(
         or_ended(stats_line(&served, &mut ToWrite::new(rt.stderr())), &[])?;
     }
     Ok(served)
+}
+
+/// Runs `bw session`: the table file is read whole, and then statements from standard input are answered on standard
+/// output. Gives the status of the first one that was refused.
+fn run_session<'a>(
+    rt: &HostRuntime,
+    stats: bool,
+    table_path: &'a str,
+    told: bool,
+) -> Result<u8, Ended<'a>> {
+    let table = open_table(rt, table_path)?;
+    let mut teller = Teller::new(rt, table.schema(), stats, told);
+    let mut statements = input_ahead(rt)?;
+    let mut out = OutStream::new(rt.stdout());
+    let done = answer_all(
+        rt.alloc(),
+        &table,
+        &mut statements,
+        &mut ToWrite::new(&mut out),
+        &mut teller,
+    );
+    let first = or_unwritten(done, &[], out.error())?;
+    Ok(first.map_or(0, |fault| status_alone(&fault)))
+}
+
+/// The table of a file, read into memory.
+fn open_table<'a>(rt: &HostRuntime, path: &'a str) -> Result<MemoryTable, Ended<'a>> {
+    let mut file = open(rt, path)?;
+    let mut source = ahead(rt, &mut file)?;
+    let done = read_table(rt.alloc(), &mut source);
+    drop(source);
+    or_ended(done, &[(path, file.reads())])
+}
+
+/// Standard input, of which the system is asked for as much as there is, up to a limit.
+fn input_ahead(rt: &HostRuntime) -> Result<ReadAhead<Stdin>, Ended<'static>>
+    ensures { IfOk result (λ source. read_failures source ≡ 0) }
+{
+    match ReadAhead::new(rt.alloc(), rt.stdin(), PIECE) {
+        Ok(source) => Ok(source),
+        Err(fault) => Err(Ended::of(fault, &[])),
+    }
 }
 
 /// The bytes of the program file that the command line names, if it names one.
@@ -197,10 +248,12 @@ fn answer_from<'a>(
     program: Option<&[u8]>,
 ) -> Result<Served, Ended<'a>> {
     let mut source = ahead(rt, &mut table)?;
-    let mut out = ToWrite::new(rt.stdout());
-    let done = answer(rt.alloc(), &mut source, sql, program, &mut out);
+    let mut out = OutStream::new(rt.stdout());
+    let mut sink = ToWrite::new(&mut out);
+    let done = answer(rt.alloc(), &mut source, sql, program, &mut sink);
+    drop(sink);
     drop(source);
-    or_ended(done, &[(path, table.reads())])
+    or_unwritten(done, &[(path, table.reads())], out.error())
 }
 
 /// The bytes of a program file, whole.
@@ -215,26 +268,29 @@ fn read_program<'a>(rt: &HostRuntime, path: &'a str, file: InFile) -> Result<Vec
 fn run_plan<'a>(rt: &HostRuntime, schema_path: &'a str, sql: &str) -> Result<(), Ended<'a>> {
     let schema = open(rt, schema_path)?;
     let schema = read_schema(rt, schema_path, schema)?;
-    let done = plan(rt.alloc(), &schema, sql, &mut ToWrite::new(rt.stdout()));
-    or_ended(done, &[])
+    let mut out = OutStream::new(rt.stdout());
+    let done = plan(rt.alloc(), &schema, sql, &mut ToWrite::new(&mut out));
+    or_unwritten(done, &[], out.error())
 }
 
 /// Runs `bw info`.
 fn run_info<'a>(rt: &HostRuntime, table_path: &'a str) -> Result<(), Ended<'a>> {
     let mut table = open(rt, table_path)?;
     let mut source = ahead(rt, &mut table)?;
-    let done = info(rt.alloc(), &mut source, &mut ToWrite::new(rt.stdout()));
+    let mut out = OutStream::new(rt.stdout());
+    let done = info(rt.alloc(), &mut source, &mut ToWrite::new(&mut out));
     drop(source);
-    or_ended(done, &[(table_path, table.reads())])
+    or_unwritten(done, &[(table_path, table.reads())], out.error())
 }
 
 /// Runs `bw dump`.
 fn run_dump<'a>(rt: &HostRuntime, table_path: &'a str) -> Result<(), Ended<'a>> {
     let mut table = open(rt, table_path)?;
     let mut source = ahead(rt, &mut table)?;
-    let done = dump(rt.alloc(), &mut source, &mut ToWrite::new(rt.stdout()));
+    let mut out = OutStream::new(rt.stdout());
+    let done = dump(rt.alloc(), &mut source, &mut ToWrite::new(&mut out));
     drop(source);
-    or_ended(done, &[(table_path, table.reads())])
+    or_unwritten(done, &[(table_path, table.reads())], out.error())
 }
 
 /// Runs `bw check`: both files are opened before either is read, and read in this order.
@@ -248,8 +304,9 @@ fn run_check<'a>(
     let schema = read_schema(rt, schema_path, schema)?;
     let file = read_program(rt, file_path, file)?;
     let accepted = or_ended(check(rt.alloc(), &schema, sql, &file), &[])?;
-    let told = accepted_line(&accepted, &mut ToWrite::new(rt.stdout()));
-    or_ended(told, &[])
+    let mut out = OutStream::new(rt.stdout());
+    let told = accepted_line(&accepted, &mut ToWrite::new(&mut out));
+    or_unwritten(told, &[], out.error())
 }
 
 /// The text of a schema, whole.
@@ -281,6 +338,18 @@ fn or_ended<'a, T>(done: Result<T, Fault>, files: &[(&'a str, Reads)]) -> Result
     }
 }
 
+/// The same of a call that writes, with the reason that a write failed for.
+fn or_unwritten<'a, T>(
+    done: Result<T, Fault>,
+    files: &[(&'a str, Reads)],
+    error: Option<io::Error>,
+) -> Result<T, Ended<'a>> {
+    match done {
+        Ok(given) => Ok(given),
+        Err(fault) => Err(Ended::of(fault, files).unwritten(error)),
+    }
+}
+
 /// Opens two files, in this order.
 fn open_both<'a>(
     rt: &HostRuntime,
@@ -295,7 +364,7 @@ fn open_both<'a>(
 fn open<'a>(rt: &HostRuntime, path: &'a str) -> Result<InFile, Ended<'a>> {
     match File::open(rt, path) {
         Ok(file) => Ok(InFile::new(file)),
-        Err(_) => Err(Ended::unread(path)),
+        Err(error) => Err(Ended::unread(path, error)),
     }
 }
 

@@ -1,4 +1,8 @@
-//! What could stand at a statement's fault, by the grammar.
+//! What is wrong with a statement, and what could stand at its fault by the grammar.
+use crate::missing::put_missing;
+use crate::names::put_columns;
+use crate::record::Named;
+use crate::tokens::{Token, next_token};
 use bw_model::{Fault, Place, Schema, code};
 use bw_sql::parse;
 use std::alloc::{AllocError, Global};
@@ -29,38 +33,8 @@ const CANDIDATES: [(&str, &str); 21] = [
     ("", "the end"),
 ];
 
-/// Words of SQL, and operators of other languages, that aren't in the language.
-const OTHERS: [&str; 26] = [
-    "GROUP",
-    "ORDER",
-    "HAVING",
-    "LIMIT",
-    "OFFSET",
-    "FETCH",
-    "JOIN",
-    "INNER",
-    "LEFT",
-    "RIGHT",
-    "OUTER",
-    "ON",
-    "USING",
-    "UNION",
-    "EXCEPT",
-    "INTERSECT",
-    "LIKE",
-    "DISTINCT",
-    "AVG",
-    "AS",
-    "CASE",
-    "CAST",
-    "EXISTS",
-    "ALL",
-    "ANY",
-    "WITH",
-];
-
-/// Says what could stand at the byte of a statement's syntax fault, and whether what does stand there is SQL that isn't
-/// in the language. The schema is the one under which the statement was refused.
+/// Says what is wrong with a statement that was refused under a schema: which parts of it aren't in the language; what
+/// could stand at a syntax fault; and the name of the table, or of a column, that was meant.
 pub(crate) fn of_statement(
     alloc: Global,
     schema: &Schema,
@@ -73,60 +47,32 @@ pub(crate) fn of_statement(
     };
     let at = usize::try_from(byte).unwrap_or(sql.len()).min(sql.len());
     let (before, after) = sql.split_at(at);
-    if let Some(word) = other_word(before, after) {
-        writeln!(
-            text,
-            "{word} isn't in the language: docs/SQL.md says what is, and what to do instead"
-        )?;
+    match fault.code {
+        code::STATEMENT_TOO_LONG => text.push_str("a statement has at most 65,536 bytes\n")?,
+        code::NESTING => text.push_str("at most 100 brackets and NOTs stand within one another\n")?,
+        code::LITERAL => text.push_str(
+            "a number is from -9223372036854775808 to 9223372036854775807\n",
+        )?,
+        _ => put_missing(&mut text, schema, sql)?,
     }
-    if fault.code == code::SYNTAX {
-        put_frontier(alloc, &mut text, schema, before)?;
+    match fault.code {
+        code::SYNTAX => put_frontier(alloc, &mut text, schema, before)?,
+        code::UNKNOWN_TABLE => writeln!(text, "the table's name is {}", Named(schema.name.as_bytes()))?,
+        code::UNKNOWN_COLUMN if text.is_empty() => put_columns(&mut text, schema, word_at(after))?,
+        code::MIXED_ITEMS if text.is_empty() => text.push_str(
+            "the items are columns alone, or COUNT, SUM, MIN and MAX alone\n",
+        )?,
+        _ => {}
     }
     Ok(text)
 }
 
-/// The word at a fault, or just before it, that is SQL but not in the language.
-fn other_word(before: &[u8], after: &[u8]) -> Option<&'static str> {
-    if after.starts_with(b"!=") {
-        return Some("!=");
+/// The word with which a text begins.
+fn word_at(text: &[u8]) -> &[u8] {
+    match next_token(text) {
+        Some((Token::Word(word), _)) => word,
+        _ => b"",
     }
-    if after.starts_with(b"=") && before.ends_with(b"=") {
-        return Some("==");
-    }
-    other_of(first_word(after)).or_else(|| other_of(last_word(before)))
-}
-
-/// A word of SQL that isn't in the language, if this is one, in any case.
-fn other_of(word: &[u8]) -> Option<&'static str> {
-    OTHERS
-        .iter()
-        .find(|other| word.eq_ignore_ascii_case(other.as_bytes()))
-        .copied()
-}
-
-/// The letters with which a text begins.
-fn first_word(text: &[u8]) -> &[u8] {
-    let end = text
-        .iter()
-        .take_while(|byte| byte.is_ascii_alphabetic())
-        .count();
-    &text[..end.min(text.len())]
-}
-
-/// The letters with which a text ends, but for blanks.
-fn last_word(text: &[u8]) -> &[u8] {
-    let blanks = text
-        .iter()
-        .rev()
-        .take_while(|byte| byte.is_ascii_whitespace())
-        .count();
-    let text = &text[..text.len().saturating_sub(blanks)];
-    let letters = text
-        .iter()
-        .rev()
-        .take_while(|byte| byte.is_ascii_alphabetic())
-        .count();
-    &text[text.len().saturating_sub(letters)..]
 }
 
 /// Says what could stand after the beginning of a statement.
@@ -144,7 +90,7 @@ fn put_frontier(
     }
     for (at, name) in names.iter().enumerate() {
         text.push_str(match at {
-            0 => "there could stand ",
+            0 => "expected ",
             _ if at + 1 == names.len() => " or ",
             _ => ", ",
         })?;

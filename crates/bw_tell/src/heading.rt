@@ -81,7 +81,7 @@ fn put_no_name(text: &mut String, heading: &ByteRecord) -> Result<(), AllocError
 }
 
 /// Says why a text is no name of a column.
-fn put_reason(text: &mut String, name: &[u8]) -> Result<(), AllocError> {
+pub(crate) fn put_reason(text: &mut String, name: &[u8]) -> Result<(), AllocError> {
     if name.is_empty() {
         return writeln!(text, "a name has a letter at least");
     }
@@ -128,8 +128,8 @@ fn put_kind(text: &mut String, csv: &[u8]) -> Result<bool, AllocError> {
     let kind = match csv {
         [0x1f, 0x8b, ..] => "compressed by gzip: gunzip it",
         [b'P', b'K', 3, 4, ..] => "a zip archive, or a workbook: unzip it, or save it as CSV",
-        [0xff, 0xfe, ..] | [0xfe, 0xff, ..] => "UTF-16: tools/to-numbers reads it",
-        [_, 0, _, 0, ..] | [0, _, 0, _, ..] => "UTF-16: tools/to-numbers reads it",
+        [0xff, 0xfe, ..] | [0xfe, 0xff, ..] => "UTF-16: tools/import loads it",
+        [_, 0, _, 0, ..] | [0, _, 0, _, ..] => "UTF-16: tools/import loads it",
         _ => return Ok(false),
     };
     writeln!(text, "the file is {kind}")?;
@@ -153,6 +153,6 @@ fn put_separator(text: &mut String, heading: &ByteRecord) -> Result<(), AllocErr
     };
     writeln!(
         text,
-        "fields seem to be separated by {separator}: tools/to-numbers reads such files"
+        "fields seem to be separated by {separator}: tools/import loads such files"
     )
 }

@@ -16,10 +16,14 @@ mod by_rows;
 mod csv_text;
 mod frontier;
 mod heading;
+mod kind;
 mod lines;
+mod missing;
+mod names;
 mod record;
 mod shown;
+mod tokens;
 mod told;
 mod unfit;
 
-pub use told::{Ended, Reads, explain, explain_rows};
+pub use told::{Ended, Reads, explain, explain_rows, explain_statement};

@@ -36,7 +36,7 @@ fn put_columns(
     put_open_quote(text, csv)?;
     if columns.seen.iter().any(|seen| seen.is_unfit) {
         text.push_str(
-            "tools/to-numbers makes whole numbers of texts, decimals, dates and the like\n",
+            "tools/import loads texts, decimals, dates and the like\n",
         )?;
     }
     Ok(())

@@ -1,7 +1,7 @@
 //! What the command line may be: `bw direct SCHEMA CSV SQL`, `bw infer [--table NAME] CSV`,
 //! `bw load [--layout planes|slices] SCHEMA CSV OUT`, `bw query [--program FILE] [--stats] TABLE SQL`,
-//! `bw plan SCHEMA SQL`, `bw check SCHEMA SQL FILE`, `bw info TABLE` or `bw dump TABLE`, each with `--explain` before
-//! the command or after it.
+//! `bw session [--stats] TABLE`, `bw plan SCHEMA SQL`, `bw check SCHEMA SQL FILE`, `bw info TABLE` or `bw dump TABLE`,
+//! each with `--explain` before the command or after it.
 use crate::words::Words;
 use bw_file::Layout;
 use clap::{Arg, ArgAction, ArgMatches, Command, Error};
@@ -60,7 +60,7 @@ struct Told {
 }
 
 /// The commands, in the order of the help.
-const COMMANDS: [Told; 8] = [
+const COMMANDS: [Told; 9] = [
     Told {
         name: "direct",
         about: "Answers a statement over the rows of a CSV file",
@@ -84,6 +84,12 @@ const COMMANDS: [Told; 8] = [
         about: "Answers a statement over the rows of a table file",
         example: "Example: bw query --stats trips.bw 'SELECT MAX(cents) FROM trips WHERE minutes < 10'",
         takes: &[PROGRAM, Taken::Stats, TABLE, Taken::Statement],
+    },
+    Told {
+        name: "session",
+        about: "Answers the statements on standard input over a table file that is read once",
+        example: "Example: bw session trips.bw < statements.sql",
+        takes: &[Taken::Stats, TABLE],
     },
     Told {
         name: "plan",
@@ -184,6 +190,7 @@ pub(crate) fn words_of<'a>(matches: &ArgMatches<'a>) -> Option<Words<'a>> {
         "infer" => infer_words(found),
         "load" => load_words(found),
         "query" => query_words(found),
+        "session" => session_words(found),
         "info" => info_words(found),
         "dump" => dump_words(found),
         "plan" => plan_words(found),
@@ -222,6 +229,13 @@ fn query_words<'a>(found: &ArgMatches<'a>) -> Option<Words<'a>> {
         stats: found.get_flag("stats"),
         table: found.get_str("TABLE")?,
         sql: found.get_str("SQL")?,
+    })
+}
+
+fn session_words<'a>(found: &ArgMatches<'a>) -> Option<Words<'a>> {
+    Some(Words::Session {
+        stats: found.get_flag("stats"),
+        table: found.get_str("TABLE")?,
     })
 }
 

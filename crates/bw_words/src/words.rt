@@ -25,6 +25,10 @@ pub enum Words<'a> {
         table: &'a str,
         sql: &'a str,
     },
+    Session {
+        stats: bool,
+        table: &'a str,
+    },
     Info {
         table: &'a str,
     },
@@ -67,9 +71,10 @@ impl<'a> Words<'a> {
     /// The table file that is read.
     pub fn table(self) -> Option<&'a str> {
         match self {
-            Words::Query { table, .. } | Words::Info { table } | Words::Dump { table } => {
-                Some(table)
-            }
+            Words::Query { table, .. }
+            | Words::Session { table, .. }
+            | Words::Info { table }
+            | Words::Dump { table } => Some(table),
             _ => None,
         }
     }
@@ -91,6 +96,29 @@ impl<'a> Words<'a> {
             | Words::Plan { sql, .. }
             | Words::Check { sql, .. } => Some(sql),
             _ => None,
+        }
+    }
+
+    /// The name of the table that the command line gives.
+    pub fn name(self) -> Option<&'a str> {
+        match self {
+            Words::Infer { name, .. } => name,
+            _ => None,
+        }
+    }
+
+    /// The command with what it takes, in order.
+    pub fn usage(self) -> &'static str {
+        match self {
+            Words::Direct { .. } => "bw direct SCHEMA CSV SQL",
+            Words::Infer { .. } => "bw infer [--table NAME] CSV",
+            Words::Load { .. } => "bw load [--layout planes|slices] SCHEMA CSV OUT",
+            Words::Query { .. } => "bw query [--program FILE] [--stats] TABLE SQL",
+            Words::Session { .. } => "bw session [--stats] TABLE",
+            Words::Info { .. } => "bw info TABLE",
+            Words::Dump { .. } => "bw dump TABLE",
+            Words::Plan { .. } => "bw plan SCHEMA SQL",
+            Words::Check { .. } => "bw check SCHEMA SQL FILE",
         }
     }
 

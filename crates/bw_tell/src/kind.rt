@@ -1,0 +1,45 @@
+//! What a file seems to be, by its first bytes.
+use bw_text::Opcode;
+
+/// What a file seems to be.
+#[derive(Clone, Copy, PartialEq, Eq)]
+pub(crate) enum Kind {
+    Table,
+    Schema,
+    Program,
+    Csv,
+}
+
+impl Kind {
+    /// What a file seems to be by its first bytes, if they show it.
+    pub(crate) fn of(bytes: &[u8]) -> Option<Self> {
+        if bytes.starts_with(b"BWCOLUMN") {
+            return Some(Kind::Table);
+        }
+        let line = bytes
+            .split(|byte| *byte == b'\n')
+            .find(|line| line.iter().any(|byte| !byte.is_ascii_whitespace()) && !line.starts_with(b"#"))?;
+        let word = line
+            .split(|byte| byte.is_ascii_whitespace())
+            .find(|word| !word.is_empty())?;
+        if word.eq_ignore_ascii_case(b"TABLE") || word.eq_ignore_ascii_case(b"COLUMN") {
+            Some(Kind::Schema)
+        } else if Opcode::of(word).is_some() {
+            Some(Kind::Program)
+        } else if line.iter().any(|byte| matches!(byte, b',' | b';' | b'\t' | b'|')) {
+            Some(Kind::Csv)
+        } else {
+            None
+        }
+    }
+
+    /// As a sentence names it.
+    pub(crate) fn name(self) -> &'static str {
+        match self {
+            Kind::Table => "a table file",
+            Kind::Schema => "a schema",
+            Kind::Program => "a program file",
+            Kind::Csv => "a CSV file",
+        }
+    }
+}

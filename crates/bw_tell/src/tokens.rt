@@ -1,0 +1,86 @@
+//! Tokens of what people write for a statement, other languages' among them.
+use bw_text::{begins_word, goes_on_in_word};
+
+/// A token.
+#[derive(Clone, Copy)]
+pub(crate) enum Token<'a> {
+    Word(&'a [u8]),
+    Number {
+        is_fraction: bool,
+    },
+    /// What stands in quotation marks of one kind.
+    Quoted(u8),
+    Mark(&'a [u8]),
+}
+
+/// The first token of a text, and the text after it.
+pub(crate) fn next_token(text: &[u8]) -> Option<(Token<'_>, &[u8])> {
+    let text = after_blanks(text);
+    let first = *text.first()?;
+    if begins_word(first) {
+        let (word, rest) = split_after(text, count(text, goes_on_in_word));
+        return Some((Token::Word(word), rest));
+    }
+    if matches!(first, b'\'' | b'"' | b'`') {
+        return Some((Token::Quoted(first), after_quote(text, first)));
+    }
+    let digits = count(text, is_digit);
+    let (_, after) = split_after(text, digits);
+    let decimals = match after.split_first() {
+        Some((b'.', fraction)) => count(fraction, is_digit),
+        _ => 0,
+    };
+    if digits > 0 || decimals > 0 {
+        let (_, rest) = split_after(after, if decimals > 0 { decimals.saturating_add(1) } else { 0 });
+        let is_fraction = decimals > 0;
+        return Some((Token::Number { is_fraction }, rest));
+    }
+    let is_pair = ["!=", "==", "<=", ">=", "<>", "||"]
+        .iter()
+        .any(|pair| text.starts_with(pair.as_bytes()));
+    let (mark, rest) = split_after(text, if is_pair { 2 } else { 1 });
+    Some((Token::Mark(mark), rest))
+}
+
+/// A text without the blanks, line ends and comments that it begins with.
+fn after_blanks(text: &[u8]) -> &[u8] {
+    let mut text = text;
+    for _ in 0..text.len() {
+        let (blanks, rest) = split_after(text, count(text, |byte| byte.is_ascii_whitespace()));
+        text = rest;
+        if text.starts_with(b"--") {
+            text = split_after(text, count(text, |byte| byte != b'\n')).1;
+        } else if blanks.is_empty() {
+            break;
+        }
+    }
+    text
+}
+
+/// What follows the text in quotation marks with which a text begins. Two marks in it stand for one; it may be open.
+fn after_quote(text: &[u8], quote: u8) -> &[u8] {
+    let mut rest = split_after(text, 1).1;
+    for _ in 0..text.len() {
+        rest = split_after(rest, count(rest, |byte| byte != quote)).1;
+        rest = split_after(rest, 1).1;
+        if rest.first() != Some(&quote) {
+            break;
+        }
+        rest = split_after(rest, 1).1;
+    }
+    rest
+}
+
+/// How many of the first bytes of a text are of one kind.
+fn count<F: Fn(u8) -> bool>(text: &[u8], is_kind: F) -> usize {
+    text.iter().take_while(|byte| is_kind(**byte)).count()
+}
+
+fn is_digit(byte: u8) -> bool {
+    byte.is_ascii_digit()
+}
+
+/// So many first bytes of a text, or all, and the others.
+fn split_after(text: &[u8], count: usize) -> (&[u8], &[u8]) {
+    text.split_at(count.min(text.len()))
+}
