@@ -9,6 +9,7 @@ import signal
 import subprocess
 import sys
 
+from . import deciding
 from .kinds import Refused
 from .source import SEPARATORS
 
@@ -28,6 +29,15 @@ def call(words, output=subprocess.PIPE):
     if status:
         print(f"bw {words[0]} ended with status {status}", file=sys.stderr)
         sys.exit(status if status > 0 else 128 - status)
+
+
+def table_name(given):
+    """The name of the table to load: the one that is given, or that of the file, or t where that is no name."""
+    stem = pathlib.Path(given.csv).stem
+    name = given.name or (stem if deciding.is_name(stem) else "t")
+    if not deciding.is_name(name):
+        raise Refused(f"--table: {deciding.shown(name)} is no name: letters, digits and _, and no word of SQL")
+    return name
 
 
 def one_character(text):
