@@ -1,6 +1,5 @@
 """Asks shards side by side by Dask's distributed scheduler: a local cluster, or one that runs already. A shard whose worker dies is
 asked again, of another worker, by the scheduler. Without Dask, shards are asked one after another."""
-import asyncio
 import contextlib
 import importlib.util
 import logging
@@ -77,7 +76,7 @@ class Cluster:
     def reply(self, future: Any) -> Reply:
         try:
             return future.result()
-        except (Exception, asyncio.CancelledError) as error:
+        except Exception as error:
             # whatever the cluster can't do, as when each worker that asked has died
             return 5, f"the cluster gives no answer: {type(error).__name__}: {error}", b""
 
