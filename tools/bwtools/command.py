@@ -1,5 +1,6 @@
 """What the tools share as commands: their options, the program that they call, and how they end."""
 import argparse
+import contextlib
 import csv
 import gc
 import os
@@ -83,6 +84,13 @@ def stop(number, _):
     raise SystemExit(128 + number)
 
 
+def drop_output():
+    """Lets go of standard output, of which the rest may not go out."""
+    with contextlib.suppress(OSError):
+        sys.stdout.flush()
+    sys.stdout = None
+
+
 def status_of(name, work):
     """Does a tool's work, and gives its status: 3 where something was refused, 5 where a file failed."""
     for number in (signal.SIGTERM, signal.SIGHUP):
@@ -90,12 +98,14 @@ def status_of(name, work):
             signal.signal(number, stop)
     # much is made and nothing of it goes round in a circle
     gc.disable()
-    if sys.stdout:
-        sys.stdout.reconfigure(errors="backslashreplace")
+    if not sys.stdout:
+        print(f"{name}: standard output is closed", file=sys.stderr)
+        return 5
+    # with PYTHONUNBUFFERED Python's own has no buffer, and drops without a word what the system doesn't write at once
+    sys.stdout = open(sys.stdout.fileno(), "w", encoding=sys.stdout.encoding, errors="backslashreplace", closefd=False)
     try:
         status = work() or 0
-        if sys.stdout:
-            sys.stdout.flush()
+        sys.stdout.flush()
         return status
     except (Refused, UnicodeError, csv.Error) as refused:
         print(f"{name}: {refused}", file=sys.stderr)
@@ -103,8 +113,9 @@ def status_of(name, work):
     except KeyboardInterrupt:
         return 130
     except BrokenPipeError:
-        sys.stdout = None
+        drop_output()
         return 5
     except OSError as error:
         print(f"{name}: {f'{error.filename}: ' if error.filename else ''}{error.strerror}", file=sys.stderr)
+        drop_output()
         return 5
