@@ -42,9 +42,10 @@ class Cluster:
         cloudpickle.register_pickle_by_value(sys.modules[__package__])
         logging.getLogger("distributed").setLevel(logging.CRITICAL)
         try:
-            self.client = self.stack.enter_context(distributed.Client(self.scheduler or self.local(), timeout=SECONDS))
-            self.client.wait_for_workers(1, timeout=SECONDS)
-        except (OSError, ValueError) as error:
+            client = self.stack.enter_context(distributed.Client(self.scheduler or self.local(), timeout=SECONDS))
+            client.wait_for_workers(1, timeout=SECONDS)
+            self.client = client
+        except Exception as error:
             where = f"the scheduler {self.scheduler}" if self.scheduler else "a cluster of this machine"
             self.stack.close()
             raise Refused(f"{where} can't be asked: {error}") from None
@@ -77,8 +78,10 @@ class Cluster:
         try:
             return future.result()
         except Exception as error:
-            # whatever the cluster can't do, as when each worker that asked has died
-            return 5, f"the cluster gives no answer: {type(error).__name__}: {error}", b""
+            # whatever the cluster can't do; Dask asks three workers at most
+            what = f"{type(error).__name__}: {error}"
+            died = "each worker that asked it has died"
+            return 5, f"the cluster gives no answer: {died if what.startswith('KilledWorker: ') else what}", b""
 
     def close(self) -> None:
         """Ends the local cluster, or leaves the one that was joined."""
