@@ -85,10 +85,10 @@ def stop(number, _):
 
 
 def drop_output():
-    """Lets go of standard output, of which the rest may not go out."""
+    """Writes what is left of standard output, or else lets it go nowhere, so that Python doesn't complain of it at the end."""
     with contextlib.suppress(OSError):
         sys.stdout.flush()
-    sys.stdout = None
+    os.dup2(os.open(os.devnull, os.O_WRONLY), sys.stdout.fileno())
 
 
 def status_of(name, work):
