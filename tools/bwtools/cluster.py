@@ -51,12 +51,15 @@ class Cluster:
             raise Refused(f"{where} can't be asked: {error}") from None
 
     def local(self) -> Any:
-        """A cluster of this machine, which listens at the loopback address alone, and whose files are in a temporary folder."""
+        """A cluster of this machine, which listens at the loopback address alone, and whose files are in a temporary folder. Where
+        Python has cryptography, workers and scheduler know one another by certificates that are made for them; else other users of
+        the machine could send them calls."""
         import distributed
+        is_closed = importlib.util.find_spec("cryptography") is not None
         folder = self.stack.enter_context(tempfile.TemporaryDirectory(prefix="bw-shards-"))
         return self.stack.enter_context(distributed.LocalCluster(
             n_workers=self.workers, threads_per_worker=1, processes=True, host="127.0.0.1", scheduler_port=0, memory_limit=0,
-            dashboard_address=None, local_directory=folder, silence_logs=logging.CRITICAL))
+            dashboard_address=None, local_directory=folder, silence_logs=logging.CRITICAL, security=is_closed))
 
     def replies(self, calls: List[Tuple[Any, ...]]) -> Iterator[Reply]:
         """What each call of ask_shard gives, in their order. An answer leaves the cluster once it's taken."""
