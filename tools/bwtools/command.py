@@ -1,5 +1,6 @@
 """What the tools share as commands: their options, the program that they call, and how they end."""
 import argparse
+import contextlib
 import csv
 import gc
 import os
@@ -9,6 +10,7 @@ import signal
 import subprocess
 import sys
 
+from . import deciding
 from .kinds import Refused
 from .source import SEPARATORS
 
@@ -28,6 +30,15 @@ def call(words, output=subprocess.PIPE):
     if status:
         print(f"bw {words[0]} ended with status {status}", file=sys.stderr)
         sys.exit(status if status > 0 else 128 - status)
+
+
+def table_name(given):
+    """The name of the table to load: the one that is given, or that of the file, or t where that is no name."""
+    stem = pathlib.Path(given.csv).stem
+    name = given.name or (stem if deciding.is_name(stem) else "t")
+    if not deciding.is_name(name):
+        raise Refused(f"--table: {deciding.shown(name)} is no name: letters, digits and _, and no word of SQL")
+    return name
 
 
 def one_character(text):
@@ -73,6 +84,13 @@ def stop(number, _):
     raise SystemExit(128 + number)
 
 
+def drop_output():
+    """Writes what is left of standard output, or else lets it go nowhere, so that Python doesn't complain of it at the end."""
+    with contextlib.suppress(OSError):
+        sys.stdout.flush()
+    os.dup2(os.open(os.devnull, os.O_WRONLY), sys.stdout.fileno())
+
+
 def status_of(name, work):
     """Does a tool's work, and gives its status: 3 where something was refused, 5 where a file failed."""
     for number in (signal.SIGTERM, signal.SIGHUP):
@@ -80,12 +98,14 @@ def status_of(name, work):
             signal.signal(number, stop)
     # much is made and nothing of it goes round in a circle
     gc.disable()
-    if sys.stdout:
-        sys.stdout.reconfigure(errors="backslashreplace")
+    if not sys.stdout:
+        print(f"{name}: standard output is closed", file=sys.stderr)
+        return 5
+    # with PYTHONUNBUFFERED Python's own has no buffer, and drops without a word what the system doesn't write at once
+    sys.stdout = open(sys.stdout.fileno(), "w", encoding=sys.stdout.encoding, errors="backslashreplace", closefd=False)
     try:
         status = work() or 0
-        if sys.stdout:
-            sys.stdout.flush()
+        sys.stdout.flush()
         return status
     except (Refused, UnicodeError, csv.Error) as refused:
         print(f"{name}: {refused}", file=sys.stderr)
@@ -93,8 +113,9 @@ def status_of(name, work):
     except KeyboardInterrupt:
         return 130
     except BrokenPipeError:
-        sys.stdout = None
+        drop_output()
         return 5
     except OSError as error:
         print(f"{name}: {f'{error.filename}: ' if error.filename else ''}{error.strerror}", file=sys.stderr)
+        drop_output()
         return 5

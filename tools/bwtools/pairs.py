@@ -25,8 +25,7 @@ class Meanings:
 
     def compare(self, table, file):
         """Refuses an open table file that the columns don't belong to."""
-        if {name: self.table.get(name) for name in ("size", "changed", "inode")} != marks_of(file) and \
-                self.table.get("sha256") != sum_of(file):
+        if not is_of(self.table, file):
             raise Refused(f"{self.path} belongs to another table than {table}, which has changed since or was put there: "
                           "import writes both anew")
 
@@ -54,10 +53,21 @@ def sum_of(file):
     return found.hexdigest()
 
 
+def file_record(path):
+    """What a file of columns says of a table file."""
+    with open(path, "rb") as file:
+        return {**marks_of(file), "sha256": sum_of(file)}
+
+
 def table_record(name, path):
     """What a file of columns says of its table."""
-    with open(path, "rb") as file:
-        return {"name": name, **marks_of(file), "sha256": sum_of(file)}
+    return {"name": name, **file_record(path)}
+
+
+def is_of(record, file):
+    """Whether an open file is the one of a record: by what it's known by, or else by its bytes."""
+    return {name: record.get(name) for name in ("size", "changed", "inode")} == marks_of(file) or \
+        record.get("sha256") == sum_of(file)
 
 
 def columns_beside(table):

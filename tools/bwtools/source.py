@@ -44,8 +44,8 @@ class Chunk:
 class Source:
     """The file to read, which is read more than once."""
 
-    def __init__(self, path, given):
-        self.path, self.file = path, open(path, "rb")
+    def __init__(self, path, given, most_rows=MOST_ROWS):
+        self.path, self.file, self.most_rows = path, open(path, "rb"), most_rows
         if not stat.S_ISREG(os.fstat(self.file.fileno()).st_mode):
             piped, self.file = self.file, tempfile.TemporaryFile()
             shutil.copyfileobj(piped, self.file)
@@ -152,9 +152,9 @@ class Source:
             left -= chunk.headings
             self.empty += chunk.empty
             self.count += len(chunk.rows)
-            if self.count > MOST_ROWS:
-                line = chunk.line_of(MOST_ROWS - self.count + len(chunk.rows))
-                raise Refused(f"{self.path}: line {line}: a table has at most {MOST_ROWS:,} rows")
+            if self.count > self.most_rows:
+                line = chunk.line_of(self.most_rows - self.count + len(chunk.rows))
+                raise Refused(f"{self.path}: line {line}: a table has at most {self.most_rows:,} rows; tools/shards loads more")
             if set(map(len, chunk.rows)) - {width}:
                 place = next(place for place, row in enumerate(chunk.rows) if len(row) != width)
                 raise Refused(f"{self.path}: line {chunk.line_of(place)} has {counted(len(chunk.rows[place]), 'field')}, "

@@ -9,7 +9,7 @@ import tempfile
 from . import kinds, spelling
 from .deciding import MOST_KNOWN, decide, names_of, shown
 from .kinds import Refused, counted
-from .source import Source
+from .source import MOST_ROWS, Source
 
 MOST_BYTES = 1 << 30
 
@@ -86,8 +86,8 @@ class Written(dict):
 class Table:
     """A file's rows as numbers, and what they mean."""
 
-    def __init__(self, path, given):
-        self.source = Source(path, given)
+    def __init__(self, path, given, most_rows=MOST_ROWS):
+        self.source = Source(path, given, most_rows)
         self.seen, decided = decide(self.source, given)
         found = [kind or kinds.Texts(sorted(seen.texts)) for kind, seen in zip(decided, self.seen)]
         for seen in self.seen:
@@ -96,20 +96,25 @@ class Table:
                         for name, seen, kind in zip(names_of(self.source.headings), self.seen, found)]
 
     def write(self, path):
-        """Writes the numbers of all rows."""
+        """Writes the numbers of all rows, for one table."""
+        with open(path, "w", encoding="ascii", newline="") as out:
+            self.write_to(out)
+        if os.path.getsize(path) > MOST_BYTES:
+            raise Refused(f"{self.source.path}: its numbers would be more than 1 GiB of CSV, which is the most that is loaded; "
+                          "tools/shards loads more")
+
+    def write_to(self, out):
+        """Writes the numbers of all rows: the heading at once, and then whole lines."""
         count, size = self.source.count, os.fstat(self.source.file.fileno())
         null = "NULL" if len(self.columns) == 1 else ""
         self.written = [Written(column.heading, column.kind, null, column.nulls) for column in self.columns]
-        with open(path, "w", encoding="ascii", newline="") as out:
-            out.write(",".join(column.name for column in self.columns) + "\n")
-            for chunk in self.source.chunks():
-                found = [each.written(fields) for each, fields in zip(self.written, zip(*chunk.rows))]
-                out.write("\n".join(map(",".join, zip(*found))) + "\n")
+        out.write(",".join(column.name for column in self.columns) + "\n")
+        for chunk in self.source.chunks():
+            found = [each.written(fields) for each, fields in zip(self.written, zip(*chunk.rows))]
+            out.write("\n".join(map(",".join, zip(*found))) + "\n")
         after = os.fstat(self.source.file.fileno())
         if count != self.source.count or (size.st_size, size.st_mtime_ns) != (after.st_size, after.st_mtime_ns):
             raise Refused(f"{self.source.path}: the file has changed while it was read")
-        if os.path.getsize(path) > MOST_BYTES:
-            raise Refused(f"{self.source.path}: its numbers would be more than 1 GiB of CSV, which is the most that is loaded")
         for column, each in zip(self.columns, self.written):
             column.ends = each.ends()
 

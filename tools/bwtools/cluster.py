@@ -1,0 +1,110 @@
+"""Asks shards side by side by Dask's distributed scheduler: a local cluster, or one that runs already. A shard whose worker dies is
+asked again, of another worker, by the scheduler. Without Dask, shards are asked one after another."""
+import contextlib
+import importlib.util
+import logging
+import os
+import sys
+import tempfile
+from typing import Any, Iterator, List, Optional, Tuple
+
+from .kinds import Refused
+from .shards import Reply, ask_shard
+
+MISSING = "Dask's distributed isn't installed for {} (python3-distributed of Debian)"
+# how long a scheduler, and the first worker, is waited for
+SECONDS = 10
+
+
+class InTurn:
+    """Asks shards one after another."""
+
+    def replies(self, calls: List[Tuple[Any, ...]]) -> Iterator[Reply]:
+        """What each call of ask_shard gives, in their order."""
+        return (ask_shard(*call) for call in calls)
+
+    def close(self) -> None:
+        """Ends nothing."""
+
+
+class Cluster:
+    """Asks shards by the workers of a cluster, which is started or joined for the first statement."""
+
+    def __init__(self, workers: int, scheduler: Optional[str]) -> None:
+        self.workers, self.scheduler, self.client = workers, scheduler, None
+        self.stack = contextlib.ExitStack()
+
+    def start(self) -> None:
+        # these load slowly, and only here is it known that they're needed
+        import cloudpickle
+        import distributed
+        # workers elsewhere have no package of this name: they get its functions themselves
+        cloudpickle.register_pickle_by_value(sys.modules[__package__])
+        logging.getLogger("distributed").setLevel(logging.CRITICAL)
+        try:
+            client = self.stack.enter_context(distributed.Client(self.scheduler or self.local(), timeout=SECONDS))
+            client.wait_for_workers(1, timeout=SECONDS)
+            self.client = client
+        except Exception as error:
+            where = f"the scheduler {self.scheduler}" if self.scheduler else "a cluster of this machine"
+            self.stack.close()
+            raise Refused(f"{where} can't be asked: {error}") from None
+
+    def local(self) -> Any:
+        """A cluster of this machine, which listens at the loopback address alone, and whose files are in a temporary folder. Where
+        Python has cryptography, workers and scheduler know one another by certificates that are made for them; else other users of
+        the machine could send them calls."""
+        import distributed
+        is_closed = importlib.util.find_spec("cryptography") is not None
+        folder = self.stack.enter_context(tempfile.TemporaryDirectory(prefix="bw-shards-"))
+        return self.stack.enter_context(distributed.LocalCluster(
+            n_workers=self.workers, threads_per_worker=1, processes=True, host="127.0.0.1", scheduler_port=0, memory_limit=0,
+            dashboard_address=None, local_directory=folder, silence_logs=logging.CRITICAL, security=is_closed))
+
+    def replies(self, calls: List[Tuple[Any, ...]]) -> Iterator[Reply]:
+        """What each call of ask_shard gives, in their order. An answer leaves the cluster once it's taken."""
+        if self.client is None:
+            self.start()
+
+        def asked(*call: Any) -> Reply:
+            return ask_shard(*call)
+
+        futures = [self.client.submit(asked, *call, pure=False) for call in calls]
+        try:
+            while futures:
+                yield self.reply(futures[0])
+                futures.pop(0).release()
+        finally:
+            self.client.cancel(futures)
+
+    def reply(self, future: Any) -> Reply:
+        try:
+            return future.result()
+        except Exception as error:
+            # whatever the cluster can't do; Dask asks three workers at most
+            what = f"{type(error).__name__}: {error}"
+            died = "each worker that asked it has died"
+            return 5, f"the cluster gives no answer: {died if what.startswith('KilledWorker: ') else what}", b""
+
+    def close(self) -> None:
+        """Ends the local cluster, or leaves the one that was joined."""
+        self.stack.close()
+
+
+def is_installed() -> bool:
+    """Whether this Python has Dask's distributed scheduler."""
+    return all(importlib.util.find_spec(name) for name in ("distributed", "cloudpickle"))
+
+
+def engine(count: int, workers: Optional[int], scheduler: Optional[str]) -> Any:
+    """What asks so many shards."""
+    if scheduler:
+        if not is_installed():
+            raise Refused(f"--scheduler: {MISSING.format(sys.executable)}")
+        return Cluster(0, scheduler)
+    if workers == 0 or count == 1:
+        return InTurn()
+    if not is_installed():
+        print(f"shards: {MISSING.format(sys.executable)}: the shards are asked one after another", file=sys.stderr)
+        return InTurn()
+    return Cluster(min(count, workers or len(os.sched_getaffinity(0))), None)

@@ -1,0 +1,132 @@
+"""A folder of shards: tables that one file was split into, and one file that says what their numbers mean and which table files
+belong to it. Each shard is asked on its own, and their answers are joined into the one that a single table would have given.
+
+`ask_shard` and what it calls use the standard library alone, so that a worker on another machine can run them."""
+import os
+import pathlib
+import shutil
+import subprocess
+from typing import Any, BinaryIO, Dict, Iterable, List, Optional, Sequence, Tuple
+
+from . import pairs
+from .kinds import Column, Refused
+from .pairs import is_of
+
+FILE = "shards.columns"
+FOREIGN = "isn't the table that {} names: it has changed since or was put there; shards load writes all of them anew"
+
+# What asking a shard gives: the status of bw, or of a table file that can't be asked; what was said of it; and the answer
+Reply = Tuple[int, str, bytes]
+Record = Dict[str, Any]
+
+
+class Folder:
+    """A folder of shards: the columns of its tables, their name, and the records of the table files, in the rows' order."""
+
+    def __init__(self, path: str) -> None:
+        self.path, self.file = path, os.path.join(path, FILE)
+        if not os.path.exists(self.file):
+            raise Refused(f"{path} is no folder of shards: {self.file} isn't there, which shards load writes")
+        found = pairs.Meanings(self.file)
+        try:
+            self.name: str = found.table["name"]
+            self.shards: List[Record] = [dict(record) for record in found.table["shards"]]
+            names = [record["file"] for record in self.shards]
+            is_whole = bool(names) and all(os.path.basename(name) == name != "" for name in names)
+        except (KeyError, TypeError, ValueError):
+            is_whole = False
+        if not is_whole:
+            raise Refused(f"{self.file} is no file of columns that shards load wrote")
+        self.columns: List[Column] = found.columns
+
+    def path_of(self, place: int) -> str:
+        return os.path.join(self.path, self.shards[place]["file"])
+
+    def foreign_files(self) -> List[str]:
+        """The files in the folder that aren't of its shards."""
+        own = {FILE, *(record["file"] for record in self.shards)}
+        return sorted(set(os.listdir(self.path)) - own)
+
+
+def ask_shard(program: str, path: str, record: Record, columns: str, options: Sequence[str], statement: str) -> Reply:
+    """Asks a table file by bw, if it's the one of the record. The very file that was compared is read."""
+    found = program if os.access(program, os.X_OK) else shutil.which("bw") or program
+    try:
+        with open(path, "rb") as table:
+            if not is_of(record, table):
+                return 3, FOREIGN.format(columns), b""
+            done = subprocess.run([found, "query", *options, f"/dev/fd/{table.fileno()}", statement], stdin=subprocess.DEVNULL,
+                                  capture_output=True, pass_fds=[table.fileno()], check=False)
+    except OSError as error:
+        return 5, f"{error.filename}: {error.strerror}" if error.filename != path else str(error.strerror), b""
+    if done.returncode < 0:
+        return 128 - done.returncode, f"bw was ended by signal {-done.returncode}", b""
+    return done.returncode, done.stderr.decode("utf-8", "replace"), done.stdout
+
+
+def is_of_statement(reply: Reply) -> bool:
+    """Whether a fault is one of the statement, which each shard would give."""
+    return reply[0] == 3 and reply[1].startswith("bw: 4")
+
+
+class Joined:
+    """The answers of shards as one: rows follow one another in a file, and totals are kept until the end."""
+
+    def __init__(self, out: BinaryIO) -> None:
+        self.out, self.heading = out, b""
+        self.totals: Optional[List[List[Optional[int]]]] = None
+
+    def add(self, answer: bytes) -> None:
+        """Takes the next shard's answer."""
+        heading = answer[:answer.find(b"\n") + 1]
+        if not self.heading:
+            self.heading = heading
+            self.out.write(heading)
+            self.totals = [[] for _ in heading.split(b",")] if b"(" in heading else None
+        if not heading or heading != self.heading:
+            raise Refused(f"the shards' answers have several headings: {self.heading!r} and {heading!r}")
+        if self.totals is None:
+            self.out.write(memoryview(answer)[len(heading):])
+            return
+        fields = answer[len(heading):].decode().rstrip("\n").split(",")
+        if len(fields) != len(self.totals):
+            raise Refused(f"a shard's answer has {len(fields)} totals, and not {len(self.totals)}")
+        for values, field in zip(self.totals, fields):
+            values.append(None if field == "NULL" else int(field))
+
+    def end(self) -> None:
+        """Writes the totals, after the last answer."""
+        if self.totals is not None:
+            functions = [item.partition("(")[0] for item in self.heading.decode().split(",")]
+            found = [total(function, values) for function, values in zip(functions, self.totals)]
+            self.out.write((",".join("NULL" if value is None else str(value) for value in found) + "\n").encode())
+        self.out.seek(0)
+
+
+def total(function: str, values: Iterable[Optional[int]]) -> Optional[int]:
+    """The total over all rows, from those of the shards. None is null, the total of no value; a COUNT is never null."""
+    present = [value for value in values if value is not None]
+    if not present:
+        return None
+    return {"COUNT": sum, "SUM": sum, "MIN": min, "MAX": max}[function](present)
+
+
+def refuse_folder(path: str) -> None:
+    """Refuses a folder to write that is there and holds anything but shards that were loaded before."""
+    if not os.path.lexists(path):
+        return
+    if os.path.islink(path) or not os.path.isdir(path):
+        raise Refused(f"{path} would be written over, and is {'a symlink' if os.path.islink(path) else 'no folder'}")
+    if not os.listdir(path):
+        return
+    try:
+        foreign = Folder(path).foreign_files()
+    except Refused as refused:
+        raise Refused(f"{path} would be written over: {refused}") from None
+    if foreign:
+        raise Refused(f"{path} would be written over, and has {foreign[0]}, which isn't of its shards")
+
+
+def paths_of(folder: pathlib.Path, place: int) -> pathlib.Path:
+    """The path of a shard's table file."""
+    return folder / f"shard-{place + 1:03}.bw"
