@@ -48,9 +48,10 @@ class Whole:
     def told(self):
         return "whole numbers as they are"
 
-    def plain(self):
-        """What many fields of the column that come back as they stand have in common: the digits, or the signs of a time."""
-        return 0 if self.name == "whole" else None
+    def returns(self, style):
+        """Whether a number that is spelled as numbers with so many digits after the point are, or a time that is spelled in a
+        format, with so many digits and a zone, comes back as it stands."""
+        return style == 0
 
 
 class Decimals(Whole):
@@ -90,8 +91,8 @@ class Decimals(Whole):
     def told(self):
         return f"decimals times 10^{self.digits}"
 
-    def plain(self):
-        return self.digits if not self.trimmed and self.mark == "." else None
+    def returns(self, style):
+        return self.trimmed or style == self.digits
 
 
 class Dates(Whole):
@@ -184,9 +185,8 @@ class Times(Dates):
     def told(self):
         return f"times{self.shown()}{' of UTC' if self.zone else ''} as {self.unit()} since 1970"
 
-    def plain(self):
-        is_plain = self.form in ("%Y-%m-%dT%H:%M:%S", "%Y-%m-%d %H:%M:%S") and not self.digits
-        return [self.form[8], self.zone] if is_plain else None
+    def returns(self, style):
+        return style == (self.form, self.digits, self.zone)
 
     def unit(self):
         return {0: "seconds", 3: "milliseconds", 6: "microseconds"}.get(self.digits, f"seconds times 10^{self.digits}")

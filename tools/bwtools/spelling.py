@@ -2,6 +2,7 @@
 import collections
 import datetime
 import functools
+import operator
 import re
 
 FIRST_DAY = datetime.date(1970, 1, 1).toordinal()
@@ -65,57 +66,103 @@ def exact(value, digits, power):
     return (value, digits) if digits >= 0 else (value * 10 ** -digits, 0)
 
 
+# Numbers of fields that all are spelled as numbers come back: they are times ten to `digits`, and `counts` says how many fields
+# have how many digits after the decimal sign `mark`
+PlainNumbers = collections.namedtuple("PlainNumbers", "numbers digits counts mark")
+
+# The seconds since 1970 of fields that all are times of one shape, times ten to `digits`; `style` is how such times come back,
+# or None where they don't come back as they stand
+PlainTimes = collections.namedtuple("PlainTimes", "numbers digits style")
+
+
 def plain_numbers(fields):
-    """The numbers of fields that all are spelled as numbers come back, with the same number of digits after the point, and
-    that number; or None where one isn't."""
-    digits = len(fields[0].partition(".")[2])
+    """The numbers of fields that all are spelled as numbers come back, or None where one isn't."""
     if max(map(len, fields)) > LONGEST:
         return None
     joined = "\n".join(fields) + "\n"
-    if digits and not plain_of(digits).fullmatch(joined):
+    if "." not in joined and "," not in joined:
+        return PlainNumbers(list(map(int, fields)), 0, {0: len(fields)}, None) if are_whole(fields, joined) else None
+    mark = "," if "," in joined else "."
+    if not plain_of(mark).fullmatch(joined):
         return None
-    try:
-        numbers = list(map(int, joined.replace(".", "").split() if digits else fields))
-    except ValueError:
-        return None
-    return (digits, numbers) if digits or list(map(str, numbers)) == list(fields) else None
+    counts = collections.Counter(lengths := [len(field.partition(mark)[2]) for field in fields])
+    digits = max(counts)
+    numbers = map(int, joined.replace(mark, "").split())
+    if len(counts) > 1:
+        numbers = map(operator.mul, numbers, map([10 ** (digits - length) for length in range(digits + 1)].__getitem__, lengths))
+    return PlainNumbers(list(numbers), digits, dict(counts), mark)
 
 
-class Seconds(dict):
-    """The second of the day of each time of day that was met."""
+def are_whole(fields, joined):
+    """Whether fields, and they joined with a line feed after each, all are whole numbers as they come back."""
+    digits = joined.replace("\n", "").replace("-", "")
+    # ASCII alone: other scripts have digits too
+    if not digits.isdigit() or not digits.isascii() or "-0" in joined or "--" in joined or "-\n" in joined:
+        return False
+    if joined.count("-") != joined.count("\n-") + joined.startswith("-") or "" in fields:
+        return False
+    return joined.count("\n0") + joined.startswith("0") == fields.count("0")
+
+
+@functools.lru_cache(2)
+def plain_of(mark):
+    """What finds lines of whole numbers and decimals with a decimal sign, none of them negative nothing."""
+    return re.compile(rf"(?:(?!-0(?:[{mark}]0+)?\n)-?(?:0|[1-9][0-9]*)(?:[{mark}][0-9]+)?\n)*")
+
+
+class Ends(dict):
+    """The seconds, times ten to a number of digits, of each end of a time that was met, as :07.250Z. All have one shape."""
+
+    def __init__(self, has_seconds, digits, zone):
+        super().__init__()
+        second = (":[0-5][0-9]" if has_seconds else "") + (rf"\.[0-9]{{{digits}}}" if digits else "")
+        self.shape, self.zone = re.compile(second + re.escape(zone)), zone
 
     def __missing__(self, text):
-        self[text] = int(text[:2]) * 3600 + int(text[3:5]) * 60 + int(text[6:])
-        return self[text]
+        if not self.shape.fullmatch(text):
+            raise ValueError
+        number = int(text[:len(text) - len(self.zone)].replace(":", "").replace(".", "") or 0)
+        if len(self) < MOST_ENDS:
+            self[text] = number
+        return number
 
 
-SECONDS = Seconds()
+MOST_ENDS = 1 << 16
+MINUTE = re.compile("[0-9]{4}-[0-9]{2}-[0-9]{2}([T ])(?:[01][0-9]|2[0-3]):[0-5][0-9]")
+SHAPE = re.compile(r"[0-9]{4}-[0-9]{2}-[0-9]{2}([T ])[0-9]{2}:[0-9]{2}(:[0-9]{2}(?:\.([0-9]{1,6}))?)?(Z|[+-][0-9]{2}(?::?[0-9]{2})?)?")
 
 
 def plain_times(fields):
-    """The seconds since 1970 of fields that all are times as 2024-05-01 12:30:00, with the same sign between and the same zone,
-    with these two; or None where one isn't."""
-    between, zone = fields[0][10:11], fields[0][19:]
-    if between not in ("T", " ") or zone not in ("", "Z") or not plain_time_of(between, zone).fullmatch("\n".join(fields) + "\n"):
+    """The times of fields that all are of the shape of the first, as 2024-05-01 12:30:00; or None where one isn't."""
+    shape = SHAPE.fullmatch(fields[0])
+    if not shape:
         return None
-    days = {text: date_part(text)[0].get("%Y-%m-%d") for text in {field[:10] for field in fields}}
-    if None in days.values():
+    between, seconds, part, zone = shape.groups("")
+    power, offset, ends = 10 ** len(part), offset_of(zone), ends_of(bool(seconds), len(part), zone)
+    if offset is None:
         return None
-    days = {text: day * 86400 for text, day in days.items()}
-    return between, zone, [days[field[:10]] + SECONDS[field[11:19]] for field in fields]
+    try:
+        minutes = [field[:16] for field in fields]
+        starts = {minute: (minute_of(minute, between) * 60 - offset) * power for minute in set(minutes)}
+        numbers = list(map(operator.add, map(starts.__getitem__, minutes), map(ends.__getitem__, [field[16:] for field in fields])))
+    except ValueError:
+        return None
+    if offset and (min(numbers) < FIRST_SECOND * power or max(numbers) >= LAST_SECOND * power):
+        return None
+    form = f"%Y-%m-%d{between}%H:%M{':%S' if seconds else ''}"
+    return PlainTimes(numbers, len(part), (form, len(part), zone) if zone in ("", "Z") else None)
 
 
-@functools.lru_cache(4)
-def plain_time_of(between, zone):
-    """What finds lines of times."""
-    day = "[0-9]{4}-[0-9]{2}-[0-9]{2}"
-    return re.compile(rf"(?:{day}{between}(?:[01][0-9]|2[0-3]):[0-5][0-9]:[0-5][0-9]{zone}\n)*")
+def minute_of(text, between):
+    """The minute since 1970 of the start of a time, as 2024-05-01 12:30, with this sign between."""
+    found = MINUTE.fullmatch(text)
+    day = date_part(text[:10])[0].get("%Y-%m-%d") if found and found[1] == between else None
+    if day is None:
+        raise ValueError
+    return day * 1440 + int(text[11:13]) * 60 + int(text[14:])
 
 
-@functools.lru_cache(64)
-def plain_of(digits):
-    """What finds lines of decimals with so many digits after the point, none of them negative nothing."""
-    return re.compile(r"(?:(?!-0\.0+\n)-?(?:0|[1-9][0-9]*)\.[0-9]{%d}\n)*" % digits)
+ends_of = functools.lru_cache(16)(Ends)
 
 
 @functools.lru_cache(1 << 16)
