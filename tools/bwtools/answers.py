@@ -1,10 +1,11 @@
 """Turns an answer of bw back into what its numbers mean."""
 import csv
+import io
 import itertools
 import re
 
-from . import source  # noqa: F401  (it lifts csv's limits)
 from .kinds import Refused, counted
+from .source import CHARACTERS_AT_ONCE, NUL, columns_of
 
 QUOTE, QUOTED = '"', re.compile('[",\r\n]')
 WHOLE = re.compile("(?:(?:-?(?:0|[1-9][0-9]*)|NULL)\\n)*")
@@ -85,22 +86,39 @@ def csv_lines(columns):
     return "\n".join(map(",".join, zip(*columns))) + "\n"
 
 
-def turn_back(columns, answer, out):
-    """Turns an answer, lines of CSV, back, and writes it as CSV. Nothing is written where its heading is refused."""
-    records = csv.reader(answer)
-    heading = next(records, None)
-    if heading is None:
-        raise Refused("the answer is empty")
-    backs, before = [Back(each, columns) for each in heading], records.line_num
-    out.write(csv_lines([[quoted(back.heading)] for back in backs]))
+def blocks(answer, width):
+    """The columns of an answer after its heading, many rows at a time, each with the line before it."""
+    before, text = 1, ""
+    while True:
+        text = answer.read(CHARACTERS_AT_ONCE)
+        text += answer.readline()
+        columns = None if QUOTE in text or NUL in text else columns_of([text], ",", width)
+        if not text or columns is None:
+            break
+        yield before, columns
+        before += len(columns[0])
+    # what isn't of bw alone is the csv module's
+    records = csv.reader(itertools.chain(io.StringIO(text, newline=""), answer))
+    first = before
     while True:
         rows = list(itertools.islice(records, ROWS_AT_ONCE))
         if not rows:
             return
-        odd = [place for place, row in enumerate(rows) if len(row) != len(backs)] if set(map(len, rows)) != {len(backs)} else []
-        if odd:
-            raise Refused(f"line {before + odd[0] + 1} of the answer has {counted(len(rows[odd[0]]), 'field')} "
-                          f"and not {len(backs)}")
-        first = before + 1
-        out.write(csv_lines([back.texts(fields, lambda place: first + place) for back, fields in zip(backs, zip(*rows))]))
-        before = records.line_num
+        odd = next((place for place, row in enumerate(rows) if len(row) != width), None)
+        if odd is not None:
+            raise Refused(f"line {before + odd + 1} of the answer has {counted(len(rows[odd]), 'field')} and not {width}")
+        yield before, list(zip(*rows))
+        before = first + records.line_num
+
+
+def turn_back(columns, answer, out, progress=None):
+    """Turns an answer, lines of CSV, back, and writes it as CSV. Nothing is written where its heading is refused."""
+    heading = next(csv.reader(answer), None)
+    if heading is None:
+        raise Refused("the answer is empty")
+    backs = [Back(each, columns) for each in heading]
+    out.write(csv_lines([[quoted(back.heading)] for back in backs]))
+    for before, block in blocks(answer, len(backs)):
+        out.write(csv_lines([back.texts(fields, lambda place: before + 1 + place) for back, fields in zip(backs, block)]))
+        if progress:
+            progress.add(len(block[0]))

@@ -5,6 +5,7 @@ gives the greatest number that a literal isn't below, and whether it is that num
 column, or is None where a sum means nothing. `plural` names what a column holds, and `example` how a literal of it looks."""
 import bisect
 import fractions
+import itertools
 import math
 
 from . import spelling
@@ -165,10 +166,16 @@ class Times(Dates):
         return f"{text}{f'.{part:0{self.digits}}' if self.digits else ''}{self.zone}"
 
     def spell(self, numbers):
-        if self.digits or not self.parts[1]:
+        first, last = self.parts
+        if not last:
             return Whole.spell(self, numbers)
-        (first, last), write, zone = self.parts, spelling.written_by, self.zone
-        return [f"{write(first, number // 86400, 0)}{write(last, 0, number % 86400)}{zone}" for number in numbers]
+        power = 10 ** self.digits
+        parts = list(map(divmod, numbers, itertools.repeat(60 * power)))
+        minutes = {minute: f"{spelling.written_by(first, minute // 1440, 0)}{minute // 60 % 24:02}:{minute % 60:02}"
+                   for minute in {minute for minute, _ in parts}}
+        seconds = {second: f":{second // power:02}{f'.{second % power:0{self.digits}}' if self.digits else ''}{self.zone}"
+                   if last == "%H:%M:%S" else self.zone for second in {second for _, second in parts}}
+        return [minutes[minute] + seconds[second] for minute, second in parts]
 
     def place(self, literal):
         found = self.read(literal) if isinstance(literal, str) else None
@@ -260,6 +267,11 @@ class Texts(Whole):
         if number < 0:
             raise IndexError
         return self.texts[number]
+
+    def spell(self, numbers):
+        if numbers and min(numbers) < 0:
+            raise IndexError
+        return list(map(self.texts.__getitem__, numbers))
 
     def place(self, literal):
         if not isinstance(literal, str):

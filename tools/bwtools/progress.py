@@ -11,11 +11,11 @@ FIRST, EVERY = 1.0, 0.2
 class Progress:
     """A line of rows and megabytes, which is written over and over, and taken away at the end."""
 
-    def __init__(self, what: str):
+    def __init__(self, what: str, is_wanted: bool = True):
         self.what, self.rows, self.begun = what, 0, time.monotonic()
         self.next, self.is_shown = self.begun + FIRST, False
         try:
-            self.is_wanted = sys.stderr is not None and os.isatty(sys.stderr.fileno())
+            self.is_wanted = is_wanted and sys.stderr is not None and os.isatty(sys.stderr.fileno())
         except (OSError, ValueError):
             self.is_wanted = False
 
