@@ -51,7 +51,8 @@ class Back(dict):
 
     def texts(self, fields, line):
         """The texts of the fields of some rows, in quotes where these are needed. `line` gives the line of a row."""
-        if self.is_whole and WHOLE.fullmatch("\n".join(fields) + "\n"):
+        joined = "\n".join(fields) + "\n" if self.is_whole else ""
+        if joined.count("\n") == len(fields) and WHOLE.fullmatch(joined):
             null = quoted(self.null)
             return [null if field == "NULL" else field for field in fields]
         try:

@@ -14,12 +14,31 @@ from .source import SEPARATORS
 
 
 def program():
-    """The program bw: that of the environment variable BW, or the one on the PATH, or the repository's own."""
-    own = pathlib.Path(__file__).resolve().parent.parent.parent / "bw"
-    found = os.environ.get("BW") or shutil.which("bw") or (own if os.access(own, os.X_OK) and own.is_file() else None)
+    """The program bw: that of the environment variable BW, or the one on the PATH, or the one that the tools came with."""
+    found = os.environ.get("BW") or shutil.which("bw") or own_program()
     if not found:
         raise Refused("there is no program bw on the PATH; BW=FILE says where it is")
     return str(found)
+
+
+def own_program():
+    """The program that the tools came with: that of a checkout's dist/, if it runs here, one beside the folder of the tools, or
+    one that was installed with them. None if there is none."""
+    top = pathlib.Path(__file__).resolve().parent.parent.parent
+    shipped = top / "dist" / "bw"
+    if is_program(shipped) and not subprocess.run([shipped, "--version"], stdin=subprocess.DEVNULL, stdout=subprocess.DEVNULL,
+                                                  stderr=subprocess.DEVNULL, check=False).returncode:
+        return shipped
+    return next(filter(is_program, (top / "bw", top.parent.parent / "bin" / "bw")), None)
+
+
+def is_program(path):
+    return path.is_file() and os.access(path, os.X_OK)
+
+
+def own_name():
+    """The name that a tool was called by, as ask, or bw-ask where it's installed."""
+    return pathlib.Path(sys.argv[0]).name
 
 
 def call(words, output=subprocess.PIPE):

@@ -75,8 +75,9 @@ class Seen:
         present, nulls = keeping.split_nulls(fields, frozenset(self.words))
         kept = self.add_present(present, nulls) if present and (nulls or self.nulls) else None
         if kept:
-            for word, count in collections.Counter(itertools.compress(fields, nulls)).items():
-                self.count_null(word, count)
+            counts = collections.Counter(itertools.compress(fields, nulls))
+            for word in filter(counts.get, self.words):
+                self.count_null(word, counts[word])
         return kept
 
     def count_null(self, word, count):

@@ -80,6 +80,8 @@ def plain_numbers(fields):
     if max(map(len, fields)) > LONGEST:
         return None
     joined = "\n".join(fields) + "\n"
+    if joined.count("\n") != len(fields):
+        return None
     if "." not in joined and "," not in joined:
         return PlainNumbers(list(map(int, fields)), 0, {0: len(fields)}, None) if are_whole(fields, joined) else None
     mark = "," if "," in joined else "."
@@ -94,7 +96,7 @@ def plain_numbers(fields):
 
 
 def are_whole(fields, joined):
-    """Whether fields, and they joined with a line feed after each, all are whole numbers as they come back."""
+    """Whether fields without line feeds, and joined with one after each, all are whole numbers as they come back."""
     digits = joined.replace("\n", "").replace("-", "")
     # ASCII alone: other scripts have digits too
     if not digits.isdigit() or not digits.isascii() or "-0" in joined or "--" in joined or "-\n" in joined:
