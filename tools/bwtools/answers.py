@@ -1,10 +1,14 @@
 """Turns an answer of bw back into what its numbers mean."""
+from __future__ import annotations
+
 import csv
 import io
 import itertools
 import re
+from typing import Callable, Iterator, Sequence, TextIO
 
-from .kinds import Refused, counted
+from .kinds import Column, Refused, counted
+from .progress import Progress
 from .source import CHARACTERS_AT_ONCE, NUL, columns_of
 
 QUOTE, QUOTED = '"', re.compile('[",\r\n]')
@@ -15,7 +19,7 @@ MOST_KNOWN, ROWS_AT_ONCE = 1 << 17, 8192
 class Back(dict):
     """How the fields under one heading of an answer are turned back: those that were met."""
 
-    def __init__(self, heading, columns):
+    def __init__(self, heading: str, columns: list[Column]) -> None:
         super().__init__()
         self.turn_many = None
         found = re.fullmatch(r"(?:(COUNT|SUM|MIN|MAX)\()?([^()]+)\)?", heading)
@@ -33,11 +37,11 @@ class Back(dict):
             raise Refused(no_sum(column))
         self.turn_many = column.kind.spell if function is None else None
 
-    def __missing__(self, field):
+    def __missing__(self, field: str) -> str:
         self[field] = quoted(self.null if field == "NULL" else self.turn(int(field)))
         return self[field]
 
-    def many(self, fields):
+    def many(self, fields: Sequence[str]) -> list[str]:
         """The texts of many fields: those that weren't met are turned at once."""
         distinct = dict.fromkeys(fields)
         is_mixed = len(distinct) * 2 < len(fields) or "NULL" in distinct
@@ -49,7 +53,7 @@ class Back(dict):
         self.update(zip(fresh, texts))
         return list(map(self.__getitem__, fields))
 
-    def texts(self, fields, line):
+    def texts(self, fields: Sequence[str], line: Callable[[int], int]) -> list[str]:
         """The texts of the fields of some rows, in quotes where these are needed. `line` gives the line of a row."""
         joined = "\n".join(fields) + "\n" if self.is_whole else ""
         if joined.count("\n") == len(fields) and WHOLE.fullmatch(joined):
@@ -70,24 +74,24 @@ class Back(dict):
                 self.clear()
 
 
-def no_sum(column):
+def no_sum(column: Column) -> str:
     """Why a column has no sum."""
     return f"SUM({column.name}): {column.name} holds {column.kind.plural}, and a sum of {column.kind.plural} means nothing; " \
         "ask for COUNT, MIN or MAX"
 
 
-def quoted(field):
+def quoted(field: str) -> str:
     return f'"{field.replace(QUOTE, QUOTE * 2)}"' if QUOTED.search(field) else field
 
 
-def csv_lines(columns):
+def csv_lines(columns: Sequence[Sequence[str]]) -> str:
     """The lines of columns of fields. A line of one empty field has quotes, since an empty line is no record."""
     if len(columns) == 1:
         columns = [[field or QUOTE * 2 for field in columns[0]]]
     return "\n".join(map(",".join, zip(*columns))) + "\n"
 
 
-def blocks(answer, width):
+def blocks(answer: TextIO, width: int) -> Iterator[tuple[int, Sequence[Sequence[str]]]]:
     """The columns of an answer after its heading, many rows at a time, each with the line before it."""
     before, text = 1, ""
     while True:
@@ -112,7 +116,7 @@ def blocks(answer, width):
         before = first + records.line_num
 
 
-def turn_back(columns, answer, out, progress=None):
+def turn_back(columns: list[Column], answer: TextIO, out: TextIO, progress: Progress | None = None) -> None:
     """Turns an answer, lines of CSV, back, and writes it as CSV. Nothing is written where its heading is refused."""
     heading = next(csv.reader(answer), None)
     if heading is None:

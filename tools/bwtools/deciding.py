@@ -1,12 +1,19 @@
 """What each column of a file becomes: what all its fields allow."""
+from __future__ import annotations
+
+import argparse
 import collections
 import itertools
 import re
 import unicodedata
+from typing import Hashable, Sequence
 
 from . import keeping, kinds, spelling
-from .kinds import Refused
+from .keeping import Coded, Numbered, Store
+from .kinds import Dates, Refused, Whole
 from .progress import Progress
+from .source import Chunk, Source
+from .spelling import Moment, Number
 
 NULLS = ("NULL", "null", "NA", "N/A", "nan", "NaN", "-")
 # of a column that isn't one of texts: so many distinct texts are known, and from so many on numbers are looked at together
@@ -16,7 +23,7 @@ MOST_KNOWN, MANY = 1 << 17, 1 << 11
 class Seen:
     """What is known of a column's fields so far."""
 
-    def __init__(self, heading, given, separator):
+    def __init__(self, heading: str, given: argparse.Namespace, separator: str) -> None:
         self.heading, self.separator = heading, separator
         self.is_number, self.keeps_spelling = heading in given.number, given.keep_spelling
         self.wanted = kind_by(given.date[heading]) if heading in given.date else None
@@ -35,7 +42,7 @@ class Seen:
         if heading in given.text:
             self.why = "as --text says"
 
-    def add(self, fields, chunk):
+    def add(self, fields: Sequence[str], chunk: Chunk) -> Coded | Numbered | None:
         """Takes the fields of some rows into account, and keeps them; None where they are to be read again."""
         kept = self.add_plain(fields) if self.is_varied and not self.why else None
         if kept:
@@ -52,7 +59,7 @@ class Seen:
             self.codes, self.is_all, self.is_read_again = keeping.Codes(self.words), False, True
         return None if self.is_read_again else kept
 
-    def judge_all(self, texts, fields, chunk):
+    def judge_all(self, texts: Sequence[str], fields: Sequence[str], chunk: Chunk) -> None:
         """Takes texts that weren't met before into account, to the first one that makes the column one of texts."""
         for text in texts:
             try:
@@ -63,7 +70,7 @@ class Seen:
                 self.why = f"line {chunk.line_of(fields.index(text))}: {shown(text)}{why}"
                 return
 
-    def add_plain(self, fields):
+    def add_plain(self, fields: Sequence[str]) -> Numbered | None:
         """Takes fields into account, and keeps them, where all but the nulls are numbers that are spelled as such come back, or
         times of one shape. None where one isn't."""
         if self.wanted or self.form not in (None, "number", "time"):
@@ -80,17 +87,17 @@ class Seen:
                 self.count_null(word, counts[word])
         return kept
 
-    def count_null(self, word, count):
+    def count_null(self, word: str, count: int) -> None:
         self.nulls[word] = self.nulls.get(word, 0) + count
 
-    def add_present(self, fields, nulls):
+    def add_present(self, fields: Sequence[str], nulls: bytes) -> Numbered | None:
         """Takes fields of which none is null into account, and keeps them among the nulls, where all are such numbers or times."""
         kept = self.add_numbers(fields, nulls) if self.form != "time" else None
         kept = kept or (self.add_times(fields, nulls) if self.form != "number" and not self.is_number else None)
         self.is_all = self.is_all and not kept
         return kept
 
-    def add_numbers(self, fields, nulls):
+    def add_numbers(self, fields: Sequence[str], nulls: bytes) -> Numbered | None:
         found = spelling.plain_numbers(fields)
         if not found or found.digits > spelling.MOST_DIGITS or found.mark and self.marks.keys() - {found.mark} or \
                 found.mark == "," and self.separator == "," and not self.is_number:
@@ -109,24 +116,24 @@ class Seen:
         self.lengths.update(found.counts)
         return kept
 
-    def add_times(self, fields, nulls):
+    def add_times(self, fields: Sequence[str], nulls: bytes) -> Numbered | None:
         found = spelling.plain_times(fields)
         # the first field says whether such times go with those before them
         if not found or self.judge(fields[0]) is not None:
             return None
         return keeping.numbered(found.numbers, nulls, found.digits, {found.style: len(fields)})
 
-    def widen(self, digits, least, greatest):
+    def widen(self, digits: int, least: int, greatest: int) -> None:
         ends = self.ends.get(digits, (least, greatest))
         self.ends[digits] = min(ends[0], least), max(ends[1], greatest)
         self.lengths.add(digits)
 
-    def texts(self):
+    def texts(self) -> list[str]:
         """The texts of a column of texts, sorted by code points."""
         absent = [word for word in self.words if word in self.always or word not in self.nulls]
         return sorted(self.codes.keys() - set(absent))
 
-    def judge(self, text):
+    def judge(self, text: str) -> str | None:
         """Takes a text into account, and says why it makes the column one of texts, if it does."""
         if self.wanted:
             if not spelling.read_by(self.wanted.form, text):
@@ -144,12 +151,12 @@ class Seen:
             return self.judge_number(text, number)
         return self.judge_moment(text, moment) if moment else self.spelled(text, spelling.TRUTH_OF[text][1])
 
-    def spelled(self, text, style):
+    def spelled(self, text: str, style: Hashable) -> None:
         self.styles.add(style)
         if style is None and self.odd is None:
             self.odd = text
 
-    def judge_number(self, text, number):
+    def judge_number(self, text: str, number: Number) -> str | None:
         if number.has_zeros and not self.is_number:
             return " has zeros in front; --number reads such fields as numbers"
         if number.mark == "," and self.separator == "," and not self.is_number:
@@ -165,7 +172,7 @@ class Seen:
         self.has_zero |= number.digits > 0 and number.value % 10 == 0
         return self.spelled(text, "plain" if number.is_plain else None)
 
-    def judge_moment(self, text, moment):
+    def judge_moment(self, text: str, moment: Moment) -> str | None:
         dates = list(moment.days) if self.dates is None else [form for form in self.dates if form in moment.days]
         if moment.days and not dates:
             return " is of another form than the dates before it"
@@ -177,7 +184,7 @@ class Seen:
         self.betweens.add(moment.between)
         return self.spelled(text, (moment.clock, moment.between, moment.digits) if moment.is_plain else None)
 
-    def kind(self):
+    def kind(self) -> Whole | None:
         """The kind of the column, but for the texts, whose kind is None."""
         if self.why:
             return None
@@ -193,7 +200,7 @@ class Seen:
             return None
         return found
 
-    def kind_of_form(self):
+    def kind_of_form(self) -> Whole | None:
         if self.form == "number":
             return self.numbers()
         if self.form == "truth":
@@ -212,7 +219,7 @@ class Seen:
         between = next(iter(self.betweens)) if len(self.betweens) == 1 else "T"
         return kinds.Times(f"{self.dates[0]}{between}{clock}", self.digits, next(iter(self.zones)))
 
-    def numbers(self):
+    def numbers(self) -> Whole | None:
         digits = max(self.ends)
         least = min(end[0] * 10 ** (digits - each) for each, end in self.ends.items())
         greatest = max(end[1] * 10 ** (digits - each) for each, end in self.ends.items())
@@ -225,7 +232,7 @@ class Seen:
             return kinds.Whole()
         return kinds.Decimals(digits, len(self.lengths) > 1 and not self.has_zero, "," if "," in self.marks else ".")
 
-    def may_be_thousands(self):
+    def may_be_thousands(self) -> bool:
         """Whether the decimal signs of all fields may part thousands, which then makes the column one of texts."""
         if not self.marks or not self.grouped or self.is_number or self.why:
             return False
@@ -233,22 +240,22 @@ class Seen:
         self.why = f"{shown(text)} may be {text.replace(mark, '')} or {text.replace(mark, '.')}; --number reads the second"
         return True
 
-    def is_exact(self):
+    def is_exact(self) -> bool:
         """Whether all fields come back as they stand."""
         if self.form == "number":
             return None not in self.styles and (len(self.lengths) <= 1 or not self.has_zero)
         return None not in self.styles and len(self.styles) <= 1
 
-    def null(self):
+    def null(self) -> str:
         """The word that nulls come back as."""
         words = self.null_words()
         return words[0] if len(words) == 1 else ""
 
-    def null_words(self):
+    def null_words(self) -> list[str]:
         """The words that are null in the column and that stand in it."""
         return [word for word in self.nulls if not self.why or word in self.always]
 
-    def heading_form(self):
+    def heading_form(self) -> str | None:
         """What the heading spells, where all fields of the column spell that too; or None."""
         form = spelling.form_of(self.heading)
         if self.wanted:
@@ -261,7 +268,7 @@ class Seen:
         return form if self.form in (form, None) else None
 
 
-def kind_by(form):
+def kind_by(form: str) -> Dates:
     """The kind of a column whose format is given."""
     letters = set(re.findall("%(.)", form))
     if not letters - set("YmdHMS%") and (letters >= set("Ymd") or not letters & set("Ymd") and "H" in letters):
@@ -271,7 +278,7 @@ def kind_by(form):
     raise Refused(f"--date: {shown(form)} is no format of %Y, %m and %d, with %H, %M and %S for a time")
 
 
-def decide(source, given, store):
+def decide(source: Source, given: argparse.Namespace, store: Store) -> tuple[list[Seen], list[Whole | None]]:
     """What is known of each column after all rows were read and kept, with all texts of the columns of texts, and their kinds."""
     for option in ("text", "number", "date"):
         unknown = [each for each in getattr(given, option) if each not in source.headings]
@@ -300,7 +307,7 @@ def decide(source, given, store):
     return columns, decided
 
 
-def refuse_heading(source, columns):
+def refuse_heading(source: Source, columns: list[Seen]) -> None:
     """Refuses a first line that looks like the rows below it."""
     for seen in columns:
         form = seen.heading_form()
@@ -309,16 +316,16 @@ def refuse_heading(source, columns):
                           "say --heading if it is a heading all the same, or --no-heading if it is a row")
 
 
-def shown(text):
+def shown(text: str) -> str:
     """A text in a message: its first characters, with none that isn't to be seen."""
     return repr(text if len(text) <= 40 else text[:37] + "...")
 
 
-def is_name(text):
+def is_name(text: str) -> bool:
     return re.fullmatch("[A-Za-z_][A-Za-z0-9_]{0,62}", text) is not None and text.upper() not in kinds.RESERVED
 
 
-def name_like(heading):
+def name_like(heading: str) -> str:
     """A name that is like a heading."""
     plain = unicodedata.normalize("NFKD", heading.strip()).encode("ascii", "ignore").decode()
     name = re.sub("[^A-Za-z0-9_]+", "_", plain)[:63] or "_"
@@ -326,7 +333,7 @@ def name_like(heading):
     return name if is_name(name) else f"{name}_"
 
 
-def names_of(headings):
+def names_of(headings: list[str]) -> list[str]:
     """A name for each heading: the heading, where it's a name that no other column before it has."""
     names, taken = [None] * len(headings), set()
     for place, heading in enumerate(headings):

@@ -11,7 +11,7 @@ FIRST, EVERY = 1.0, 0.2
 class Progress:
     """A line of rows and megabytes, which is written over and over, and taken away at the end."""
 
-    def __init__(self, what: str, is_wanted: bool = True):
+    def __init__(self, what: str, is_wanted: bool = True) -> None:
         self.what, self.rows, self.begun = what, 0, time.monotonic()
         self.next, self.is_shown = self.begun + FIRST, False
         try:

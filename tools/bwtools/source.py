@@ -1,4 +1,7 @@
 """The CSV file that is read: its separator, its encoding, its heading and its rows, of which many are read at a time."""
+from __future__ import annotations
+
+import argparse
 import collections
 import csv
 import io
@@ -10,6 +13,7 @@ import stat
 import os
 import sys
 import tempfile
+from typing import Callable, Iterable, Iterator, NoReturn, Sequence, TextIO
 
 from .kinds import Refused, counted
 
@@ -30,11 +34,12 @@ getattr(sys, "set_int_max_str_digits", int)(0)
 class Chunk:
     """Some rows as columns of fields, and the text that they stand in, which begins at a line."""
 
-    def __init__(self, columns, headings, text, line, reader):
+    def __init__(self, columns: Sequence[Sequence[str]], headings: int, text: str, line: int,
+                 reader: Callable[[Iterable[str]], Iterator[list[str]]]) -> None:
         self.columns, self.headings, self.text, self.line, self.reader = columns, headings, text, line, reader
         self.count = len(columns[0]) if columns else 0
 
-    def line_of(self, place):
+    def line_of(self, place: int) -> int:
         """The line at which a row begins."""
         line, place = self.line, place + self.headings
         for record in self.reader(io.StringIO(self.text, newline="")):
@@ -48,7 +53,7 @@ class Chunk:
 class Source:
     """The file to read, which is read more than once."""
 
-    def __init__(self, path, given):
+    def __init__(self, path: str | os.PathLike[str], given: argparse.Namespace) -> None:
         self.path, self.file = path, open(path, "rb")
         if not stat.S_ISREG(os.fstat(self.file.fileno()).st_mode):
             piped, self.file = self.file, tempfile.TemporaryFile()
@@ -70,12 +75,12 @@ class Source:
         self.is_simple = self.escape is None and len({self.separator, self.quote, NUL, UNIT, "\n", "\r"}) == 6
         self.headings = self.read_headings()
 
-    def marks(self):
+    def marks(self) -> tuple[int, int]:
         """What changes where the file does."""
         told = os.fstat(self.file.fileno())
         return told.st_size, told.st_mtime_ns
 
-    def decoded(self):
+    def decoded(self) -> TextIO:
         self.file.seek(0)
         try:
             text = io.TextIOWrapper(self.file, encoding=self.encoding, newline="")
@@ -85,7 +90,7 @@ class Source:
             text.readline()
         return text
 
-    def said_separator(self):
+    def said_separator(self) -> str | None:
         """The separator that the first line says, as Excel's `sep=;`; the line is then left out."""
         text = self.decoded()
         try:
@@ -96,7 +101,7 @@ class Source:
         self.skipped = int(found is not None)
         return found and found.group(1)
 
-    def most_frequent(self):
+    def most_frequent(self) -> str:
         """The separator that stands in the heading most often, outside of quotes."""
         text, counts, quoted = self.decoded(), dict.fromkeys(",;\t|", 0), False
         try:
@@ -111,7 +116,7 @@ class Source:
         text.detach()
         return max(counts, key=counts.get)
 
-    def undecoded(self):
+    def undecoded(self) -> NoReturn:
         """Refuses the file at the first line that isn't of the encoding."""
         self.file.seek(0)
         place = "one of its bytes"
@@ -125,10 +130,10 @@ class Source:
         raise Refused(f"{self.path}: {place} isn't {self.encoding.removesuffix('-sig')}; "
                       "give the encoding, as --encoding latin-1 or --encoding cp1252")
 
-    def reader(self, lines):
+    def reader(self, lines: Iterable[str]) -> Iterator[list[str]]:
         return csv.reader(lines, delimiter=self.separator, quotechar=self.quote, escapechar=self.escape, strict=True)
 
-    def records(self):
+    def records(self) -> Iterator[tuple[int, list[str]]]:
         """The records, each with the line at which it begins; an empty line is an empty record."""
         text, before = self.decoded(), 0
         reader = self.reader(text)
@@ -143,7 +148,7 @@ class Source:
         finally:
             text.detach()
 
-    def read_headings(self):
+    def read_headings(self) -> list[str]:
         """The headings, or c1, c2 and so on where there are none."""
         first = next((record for _, record in self.records() if record), None)
         if first is None:
@@ -152,7 +157,7 @@ class Source:
             raise Refused(f"{self.path}: {len(first)} columns, and a table has at most {MOST_COLUMNS}")
         return first if self.has_heading else [f"c{place}" for place in range(1, len(first) + 1)]
 
-    def blocks(self):
+    def blocks(self) -> Iterator[tuple[int, str, list[list[str]] | None, list[list[str]] | None]]:
         """The text of the file, some whole records at a time: the line at which it begins, the text, and its columns or, where
         these aren't to be had at once, its records."""
         file, line, text = self.decoded(), self.skipped + 1, ""
@@ -189,7 +194,7 @@ class Source:
         finally:
             file.detach()
 
-    def to_next_quote(self, file):
+    def to_next_quote(self, file: TextIO) -> str:
         """The next lines of the file, to the end of one that has a quote, or some thousand."""
         lines = []
         for line in itertools.islice(iter(file.readline, ""), ROWS_AT_ONCE):
@@ -198,7 +203,7 @@ class Source:
                 break
         return "".join(lines)
 
-    def chunks(self):
+    def chunks(self) -> Iterator[Chunk]:
         """The rows after the heading, each of which has as many fields: many rows at a time."""
         self.empty, self.count, left = 0, 0, int(self.has_heading)
         for line, text, columns, records in self.blocks():
@@ -220,7 +225,7 @@ class Source:
             if chunk.count:
                 yield chunk
 
-    def refuse_width(self, chunk, rows):
+    def refuse_width(self, chunk: Chunk, rows: list[list[str]]) -> None:
         """Refuses rows of which one has another number of fields than the heading."""
         width = len(self.headings)
         if set(map(len, rows)) - {width}:
@@ -229,7 +234,7 @@ class Source:
                           f"and the {'heading' if self.has_heading else 'first line'} has {width}")
 
 
-def columns_of(parts, separator, width):
+def columns_of(parts: list[str], separator: str, width: int) -> list[list[str]] | None:
     """The columns of a text of whole records, which is parted at its quotes, where all records have so many fields, and quotes
     stand round whole fields without a quote in them; or None. What isn't so, and an empty line, is the csv module's."""
     is_quoted = len(parts) > 1

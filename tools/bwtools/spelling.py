@@ -1,9 +1,12 @@
 """What a field spells: a number, a truth, or a date, a time or a time of day, each as whole numbers that lose nothing."""
+from __future__ import annotations
+
 import collections
 import datetime
 import functools
 import operator
 import re
+from typing import NamedTuple, Sequence
 
 FIRST_DAY = datetime.date(1970, 1, 1).toordinal()
 LAST_SECOND = (datetime.date(9999, 12, 31).toordinal() - FIRST_DAY + 1) * 86400
@@ -23,16 +26,48 @@ FORMATS = {("-", True): ("%Y-%m-%d",), ("/", True): ("%Y/%m/%d",), (".", False):
            ("/", False): ("%d/%m/%Y", "%m/%d/%Y"), ("-", False): ("%d-%m-%Y", "%m-%d-%Y")}
 OWN = re.compile("(?:{})(?:[T ]%H:%M(?::%S)?)?".format("|".join(form for forms in FORMATS.values() for form in forms)))
 
-# A number: `value` is all its digits, `digits` of them after the decimal sign `mark`. `is_plain` where it's spelled as such
-# numbers come back, `has_zeros` where zeros are in front, `is_grouped` where its decimal sign may part thousands
-Number = collections.namedtuple("Number", "value digits mark is_plain has_zeros is_grouped")
 
-# A date, a time or a time of day: the day since 1970 by each format that it may be of, the second of the day times ten to
-# `digits`, and how it's spelled: `clock` is the format of the time of day, `zone` is Z where it's of UTC
-Moment = collections.namedtuple("Moment", "days part digits between clock zone is_plain")
+class Number(NamedTuple):
+    """A number: `value` is all its digits, `digits` of them after the decimal sign `mark`. `is_plain` where it's spelled as such
+    numbers come back, `has_zeros` where zeros are in front, `is_grouped` where its decimal sign may part thousands."""
+    value: int
+    digits: int
+    mark: str | None
+    is_plain: bool
+    has_zeros: bool
+    is_grouped: bool
 
 
-def number_of(text):
+class Moment(NamedTuple):
+    """A date, a time or a time of day: the day since 1970 by each format that it may be of, the second of the day times ten to
+    `digits`, and how it's spelled: `clock` is the format of the time of day, `zone` is Z where it's of UTC."""
+    days: dict[str, int]
+    part: int
+    digits: int
+    between: str
+    clock: str
+    zone: str
+    is_plain: bool
+
+
+class PlainNumbers(NamedTuple):
+    """Numbers of fields that all are spelled as numbers come back: they are times ten to `digits`, and `counts` says how many
+    fields have how many digits after the decimal sign `mark`."""
+    numbers: list[int]
+    digits: int
+    counts: dict[int, int]
+    mark: str | None
+
+
+class PlainTimes(NamedTuple):
+    """The seconds since 1970 of fields that all are times of one shape, times ten to `digits`; `style` is how such times come
+    back, or None where they don't come back as they stand."""
+    numbers: list[int]
+    digits: int
+    style: tuple[str, int, str] | None
+
+
+def number_of(text: str) -> tuple[Number | None, str]:
     """The number that a text spells, or None; and why not, where it's a number that is too long."""
     found = NUMBER.fullmatch(text)
     if found and len(text) > LONGEST:
@@ -53,7 +88,7 @@ def number_of(text):
     return Number(value, digits, mark, is_plain, has_zeros, GROUPED.fullmatch(text) is not None), ""
 
 
-def exact(value, digits, power):
+def exact(value: int, digits: int, power: int) -> tuple[int, int | None]:
     """A number times a power of ten, without zeros at its end after the point; no digits where it has too many."""
     while value and digits and value % 10 == 0:
         value, digits = value // 10, digits - 1
@@ -66,16 +101,7 @@ def exact(value, digits, power):
     return (value, digits) if digits >= 0 else (value * 10 ** -digits, 0)
 
 
-# Numbers of fields that all are spelled as numbers come back: they are times ten to `digits`, and `counts` says how many fields
-# have how many digits after the decimal sign `mark`
-PlainNumbers = collections.namedtuple("PlainNumbers", "numbers digits counts mark")
-
-# The seconds since 1970 of fields that all are times of one shape, times ten to `digits`; `style` is how such times come back,
-# or None where they don't come back as they stand
-PlainTimes = collections.namedtuple("PlainTimes", "numbers digits style")
-
-
-def plain_numbers(fields):
+def plain_numbers(fields: Sequence[str]) -> PlainNumbers | None:
     """The numbers of fields that all are spelled as numbers come back, or None where one isn't."""
     if max(map(len, fields)) > LONGEST:
         return None
@@ -95,7 +121,7 @@ def plain_numbers(fields):
     return PlainNumbers(list(numbers), digits, dict(counts), mark)
 
 
-def are_whole(fields, joined):
+def are_whole(fields: Sequence[str], joined: str) -> bool:
     """Whether fields without line feeds, and joined with one after each, all are whole numbers as they come back."""
     digits = joined.replace("\n", "").replace("-", "")
     # ASCII alone: other scripts have digits too
@@ -107,7 +133,7 @@ def are_whole(fields, joined):
 
 
 @functools.lru_cache(2)
-def plain_of(mark):
+def plain_of(mark: str) -> re.Pattern[str]:
     """What finds lines of whole numbers and decimals with a decimal sign, none of them negative nothing."""
     return re.compile(rf"(?:(?!-0(?:[{mark}]0+)?\n)-?(?:0|[1-9][0-9]*)(?:[{mark}][0-9]+)?\n)*")
 
@@ -115,12 +141,12 @@ def plain_of(mark):
 class Ends(dict):
     """The seconds, times ten to a number of digits, of each end of a time that was met, as :07.250Z. All have one shape."""
 
-    def __init__(self, has_seconds, digits, zone):
+    def __init__(self, has_seconds: bool, digits: int, zone: str) -> None:
         super().__init__()
         second = (":[0-5][0-9]" if has_seconds else "") + (rf"\.[0-9]{{{digits}}}" if digits else "")
         self.shape, self.zone = re.compile(second + re.escape(zone)), zone
 
-    def __missing__(self, text):
+    def __missing__(self, text: str) -> int:
         if not self.shape.fullmatch(text):
             raise ValueError
         number = int(text[:len(text) - len(self.zone)].replace(":", "").replace(".", "") or 0)
@@ -131,10 +157,11 @@ class Ends(dict):
 
 MOST_ENDS = 1 << 16
 MINUTE = re.compile("[0-9]{4}-[0-9]{2}-[0-9]{2}([T ])(?:[01][0-9]|2[0-3]):[0-5][0-9]")
-SHAPE = re.compile(r"[0-9]{4}-[0-9]{2}-[0-9]{2}([T ])[0-9]{2}:[0-9]{2}(:[0-9]{2}(?:\.([0-9]{1,6}))?)?(Z|[+-][0-9]{2}(?::?[0-9]{2})?)?")
+SHAPE = re.compile(r"[0-9]{4}-[0-9]{2}-[0-9]{2}([T ])[0-9]{2}:[0-9]{2}(:[0-9]{2}(?:\.([0-9]{1,6}))?)?"
+                   "(Z|[+-][0-9]{2}(?::?[0-9]{2})?)?")
 
 
-def plain_times(fields):
+def plain_times(fields: Sequence[str]) -> PlainTimes | None:
     """The times of fields that all are of the shape of the first, as 2024-05-01 12:30:00; or None where one isn't."""
     shape = SHAPE.fullmatch(fields[0])
     if not shape:
@@ -155,7 +182,7 @@ def plain_times(fields):
     return PlainTimes(numbers, len(part), (form, len(part), zone) if zone in ("", "Z") else None)
 
 
-def minute_of(text, between):
+def minute_of(text: str, between: str) -> int:
     """The minute since 1970 of the start of a time, as 2024-05-01 12:30, with this sign between."""
     found = MINUTE.fullmatch(text)
     day = date_part(text[:10])[0].get("%Y-%m-%d") if found and found[1] == between else None
@@ -168,7 +195,7 @@ ends_of = functools.lru_cache(16)(Ends)
 
 
 @functools.lru_cache(1 << 16)
-def day_of(year, month, day):
+def day_of(year: int, month: int, day: int) -> int | None:
     """The day since 1970, or None where there is none."""
     try:
         return datetime.date(year, month, day).toordinal() - FIRST_DAY
@@ -177,7 +204,7 @@ def day_of(year, month, day):
 
 
 @functools.lru_cache(1 << 16)
-def date_part(text):
+def date_part(text: str) -> tuple[dict[str, int], bool]:
     """The days that a date may mean, by the format, and whether it has all its zeros; no days where it's no date."""
     found, days = DATE.fullmatch(text), {}
     if not found:
@@ -192,7 +219,7 @@ def date_part(text):
 
 
 @functools.lru_cache(1 << 17)
-def clock_part(text):
+def clock_part(text: str) -> tuple[int, int, int, str, str, bool] | None:
     """The second of a time of day times ten to a number of digits, that number, the seconds that its zone is ahead of UTC, its
     format, its zone, and whether it's spelled as it comes back; or None."""
     found = CLOCK.fullmatch(text)
@@ -207,7 +234,7 @@ def clock_part(text):
     return number, len(part), offset, "%H:%M:%S" if second else "%H:%M", "Z" if zone else "", is_plain
 
 
-def moment_of(text):
+def moment_of(text: str) -> Moment | None:
     """The date, the time or the time of day that a text spells, or None."""
     if text[2:3] == ":" or text[1:2] == ":":
         clock = clock_part(text)
@@ -229,7 +256,7 @@ def moment_of(text):
     return Moment(days, number, digits, text[place], form, zone, is_plain and is_kept)
 
 
-def offset_of(zone):
+def offset_of(zone: str) -> int | None:
     """The seconds that a zone is ahead of UTC, or None where there is no such zone."""
     if not zone or zone == "Z":
         return 0
@@ -238,13 +265,13 @@ def offset_of(zone):
 
 
 @functools.lru_cache(64)
-def reader_of(form):
+def reader_of(form: str) -> re.Pattern[str]:
     """What reads the texts of a format of %Y, %m, %d, %H, %M and %S."""
     parts = {"%Y": "(?P<Y>[0-9]{4})", "%%": "%", **{f"%{letter}": f"(?P<{letter}>[0-9]{{1,2}})" for letter in "mdHMS"}}
     return re.compile("".join(parts[piece] if len(piece) == 2 else re.escape(piece) for piece in re.findall("%.|[^%]", form)))
 
 
-def read_by(form, text):
+def read_by(form: str, text: str) -> tuple[int, int] | None:
     """The day and the second of the day that a text of a format spells, or None."""
     found = reader_of(form).fullmatch(text)
     if not found:
@@ -257,7 +284,7 @@ def read_by(form, text):
 
 
 @functools.lru_cache(1 << 17)
-def written_by(form, day, second):
+def written_by(form: str, day: int, second: int) -> str:
     """The text of a day and a second of the day in a format."""
     date = datetime.date.fromordinal(day + FIRST_DAY)
     parts = {"%Y": f"{date.year:04}", "%m": f"{date.month:02}", "%d": f"{date.day:02}", "%H": f"{second // 3600:02}",
@@ -265,7 +292,7 @@ def written_by(form, day, second):
     return re.sub("%.", lambda found: parts[found.group()], form)
 
 
-def form_of(text):
+def form_of(text: str) -> str | None:
     """What a text spells: `number`, `truth`, `date`, `time` or `clock`, or None for anything else."""
     if text in TRUTH_OF:
         return "truth"
@@ -275,5 +302,5 @@ def form_of(text):
     return moment and moment_form(moment)
 
 
-def moment_form(moment):
+def moment_form(moment: Moment) -> str:
     return "clock" if not moment.days else "time" if moment.clock else "date"

@@ -1,4 +1,7 @@
 """Writes the numbers of a file's fields, says what was done with each column, and puts files into their places."""
+from __future__ import annotations
+
+import argparse
 import contextlib
 import itertools
 import os
@@ -6,10 +9,12 @@ import pathlib
 import signal
 import stat
 import tempfile
+from typing import Any, Iterable, Iterator, NoReturn, Sequence
 
 from . import keeping, kinds
-from .deciding import MOST_KNOWN, decide, names_of, shown
-from .kinds import Refused, counted
+from .deciding import MOST_KNOWN, Seen, decide, names_of, shown
+from .keeping import Coded, Numbered
+from .kinds import Column, Refused, Whole, counted
 from .progress import Progress
 from .source import Source
 
@@ -20,15 +25,15 @@ class Numbers:
     """The numbers of a column's fields: how they are written, the least and the greatest, and how many fields won't come back
     as they stand."""
 
-    def __init__(self, kind, null):
+    def __init__(self, kind: Whole, null: str) -> None:
         self.kind, self.null, self.digits = kind, null, getattr(kind, "digits", 0)
         self.changed, self.least, self.greatest = 0, None, None
 
-    def widen(self, *numbers):
+    def widen(self, *numbers: int) -> None:
         ends = [*numbers, self.least, self.greatest] if self.least is not None else numbers
         self.least, self.greatest = min(ends), max(ends)
 
-    def ends(self):
+    def ends(self) -> list[str]:
         """The texts of the least and of the greatest number."""
         return [] if self.least is None else [self.kind.text(self.least), self.kind.text(self.greatest)]
 
@@ -36,7 +41,7 @@ class Numbers:
 class Kept(Numbers):
     """Those of fields that were kept."""
 
-    def __init__(self, kind, null, seen):
+    def __init__(self, kind: Whole, null: str, seen: Seen) -> None:
         Numbers.__init__(self, kind, null)
         # what is written for each code, and the codes of texts that won't come back
         self.by_code, self.odd = [null] * len(seen.codes), set()
@@ -54,7 +59,7 @@ class Kept(Numbers):
                 if kind.text(number) != text:
                     self.odd.add(code)
 
-    def written(self, kept):
+    def written(self, kept: Coded | Numbered) -> list[str]:
         """What is written for fields that were kept."""
         numbers = keeping.values_of(kept)
         if isinstance(kept, keeping.Coded):
@@ -69,7 +74,7 @@ class Kept(Numbers):
 class Again(Numbers):
     """Those of fields that are read again: the texts that were met, or all of a column of texts, and what is written for them."""
 
-    def __init__(self, kind, null, heading, nulls):
+    def __init__(self, kind: Whole, null: str, heading: str, nulls: Iterable[str]) -> None:
         Numbers.__init__(self, kind, null)
         self.heading, self.known, self.odd = heading, {}, set()
         self.nulls = dict.fromkeys(nulls, null)
@@ -79,10 +84,10 @@ class Again(Numbers):
             if kind.texts:
                 self.widen(0, len(kind.texts) - 1)
 
-    def forget(self):
+    def forget(self) -> None:
         self.odd, self.known = set(), dict(self.nulls)
 
-    def written(self, fields):
+    def written(self, fields: Sequence[str]) -> list[str]:
         """What is written for the fields of some rows."""
         for text in set(fields).difference(self.known):
             self.learn(text)
@@ -92,7 +97,7 @@ class Again(Numbers):
             self.forget()
         return found
 
-    def learn(self, text):
+    def learn(self, text: str) -> None:
         number = None if self.kind.name == "texts" else self.kind.number(text)
         if number is None:
             raise Refused(f"column {shown(self.heading)} holds {shown(text)}: the file has changed while it was read")
@@ -105,7 +110,7 @@ class Again(Numbers):
 class Table:
     """A file's rows as numbers, and what they mean."""
 
-    def __init__(self, path, given, folder=None):
+    def __init__(self, path: str | os.PathLike[str], given: argparse.Namespace, folder: pathlib.Path | None = None) -> None:
         self.source, self.store = Source(path, given), keeping.Store(folder)
         self.marks = self.source.marks()
         self.seen, decided = decide(self.source, given, self.store)
@@ -118,7 +123,7 @@ class Table:
         for seen in self.seen:
             seen.codes = None
 
-    def chunks(self):
+    def chunks(self) -> Iterator[list[list[str]]]:
         """The columns of what is written for many rows at a time."""
         is_read_again = any(seen.is_read_again for seen in self.seen)
         again = self.source.chunks() if is_read_again else itertools.repeat(None)
@@ -129,10 +134,10 @@ class Table:
                 self.refuse_changed()
             yield found
 
-    def refuse_changed(self):
+    def refuse_changed(self) -> NoReturn:
         raise Refused(f"{self.source.path}: the file has changed while it was read")
 
-    def write(self, path):
+    def write(self, path: str | os.PathLike[str]) -> None:
         """Writes the numbers of all rows."""
         count, size = self.source.count, 0
         with open(path, "w", encoding="ascii", newline="") as out, Progress("written") as progress:
@@ -148,7 +153,7 @@ class Table:
         for column, each in zip(self.columns, self.numbers):
             column.ends = each.ends()
 
-    def report(self):
+    def report(self) -> None:
         """Prints what was done with each column, a line each."""
         lines = [("COLUMN", "HEADING", "WHAT IT IS", "FROM", "TO", "NULLS", "NOTES")]
         for column, seen, each in zip(self.columns, self.seen, self.numbers):
@@ -165,7 +170,7 @@ class Table:
               + (f"; {counted(source.empty, 'empty line')} left out" if source.empty else ""))
 
 
-def notes(column, seen, changed):
+def notes(column: Column, seen: Seen, changed: int) -> str:
     """What has to be known of a column: why it's one of texts, and what doesn't come back as it stood."""
     found = [f"texts: {column.why}"] if column.why else []
     words = [(word, count) for word, count in seen.nulls.items() if word not in column.nulls]
@@ -175,7 +180,7 @@ def notes(column, seen, changed):
     return "; ".join(found)
 
 
-def refuse_target(path, sources):
+def refuse_target(path: str | os.PathLike[str], sources: Iterable[str | os.PathLike[str]]) -> None:
     """Refuses a file to write that is there and isn't a regular file, or is one of those that are read."""
     try:
         mode = os.lstat(path).st_mode
@@ -189,7 +194,7 @@ def refuse_target(path, sources):
 
 
 @contextlib.contextmanager
-def new_folder(beside):
+def new_folder(beside: str | os.PathLike[str]) -> Iterator[pathlib.Path]:
     """A new folder beside a file to write, which is gone at the end."""
     parent = pathlib.Path(beside).parent
     if not parent.is_dir():
@@ -198,7 +203,7 @@ def new_folder(beside):
         yield pathlib.Path(name)
 
 
-def put(folder, moves):
+def put(folder: pathlib.Path, moves: Iterable[tuple[Any, Any]]) -> None:
     """Moves files of a folder to their places: all of them, or none."""
     held = (signal.SIGINT, signal.SIGTERM, signal.SIGHUP)
     before = signal.pthread_sigmask(signal.SIG_BLOCK, held)
