@@ -6,7 +6,6 @@ import collections
 import csv
 import io
 import itertools
-import operator
 import re
 import shutil
 import stat
@@ -20,9 +19,8 @@ from .kinds import Refused, counted
 SEPARATORS = {"comma": ",", "semicolon": ";", "tab": "\t", "bar": "|", "\\t": "\t"}
 MARKS = ((b"\xef\xbb\xbf", "utf-8-sig"), (b"\xff\xfe", "utf-16"), (b"\xfe\xff", "utf-16"))
 MOST_COLUMNS, MOST_ROWS, ROWS_AT_ONCE, CHARACTERS_AT_ONCE = 64, 1 << 24, 8192, 1 << 18
-# characters that part and stand for fields inside, and that no file should have
-NUL, UNIT = "\0", "\x1f"
-FIRST, LAST = operator.itemgetter(0), operator.itemgetter(-1)
+# stands for a field in quotes while records are parted; what has one is the csv module's
+NUL = "\0"
 BREAK = re.compile("\r\n|\r|\n")
 SAID = re.compile('"?sep=(.)"?[\r\n]*', re.IGNORECASE)
 
@@ -72,7 +70,7 @@ class Source:
         said = self.said_separator()
         self.separator = SEPARATORS.get(given.separator, given.separator) or said or self.most_frequent()
         # whether fields may be parted without the csv module
-        self.is_simple = self.escape is None and len({self.separator, self.quote, NUL, UNIT, "\n", "\r"}) == 6
+        self.is_simple = self.escape is None and len({self.separator, self.quote, NUL, "\n", "\r"}) == 5
         self.headings = self.read_headings()
 
     def marks(self) -> tuple[int, int]:
@@ -169,7 +167,7 @@ class Source:
                 if not text:
                     return
                 columns = None
-                if self.is_simple and NUL not in text and UNIT not in text:
+                if self.is_simple and NUL not in text:
                     parts = text.split(self.quote)
                     if len(parts) % 2 == 0:
                         text += self.to_next_quote(file)
@@ -237,22 +235,33 @@ class Source:
 def columns_of(parts: list[str], separator: str, width: int) -> list[list[str]] | None:
     """The columns of a text of whole records, which is parted at its quotes, where all records have so many fields, and quotes
     stand round whole fields without a quote in them; or None. What isn't so, and an empty line, is the csv module's."""
-    is_quoted = len(parts) > 1
-    # outside of quotes each field in quotes is a NUL
-    outer = NUL.join(parts[::2]) if is_quoted else parts[0]
+    # outside of quotes each field in quotes is a NUL, and each line feed a field of its own
+    outer, quoted = NUL.join(parts[::2]), parts[1::2]
     if "\r" in outer:
         outer = outer.replace("\r\n", "\n")
-    lines = outer[:-1].split("\n") if outer.endswith("\n") else outer.split("\n")
-    if "\r" in outer or "" in lines or set(map(str.count, lines, itertools.repeat(separator))) != {width - 1}:
+    outer = outer if outer.endswith("\n") else f"{outer}\n"
+    count = outer.count("\n")
+    if "\r" in outer or len(parts) % 2 == 0 or width == 1 and (outer[0] == "\n" or "\n\n" in outer):
         return None
-    flat = separator.join(lines)
-    if not is_quoted:
-        fields = flat.split(separator)
-    else:
-        around = f"{separator}{flat}{separator}".split(NUL)
-        if len(parts) % 2 == 0 or "" in around or \
-                {*map(FIRST, around[1:]), *map(LAST, around[:-1])} != {separator}:
-            return None
-        parts[::2] = flat.replace(separator, UNIT).split(NUL)
-        fields = "".join(parts).split(UNIT)
-    return [fields[place::width] for place in range(width)]
+    fields = outer.replace("\n", f"{separator}\n{separator}").split(separator)
+    if len(fields) != count * (width + 1) + 1 or fields[width::width + 1] != ["\n"] * count:
+        return None
+    columns = [fields[place:-1:width + 1] for place in range(width)]
+    return fill(columns, quoted) if quoted else columns
+
+
+def fill(columns: list[list[str]], quoted: list[str]) -> list[list[str]] | None:
+    """Columns with the fields that were quoted, which come row by row, each in the place of a NUL; None where a NUL isn't alone."""
+    counts = [column.count(NUL) for column in columns]
+    if sum(counts) != len(quoted):
+        return None
+    rows, places = len(columns[0]), [place for place, count in enumerate(counts) if count]
+    if all(counts[place] == rows for place in places):
+        for number, place in enumerate(places):
+            columns[place] = quoted[number::len(places)]
+        return columns
+    rest = iter(quoted)
+    filled = [[next(rest) if field == NUL else field for field in row] for row in zip(*(columns[place] for place in places))]
+    for place, column in zip(places, zip(*filled)):
+        columns[place] = list(column)
+    return columns
