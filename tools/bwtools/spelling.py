@@ -4,9 +4,10 @@ from __future__ import annotations
 import collections
 import datetime
 import functools
+import itertools
 import operator
 import re
-from typing import NamedTuple, Sequence
+from typing import Iterable, NamedTuple, Sequence
 
 FIRST_DAY = datetime.date(1970, 1, 1).toordinal()
 LAST_SECOND = (datetime.date(9999, 12, 31).toordinal() - FIRST_DAY + 1) * 86400
@@ -138,25 +139,7 @@ def plain_of(mark: str) -> re.Pattern[str]:
     return re.compile(rf"(?:(?!-0(?:[{mark}]0+)?\n)-?(?:0|[1-9][0-9]*)(?:[{mark}][0-9]+)?\n)*")
 
 
-class Ends(dict):
-    """The seconds, times ten to a number of digits, of each end of a time that was met, as :07.250Z. All have one shape."""
-
-    def __init__(self, has_seconds: bool, digits: int, zone: str) -> None:
-        super().__init__()
-        second = (":[0-5][0-9]" if has_seconds else "") + (rf"\.[0-9]{{{digits}}}" if digits else "")
-        self.shape, self.zone = re.compile(second + re.escape(zone)), zone
-
-    def __missing__(self, text: str) -> int:
-        if not self.shape.fullmatch(text):
-            raise ValueError
-        number = int(text[:len(text) - len(self.zone)].replace(":", "").replace(".", "") or 0)
-        if len(self) < MOST_ENDS:
-            self[text] = number
-        return number
-
-
-MOST_ENDS = 1 << 16
-MINUTE = re.compile("[0-9]{4}-[0-9]{2}-[0-9]{2}([T ])(?:[01][0-9]|2[0-3]):[0-5][0-9]")
+MINUTE = re.compile("[0-9]{4}-[0-9]{2}-[0-9]{2}([T ])(?:[01][0-9]|2[0-3]):[0-5][0-9]:?")
 SHAPE = re.compile(r"[0-9]{4}-[0-9]{2}-[0-9]{2}([T ])[0-9]{2}:[0-9]{2}(:[0-9]{2}(?:\.([0-9]{1,6}))?)?"
                    "(Z|[+-][0-9]{2}(?::?[0-9]{2})?)?")
 
@@ -167,31 +150,46 @@ def plain_times(fields: Sequence[str]) -> PlainTimes | None:
     if not shape:
         return None
     between, seconds, part, zone = shape.groups("")
-    power, offset, ends = 10 ** len(part), offset_of(zone), ends_of(bool(seconds), len(part), zone)
+    power, offset, place = 10 ** len(part), offset_of(zone), 17 if seconds else 16
     if offset is None:
         return None
     try:
-        minutes = [field[:16] for field in fields]
-        starts = {minute: (minute_of(minute, between) * 60 - offset) * power for minute in set(minutes)}
-        numbers = list(map(operator.add, map(starts.__getitem__, minutes), map(ends.__getitem__, [field[16:] for field in fields])))
+        minutes = [field[:place] for field in fields]
+        starts = {minute: (minute_of(minute, between, place) * 60 - offset) * power for minute in set(minutes)}
+        ends = seconds_of([field[place:] for field in fields], 2 if seconds else 0, len(part), zone)
     except ValueError:
         return None
+    numbers = list(map(operator.add, map(starts.__getitem__, minutes), ends))
     if offset and (min(numbers) < FIRST_SECOND * power or max(numbers) >= LAST_SECOND * power):
         return None
     form = f"%Y-%m-%d{between}%H:%M{':%S' if seconds else ''}"
     return PlainTimes(numbers, len(part), (form, len(part), zone) if zone in ("", "Z") else None)
 
 
-def minute_of(text: str, between: str) -> int:
-    """The minute since 1970 of the start of a time, as 2024-05-01 12:30, with this sign between."""
-    found = MINUTE.fullmatch(text)
+def minute_of(text: str, between: str, length: int) -> int:
+    """The minute since 1970 of the start of a time, as 2024-05-01 12:30 or 2024-05-01 12:30:, with this sign between."""
+    found = MINUTE.fullmatch(text) if len(text) == length else None
     day = date_part(text[:10])[0].get("%Y-%m-%d") if found and found[1] == between else None
     if day is None:
         raise ValueError
-    return day * 1440 + int(text[11:13]) * 60 + int(text[14:])
+    return day * 1440 + int(text[11:13]) * 60 + int(text[14:16])
 
 
-ends_of = functools.lru_cache(16)(Ends)
+def seconds_of(ends: list[str], length: int, digits: int, zone: str) -> Iterable[int]:
+    """The seconds of the ends of times, as 07.250Z, which have so many digits before and after the point, times ten to those
+    after it."""
+    count, joined = len(ends), "\n".join(ends) + "\n"
+    # the sign at each place of an end, or none for a digit; each place of all ends is a slice
+    signs = [*[""] * length, *["."] * bool(digits), *[""] * digits, *zone, "\n"]
+    places = [joined[place::len(signs)] for place in range(len(signs))]
+    if len(joined) != count * len(signs) or length and places[0].strip("012345"):
+        raise ValueError
+    for sign, place in zip(signs, places):
+        if place != sign * count if sign else not (place.isdigit() and place.isascii()):
+            raise ValueError
+    if not length:
+        return itertools.repeat(0)
+    return map(int, joined.replace(f"{zone}\n", "\n").replace(".", "").split())
 
 
 @functools.lru_cache(1 << 16)

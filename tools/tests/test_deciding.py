@@ -129,7 +129,8 @@ class Lines:
 
 class Names(unittest.TestCase):
     def test_names(self):
-        self.assertEqual([text for text in ("a_1", "a" * 63, "1a", "select", "a" * 64, "", "a b") if is_name(text)], ["a_1", "a" * 63])
+        tried = ("a_1", "a" * 63, "1a", "select", "a" * 64, "", "a b")
+        self.assertEqual([text for text in tried if is_name(text)], ["a_1", "a" * 63])
         self.assertEqual([name_like(text) for text in ["a b", "1st", "Größe", "select", "", "%"]],
                          ["a_b", "_1st", "Groe", "select_", "_", "_"])
 

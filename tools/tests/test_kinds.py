@@ -27,7 +27,8 @@ class ThereAndBack(unittest.TestCase):
                 self.assertEqual(kind.number(text), number)
 
     BACK = [(kinds.Whole(), -5, "-5"), (kinds.Decimals(2, False), 150, "1.50"), (kinds.Decimals(2, False), -5, "-0.05"),
-            (kinds.Decimals(2, True), 150, "1.5"), (kinds.Decimals(2, True), 100, "1"), (kinds.Decimals(2, False, ","), 150, "1,50"),
+            (kinds.Decimals(2, True), 150, "1.5"), (kinds.Decimals(2, True), 100, "1"),
+            (kinds.Decimals(2, False, ","), 150, "1,50"),
             (kinds.Dates(), DAY, "2024-05-01"), (kinds.Dates("%d.%m.%Y"), DAY, "01.05.2024"),
             (kinds.Times("%Y-%m-%d %H:%M"), NOON, "2024-05-01 12:00"),
             (kinds.Times("%Y-%m-%dT%H:%M:%S", 0, "Z"), NOON + 7, "2024-05-01T12:00:07Z"),

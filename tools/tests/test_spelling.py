@@ -110,6 +110,14 @@ class PlainTimes(unittest.TestCase):
                 self.assertIsNone(plain_times([first, text]))
                 self.assertTrue(plain_times([text, first]) is None)
 
+    def test_other_zones_beside(self):
+        for first, text in [("2024-05-01 12:30:07+02:00", "2024-05-01 12:30:07+02:30"),
+                            ("2024-05-01 12:30+02", "2024-05-01 12:30+03"),
+                            ("2024-05-01 12:30:07.5Z", "2024-05-01 12:30:07.55"), ("2024-05-01 12:30Z", "2024-05-01 12:30:")]:
+            with self.subTest(first):
+                self.assertIsNone(plain_times([first, text]))
+                self.assertIsNotNone(plain_times([first, first]))
+
     def test_past_the_last_year_by_its_offset(self):
         self.assertIsNone(plain_times(["9999-12-31T23:00:00-02:00"]))
         self.assertIsNone(plain_times(["0001-01-01T01:00:00+02:00"]))
