@@ -120,6 +120,15 @@ class Progress(unittest.TestCase):
             shown.add(5, 7)
         self.assertEqual(err.getvalue(), "")
 
+    def test_is_wanted_at_a_terminal(self):
+        ours, theirs = os.openpty()
+        self.addCleanup(os.close, ours)
+        with open(theirs, "w", encoding="utf-8") as terminal, contextlib.redirect_stderr(terminal), \
+                mock.patch("bwtools.progress.FIRST", 0.0), progress.Progress("read") as shown, progress.Progress("read", False) as other:
+            self.assertTrue(shown.is_wanted and not other.is_wanted)
+            shown.add(1500)
+            self.assertEqual(os.read(ours, 100), b"\rread 1,500 rows\x1b[K")
+
     def test_line_is_written_over_and_taken_away(self):
         with contextlib.redirect_stderr(io.StringIO()) as err, progress.Progress("read") as shown:
             shown.is_wanted, shown.begun = True, shown.begun - 2
