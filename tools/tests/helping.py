@@ -2,6 +2,7 @@
 from __future__ import annotations
 
 import argparse
+import functools
 import pathlib
 import tempfile
 
@@ -10,6 +11,7 @@ from bwtools.deciding import Seen
 from bwtools.source import Source
 
 
+@functools.lru_cache(64)
 def options(*words: str) -> argparse.Namespace:
     """The options that words on the command line give."""
     parser = argparse.ArgumentParser()
