@@ -278,8 +278,9 @@ def kind_by(form: str) -> Dates:
     raise Refused(f"--date: {shown(form)} is no format of %Y, %m and %d, with %H, %M and %S for a time")
 
 
-def decide(source: Source, given: argparse.Namespace, store: Store) -> tuple[list[Seen], list[Whole | None]]:
-    """What is known of each column after all rows were read and kept, with all texts of the columns of texts, and their kinds."""
+def decide(source: Source, given: argparse.Namespace, store: Store | None = None) -> tuple[list[Seen], list[Whole | None]]:
+    """What is known of each column after all rows were read, with all texts of the columns of texts, and their kinds. The rows
+    are kept in a store, if one is given."""
     for option in ("text", "number", "date"):
         unknown = [each for each in getattr(given, option) if each not in source.headings]
         if unknown:
@@ -288,9 +289,11 @@ def decide(source: Source, given: argparse.Namespace, store: Store) -> tuple[lis
     with Progress("read") as progress:
         for chunk in source.chunks():
             try:
-                store.append([seen.add(fields, chunk) for seen, fields in zip(columns, chunk.columns)])
+                kept = [seen.add(fields, chunk) for seen, fields in zip(columns, chunk.columns)]
             except Refused as refused:
                 raise Refused(f"{source.path}: {refused}") from None
+            if store:
+                store.append(kept)
             progress.add(chunk.count, source.file.tell())
     decided = [seen.kind() for seen in columns]
     # beside decimal commas a point may part thousands

@@ -37,6 +37,10 @@ class Chunk:
         self.columns, self.headings, self.text, self.line, self.reader = columns, headings, text, line, reader
         self.count = len(columns[0]) if columns else 0
 
+    @property
+    def rows(self) -> list[tuple[str, ...]]:
+        return list(zip(*self.columns))
+
     def line_of(self, place: int) -> int:
         """The line at which a row begins."""
         line, place = self.line, place + self.headings

@@ -118,7 +118,7 @@ class Table:
         self.columns = [kinds.Column(name, seen.heading, kind, seen.null(), seen.null_words(), why=seen.why or "")
                         for name, seen, kind in zip(names_of(self.source.headings), self.seen, found)]
         null = "NULL" if len(self.columns) == 1 else ""
-        self.numbers = [Again(column.kind, null, column.heading, column.nulls) if seen.is_read_again else
+        self.written = [Again(column.kind, null, column.heading, column.nulls) if seen.is_read_again else
                         Kept(column.kind, null, seen) for column, seen in zip(self.columns, self.seen)]
         for seen in self.seen:
             seen.codes = None
@@ -129,7 +129,7 @@ class Table:
         again = self.source.chunks() if is_read_again else itertools.repeat(None)
         for kept, chunk in zip(self.store, again):
             found = [each.written(chunk.columns[place] if isinstance(each, Again) else kept[place])
-                     for place, each in enumerate(self.numbers)]
+                     for place, each in enumerate(self.written)]
             if len(set(map(len, found))) > 1:
                 self.refuse_changed()
             yield found
@@ -150,13 +150,13 @@ class Table:
                                   "loaded")
         if count != self.source.count or self.marks != self.source.marks():
             self.refuse_changed()
-        for column, each in zip(self.columns, self.numbers):
+        for column, each in zip(self.columns, self.written):
             column.ends = each.ends()
 
     def report(self) -> None:
         """Prints what was done with each column, a line each."""
         lines = [("COLUMN", "HEADING", "WHAT IT IS", "FROM", "TO", "NULLS", "NOTES")]
-        for column, seen, each in zip(self.columns, self.seen, self.numbers):
+        for column, seen, each in zip(self.columns, self.seen, self.written):
             ends = [shown(end)[1:-1] for end in column.ends] or ["", ""]
             heading = "" if column.heading == column.name else shown(column.heading)
             nulls = ", ".join(f"{counted(seen.nulls[word], 'null')} as {shown(word) if word else 'nothing'}"

@@ -37,7 +37,7 @@ class Tables(unittest.TestCase):
                 mock.patch("bwtools.writing.MOST_KNOWN", 500):
             table = table_of(data.encode())
             table.write(os.devnull)
-        self.assertEqual((table.columns[0].ends, table.numbers[0].changed), (["0", "4999"], 5000))
+        self.assertEqual((table.columns[0].ends, table.written[0].changed), (["0", "4999"], 5000))
 
     def test_report(self):
         table = table_of(b"a,b\n1.5,x\n2.25,NA\n3.0,\n")
@@ -58,7 +58,7 @@ class Tables(unittest.TestCase):
                 table = table_of(("a\n" + "\n".join(fields * 20) + "\n").encode())
                 table.write(os.devnull)
                 # all but 2.25 and 4.10
-                self.assertEqual(table.numbers[0].changed, 60)
+                self.assertEqual(table.written[0].changed, 60)
 
     def test_a_file_that_changes_is_refused(self):
         with tempfile.TemporaryDirectory() as name:
