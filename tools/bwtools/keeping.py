@@ -1,7 +1,7 @@
 """The fields of a file in short, from the time when they are read until the kinds of all columns are known.
 
 A field of a column is kept as the code of its text, or as the number that it spells: so each distinct text is looked at once,
-and the file is read once. All is in a temporary file, which takes one to eight bytes a field."""
+and the file is read once. All is in a temporary file, of one to nine bytes a field."""
 from __future__ import annotations
 
 import array
