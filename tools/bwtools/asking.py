@@ -28,8 +28,9 @@ def answer_all(answer: Callable[[str, str], int]) -> int:
     return 0
 
 
-def pass_on(told: str, status: int, turned: str) -> None:
+def pass_on(told: str, turned: str) -> None:
     """Passes on what bw said on standard error of a statement that was turned."""
     print(told, end="", file=sys.stderr)
-    if " at byte " in told and status == 3:
+    # its faults of a statement are those from 401 on
+    if told.startswith("bw: 4") and " at byte " in told:
         print(f"{command.own_name()}: where a byte of the statement is told, it's of: {turned}", file=sys.stderr)

@@ -4,6 +4,7 @@ from __future__ import annotations
 import argparse
 import contextlib
 import csv
+import fcntl
 import gc
 import os
 import pathlib
@@ -61,6 +62,15 @@ def table_name(given: argparse.Namespace) -> str:
     if not deciding.is_name(name):
         raise Refused(f"--table: {deciding.shown(name)} is no name: letters, digits and _, and no word of SQL")
     return name
+
+
+def open_high(path: str, flags: int) -> int:
+    """Opens a file for a program to read by its number, which is none of standard input, output and errors."""
+    found = os.open(path, flags)
+    try:
+        return fcntl.fcntl(found, fcntl.F_DUPFD_CLOEXEC, 3)
+    finally:
+        os.close(found)
 
 
 def one_character(text: str) -> str:
