@@ -47,8 +47,8 @@ class Kept(Numbers):
         # what is written for each code, and the codes of texts that won't come back
         self.by_code, self.odd = [null] * len(seen.codes), set()
         if kind.name == "texts":
-            for place, text in enumerate(kind.texts):
-                self.by_code[seen.codes[text]] = str(place)
+            for code, place in zip(map(seen.codes.__getitem__, kind.texts), map(str, itertools.count())):
+                self.by_code[code] = place
             if kind.texts:
                 self.widen(0, len(kind.texts) - 1)
             return

@@ -124,7 +124,8 @@ class Progress(unittest.TestCase):
         ours, theirs = os.openpty()
         self.addCleanup(os.close, ours)
         with open(theirs, "w", encoding="utf-8") as terminal, contextlib.redirect_stderr(terminal), \
-                mock.patch("bwtools.progress.FIRST", 0.0), progress.Progress("read") as shown, progress.Progress("read", False) as other:
+                mock.patch("bwtools.progress.FIRST", 0.0), \
+                progress.Progress("read") as shown, progress.Progress("read", False) as other:
             self.assertTrue(shown.is_wanted and not other.is_wanted)
             shown.add(1500)
             self.assertEqual(os.read(ours, 100), b"\rread 1,500 rows\x1b[K")
