@@ -129,6 +129,6 @@ def refuse_folder(path: str) -> None:
         raise Refused(f"{path} would be written over, and has {foreign[0]}, which isn't of its shards")
 
 
-def paths_of(folder: pathlib.Path, place: int) -> pathlib.Path:
+def shard_file(folder: pathlib.Path, place: int) -> pathlib.Path:
     """The path of a shard's table file."""
     return folder / f"shard-{place + 1:03}.bw"

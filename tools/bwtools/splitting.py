@@ -10,7 +10,7 @@ from typing import TextIO
 
 from . import command, pairs, writing
 from .kinds import Refused, counted
-from .shards import FILE, Record, paths_of, refuse_folder
+from .shards import FILE, Record, shard_file, refuse_folder
 from .source import MOST_ROWS
 
 
@@ -63,7 +63,7 @@ class Loads:
     def load(self) -> None:
         """Loads the current piece."""
         self.out.close()
-        table, schema = paths_of(self.made, len(self.records)), self.room / "schema"
+        table, schema = shard_file(self.made, len(self.records)), self.room / "schema"
         with open(schema, "wb") as file:
             command.call(["infer", "--table", self.name, self.csv], file)
         command.call(["load", schema, self.csv, table])
