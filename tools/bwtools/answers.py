@@ -1,10 +1,15 @@
 """Turns an answer of bw back into what its numbers mean."""
+from __future__ import annotations
+
 import csv
+import io
 import itertools
 import re
+from typing import Callable, Iterator, Sequence, TextIO
 
-from . import source  # noqa: F401  (it lifts csv's limits)
-from .kinds import Refused, counted
+from .kinds import Column, Refused, counted
+from .progress import Progress
+from .source import CHARACTERS_AT_ONCE, NUL, columns_of
 
 QUOTE, QUOTED = '"', re.compile('[",\r\n]')
 WHOLE = re.compile("(?:(?:-?(?:0|[1-9][0-9]*)|NULL)\\n)*")
@@ -14,7 +19,7 @@ MOST_KNOWN, ROWS_AT_ONCE = 1 << 17, 8192
 class Back(dict):
     """How the fields under one heading of an answer are turned back: those that were met."""
 
-    def __init__(self, heading, columns):
+    def __init__(self, heading: str, columns: list[Column]) -> None:
         super().__init__()
         self.turn_many = None
         found = re.fullmatch(r"(?:(COUNT|SUM|MIN|MAX)\()?([^()]+)\)?", heading)
@@ -32,11 +37,11 @@ class Back(dict):
             raise Refused(no_sum(column))
         self.turn_many = column.kind.spell if function is None else None
 
-    def __missing__(self, field):
+    def __missing__(self, field: str) -> str:
         self[field] = quoted(self.null if field == "NULL" else self.turn(int(field)))
         return self[field]
 
-    def many(self, fields):
+    def many(self, fields: Sequence[str]) -> list[str]:
         """The texts of many fields: those that weren't met are turned at once."""
         distinct = dict.fromkeys(fields)
         is_mixed = len(distinct) * 2 < len(fields) or "NULL" in distinct
@@ -48,9 +53,10 @@ class Back(dict):
         self.update(zip(fresh, texts))
         return list(map(self.__getitem__, fields))
 
-    def texts(self, fields, line):
+    def texts(self, fields: Sequence[str], line: Callable[[int], int]) -> list[str]:
         """The texts of the fields of some rows, in quotes where these are needed. `line` gives the line of a row."""
-        if self.is_whole and WHOLE.fullmatch("\n".join(fields) + "\n"):
+        joined = "\n".join(fields) + "\n" if self.is_whole else ""
+        if joined.count("\n") == len(fields) and WHOLE.fullmatch(joined):
             null = quoted(self.null)
             return [null if field == "NULL" else field for field in fields]
         try:
@@ -68,39 +74,56 @@ class Back(dict):
                 self.clear()
 
 
-def no_sum(column):
+def no_sum(column: Column) -> str:
     """Why a column has no sum."""
     return f"SUM({column.name}): {column.name} holds {column.kind.plural}, and a sum of {column.kind.plural} means nothing; " \
         "ask for COUNT, MIN or MAX"
 
 
-def quoted(field):
+def quoted(field: str) -> str:
     return f'"{field.replace(QUOTE, QUOTE * 2)}"' if QUOTED.search(field) else field
 
 
-def csv_lines(columns):
+def csv_lines(columns: Sequence[Sequence[str]]) -> str:
     """The lines of columns of fields. A line of one empty field has quotes, since an empty line is no record."""
     if len(columns) == 1:
         columns = [[field or QUOTE * 2 for field in columns[0]]]
     return "\n".join(map(",".join, zip(*columns))) + "\n"
 
 
-def turn_back(columns, answer, out):
-    """Turns an answer, lines of CSV, back, and writes it as CSV. Nothing is written where its heading is refused."""
-    records = csv.reader(answer)
-    heading = next(records, None)
-    if heading is None:
-        raise Refused("the answer is empty")
-    backs, before = [Back(each, columns) for each in heading], records.line_num
-    out.write(csv_lines([[quoted(back.heading)] for back in backs]))
+def blocks(answer: TextIO, width: int) -> Iterator[tuple[int, Sequence[Sequence[str]]]]:
+    """The columns of an answer after its heading, many rows at a time, each with the line before it."""
+    before, text = 1, ""
+    while True:
+        text = answer.read(CHARACTERS_AT_ONCE)
+        text += answer.readline()
+        columns = None if QUOTE in text or NUL in text else columns_of([text], ",", width)
+        if not text or columns is None:
+            break
+        yield before, columns
+        before += len(columns[0])
+    # what isn't of bw alone is the csv module's
+    records = csv.reader(itertools.chain(io.StringIO(text, newline=""), answer))
+    first = before
     while True:
         rows = list(itertools.islice(records, ROWS_AT_ONCE))
         if not rows:
             return
-        odd = [place for place, row in enumerate(rows) if len(row) != len(backs)] if set(map(len, rows)) != {len(backs)} else []
-        if odd:
-            raise Refused(f"line {before + odd[0] + 1} of the answer has {counted(len(rows[odd[0]]), 'field')} "
-                          f"and not {len(backs)}")
-        first = before + 1
-        out.write(csv_lines([back.texts(fields, lambda place: first + place) for back, fields in zip(backs, zip(*rows))]))
-        before = records.line_num
+        odd = next((place for place, row in enumerate(rows) if len(row) != width), None)
+        if odd is not None:
+            raise Refused(f"line {before + odd + 1} of the answer has {counted(len(rows[odd]), 'field')} and not {width}")
+        yield before, list(zip(*rows))
+        before = first + records.line_num
+
+
+def turn_back(columns: list[Column], answer: TextIO, out: TextIO, progress: Progress | None = None) -> None:
+    """Turns an answer, lines of CSV, back, and writes it as CSV. Nothing is written where its heading is refused."""
+    heading = next(csv.reader(answer), None)
+    if heading is None:
+        raise Refused("the answer is empty")
+    backs = [Back(each, columns) for each in heading]
+    out.write(csv_lines([[quoted(back.heading)] for back in backs]))
+    for before, block in blocks(answer, len(backs)):
+        out.write(csv_lines([back.texts(fields, lambda place: before + 1 + place) for back, fields in zip(backs, block)]))
+        if progress:
+            progress.add(len(block[0]))

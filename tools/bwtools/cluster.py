@@ -1,13 +1,16 @@
 """Asks shards side by side by Dask's distributed scheduler: a local cluster, or one that runs already. A shard whose worker dies is
 asked again, of another worker, by the scheduler. Without Dask, shards are asked one after another."""
+from __future__ import annotations
+
 import contextlib
 import importlib.util
 import logging
 import os
 import sys
 import tempfile
-from typing import Any, Iterator, List, Optional, Tuple
+from typing import Any, Iterator
 
+from . import command
 from .kinds import Refused
 from .shards import Reply, ask_shard
 
@@ -19,7 +22,7 @@ SECONDS = 10
 class InTurn:
     """Asks shards one after another."""
 
-    def replies(self, calls: List[Tuple[Any, ...]]) -> Iterator[Reply]:
+    def replies(self, calls: list[tuple[Any, ...]]) -> Iterator[Reply]:
         """What each call of ask_shard gives, in their order."""
         return (ask_shard(*call) for call in calls)
 
@@ -30,7 +33,7 @@ class InTurn:
 class Cluster:
     """Asks shards by the workers of a cluster, which is started or joined for the first statement."""
 
-    def __init__(self, workers: int, scheduler: Optional[str]) -> None:
+    def __init__(self, workers: int, scheduler: str | None) -> None:
         self.workers, self.scheduler, self.client = workers, scheduler, None
         self.stack = contextlib.ExitStack()
 
@@ -61,7 +64,7 @@ class Cluster:
             n_workers=self.workers, threads_per_worker=1, processes=True, host="127.0.0.1", scheduler_port=0, memory_limit=0,
             dashboard_address=None, local_directory=folder, silence_logs=logging.CRITICAL, security=is_closed))
 
-    def replies(self, calls: List[Tuple[Any, ...]]) -> Iterator[Reply]:
+    def replies(self, calls: list[tuple[Any, ...]]) -> Iterator[Reply]:
         """What each call of ask_shard gives, in their order. An answer leaves the cluster once it's taken."""
         if self.client is None:
             self.start()
@@ -96,7 +99,7 @@ def is_installed() -> bool:
     return all(importlib.util.find_spec(name) for name in ("distributed", "cloudpickle"))
 
 
-def engine(count: int, workers: Optional[int], scheduler: Optional[str]) -> Any:
+def engine(count: int, workers: int | None, scheduler: str | None) -> Any:
     """What asks so many shards."""
     if scheduler:
         if not is_installed():
@@ -105,6 +108,6 @@ def engine(count: int, workers: Optional[int], scheduler: Optional[str]) -> Any:
     if workers == 0 or count == 1:
         return InTurn()
     if not is_installed():
-        print(f"shards: {MISSING.format(sys.executable)}: the shards are asked one after another", file=sys.stderr)
+        print(f"{command.own_name()}: {MISSING.format(sys.executable)}: the shards are asked one after another", file=sys.stderr)
         return InTurn()
     return Cluster(min(count, workers or len(os.sched_getaffinity(0))), None)

@@ -1,7 +1,10 @@
 """What the tools share as commands: their options, the program that they call, and how they end."""
+from __future__ import annotations
+
 import argparse
 import contextlib
 import csv
+import fcntl
 import gc
 import os
 import pathlib
@@ -9,22 +12,42 @@ import shutil
 import signal
 import subprocess
 import sys
+from typing import IO, Any, Callable, NoReturn, Sequence
 
 from . import deciding
 from .kinds import Refused
 from .source import SEPARATORS
 
 
-def program():
-    """The program bw: that of the environment variable BW, or the one on the PATH, or the repository's own."""
-    own = pathlib.Path(__file__).resolve().parent.parent.parent / "bw"
-    found = os.environ.get("BW") or shutil.which("bw") or (own if os.access(own, os.X_OK) and own.is_file() else None)
+def program() -> str:
+    """The program bw: that of the environment variable BW, or the one on the PATH, or the one that the tools came with."""
+    found = os.environ.get("BW") or shutil.which("bw") or own_program()
     if not found:
         raise Refused("there is no program bw on the PATH; BW=FILE says where it is")
     return str(found)
 
 
-def call(words, output=subprocess.PIPE):
+def own_program() -> pathlib.Path | None:
+    """The program that the tools came with: that of a checkout's dist/, if it runs here, one beside the folder of the tools, or
+    one that was installed with them. None if there is none."""
+    top = pathlib.Path(__file__).resolve().parent.parent.parent
+    shipped = top / "dist" / "bw"
+    if is_program(shipped) and not subprocess.run([shipped, "--version"], stdin=subprocess.DEVNULL, stdout=subprocess.DEVNULL,
+                                                  stderr=subprocess.DEVNULL, check=False).returncode:
+        return shipped
+    return next(filter(is_program, (top / "bw", top.parent.parent / "bin" / "bw")), None)
+
+
+def is_program(path: pathlib.Path) -> bool:
+    return path.is_file() and os.access(path, os.X_OK)
+
+
+def own_name() -> str:
+    """The name that a tool was called by, as ask, or bw-ask where it's installed."""
+    return pathlib.Path(sys.argv[0]).name
+
+
+def call(words: Sequence[Any], output: IO[bytes] | int = subprocess.PIPE) -> None:
     """Runs a command of bw, which ends where the tool does. Its faults are passed on, and end the tool with their status."""
     status = subprocess.run([program(), *map(str, words)], stdin=subprocess.DEVNULL, stdout=output, check=False).returncode
     if status:
@@ -32,7 +55,7 @@ def call(words, output=subprocess.PIPE):
         sys.exit(status if status > 0 else 128 - status)
 
 
-def table_name(given):
+def table_name(given: argparse.Namespace) -> str:
     """The name of the table to load: the one that is given, or that of the file, or t where that is no name."""
     stem = pathlib.Path(given.csv).stem
     name = given.name or (stem if deciding.is_name(stem) else "t")
@@ -41,7 +64,16 @@ def table_name(given):
     return name
 
 
-def one_character(text):
+def open_high(path: str, flags: int) -> int:
+    """Opens a file for a program to read by its number, which is none of standard input, output and errors."""
+    found = os.open(path, flags)
+    try:
+        return fcntl.fcntl(found, fcntl.F_DUPFD_CLOEXEC, 3)
+    finally:
+        os.close(found)
+
+
+def one_character(text: str) -> str:
     if len(SEPARATORS.get(text, text)) != 1 or text in "\r\n":
         raise argparse.ArgumentTypeError("is one character")
     return text
@@ -50,14 +82,15 @@ def one_character(text):
 class Format(argparse.Action):
     """Takes COLUMN=FORMAT, as often as it's given."""
 
-    def __call__(self, parser, namespace, values, option_string=None):
+    def __call__(self, parser: argparse.ArgumentParser, namespace: argparse.Namespace, values: Any,
+                 option_string: str | None = None) -> None:
         column, sign, form = values.rpartition("=")
         if not sign or not form:
             parser.error(f"{option_string} takes COLUMN=FORMAT, as day=%d/%m/%Y")
         setattr(namespace, self.dest, {**getattr(namespace, self.dest), column: form})
 
 
-def add_options(parser):
+def add_options(parser: argparse.ArgumentParser) -> None:
     """Adds the options that say how a file is read."""
     parser.add_argument("--separator", type=one_character,
                         help="what parts the fields: comma, semicolon, tab, bar or a character; else the heading tells")
@@ -79,19 +112,19 @@ def add_options(parser):
                         help="make texts of a column of which a field wouldn't come back as it stands, as 2.0 beside 1.25")
 
 
-def stop(number, _):
+def stop(number: int, _: object) -> NoReturn:
     """Ends as an interrupt does, so that what was begun is taken away."""
     raise SystemExit(128 + number)
 
 
-def drop_output():
+def drop_output() -> None:
     """Writes what is left of standard output, or else lets it go nowhere, so that Python doesn't complain of it at the end."""
     with contextlib.suppress(OSError):
         sys.stdout.flush()
     os.dup2(os.open(os.devnull, os.O_WRONLY), sys.stdout.fileno())
 
 
-def status_of(name, work):
+def status_of(name: str, work: Callable[[], int | None]) -> int:
     """Does a tool's work, and gives its status: 3 where something was refused, 5 where a file failed."""
     for number in (signal.SIGTERM, signal.SIGHUP):
         if signal.getsignal(number) == signal.SIG_DFL:

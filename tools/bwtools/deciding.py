@@ -1,100 +1,139 @@
 """What each column of a file becomes: what all its fields allow."""
+from __future__ import annotations
+
+import argparse
+import collections
+import itertools
 import re
 import unicodedata
+from typing import Hashable, Sequence
 
-from . import kinds, spelling
-from .kinds import Refused
+from . import keeping, kinds, spelling
+from .keeping import Coded, Numbered, Store
+from .kinds import Dates, Refused, Whole
+from .progress import Progress
+from .source import Chunk, Source
+from .spelling import Moment, Number
 
 NULLS = ("NULL", "null", "NA", "N/A", "nan", "NaN", "-")
-MOST_KNOWN = 1 << 17
+# of a column that isn't one of texts: so many distinct texts are known, and from so many on numbers are looked at together
+MOST_KNOWN, MANY = 1 << 17, 1 << 11
 
 
 class Seen:
     """What is known of a column's fields so far."""
 
-    def __init__(self, heading, given, separator):
+    def __init__(self, heading: str, given: argparse.Namespace, separator: str) -> None:
         self.heading, self.separator = heading, separator
         self.is_number, self.keeps_spelling = heading in given.number, given.keep_spelling
         self.wanted = kind_by(given.date[heading]) if heading in given.date else None
         # the words that are null whatever the column is, and those that are where it isn't one of texts; and how many there are
-        self.always, self.words, self.nulls = {"", *given.null}, dict.fromkeys(["", *given.null, *NULLS]), {}
-        self.form, self.known = None, set()
+        self.always, self.words, self.nulls = {"", *given.null}, list(dict.fromkeys(["", *given.null, *NULLS])), {}
+        self.null_codes = frozenset(range(len(self.words)))
+        self.form, self.codes, self.is_varied = None, keeping.Codes(self.words), False
         # of numbers: the least and the greatest of so many digits, whether one ends in a zero, and the decimal signs
-        self.ends, self.has_zero, self.marks, self.grouped = {}, False, {}, None
+        self.ends, self.lengths, self.has_zero, self.marks, self.grouped = {}, set(), False, {}, None
         # of dates and times: the formats that all dates may have and the first date, and how the times are spelled
         self.dates, self.date, self.clocks, self.betweens, self.zones, self.digits = None, "", set(), set(), set(), 0
         # how fields are spelled, None among them for one that won't come back as it stands, and the first of these
         self.styles, self.odd = set(), None
-        # why it is a column of texts, its texts, and whether these are all of them
-        self.why, self.texts, self.is_all = None, set(), True
+        # why it is a column of texts, whether the codes have all texts, and whether the file has to be read again for it
+        self.why, self.is_all, self.is_read_again = None, True, False
         if heading in given.text:
             self.why = "as --text says"
 
-    def add(self, fields, chunk):
-        """Takes the fields of some rows into account."""
-        if not self.why and self.adds_plain(fields):
-            return
-        distinct = dict.fromkeys(fields)
-        words = [word for word in self.words if word in distinct]
-        for word in words:
-            self.nulls[word] = self.nulls.get(word, 0) + fields.count(word)
-        if self.why:
-            self.texts.update(distinct)
-            return
-        if words and self.adds_plain([field for field in fields if field not in self.words]):
-            return
-        for text in distinct:
-            if text in self.known or text in self.words:
-                continue
-            self.known.add(text)
+    def add(self, fields: Sequence[str], chunk: Chunk) -> Coded | Numbered | None:
+        """Takes the fields of some rows into account, and keeps them; None where they are to be read again."""
+        kept = self.add_plain(fields) if self.is_varied and not self.why else None
+        if kept:
+            return None if self.is_read_again else kept
+        codes = list(map(self.codes.__getitem__, fields))
+        fresh, self.codes.fresh = self.codes.fresh, []
+        kept = keeping.coded(codes, len(self.codes))
+        for code, count in keeping.counts_of(kept, codes, self.null_codes):
+            self.count_null(self.words[code], count)
+        if not self.why:
+            self.judge_all(fresh, fields, chunk)
+            self.is_varied = len(self.codes) > MANY and len(fresh) * 4 > len(fields)
+        if not self.why and len(self.codes) > MOST_KNOWN:
+            self.codes, self.is_all, self.is_read_again = keeping.Codes(self.words), False, True
+        return None if self.is_read_again else kept
+
+    def judge_all(self, texts: Sequence[str], fields: Sequence[str], chunk: Chunk) -> None:
+        """Takes texts that weren't met before into account, to the first one that makes the column one of texts."""
+        for text in texts:
             try:
                 why = self.judge(text)
             except Refused as refused:
                 raise Refused(f"line {chunk.line_of(fields.index(text))}: {refused}") from None
             if why is not None:
-                self.become_texts(f"line {chunk.line_of(fields.index(text))}: {shown(text)}{why}")
-                self.texts.update(distinct)
+                self.why = f"line {chunk.line_of(fields.index(text))}: {shown(text)}{why}"
                 return
-        if len(self.known) > MOST_KNOWN:
-            self.known, self.is_all = set(), False
 
-    def adds_plain(self, fields):
-        """Takes fields into account where all are numbers with the same number of digits, or all times, and spelled as such
-        come back. Such are many fields at once."""
-        if not fields or self.wanted or self.form not in (None, "number", "time"):
-            return False
-        return self.form != "time" and self.adds_numbers(fields) or self.form != "number" and self.adds_times(fields)
+    def add_plain(self, fields: Sequence[str]) -> Numbered | None:
+        """Takes fields into account, and keeps them, where all but the nulls are numbers that are spelled as such come back, or
+        times of one shape. None where one isn't."""
+        if self.wanted or self.form not in (None, "number", "time"):
+            return None
+        # a word for null is neither
+        kept = None if self.nulls else self.add_present(fields, b"")
+        if kept:
+            return kept
+        present, nulls = keeping.split_nulls(fields, frozenset(self.words))
+        kept = self.add_present(present, nulls) if present and (nulls or self.nulls) else None
+        if kept:
+            counts = collections.Counter(itertools.compress(fields, nulls))
+            for word in filter(counts.get, self.words):
+                self.count_null(word, counts[word])
+        return kept
 
-    def adds_numbers(self, fields):
-        digits, numbers = spelling.plain_numbers(fields) or (0, [])
-        if not numbers or digits > spelling.MOST_DIGITS or digits and "," in self.marks:
-            return False
-        least, greatest = min(numbers), max(numbers)
-        if least < kinds.LEAST or greatest > kinds.GREATEST:
-            return False
-        self.form, self.is_all = "number", False
+    def count_null(self, word: str, count: int) -> None:
+        self.nulls[word] = self.nulls.get(word, 0) + count
+
+    def add_present(self, fields: Sequence[str], nulls: bytes) -> Numbered | None:
+        """Takes fields of which none is null into account, and keeps them among the nulls, where all are such numbers or times."""
+        kept = self.add_numbers(fields, nulls) if self.form != "time" else None
+        kept = kept or (self.add_times(fields, nulls) if self.form != "number" and not self.is_number else None)
+        self.is_all = self.is_all and not kept
+        return kept
+
+    def add_numbers(self, fields: Sequence[str], nulls: bytes) -> Numbered | None:
+        found = spelling.plain_numbers(fields)
+        if not found or found.digits > spelling.MOST_DIGITS or found.mark and self.marks.keys() - {found.mark} or \
+                found.mark == "," and self.separator == "," and not self.is_number:
+            return None
+        kept = keeping.numbered(found.numbers, nulls, found.digits, found.counts)
+        if not kept:
+            return None
+        self.form = "number"
         self.styles.add("plain")
-        if digits:
-            self.marks.setdefault(".", fields[0])
-            is_grouped = digits == 3 and greatest < 10 ** 6 and least > -10 ** 6 and min(map(abs, numbers)) >= 1000
-            self.grouped = is_grouped and self.grouped is not False
-            self.has_zero = self.has_zero or any(field[-1] == "0" for field in fields)
-        self.widen(digits, least, greatest)
-        return True
+        if found.mark:
+            marked = [field for field in fields if found.mark in field]
+            self.marks.setdefault(found.mark, marked[0])
+            self.grouped = self.grouped is not False and all(map(spelling.GROUPED.fullmatch, marked))
+            self.has_zero = self.has_zero or any(field[-1] == "0" for field in marked)
+        self.widen(found.digits, kept.least, kept.greatest)
+        self.lengths.update(found.counts)
+        return kept
 
-    def adds_times(self, fields):
-        found = spelling.plain_times(fields) if not self.is_number else None
+    def add_times(self, fields: Sequence[str], nulls: bytes) -> Numbered | None:
+        found = spelling.plain_times(fields)
         # the first field says whether such times go with those before them
         if not found or self.judge(fields[0]) is not None:
-            return False
-        self.is_all = False
-        return True
+            return None
+        return keeping.numbered(found.numbers, nulls, found.digits, {found.style: len(fields)})
 
-    def widen(self, digits, least, greatest):
+    def widen(self, digits: int, least: int, greatest: int) -> None:
         ends = self.ends.get(digits, (least, greatest))
         self.ends[digits] = min(ends[0], least), max(ends[1], greatest)
+        self.lengths.add(digits)
 
-    def judge(self, text):
+    def texts(self) -> list[str]:
+        """The texts of a column of texts, sorted by code points."""
+        absent = [word for word in self.words if word in self.always or word not in self.nulls]
+        return sorted(self.codes.keys() - set(absent))
+
+    def judge(self, text: str) -> str | None:
         """Takes a text into account, and says why it makes the column one of texts, if it does."""
         if self.wanted:
             if not spelling.read_by(self.wanted.form, text):
@@ -112,12 +151,12 @@ class Seen:
             return self.judge_number(text, number)
         return self.judge_moment(text, moment) if moment else self.spelled(text, spelling.TRUTH_OF[text][1])
 
-    def spelled(self, text, style):
+    def spelled(self, text: str, style: Hashable) -> None:
         self.styles.add(style)
         if style is None and self.odd is None:
             self.odd = text
 
-    def judge_number(self, text, number):
+    def judge_number(self, text: str, number: Number) -> str | None:
         if number.has_zeros and not self.is_number:
             return " has zeros in front; --number reads such fields as numbers"
         if number.mark == "," and self.separator == "," and not self.is_number:
@@ -133,7 +172,7 @@ class Seen:
         self.has_zero |= number.digits > 0 and number.value % 10 == 0
         return self.spelled(text, "plain" if number.is_plain else None)
 
-    def judge_moment(self, text, moment):
+    def judge_moment(self, text: str, moment: Moment) -> str | None:
         dates = list(moment.days) if self.dates is None else [form for form in self.dates if form in moment.days]
         if moment.days and not dates:
             return " is of another form than the dates before it"
@@ -145,10 +184,7 @@ class Seen:
         self.betweens.add(moment.between)
         return self.spelled(text, (moment.clock, moment.between, moment.digits) if moment.is_plain else None)
 
-    def become_texts(self, why):
-        self.why, self.texts, self.known = why, self.known, set()
-
-    def kind(self):
+    def kind(self) -> Whole | None:
         """The kind of the column, but for the texts, whose kind is None."""
         if self.why:
             return None
@@ -156,15 +192,15 @@ class Seen:
             words = [word for word in self.nulls if word not in self.always]
             if not words or self.wanted or self.is_number:
                 return kinds.Nulls()
-            self.become_texts(f"nothing but {shown(words[0])} and words like it")
+            self.why = f"nothing but {shown(words[0])} and words like it"
             return None
         found = self.wanted or self.kind_of_form()
         if found and self.keeps_spelling and not self.is_exact():
-            self.become_texts(f"{shown(self.odd) if self.odd else 'one of its fields'} wouldn't come back as it stands")
+            self.why = f"{shown(self.odd) if self.odd else 'one of its fields'} wouldn't come back as it stands"
             return None
         return found
 
-    def kind_of_form(self):
+    def kind_of_form(self) -> Whole | None:
         if self.form == "number":
             return self.numbers()
         if self.form == "truth":
@@ -183,43 +219,43 @@ class Seen:
         between = next(iter(self.betweens)) if len(self.betweens) == 1 else "T"
         return kinds.Times(f"{self.dates[0]}{between}{clock}", self.digits, next(iter(self.zones)))
 
-    def numbers(self):
+    def numbers(self) -> Whole | None:
         digits = max(self.ends)
         least = min(end[0] * 10 ** (digits - each) for each, end in self.ends.items())
         greatest = max(end[1] * 10 ** (digits - each) for each, end in self.ends.items())
         if least < kinds.LEAST or greatest > kinds.GREATEST or greatest - least > kinds.GREATEST:
-            self.become_texts("its numbers are too far apart for 64 bits")
+            self.why = "its numbers are too far apart for 64 bits"
             return None
         if "," in self.marks and self.may_be_thousands():
             return None
         if not digits:
             return kinds.Whole()
-        return kinds.Decimals(digits, len(self.ends) > 1 and not self.has_zero, "," if "," in self.marks else ".")
+        return kinds.Decimals(digits, len(self.lengths) > 1 and not self.has_zero, "," if "," in self.marks else ".")
 
-    def may_be_thousands(self):
+    def may_be_thousands(self) -> bool:
         """Whether the decimal signs of all fields may part thousands, which then makes the column one of texts."""
         if not self.marks or not self.grouped or self.is_number or self.why:
             return False
         (mark, text), = self.marks.items()
-        self.become_texts(f"{shown(text)} may be {text.replace(mark, '')} or {text.replace(mark, '.')}; --number reads the second")
+        self.why = f"{shown(text)} may be {text.replace(mark, '')} or {text.replace(mark, '.')}; --number reads the second"
         return True
 
-    def is_exact(self):
+    def is_exact(self) -> bool:
         """Whether all fields come back as they stand."""
         if self.form == "number":
-            return None not in self.styles and (len(self.ends) <= 1 or not self.has_zero)
+            return None not in self.styles and (len(self.lengths) <= 1 or not self.has_zero)
         return None not in self.styles and len(self.styles) <= 1
 
-    def null(self):
+    def null(self) -> str:
         """The word that nulls come back as."""
         words = self.null_words()
         return words[0] if len(words) == 1 else ""
 
-    def null_words(self):
+    def null_words(self) -> list[str]:
         """The words that are null in the column and that stand in it."""
         return [word for word in self.nulls if not self.why or word in self.always]
 
-    def heading_form(self):
+    def heading_form(self) -> str | None:
         """What the heading spells, where all fields of the column spell that too; or None."""
         form = spelling.form_of(self.heading)
         if self.wanted:
@@ -227,11 +263,12 @@ class Seen:
         if form is None:
             return None
         if self.why:
-            return form if self.texts and all(spelling.form_of(text) == form for text in self.texts) else None
+            texts = self.texts()
+            return form if texts and all(spelling.form_of(text) == form for text in texts) else None
         return form if self.form in (form, None) else None
 
 
-def kind_by(form):
+def kind_by(form: str) -> Dates:
     """The kind of a column whose format is given."""
     letters = set(re.findall("%(.)", form))
     if not letters - set("YmdHMS%") and (letters >= set("Ymd") or not letters & set("Ymd") and "H" in letters):
@@ -241,40 +278,39 @@ def kind_by(form):
     raise Refused(f"--date: {shown(form)} is no format of %Y, %m and %d, with %H, %M and %S for a time")
 
 
-def decide(source, given):
-    """What is known of each column after all rows were read, with all texts of the columns of texts, and their kinds."""
+def decide(source: Source, given: argparse.Namespace, store: Store | None = None) -> tuple[list[Seen], list[Whole | None]]:
+    """What is known of each column after all rows were read, with all texts of the columns of texts, and their kinds. The rows
+    are kept in a store, if one is given."""
     for option in ("text", "number", "date"):
         unknown = [each for each in getattr(given, option) if each not in source.headings]
         if unknown:
             raise Refused(f"{source.path}: --{option}: no column is headed {shown(unknown[0])}")
     columns = [Seen(heading, given, source.separator) for heading in source.headings]
-    for chunk in source.chunks():
-        for seen, fields in zip(columns, zip(*chunk.rows)):
+    with Progress("read") as progress:
+        for chunk in source.chunks():
             try:
-                seen.add(fields, chunk)
+                kept = [seen.add(fields, chunk) for seen, fields in zip(columns, chunk.columns)]
             except Refused as refused:
                 raise Refused(f"{source.path}: {refused}") from None
+            if store:
+                store.append(kept)
+            progress.add(chunk.count, source.file.tell())
     decided = [seen.kind() for seen in columns]
     # beside decimal commas a point may part thousands
     if any(kind and kind.name == "decimals" and kind.mark == "," for kind in decided):
         decided = [None if kind and kind.name == "decimals" and seen.may_be_thousands() else kind
                    for seen, kind in zip(columns, decided)]
-    gathered = [(place, seen.texts) for place, seen in enumerate(columns) if seen.why and not seen.is_all]
-    if gathered:
-        for chunk in source.chunks():
-            fields = list(zip(*chunk.rows))
-            for place, texts in gathered:
-                texts.update(fields[place])
-    for seen in columns:
-        if seen.why:
-            seen.texts.update(seen.nulls)
-            seen.texts -= seen.always
+    gathered = [(seen, place) for place, seen in enumerate(columns) if seen.why and not seen.is_all]
+    for chunk in source.chunks() if gathered else ():
+        for seen, place in gathered:
+            seen.is_read_again = True
+            collections.deque(map(seen.codes.__getitem__, chunk.columns[place]), 0)
     if source.has_heading and given.heading is None:
         refuse_heading(source, columns)
     return columns, decided
 
 
-def refuse_heading(source, columns):
+def refuse_heading(source: Source, columns: list[Seen]) -> None:
     """Refuses a first line that looks like the rows below it."""
     for seen in columns:
         form = seen.heading_form()
@@ -283,16 +319,16 @@ def refuse_heading(source, columns):
                           "say --heading if it is a heading all the same, or --no-heading if it is a row")
 
 
-def shown(text):
+def shown(text: str) -> str:
     """A text in a message: its first characters, with none that isn't to be seen."""
     return repr(text if len(text) <= 40 else text[:37] + "...")
 
 
-def is_name(text):
+def is_name(text: str) -> bool:
     return re.fullmatch("[A-Za-z_][A-Za-z0-9_]{0,62}", text) is not None and text.upper() not in kinds.RESERVED
 
 
-def name_like(heading):
+def name_like(heading: str) -> str:
     """A name that is like a heading."""
     plain = unicodedata.normalize("NFKD", heading.strip()).encode("ascii", "ignore").decode()
     name = re.sub("[^A-Za-z0-9_]+", "_", plain)[:63] or "_"
@@ -300,7 +336,7 @@ def name_like(heading):
     return name if is_name(name) else f"{name}_"
 
 
-def names_of(headings):
+def names_of(headings: list[str]) -> list[str]:
     """A name for each heading: the heading, where it's a name that no other column before it has."""
     names, taken = [None] * len(headings), set()
     for place, heading in enumerate(headings):

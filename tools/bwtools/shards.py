@@ -2,11 +2,13 @@
 belong to it. Each shard is asked on its own, and their answers are joined into the one that a single table would have given.
 
 `ask_shard` and what it calls use the standard library alone, so that a worker on another machine can run them."""
+from __future__ import annotations
+
 import os
 import pathlib
 import shutil
 import subprocess
-from typing import Any, BinaryIO, Dict, Iterable, List, Optional, Sequence, Tuple
+from typing import Any, BinaryIO, Iterable, Sequence
 
 from . import pairs
 from .kinds import Column, Refused
@@ -16,8 +18,8 @@ FILE = "shards.columns"
 FOREIGN = "isn't the table that {} names: it has changed since or was put there; shards load writes all of them anew"
 
 # What asking a shard gives: the status of bw, or of a table file that can't be asked; what was said of it; and the answer
-Reply = Tuple[int, str, bytes]
-Record = Dict[str, Any]
+Reply = tuple[int, str, bytes]
+Record = dict[str, Any]
 
 
 class Folder:
@@ -30,19 +32,19 @@ class Folder:
         found = pairs.Meanings(self.file)
         try:
             self.name: str = found.table["name"]
-            self.shards: List[Record] = [dict(record) for record in found.table["shards"]]
+            self.shards: list[Record] = [dict(record) for record in found.table["shards"]]
             names = [record["file"] for record in self.shards]
             is_whole = bool(names) and all(os.path.basename(name) == name != "" for name in names)
         except (KeyError, TypeError, ValueError):
             is_whole = False
         if not is_whole:
             raise Refused(f"{self.file} is no file of columns that shards load wrote")
-        self.columns: List[Column] = found.columns
+        self.columns: list[Column] = found.columns
 
     def path_of(self, place: int) -> str:
         return os.path.join(self.path, self.shards[place]["file"])
 
-    def foreign_files(self) -> List[str]:
+    def foreign_files(self) -> list[str]:
         """The files in the folder that aren't of its shards."""
         own = {FILE, *(record["file"] for record in self.shards)}
         return sorted(set(os.listdir(self.path)) - own)
@@ -74,7 +76,7 @@ class Joined:
 
     def __init__(self, out: BinaryIO) -> None:
         self.out, self.heading = out, b""
-        self.totals: Optional[List[List[Optional[int]]]] = None
+        self.totals: list[list[int | None]] | None = None
 
     def add(self, answer: bytes) -> None:
         """Takes the next shard's answer."""
@@ -103,7 +105,7 @@ class Joined:
         self.out.seek(0)
 
 
-def total(function: str, values: Iterable[Optional[int]]) -> Optional[int]:
+def total(function: str, values: Iterable[int | None]) -> int | None:
     """The total over all rows, from those of the shards. None is null, the total of no value; a COUNT is never null."""
     present = [value for value in values if value is not None]
     if not present:
@@ -127,6 +129,6 @@ def refuse_folder(path: str) -> None:
         raise Refused(f"{path} would be written over, and has {foreign[0]}, which isn't of its shards")
 
 
-def paths_of(folder: pathlib.Path, place: int) -> pathlib.Path:
+def shard_file(folder: pathlib.Path, place: int) -> pathlib.Path:
     """The path of a shard's table file."""
     return folder / f"shard-{place + 1:03}.bw"

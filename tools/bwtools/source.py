@@ -1,4 +1,8 @@
 """The CSV file that is read: its separator, its encoding, its heading and its rows, of which many are read at a time."""
+from __future__ import annotations
+
+import argparse
+import collections
 import csv
 import io
 import itertools
@@ -8,12 +12,15 @@ import stat
 import os
 import sys
 import tempfile
+from typing import Callable, Iterable, Iterator, NoReturn, Sequence, TextIO
 
 from .kinds import Refused, counted
 
 SEPARATORS = {"comma": ",", "semicolon": ";", "tab": "\t", "bar": "|", "\\t": "\t"}
 MARKS = ((b"\xef\xbb\xbf", "utf-8-sig"), (b"\xff\xfe", "utf-16"), (b"\xfe\xff", "utf-16"))
-MOST_COLUMNS, MOST_ROWS, ROWS_AT_ONCE = 64, 1 << 24, 8192
+MOST_COLUMNS, MOST_ROWS, ROWS_AT_ONCE, CHARACTERS_AT_ONCE = 64, 1 << 24, 8192, 1 << 18
+# stands for a field in quotes while records are parted; what has one is the csv module's
+NUL = "\0"
 BREAK = re.compile("\r\n|\r|\n")
 SAID = re.compile('"?sep=(.)"?[\r\n]*', re.IGNORECASE)
 
@@ -23,17 +30,21 @@ getattr(sys, "set_int_max_str_digits", int)(0)
 
 
 class Chunk:
-    """Some rows, and the lines at which they begin."""
+    """Some rows as columns of fields, and the text that they stand in, which begins at a line."""
 
-    def __init__(self, records, line, headings):
-        self.records, self.line, self.headings = records, line, headings
-        self.rows = [record for record in records if record] if [] in records else records
-        self.empty, self.rows = len(records) - len(self.rows), self.rows[headings:]
+    def __init__(self, columns: Sequence[Sequence[str]], headings: int, text: str, line: int,
+                 reader: Callable[[Iterable[str]], Iterator[list[str]]]) -> None:
+        self.columns, self.headings, self.text, self.line, self.reader = columns, headings, text, line, reader
+        self.count = len(columns[0]) if columns else 0
 
-    def line_of(self, place):
+    @property
+    def rows(self) -> list[tuple[str, ...]]:
+        return list(zip(*self.columns))
+
+    def line_of(self, place: int) -> int:
         """The line at which a row begins."""
         line, place = self.line, place + self.headings
-        for record in self.records:
+        for record in self.reader(io.StringIO(self.text, newline="")):
             if record and place == 0:
                 break
             place -= bool(record)
@@ -44,7 +55,7 @@ class Chunk:
 class Source:
     """The file to read, which is read more than once."""
 
-    def __init__(self, path, given, most_rows=MOST_ROWS):
+    def __init__(self, path: str | os.PathLike[str], given: argparse.Namespace, most_rows: int = MOST_ROWS) -> None:
         self.path, self.file, self.most_rows = path, open(path, "rb"), most_rows
         if not stat.S_ISREG(os.fstat(self.file.fileno()).st_mode):
             piped, self.file = self.file, tempfile.TemporaryFile()
@@ -62,9 +73,16 @@ class Source:
         self.empty, self.count, self.skipped = 0, 0, 0
         said = self.said_separator()
         self.separator = SEPARATORS.get(given.separator, given.separator) or said or self.most_frequent()
+        # whether fields may be parted without the csv module
+        self.is_simple = self.escape is None and len({self.separator, self.quote, NUL, "\n", "\r"}) == 5
         self.headings = self.read_headings()
 
-    def decoded(self):
+    def marks(self) -> tuple[int, int]:
+        """What changes where the file does."""
+        told = os.fstat(self.file.fileno())
+        return told.st_size, told.st_mtime_ns
+
+    def decoded(self) -> TextIO:
         self.file.seek(0)
         try:
             text = io.TextIOWrapper(self.file, encoding=self.encoding, newline="")
@@ -74,7 +92,7 @@ class Source:
             text.readline()
         return text
 
-    def said_separator(self):
+    def said_separator(self) -> str | None:
         """The separator that the first line says, as Excel's `sep=;`; the line is then left out."""
         text = self.decoded()
         try:
@@ -85,7 +103,7 @@ class Source:
         self.skipped = int(found is not None)
         return found and found.group(1)
 
-    def most_frequent(self):
+    def most_frequent(self) -> str:
         """The separator that stands in the heading most often, outside of quotes."""
         text, counts, quoted = self.decoded(), dict.fromkeys(",;\t|", 0), False
         try:
@@ -100,7 +118,7 @@ class Source:
         text.detach()
         return max(counts, key=counts.get)
 
-    def undecoded(self):
+    def undecoded(self) -> NoReturn:
         """Refuses the file at the first line that isn't of the encoding."""
         self.file.seek(0)
         place = "one of its bytes"
@@ -114,50 +132,140 @@ class Source:
         raise Refused(f"{self.path}: {place} isn't {self.encoding.removesuffix('-sig')}; "
                       "give the encoding, as --encoding latin-1 or --encoding cp1252")
 
-    def records(self, count):
-        """The records with the lines at which they begin, so many at a time; an empty line is an empty record."""
-        text = self.decoded()
-        reader = csv.reader(text, delimiter=self.separator, quotechar=self.quote, escapechar=self.escape, strict=True)
-        before = 0
+    def reader(self, lines: Iterable[str]) -> Iterator[list[str]]:
+        return csv.reader(lines, delimiter=self.separator, quotechar=self.quote, escapechar=self.escape, strict=True)
+
+    def records(self) -> Iterator[tuple[int, list[str]]]:
+        """The records, each with the line at which it begins; an empty line is an empty record."""
+        text, before = self.decoded(), 0
+        reader = self.reader(text)
         try:
-            while True:
+            for record in reader:
+                yield self.skipped + before + 1, record
                 before = reader.line_num
-                records = list(itertools.islice(reader, count))
-                if not records:
-                    return
-                yield self.skipped + before + 1, records
         except UnicodeError:
             self.undecoded()
         except csv.Error as error:
-            if count > 1:
-                list(self.records(1))
             raise Refused(f"{self.path}: line {self.skipped + before + 1}: {error}") from None
         finally:
             text.detach()
 
-    def read_headings(self):
+    def read_headings(self) -> list[str]:
         """The headings, or c1, c2 and so on where there are none."""
-        first = next((records[0] for _, records in self.records(1) if records[0]), None)
+        first = next((record for _, record in self.records() if record), None)
         if first is None:
             raise Refused(f"{self.path}: there is no heading")
         if len(first) > MOST_COLUMNS:
             raise Refused(f"{self.path}: {len(first)} columns, and a table has at most {MOST_COLUMNS}")
         return first if self.has_heading else [f"c{place}" for place in range(1, len(first) + 1)]
 
-    def chunks(self):
+    def blocks(self) -> Iterator[tuple[int, str, list[list[str]] | None, list[list[str]] | None]]:
+        """The text of the file, some whole records at a time: the line at which it begins, the text, and its columns or, where
+        these aren't to be had at once, its records."""
+        file, line, text = self.decoded(), self.skipped + 1, ""
+        try:
+            while True:
+                more = file.read(CHARACTERS_AT_ONCE + len(text))
+                more += file.readline()
+                text += more
+                if not text:
+                    return
+                columns = None
+                if self.is_simple and NUL not in text:
+                    parts = text.split(self.quote)
+                    if len(parts) % 2 == 0:
+                        text += self.to_next_quote(file)
+                        parts = text.split(self.quote)
+                    columns = columns_of(parts, self.separator, len(self.headings))
+                try:
+                    records = None if columns else list(self.reader(io.StringIO(text, newline="")))
+                except csv.Error as error:
+                    # the text may end inside of a field
+                    if more and "end of data" in str(error):
+                        continue
+                    raise
+                yield line, text, columns, records
+                line += len(BREAK.findall(text)) if "\r" in text else text.count("\n")
+                text = ""
+        except UnicodeError:
+            self.undecoded()
+        except csv.Error:
+            # found once more, record by record, it is refused by its line
+            collections.deque(self.records(), 0)
+            raise
+        finally:
+            file.detach()
+
+    def to_next_quote(self, file: TextIO) -> str:
+        """The next lines of the file, to the end of one that has a quote, or some thousand."""
+        lines = []
+        for line in itertools.islice(iter(file.readline, ""), ROWS_AT_ONCE):
+            lines.append(line)
+            if line.count(self.quote) % 2:
+                break
+        return "".join(lines)
+
+    def chunks(self) -> Iterator[Chunk]:
         """The rows after the heading, each of which has as many fields: many rows at a time."""
-        self.empty, self.count, left, width = 0, 0, int(self.has_heading), len(self.headings)
-        for line, records in self.records(ROWS_AT_ONCE):
-            chunk = Chunk(records, line, min(left, sum(map(bool, records))) if left else 0)
-            left -= chunk.headings
-            self.empty += chunk.empty
-            self.count += len(chunk.rows)
+        self.empty, self.count, left = 0, 0, int(self.has_heading)
+        for line, text, columns, records in self.blocks():
+            if columns is None:
+                rows = [record for record in records if record]
+                self.empty += len(records) - len(rows)
+                headings = min(left, len(rows))
+                self.refuse_width(Chunk([], headings, text, line, self.reader), rows)
+                columns = list(zip(*rows[headings:]))
+            else:
+                headings = left
+                columns = [column[1:] for column in columns] if headings else columns
+            left -= headings
+            chunk = Chunk(columns, headings, text, line, self.reader)
+            self.count += chunk.count
             if self.count > self.most_rows:
-                line = chunk.line_of(self.most_rows - self.count + len(chunk.rows))
+                line = chunk.line_of(self.most_rows - self.count + chunk.count)
                 raise Refused(f"{self.path}: line {line}: a table has at most {self.most_rows:,} rows; tools/shards loads more")
-            if set(map(len, chunk.rows)) - {width}:
-                place = next(place for place, row in enumerate(chunk.rows) if len(row) != width)
-                raise Refused(f"{self.path}: line {chunk.line_of(place)} has {counted(len(chunk.rows[place]), 'field')}, "
-                              f"and the {'heading' if self.has_heading else 'first line'} has {width}")
-            if chunk.rows:
+            if chunk.count:
                 yield chunk
+
+    def refuse_width(self, chunk: Chunk, rows: list[list[str]]) -> None:
+        """Refuses rows of which one has another number of fields than the heading."""
+        width = len(self.headings)
+        if set(map(len, rows)) - {width}:
+            place = next(place for place, row in enumerate(rows) if len(row) != width)
+            raise Refused(f"{self.path}: line {chunk.line_of(place - chunk.headings)} has {counted(len(rows[place]), 'field')}, "
+                          f"and the {'heading' if self.has_heading else 'first line'} has {width}")
+
+
+def columns_of(parts: list[str], separator: str, width: int) -> list[list[str]] | None:
+    """The columns of a text of whole records, which is parted at its quotes, where all records have so many fields, and quotes
+    stand round whole fields without a quote in them; or None. What isn't so, and an empty line, is the csv module's."""
+    # outside of quotes each field in quotes is a NUL, and each line feed a field of its own
+    outer, quoted = NUL.join(parts[::2]), parts[1::2]
+    if "\r" in outer:
+        outer = outer.replace("\r\n", "\n")
+    outer = outer if outer.endswith("\n") else f"{outer}\n"
+    count = outer.count("\n")
+    if "\r" in outer or len(parts) % 2 == 0 or width == 1 and (outer[0] == "\n" or "\n\n" in outer):
+        return None
+    fields = outer.replace("\n", f"{separator}\n{separator}").split(separator)
+    if len(fields) != count * (width + 1) + 1 or fields[width::width + 1] != ["\n"] * count:
+        return None
+    columns = [fields[place:-1:width + 1] for place in range(width)]
+    return fill(columns, quoted) if quoted else columns
+
+
+def fill(columns: list[list[str]], quoted: list[str]) -> list[list[str]] | None:
+    """Columns with the fields that were quoted, which come row by row, each in the place of a NUL; None where a NUL isn't alone."""
+    counts = [column.count(NUL) for column in columns]
+    if sum(counts) != len(quoted):
+        return None
+    rows, places = len(columns[0]), [place for place, count in enumerate(counts) if count]
+    if all(counts[place] == rows for place in places):
+        for number, place in enumerate(places):
+            columns[place] = quoted[number::len(places)]
+        return columns
+    rest = iter(quoted)
+    filled = [[next(rest) if field == NUL else field for field in row] for row in zip(*(columns[place] for place in places))]
+    for place, column in zip(places, zip(*filled)):
+        columns[place] = list(column)
+    return columns

@@ -1,8 +1,13 @@
 """What a field spells: a number, a truth, or a date, a time or a time of day, each as whole numbers that lose nothing."""
+from __future__ import annotations
+
 import collections
 import datetime
 import functools
+import itertools
+import operator
 import re
+from typing import Iterable, NamedTuple, Sequence
 
 FIRST_DAY = datetime.date(1970, 1, 1).toordinal()
 LAST_SECOND = (datetime.date(9999, 12, 31).toordinal() - FIRST_DAY + 1) * 86400
@@ -22,16 +27,48 @@ FORMATS = {("-", True): ("%Y-%m-%d",), ("/", True): ("%Y/%m/%d",), (".", False):
            ("/", False): ("%d/%m/%Y", "%m/%d/%Y"), ("-", False): ("%d-%m-%Y", "%m-%d-%Y")}
 OWN = re.compile("(?:{})(?:[T ]%H:%M(?::%S)?)?".format("|".join(form for forms in FORMATS.values() for form in forms)))
 
-# A number: `value` is all its digits, `digits` of them after the decimal sign `mark`. `is_plain` where it's spelled as such
-# numbers come back, `has_zeros` where zeros are in front, `is_grouped` where its decimal sign may part thousands
-Number = collections.namedtuple("Number", "value digits mark is_plain has_zeros is_grouped")
 
-# A date, a time or a time of day: the day since 1970 by each format that it may be of, the second of the day times ten to
-# `digits`, and how it's spelled: `clock` is the format of the time of day, `zone` is Z where it's of UTC
-Moment = collections.namedtuple("Moment", "days part digits between clock zone is_plain")
+class Number(NamedTuple):
+    """A number: `value` is all its digits, `digits` of them after the decimal sign `mark`. `is_plain` where it's spelled as such
+    numbers come back, `has_zeros` where zeros are in front, `is_grouped` where its decimal sign may part thousands."""
+    value: int
+    digits: int
+    mark: str | None
+    is_plain: bool
+    has_zeros: bool
+    is_grouped: bool
 
 
-def number_of(text):
+class Moment(NamedTuple):
+    """A date, a time or a time of day: the day since 1970 by each format that it may be of, the second of the day times ten to
+    `digits`, and how it's spelled: `clock` is the format of the time of day, `zone` is Z where it's of UTC."""
+    days: dict[str, int]
+    part: int
+    digits: int
+    between: str
+    clock: str
+    zone: str
+    is_plain: bool
+
+
+class PlainNumbers(NamedTuple):
+    """Numbers of fields that all are spelled as numbers come back: they are times ten to `digits`, and `counts` says how many
+    fields have how many digits after the decimal sign `mark`."""
+    numbers: list[int]
+    digits: int
+    counts: dict[int, int]
+    mark: str | None
+
+
+class PlainTimes(NamedTuple):
+    """The seconds since 1970 of fields that all are times of one shape, times ten to `digits`; `style` is how such times come
+    back, or None where they don't come back as they stand."""
+    numbers: list[int]
+    digits: int
+    style: tuple[str, int, str] | None
+
+
+def number_of(text: str) -> tuple[Number | None, str]:
     """The number that a text spells, or None; and why not, where it's a number that is too long."""
     found = NUMBER.fullmatch(text)
     if found and len(text) > LONGEST:
@@ -52,7 +89,7 @@ def number_of(text):
     return Number(value, digits, mark, is_plain, has_zeros, GROUPED.fullmatch(text) is not None), ""
 
 
-def exact(value, digits, power):
+def exact(value: int, digits: int, power: int) -> tuple[int, int | None]:
     """A number times a power of ten, without zeros at its end after the point; no digits where it has too many."""
     while value and digits and value % 10 == 0:
         value, digits = value // 10, digits - 1
@@ -65,61 +102,98 @@ def exact(value, digits, power):
     return (value, digits) if digits >= 0 else (value * 10 ** -digits, 0)
 
 
-def plain_numbers(fields):
-    """The numbers of fields that all are spelled as numbers come back, with the same number of digits after the point, and
-    that number; or None where one isn't."""
-    digits = len(fields[0].partition(".")[2])
+def plain_numbers(fields: Sequence[str]) -> PlainNumbers | None:
+    """The numbers of fields that all are spelled as numbers come back, or None where one isn't."""
     if max(map(len, fields)) > LONGEST:
         return None
     joined = "\n".join(fields) + "\n"
-    if digits and not plain_of(digits).fullmatch(joined):
+    if joined.count("\n") != len(fields):
+        return None
+    if "." not in joined and "," not in joined:
+        return PlainNumbers(list(map(int, fields)), 0, {0: len(fields)}, None) if are_whole(fields, joined) else None
+    mark = "," if "," in joined else "."
+    if not plain_of(mark).fullmatch(joined):
+        return None
+    counts = collections.Counter(lengths := [len(field.partition(mark)[2]) for field in fields])
+    digits = max(counts)
+    numbers = map(int, joined.replace(mark, "").split())
+    if len(counts) > 1:
+        numbers = map(operator.mul, numbers, map([10 ** (digits - length) for length in range(digits + 1)].__getitem__, lengths))
+    return PlainNumbers(list(numbers), digits, dict(counts), mark)
+
+
+def are_whole(fields: Sequence[str], joined: str) -> bool:
+    """Whether fields without line feeds, and joined with one after each, all are whole numbers as they come back."""
+    digits = joined.replace("\n", "").replace("-", "")
+    # ASCII alone: other scripts have digits too
+    if not digits.isdigit() or not digits.isascii() or "-0" in joined or "--" in joined or "-\n" in joined:
+        return False
+    if joined.count("-") != joined.count("\n-") + joined.startswith("-") or "" in fields:
+        return False
+    return joined.count("\n0") + joined.startswith("0") == fields.count("0")
+
+
+@functools.lru_cache(2)
+def plain_of(mark: str) -> re.Pattern[str]:
+    """What finds lines of whole numbers and decimals with a decimal sign, none of them negative nothing."""
+    return re.compile(rf"(?:(?!-0(?:[{mark}]0+)?\n)-?(?:0|[1-9][0-9]*)(?:[{mark}][0-9]+)?\n)*")
+
+
+MINUTE = re.compile("[0-9]{4}-[0-9]{2}-[0-9]{2}([T ])(?:[01][0-9]|2[0-3]):[0-5][0-9]:?")
+SHAPE = re.compile(r"[0-9]{4}-[0-9]{2}-[0-9]{2}([T ])[0-9]{2}:[0-9]{2}(:[0-9]{2}(?:\.([0-9]{1,6}))?)?"
+                   "(Z|[+-][0-9]{2}(?::?[0-9]{2})?)?")
+
+
+def plain_times(fields: Sequence[str]) -> PlainTimes | None:
+    """The times of fields that all are of the shape of the first, as 2024-05-01 12:30:00; or None where one isn't."""
+    shape = SHAPE.fullmatch(fields[0])
+    if not shape:
+        return None
+    between, seconds, part, zone = shape.groups("")
+    power, offset, place = 10 ** len(part), offset_of(zone), 17 if seconds else 16
+    if offset is None:
         return None
     try:
-        numbers = list(map(int, joined.replace(".", "").split() if digits else fields))
+        minutes = [field[:place] for field in fields]
+        starts = {minute: (minute_of(minute, between, place) * 60 - offset) * power for minute in set(minutes)}
+        ends = seconds_of([field[place:] for field in fields], 2 if seconds else 0, len(part), zone)
     except ValueError:
         return None
-    return (digits, numbers) if digits or list(map(str, numbers)) == list(fields) else None
-
-
-class Seconds(dict):
-    """The second of the day of each time of day that was met."""
-
-    def __missing__(self, text):
-        self[text] = int(text[:2]) * 3600 + int(text[3:5]) * 60 + int(text[6:])
-        return self[text]
-
-
-SECONDS = Seconds()
-
-
-def plain_times(fields):
-    """The seconds since 1970 of fields that all are times as 2024-05-01 12:30:00, with the same sign between and the same zone,
-    with these two; or None where one isn't."""
-    between, zone = fields[0][10:11], fields[0][19:]
-    if between not in ("T", " ") or zone not in ("", "Z") or not plain_time_of(between, zone).fullmatch("\n".join(fields) + "\n"):
+    numbers = list(map(operator.add, map(starts.__getitem__, minutes), ends))
+    if offset and (min(numbers) < FIRST_SECOND * power or max(numbers) >= LAST_SECOND * power):
         return None
-    days = {text: date_part(text)[0].get("%Y-%m-%d") for text in {field[:10] for field in fields}}
-    if None in days.values():
-        return None
-    days = {text: day * 86400 for text, day in days.items()}
-    return between, zone, [days[field[:10]] + SECONDS[field[11:19]] for field in fields]
+    form = f"%Y-%m-%d{between}%H:%M{':%S' if seconds else ''}"
+    return PlainTimes(numbers, len(part), (form, len(part), zone) if zone in ("", "Z") else None)
 
 
-@functools.lru_cache(4)
-def plain_time_of(between, zone):
-    """What finds lines of times."""
-    day = "[0-9]{4}-[0-9]{2}-[0-9]{2}"
-    return re.compile(rf"(?:{day}{between}(?:[01][0-9]|2[0-3]):[0-5][0-9]:[0-5][0-9]{zone}\n)*")
+def minute_of(text: str, between: str, length: int) -> int:
+    """The minute since 1970 of the start of a time, as 2024-05-01 12:30 or 2024-05-01 12:30:, with this sign between."""
+    found = MINUTE.fullmatch(text) if len(text) == length else None
+    day = date_part(text[:10])[0].get("%Y-%m-%d") if found and found[1] == between else None
+    if day is None:
+        raise ValueError
+    return day * 1440 + int(text[11:13]) * 60 + int(text[14:16])
 
 
-@functools.lru_cache(64)
-def plain_of(digits):
-    """What finds lines of decimals with so many digits after the point, none of them negative nothing."""
-    return re.compile(r"(?:(?!-0\.0+\n)-?(?:0|[1-9][0-9]*)\.[0-9]{%d}\n)*" % digits)
+def seconds_of(ends: list[str], length: int, digits: int, zone: str) -> Iterable[int]:
+    """The seconds of the ends of times, as 07.250Z, which have so many digits before and after the point, times ten to those
+    after it."""
+    count, joined = len(ends), "\n".join(ends) + "\n"
+    # the sign at each place of an end, or none for a digit; each place of all ends is a slice
+    signs = [*[""] * length, *["."] * bool(digits), *[""] * digits, *zone, "\n"]
+    places = [joined[place::len(signs)] for place in range(len(signs))]
+    if len(joined) != count * len(signs) or length and places[0].strip("012345"):
+        raise ValueError
+    for sign, place in zip(signs, places):
+        if place != sign * count if sign else not (place.isdigit() and place.isascii()):
+            raise ValueError
+    if not length:
+        return itertools.repeat(0)
+    return map(int, joined.replace(f"{zone}\n", "\n").replace(".", "").split())
 
 
 @functools.lru_cache(1 << 16)
-def day_of(year, month, day):
+def day_of(year: int, month: int, day: int) -> int | None:
     """The day since 1970, or None where there is none."""
     try:
         return datetime.date(year, month, day).toordinal() - FIRST_DAY
@@ -128,7 +202,7 @@ def day_of(year, month, day):
 
 
 @functools.lru_cache(1 << 16)
-def date_part(text):
+def date_part(text: str) -> tuple[dict[str, int], bool]:
     """The days that a date may mean, by the format, and whether it has all its zeros; no days where it's no date."""
     found, days = DATE.fullmatch(text), {}
     if not found:
@@ -143,7 +217,7 @@ def date_part(text):
 
 
 @functools.lru_cache(1 << 17)
-def clock_part(text):
+def clock_part(text: str) -> tuple[int, int, int, str, str, bool] | None:
     """The second of a time of day times ten to a number of digits, that number, the seconds that its zone is ahead of UTC, its
     format, its zone, and whether it's spelled as it comes back; or None."""
     found = CLOCK.fullmatch(text)
@@ -158,7 +232,7 @@ def clock_part(text):
     return number, len(part), offset, "%H:%M:%S" if second else "%H:%M", "Z" if zone else "", is_plain
 
 
-def moment_of(text):
+def moment_of(text: str) -> Moment | None:
     """The date, the time or the time of day that a text spells, or None."""
     if text[2:3] == ":" or text[1:2] == ":":
         clock = clock_part(text)
@@ -180,7 +254,7 @@ def moment_of(text):
     return Moment(days, number, digits, text[place], form, zone, is_plain and is_kept)
 
 
-def offset_of(zone):
+def offset_of(zone: str) -> int | None:
     """The seconds that a zone is ahead of UTC, or None where there is no such zone."""
     if not zone or zone == "Z":
         return 0
@@ -189,13 +263,13 @@ def offset_of(zone):
 
 
 @functools.lru_cache(64)
-def reader_of(form):
+def reader_of(form: str) -> re.Pattern[str]:
     """What reads the texts of a format of %Y, %m, %d, %H, %M and %S."""
     parts = {"%Y": "(?P<Y>[0-9]{4})", "%%": "%", **{f"%{letter}": f"(?P<{letter}>[0-9]{{1,2}})" for letter in "mdHMS"}}
     return re.compile("".join(parts[piece] if len(piece) == 2 else re.escape(piece) for piece in re.findall("%.|[^%]", form)))
 
 
-def read_by(form, text):
+def read_by(form: str, text: str) -> tuple[int, int] | None:
     """The day and the second of the day that a text of a format spells, or None."""
     found = reader_of(form).fullmatch(text)
     if not found:
@@ -208,7 +282,7 @@ def read_by(form, text):
 
 
 @functools.lru_cache(1 << 17)
-def written_by(form, day, second):
+def written_by(form: str, day: int, second: int) -> str:
     """The text of a day and a second of the day in a format."""
     date = datetime.date.fromordinal(day + FIRST_DAY)
     parts = {"%Y": f"{date.year:04}", "%m": f"{date.month:02}", "%d": f"{date.day:02}", "%H": f"{second // 3600:02}",
@@ -216,7 +290,7 @@ def written_by(form, day, second):
     return re.sub("%.", lambda found: parts[found.group()], form)
 
 
-def form_of(text):
+def form_of(text: str) -> str | None:
     """What a text spells: `number`, `truth`, `date`, `time` or `clock`, or None for anything else."""
     if text in TRUTH_OF:
         return "truth"
@@ -226,5 +300,5 @@ def form_of(text):
     return moment and moment_form(moment)
 
 
-def moment_form(moment):
+def moment_form(moment: Moment) -> str:
     return "clock" if not moment.days else "time" if moment.clock else "date"

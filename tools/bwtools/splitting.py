@@ -1,13 +1,16 @@
 """Loads a file of any length as several tables: its numbers are cut into pieces that one load takes."""
+from __future__ import annotations
+
+import argparse
 import os
 import pathlib
 import signal
 import sys
-from typing import Any, List, Optional, TextIO
+from typing import TextIO
 
 from . import command, pairs, writing
 from .kinds import Refused, counted
-from .shards import FILE, Record, paths_of, refuse_folder
+from .shards import FILE, Record, shard_file, refuse_folder
 from .source import MOST_ROWS
 
 
@@ -18,9 +21,9 @@ class Loads:
         self.name, self.room, self.made, self.most_rows = name, room, made, most_rows
         self.csv, self.heading = room / "numbers.csv", ""
         # the current piece: its file, and how many rows and bytes are in it
-        self.out: Optional[TextIO] = None
+        self.out: TextIO | None = None
         self.rows, self.size = 0, 0
-        self.records: List[Record] = []
+        self.records: list[Record] = []
 
     def write(self, text: str) -> None:
         """Takes the heading first, and then whole lines, which may be many. All are ASCII."""
@@ -60,7 +63,7 @@ class Loads:
     def load(self) -> None:
         """Loads the current piece."""
         self.out.close()
-        table, schema = paths_of(self.made, len(self.records)), self.room / "schema"
+        table, schema = shard_file(self.made, len(self.records)), self.room / "schema"
         with open(schema, "wb") as file:
             command.call(["infer", "--table", self.name, self.csv], file)
         command.call(["load", schema, self.csv, table])
@@ -94,13 +97,13 @@ def put_folder(made: pathlib.Path, path: str, before: pathlib.Path) -> None:
         signal.pthread_sigmask(signal.SIG_SETMASK, masked)
 
 
-def load(given: Any) -> None:
+def load(given: argparse.Namespace) -> None:
     """Splits a file into shards and loads them, all or none, and says what each column became."""
     most_rows = MOST_ROWS if given.rows is None else given.rows
     if not 1 <= most_rows <= MOST_ROWS:
         raise Refused(f"--rows: a shard has from 1 to {MOST_ROWS:,} rows")
     if given.dry_run:
-        table = writing.Table(given.csv, given, sys.maxsize)
+        table = writing.Table(given.csv, given, most_rows=sys.maxsize)
         with open(os.devnull, "w", encoding="ascii") as nowhere:
             table.write_to(nowhere)
         table.report()
@@ -111,13 +114,13 @@ def load(given: Any) -> None:
     with writing.new_folder(path) as room:
         made = room / "made"
         made.mkdir()
-        table = writing.Table(given.csv, given, sys.maxsize)
+        table = writing.Table(given.csv, given, room, sys.maxsize)
         loads = Loads(given.name, room, made, most_rows)
         table.write_to(loads)
         loads.end()
         pairs.write_columns(made / FILE, table.columns, {"name": given.name, "shards": loads.records})
-        table.report()
-        sys.stdout.flush()
         put_folder(made, path, room / "before")
+    # last, since whoever reads it may stop early, as head does
+    table.report()
     print(f"{path} is written, as table {given.name}: {counted(len(loads.records), 'shard')} of up to "
           f"{counted(max(record['rows'] for record in loads.records), 'row')}")

@@ -4,13 +4,15 @@ The statement is cut into words, and each comparison, BETWEEN, IN and IS NULL is
 and is bw's to judge. A literal that the column can't have is kept right: a number stands below it and the next one above it,
 so `< 12.505` is `<= 1250` on hundredths. A condition that is FALSE for each value is written as `x <> x`, and one that is
 TRUE as `x = x`: both are UNKNOWN where x is null, as what they stand for."""
-import collections
+from __future__ import annotations
+
 import fractions
 import operator
 import re
+from typing import Iterable, Iterator, NamedTuple, NoReturn
 
 from .answers import no_sum
-from .kinds import GREATEST, LEAST, RESERVED, Refused
+from .kinds import GREATEST, LEAST, RESERVED, Column, Refused
 
 PIECES = re.compile(r"""(?P<gap>[ \t\r\n]+|--[^\n]*)
     |(?P<text>'(?:[^']|'')*')
@@ -23,14 +25,22 @@ SWAPPED = {"<": ">", ">": "<", "<=": ">=", ">=": "<=", "=": "=", "<>": "<>"}
 MEANING = {"<": operator.lt, ">": operator.gt, "<=": operator.le, ">=": operator.ge, "=": operator.eq, "<>": operator.ne}
 UNKNOWN = "NULL = NULL"
 
-# A piece of a statement: what it is, its text, and the character at which it stands.
-Piece = collections.namedtuple("Piece", "kind text at")
 
-# What is compared: a column, or the value of a literal, or neither, which is NULL; and how it stands in the statement.
-Operand = collections.namedtuple("Operand", "column value text")
+class Piece(NamedTuple):
+    """A piece of a statement: what it is, its text, and the character at which it stands."""
+    kind: str
+    text: str
+    at: int
 
 
-def pieces_of(statement):
+class Operand(NamedTuple):
+    """What is compared: a column, or the value of a literal, or neither, which is NULL; and how it stands in the statement."""
+    column: Column | None
+    value: str | fractions.Fraction | None
+    text: str
+
+
+def pieces_of(statement: str) -> list[Piece]:
     """The pieces of a statement, without blanks and comments."""
     pieces, at = [], 0
     while at < len(statement):
@@ -46,21 +56,21 @@ def pieces_of(statement):
     return pieces
 
 
-def never(column):
+def never(column: Column) -> str:
     return f"{column.name} <> {column.name}"
 
 
-def always(column):
+def always(column: Column) -> str:
     return f"{column.name} = {column.name}"
 
 
-def held(column):
+def held(column: Column) -> str:
     """What a column holds, in a message."""
     ends = f" from {column.ends[0]} to {column.ends[1]}" if column.ends and column.kind.name not in ("texts", "truths") else ""
     return f"{column.name} holds {column.kind.plural}{ends}{f' ({column.why})' if column.why else ''}"
 
 
-def place_of(column, literal, is_equal=False):
+def place_of(column: Column, literal: Operand, is_equal: bool = False) -> tuple[int, bool]:
     """Where a literal stands among the numbers of a column."""
     if literal.value in column.nulls and (is_equal or column.kind.name != "texts"):
         raise Refused(f"{literal.text} is null in {column.name}: ask for {column.name} IS NULL")
@@ -71,7 +81,7 @@ def place_of(column, literal, is_equal=False):
     return place
 
 
-def compared(left, sign, right):
+def compared(left: Operand, sign: str, right: Operand) -> str:
     """A comparison over numbers."""
     if None in (left.column or left.value, right.column or right.value):
         return UNKNOWN
@@ -90,7 +100,7 @@ def compared(left, sign, right):
     return "1 = 1" if MEANING[sign](left.value, right.value) else "1 = 0"
 
 
-def placed(column, sign, number, is_exact):
+def placed(column: Column, sign: str, number: int, is_exact: bool) -> str:
     """The comparison of a column with a literal whose place is known."""
     if number < LEAST:
         return always(column) if sign in (">", ">=", "<>") else never(column)
@@ -103,7 +113,7 @@ def placed(column, sign, number, is_exact):
     return f"{column.name} {'<=' if sign in ('<', '<=') else '>'} {number}"
 
 
-def between(operand, negated, low, high):
+def between(operand: Operand, negated: str, low: Operand, high: Operand) -> str:
     """A BETWEEN over numbers: one, where its ends are literals that have a place, or else two comparisons."""
     if operand.column and None not in (low.value, high.value):
         least, is_exact = place_of(operand.column, low)
@@ -113,7 +123,7 @@ def between(operand, negated, low, high):
     return f"{negated}({compared(operand, '>=', low)} AND {compared(operand, '<=', high)})"
 
 
-def among(operand, negated, members):
+def among(operand: Operand, negated: str, members: list[Operand]) -> str:
     """An IN over numbers, without the members that the column can't have."""
     parts = [compared(operand, "=", member) for member in members]
     if not operand.column:
@@ -132,35 +142,35 @@ def among(operand, negated, members):
 class Turner:
     """Turns the pieces of a statement, from the first on."""
 
-    def __init__(self, statement, columns, table):
+    def __init__(self, statement: str, columns: list[Column], table: str | None) -> None:
         self.pieces = [*pieces_of(statement), Piece("end", "", len(statement))]
         self.columns, self.table, self.place, self.out = columns, table, 0, []
 
-    def next(self):
+    def next(self) -> Piece:
         return self.pieces[self.place]
 
-    def take(self):
+    def take(self) -> Piece:
         self.place += 1
         return self.pieces[self.place - 1]
 
-    def takes(self, *texts):
+    def takes(self, *texts: str) -> str:
         """Takes the next piece, where it's one of these key words and signs."""
         if self.next().text in texts and self.next().kind in ("key", "mark", "compare"):
             return self.take().text
         return ""
 
-    def wants(self, *texts):
+    def wants(self, *texts: str) -> str:
         found = self.takes(*texts)
         if not found:
             self.refuse(" or ".join(texts))
         return found
 
-    def refuse(self, wanted):
+    def refuse(self, wanted: str) -> NoReturn:
         piece = self.next()
         raise Refused(f"{wanted} is expected at character {piece.at} of the statement, "
                       + (f"and not {piece.text}" if piece.text else "where it ends"))
 
-    def column(self):
+    def column(self) -> Column:
         """The column of the next piece: by its name, or in double quotes by its heading or its name."""
         piece = self.take()
         name = piece.text if piece.kind == "word" else piece.text[1:-1].replace('""', '"')
@@ -173,7 +183,7 @@ class Turner:
             raise Refused(f"there is no column {piece.text}; there are {', '.join(each.name for each in self.columns)}")
         return (headed or named)[0]
 
-    def operand(self):
+    def operand(self) -> Operand:
         """The column, the literal or the NULL that is next."""
         first = self.next()
         if first.text.upper() in ("DATE", "TIMESTAMP") and self.pieces[self.place + 1:][:1] and \
@@ -195,7 +205,7 @@ class Turner:
         text = sign + self.take().text
         return Operand(None, fractions.Fraction(text), text)
 
-    def list(self):
+    def members(self) -> list[Operand]:
         """The operands in brackets."""
         self.wants("(")
         found = [self.operand()]
@@ -203,7 +213,7 @@ class Turner:
             found.append(self.operand())
         return found
 
-    def predicate(self):
+    def predicate(self) -> str:
         """A comparison, BETWEEN, IN or IS NULL over numbers. A column of true and false may stand alone."""
         operand = self.operand()
         if self.next().kind == "compare":
@@ -217,7 +227,7 @@ class Turner:
         if after[:1] in (["NOT"], ["BETWEEN"], ["IN"]):
             negated = "NOT " if self.takes("NOT") else ""
             if self.wants("BETWEEN", "IN") == "IN":
-                return among(operand, negated, self.list())
+                return among(operand, negated, self.members())
             low = self.operand()
             self.wants("AND")
             return between(operand, negated, low, self.operand())
@@ -225,7 +235,7 @@ class Turner:
             return f"{operand.column.name} = 1"
         return self.refuse("a comparison, BETWEEN, IN or IS")
 
-    def condition(self):
+    def condition(self) -> None:
         """A condition over numbers, to the end of the statement."""
         while self.next().kind != "end":
             if self.takes("IS"):
@@ -235,7 +245,7 @@ class Turner:
             else:
                 self.out.append(self.predicate())
 
-    def items(self):
+    def items(self) -> None:
         """The items of the statement, to FROM."""
         while self.next().text != "FROM" or self.next().kind != "key":
             if self.next().kind == "end":
@@ -248,7 +258,7 @@ class Turner:
                 raise Refused(no_sum(column))
             self.out.append(column.name)
 
-    def statement(self):
+    def statement(self) -> str:
         """The whole statement over numbers."""
         self.out.append(self.wants("SELECT"))
         self.items()
@@ -266,12 +276,12 @@ class Turner:
         return " ".join(text for text in self.out if text)
 
 
-def turned(statement, columns, table=None):
+def turned(statement: str, columns: list[Column], table: str | None = None) -> str:
     """The statement over the numbers of a table's columns."""
     return Turner(statement, columns, table).statement()
 
 
-def statements_in(lines):
+def statements_in(lines: Iterable[str]) -> Iterator[str]:
     """The statements of lines, each of which ends with a semicolon, an empty line or the last line."""
     text, quote = "", ""
     for line in lines:
@@ -293,7 +303,7 @@ def statements_in(lines):
     yield text
 
 
-def is_empty(statement):
+def is_empty(statement: str) -> bool:
     """Whether a statement has nothing but comments, blanks and a semicolon."""
     try:
         return all(piece.text == ";" for piece in pieces_of(statement))

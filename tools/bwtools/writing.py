@@ -1,124 +1,169 @@
 """Writes the numbers of a file's fields, says what was done with each column, and puts files into their places."""
+from __future__ import annotations
+
+import argparse
 import contextlib
+import itertools
 import os
 import pathlib
 import signal
 import stat
+import sys
 import tempfile
+from typing import Any, Iterable, Iterator, NoReturn, Sequence
 
-from . import kinds, spelling
-from .deciding import MOST_KNOWN, decide, names_of, shown
-from .kinds import Refused, counted
+from . import keeping, kinds
+from .deciding import MOST_KNOWN, Seen, decide, names_of, shown
+from .keeping import Coded, Numbered
+from .kinds import Column, Refused, Whole, counted
+from .progress import Progress
 from .source import MOST_ROWS, Source
 
 MOST_BYTES = 1 << 30
 
 
-class Written(dict):
-    """How the fields of a column are written: those that were met, and all of a column of texts. And the least and the greatest
-    number, and how many fields won't come back as they stand."""
+class Numbers:
+    """The numbers of a column's fields: how they are written, the least and the greatest, and how many fields won't come back
+    as they stand."""
 
-    def __init__(self, heading, kind, null, nulls):
-        super().__init__()
-        self.heading, self.kind, self.is_texts = heading, kind, kind.name == "texts"
-        self.digits = kind.plain()
-        self.nulls, self.odd, self.changed, self.numbers = dict.fromkeys(nulls, null), set(), 0, []
-        self.least = self.greatest = None
-        self.update(self.nulls)
-        if self.is_texts:
-            self.update((text, str(number)) for number, text in enumerate(kind.texts))
-            self.numbers = [0, len(kind.texts) - 1] if kind.texts else []
+    def __init__(self, kind: Whole, null: str) -> None:
+        self.kind, self.null, self.digits = kind, null, getattr(kind, "digits", 0)
+        self.changed, self.least, self.greatest = 0, None, None
 
-    def written(self, fields):
+    def widen(self, *numbers: int) -> None:
+        ends = [*numbers, self.least, self.greatest] if self.least is not None else numbers
+        self.least, self.greatest = min(ends), max(ends)
+
+    def ends(self) -> list[str]:
+        """The texts of the least and of the greatest number."""
+        return [] if self.least is None else [self.kind.text(self.least), self.kind.text(self.greatest)]
+
+
+class Kept(Numbers):
+    """Those of fields that were kept."""
+
+    def __init__(self, kind: Whole, null: str, seen: Seen) -> None:
+        Numbers.__init__(self, kind, null)
+        # what is written for each code, and the codes of texts that won't come back
+        self.by_code, self.odd = [null] * len(seen.codes), set()
+        if kind.name == "texts":
+            for code, place in zip(map(seen.codes.__getitem__, kind.texts), map(str, itertools.count())):
+                self.by_code[code] = place
+            if kind.texts:
+                self.widen(0, len(kind.texts) - 1)
+            return
+        for text, code in seen.codes.items():
+            if text not in seen.words:
+                number = kind.number(text)
+                self.by_code[code] = str(number)
+                self.widen(number)
+                if kind.text(number) != text:
+                    self.odd.add(code)
+
+    def written(self, kept: Coded | Numbered) -> list[str]:
+        """What is written for fields that were kept."""
+        numbers = keeping.values_of(kept)
+        if isinstance(kept, keeping.Coded):
+            self.changed += sum(map(self.odd.__contains__, numbers)) if self.odd else 0
+            return list(map(self.by_code.__getitem__, numbers))
+        power = 10 ** (self.digits - kept.digits)
+        self.widen(kept.least * power, kept.greatest * power)
+        self.changed += sum(count for style, count in kept.styles.items() if not self.kind.returns(style))
+        return keeping.spread(list(map(str, numbers if power == 1 else map(power.__mul__, numbers))), kept.nulls, self.null)
+
+
+class Again(Numbers):
+    """Those of fields that are read again: the texts that were met, or all of a column of texts, and what is written for them."""
+
+    def __init__(self, kind: Whole, null: str, heading: str, nulls: Iterable[str]) -> None:
+        Numbers.__init__(self, kind, null)
+        self.heading, self.known, self.odd = heading, {}, set()
+        self.nulls = dict.fromkeys(nulls, null)
+        self.forget()
+        if kind.name == "texts":
+            self.known.update((text, str(place)) for place, text in enumerate(kind.texts))
+            if kind.texts:
+                self.widen(0, len(kind.texts) - 1)
+
+    def forget(self) -> None:
+        self.odd, self.known = set(), dict(self.nulls)
+
+    def written(self, fields: Sequence[str]) -> list[str]:
         """What is written for the fields of some rows."""
-        plain = None
-        if self.digits is not None:
-            plain = self.plain(fields) or self.plain([field for field in fields if field not in self.nulls])
-        if plain:
-            if len(plain) == len(fields):
-                return plain
-            plain = iter(plain)
-            return [self.nulls[field] if field in self.nulls else next(plain) for field in fields]
-        found = list(map(self.__getitem__, fields))
+        for text in set(fields).difference(self.known):
+            self.learn(text)
         self.changed += sum(map(self.odd.__contains__, fields)) if self.odd else 0
-        self.widen()
-        if len(self) > MOST_KNOWN and not self.is_texts:
-            self.clear()
-            self.odd.clear()
-            self.update(self.nulls)
+        found = list(map(self.known.__getitem__, fields))
+        if len(self.known) > MOST_KNOWN and self.kind.name != "texts":
+            self.forget()
         return found
 
-    def plain(self, fields):
-        """What is written for fields that all are spelled as they come back, where that can be told of many at once."""
-        if not fields:
-            return None
-        if isinstance(self.digits, int):
-            digits, numbers = spelling.plain_numbers(fields) or (None, None)
-        else:
-            *digits, numbers = spelling.plain_times(fields) or (None, None, None)
-        if digits != self.digits:
-            return None
-        self.numbers = numbers
-        self.widen()
-        return fields if digits == 0 else list(map(str, numbers))
-
-    def __missing__(self, text):
-        number = None if self.is_texts else self.kind.number(text)
+    def learn(self, text: str) -> None:
+        number = None if self.kind.name == "texts" else self.kind.number(text)
         if number is None:
             raise Refused(f"column {shown(self.heading)} holds {shown(text)}: the file has changed while it was read")
         if self.kind.text(number) != text:
             self.odd.add(text)
-        self.numbers.append(number)
-        self[text] = str(number)
-        return self[text]
-
-    def widen(self):
-        if self.numbers:
-            ends = [*self.numbers, self.least, self.greatest] if self.least is not None else self.numbers
-            self.least, self.greatest, self.numbers = min(ends), max(ends), []
-
-    def ends(self):
-        """The texts of the least and of the greatest number."""
-        self.widen()
-        return [] if self.least is None else [self.kind.text(self.least), self.kind.text(self.greatest)]
+        self.known[text] = str(number)
+        self.widen(number)
 
 
 class Table:
     """A file's rows as numbers, and what they mean."""
 
-    def __init__(self, path, given, most_rows=MOST_ROWS):
-        self.source = Source(path, given, most_rows)
-        self.seen, decided = decide(self.source, given)
-        found = [kind or kinds.Texts(sorted(seen.texts)) for kind, seen in zip(decided, self.seen)]
-        for seen in self.seen:
-            seen.texts = seen.known = set()
+    def __init__(self, path: str | os.PathLike[str], given: argparse.Namespace, folder: pathlib.Path | None = None,
+                 most_rows: int = MOST_ROWS) -> None:
+        self.source, self.store = Source(path, given, most_rows), keeping.Store(folder)
+        self.marks = self.source.marks()
+        self.seen, decided = decide(self.source, given, self.store)
+        found = [kind or kinds.Texts(seen.texts()) for kind, seen in zip(decided, self.seen)]
         self.columns = [kinds.Column(name, seen.heading, kind, seen.null(), seen.null_words(), why=seen.why or "")
                         for name, seen, kind in zip(names_of(self.source.headings), self.seen, found)]
+        null = "NULL" if len(self.columns) == 1 else ""
+        self.written = [Again(column.kind, null, column.heading, column.nulls) if seen.is_read_again else
+                        Kept(column.kind, null, seen) for column, seen in zip(self.columns, self.seen)]
+        for seen in self.seen:
+            seen.codes = None
 
-    def write(self, path):
+    def chunks(self) -> Iterator[list[list[str]]]:
+        """The columns of what is written for many rows at a time."""
+        is_read_again = any(seen.is_read_again for seen in self.seen)
+        again = self.source.chunks() if is_read_again else itertools.repeat(None)
+        for kept, chunk in zip(self.store, again):
+            found = [each.written(chunk.columns[place] if isinstance(each, Again) else kept[place])
+                     for place, each in enumerate(self.written)]
+            if len(set(map(len, found))) > 1:
+                self.refuse_changed()
+            yield found
+
+    def refuse_changed(self) -> NoReturn:
+        raise Refused(f"{self.source.path}: the file has changed while it was read")
+
+    def write(self, path: str | os.PathLike[str]) -> None:
         """Writes the numbers of all rows, for one table."""
         with open(path, "w", encoding="ascii", newline="") as out:
-            self.write_to(out)
-        if os.path.getsize(path) > MOST_BYTES:
-            raise Refused(f"{self.source.path}: its numbers would be more than 1 GiB of CSV, which is the most that is loaded; "
-                          "tools/shards loads more")
+            self.write_to(out, MOST_BYTES)
 
-    def write_to(self, out):
-        """Writes the numbers of all rows: the heading at once, and then whole lines."""
-        count, size = self.source.count, os.fstat(self.source.file.fileno())
-        null = "NULL" if len(self.columns) == 1 else ""
-        self.written = [Written(column.heading, column.kind, null, column.nulls) for column in self.columns]
-        out.write(",".join(column.name for column in self.columns) + "\n")
-        for chunk in self.source.chunks():
-            found = [each.written(fields) for each, fields in zip(self.written, zip(*chunk.rows))]
-            out.write("\n".join(map(",".join, zip(*found))) + "\n")
-        after = os.fstat(self.source.file.fileno())
-        if count != self.source.count or (size.st_size, size.st_mtime_ns) != (after.st_size, after.st_mtime_ns):
-            raise Refused(f"{self.source.path}: the file has changed while it was read")
+    def write_to(self, out: Any, most_bytes: int = sys.maxsize) -> None:
+        """Writes the numbers of all rows: the heading at once, and then whole lines. Refuses those of more bytes."""
+        count, heading = self.source.count, ",".join(column.name for column in self.columns) + "\n"
+        size = len(heading)
+        out.write(heading)
+        with Progress("written") as progress:
+            for columns in self.chunks():
+                lines = "\n".join(map(",".join, zip(*columns))) + "\n"
+                size += len(lines)
+                if size > most_bytes:
+                    raise Refused(f"{self.source.path}: its numbers would be more than 1 GiB of CSV, which is the most that is "
+                                  "loaded; tools/shards loads more")
+                out.write(lines)
+                progress.add(len(columns[0]))
+        if count != self.source.count or self.marks != self.source.marks():
+            self.refuse_changed()
         for column, each in zip(self.columns, self.written):
             column.ends = each.ends()
 
-    def report(self):
+    def report(self) -> None:
         """Prints what was done with each column, a line each."""
         lines = [("COLUMN", "HEADING", "WHAT IT IS", "FROM", "TO", "NULLS", "NOTES")]
         for column, seen, each in zip(self.columns, self.seen, self.written):
@@ -135,7 +180,7 @@ class Table:
               + (f"; {counted(source.empty, 'empty line')} left out" if source.empty else ""))
 
 
-def notes(column, seen, changed):
+def notes(column: Column, seen: Seen, changed: int) -> str:
     """What has to be known of a column: why it's one of texts, and what doesn't come back as it stood."""
     found = [f"texts: {column.why}"] if column.why else []
     words = [(word, count) for word, count in seen.nulls.items() if word not in column.nulls]
@@ -145,7 +190,7 @@ def notes(column, seen, changed):
     return "; ".join(found)
 
 
-def refuse_target(path, sources):
+def refuse_target(path: str | os.PathLike[str], sources: Iterable[str | os.PathLike[str]]) -> None:
     """Refuses a file to write that is there and isn't a regular file, or is one of those that are read."""
     try:
         mode = os.lstat(path).st_mode
@@ -159,7 +204,7 @@ def refuse_target(path, sources):
 
 
 @contextlib.contextmanager
-def new_folder(beside):
+def new_folder(beside: str | os.PathLike[str]) -> Iterator[pathlib.Path]:
     """A new folder beside a file to write, which is gone at the end."""
     parent = pathlib.Path(beside).parent
     if not parent.is_dir():
@@ -168,7 +213,7 @@ def new_folder(beside):
         yield pathlib.Path(name)
 
 
-def put(folder, moves):
+def put(folder: pathlib.Path, moves: Iterable[tuple[Any, Any]]) -> None:
     """Moves files of a folder to their places: all of them, or none."""
     held = (signal.SIGINT, signal.SIGTERM, signal.SIGHUP)
     before = signal.pthread_sigmask(signal.SIG_BLOCK, held)

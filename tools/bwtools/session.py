@@ -1,0 +1,135 @@
+"""A run of `bw session`, which reads a table once and answers many statements over it, one after another."""
+from __future__ import annotations
+
+import io
+import os
+import re
+import subprocess
+import sys
+from typing import Any, BinaryIO, NoReturn, Sequence, TextIO
+
+from . import command
+
+AT_ONCE = 1 << 16
+SURPLUS = "bw session has answered more than it was asked"
+
+
+class Failed(Exception):
+    """Says why a session can't go on, after what it said itself; and the status to end with."""
+
+    def __init__(self, why: str, told: str = "", status: int = 5) -> None:
+        super().__init__(why)
+        self.told, self.status = told, status
+
+    def report(self) -> int:
+        """Says it on standard error, and gives the status."""
+        print(self.told, end="", file=sys.stderr)
+        if str(self):
+            print(f"{command.own_name()}: {self}", file=sys.stderr)
+        return self.status
+
+
+class Answer(io.RawIOBase):
+    """The bytes of one answer, to the empty line that ends it. No answer has an empty line in it."""
+
+    def __init__(self, session: Session) -> None:
+        super().__init__()
+        self.session, self.last, self.is_ended = session, b"\n", False
+
+    def readable(self) -> bool:
+        return True
+
+    def readinto(self, buffer: Any) -> int:
+        if self.is_ended:
+            return 0
+        count = self.session.process.stdout.readinto(buffer)
+        if not count:
+            self.session.fail()
+        text = self.last + bytes(buffer[:count])
+        end, self.last = text.find(b"\n\n"), text[-1:]
+        self.is_ended = end >= 0
+        # nothing comes after the empty line until the next statement is sent
+        if self.is_ended and end + 2 < len(text):
+            raise Failed(SURPLUS)
+        return count - self.is_ended
+
+
+class Session:
+    """A run of `bw session` over an open table file. It's sent one statement at a time, and reads the next one after its answer
+    is written, so that neither waits for the other. Standard error has a short line or two for each answer."""
+
+    def __init__(self, table: BinaryIO, options: Sequence[str] = ()) -> None:
+        # the very file that was looked at is read, whatever stands at its path by now
+        words = [command.program(), "session", *options, f"/dev/fd/{table.fileno()}"]
+        self.process = subprocess.Popen(words, bufsize=0, stdin=subprocess.PIPE, stdout=subprocess.PIPE, stderr=subprocess.PIPE,
+                                        pass_fds=[table.fileno()])
+        os.set_blocking(self.process.stderr.fileno(), False)
+        self.answer: Answer | None = None
+        self.has_refused = False
+
+    def __enter__(self) -> Session:
+        return self
+
+    def __exit__(self, *error: Any) -> None:
+        self.process.__exit__(*error)
+
+    def ask(self, statement: str) -> TextIO | None:
+        """Sends a statement, and gives its answer; None where it's refused, and standard error says why."""
+        self.told()
+        self.send(f"{one_statement(statement)}\n\n".encode())
+        self.answer = Answer(self)
+        answer = io.BufferedReader(self.answer, AT_ONCE)
+        if answer.peek(1):
+            return io.TextIOWrapper(answer, encoding="utf-8", newline="")
+        self.has_refused = True
+        return None
+
+    def send(self, data: bytes) -> None:
+        """Sends bytes, unless the session has ended, which the read of its answer tells."""
+        rest = memoryview(data)
+        try:
+            while rest:
+                rest = rest[self.process.stdin.write(rest):]
+        except BrokenPipeError:
+            pass
+
+    def told(self) -> str:
+        """What was said of the last answer on standard error, if it wasn't asked before. What is left of the answer is dropped."""
+        if not self.answer:
+            return ""
+        while self.answer.read(AT_ONCE):
+            pass
+        self.answer = None
+        return self.said()
+
+    def said(self) -> str:
+        """What stands on standard error by now. All that belongs to an answer comes before its end."""
+        said = b""
+        while part := self.process.stderr.read(AT_ONCE):
+            said += part
+        return said.decode("utf-8", "replace")
+
+    def end(self) -> int:
+        """Ends the session, and gives its status: 0, or that of the first statement that was refused."""
+        self.told()
+        self.process.stdin.close()
+        if self.process.stdout.read():
+            raise Failed(SURPLUS)
+        status = self.process.wait()
+        if status < 0 or status and not self.has_refused:
+            self.fail()
+        return status
+
+    def fail(self) -> NoReturn:
+        """Says what a session said that has ended by itself."""
+        self.process.stdin.close()
+        status, told = self.process.wait(), self.said()
+        if status < 0:
+            raise Failed(f"bw session was ended by signal {-status}", told, 128 - status)
+        raise Failed("" if told and status else f"bw session ended with status {status}, and not by an answer", told, status or 5)
+
+
+def one_statement(statement: str) -> str:
+    """A statement as the session takes it, which ends at its first semicolon and at an empty line. Where these stand before the
+    end, as in a text that bw refuses anyway, they become a character that bw refuses everywhere."""
+    return re.sub("[;\r\n]", "?", statement.removesuffix(";")) + ";"

@@ -1,0 +1,28 @@
+# Completions of bw for bash: commands, options and file names.
+_bw() {
+    local word=${COMP_WORDS[COMP_CWORD]} before=${COMP_WORDS[COMP_CWORD-1]} command='' each words=''
+    for each in "${COMP_WORDS[@]:1:COMP_CWORD-1}"; do
+        if [[ $each != -* ]]; then
+            command=$each
+            break
+        fi
+    done
+    COMPREPLY=()
+    case $command:$before in
+        load:--layout) words='planes slices' ;;
+        infer:--table) return ;;
+        query:--program) ;;
+        :*) words='infer load query direct dump info plan check --explain --help --version' ;;
+        infer:*) words='--table --explain --help' ;;
+        load:*) words='--layout --explain --help' ;;
+        query:*) words='--program --stats --explain --help' ;;
+        *) words='--explain --help' ;;
+    esac
+    if [[ -z $command || $word == -* || $before == --layout ]]; then
+        mapfile -t COMPREPLY < <(compgen -W "$words" -- "$word")
+    else
+        compopt -o filenames 2>/dev/null
+        mapfile -t COMPREPLY < <(compgen -f -- "$word")
+    fi
+}
+complete -F _bw bw

@@ -1,0 +1,57 @@
+"""What the tests share: the options that a tool would give, and a source of some text."""
+from __future__ import annotations
+
+import argparse
+import functools
+import pathlib
+import tempfile
+
+from bwtools import command, keeping, writing
+from bwtools.deciding import Seen
+from bwtools.source import Source
+
+
+@functools.lru_cache(64)
+def options(*words: str) -> argparse.Namespace:
+    """The options that words on the command line give."""
+    parser = argparse.ArgumentParser()
+    command.add_options(parser)
+    return parser.parse_args(list(words))
+
+
+def in_file(data: bytes, work):
+    """What a function gives for the path of a file of these bytes."""
+    with tempfile.TemporaryDirectory(prefix="unittests-") as name:
+        path = pathlib.Path(name) / "in.csv"
+        path.write_bytes(data)
+        return work(str(path))
+
+
+def source_of(data: bytes, *words: str) -> Source:
+    """A source of these bytes, whose file is open though it's gone."""
+    return in_file(data, lambda path: Source(path, options(*words)))
+
+
+def table_of(data: bytes, *words: str) -> writing.Table:
+    """What becomes of a file of these bytes."""
+    return in_file(data, lambda path: writing.Table(path, options(*words)))
+
+
+def numbers_of(data: bytes, *words: str) -> list[list[str]]:
+    """The columns of numbers that a file of these bytes becomes."""
+    columns: list[list[str]] = []
+    for chunk in table_of(data, *words).chunks():
+        columns = [[*first, *then] for first, then in zip(columns or [[] for _ in chunk], chunk)]
+    return columns
+
+
+def seen_of(*fields: str, words: tuple = (), separator: str = ",", is_varied: bool = False) -> Seen:
+    """What is known of a column `a` of these fields, which are looked at one by one, or all together where it's varied."""
+    seen = Seen("a", options(*words), separator)
+    seen.is_varied = is_varied
+    seen.add(list(fields), None)
+    return seen
+
+
+def values(kept) -> list[int]:
+    return list(keeping.values_of(kept))

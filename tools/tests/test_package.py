@@ -1,0 +1,29 @@
+"""The package as a whole."""
+import importlib
+import inspect
+import pkgutil
+import unittest
+
+import bwtools
+
+
+def functions():
+    """Every function and method of the package, by its name, but for those that named tuples are given."""
+    for found in pkgutil.iter_modules(bwtools.__path__):
+        module = importlib.import_module(f"bwtools.{found.name}")
+        owners = [module, *(each for each in vars(module).values() if inspect.isclass(each) and each.__module__ == module.__name__)]
+        for owner in owners:
+            for name, each in vars(owner).items():
+                if inspect.isfunction(each) and each.__code__.co_filename == module.__file__:
+                    yield f"{module.__name__}: {each.__qualname__}", each
+
+
+class Package(unittest.TestCase):
+    def test_every_function_has_type_hints(self):
+        count = 0
+        for name, function in functions():
+            wanted = {each for each in inspect.signature(function).parameters if each not in ("self", "cls")} | {"return"}
+            with self.subTest(name):
+                self.assertEqual(wanted - function.__annotations__.keys(), set())
+            count += 1
+        self.assertGreater(count, 150)
