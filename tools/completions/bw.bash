@@ -12,9 +12,10 @@ _bw() {
         load:--layout) words='planes slices' ;;
         infer:--table) return ;;
         query:--program) ;;
-        :*) words='infer load query direct dump info plan check --explain --help --version' ;;
+        :*) words='infer load query session direct dump info plan check --explain --help --version' ;;
         infer:*) words='--table --explain --help' ;;
         load:*) words='--layout --explain --help' ;;
+        session:*) words='--stats --explain --help' ;;
         query:*) words='--program --stats --explain --help' ;;
         *) words='--explain --help' ;;
     esac
