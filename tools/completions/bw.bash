@@ -15,8 +15,8 @@ _bw() {
         :*) words='infer load query session direct dump info plan check --explain --help --version' ;;
         infer:*) words='--table --explain --help' ;;
         load:*) words='--layout --explain --help' ;;
-        session:*) words='--stats --explain --help' ;;
         query:*) words='--program --stats --explain --help' ;;
+        session:*) words='--stats --explain --help' ;;
         *) words='--explain --help' ;;
     esac
     if [[ -z $command || $word == -* || $before == --layout ]]; then

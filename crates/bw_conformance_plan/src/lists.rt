@@ -90,13 +90,13 @@ fn the_longest_lists_are_served(rt: HostRuntime) -> Result<(), Fail> {
     let alloc = rt.alloc();
     let schema = Schema::parse(alloc, WIDTHS.as_bytes())?;
     let none: Vec<Row> = Vec::new(alloc);
-    let fits = scattered(alloc, 560, 26)?;
+    let fits = scattered(alloc, 400, 26)?;
     let text = among(alloc, "d", &fits)?;
     cost_of(&rt, alloc, &schema, text.as_str(), &none)?;
-    let passes = scattered(alloc, 660, 26)?;
+    let passes = scattered(alloc, 401, 26)?;
     let text = among(alloc, "d", &passes)?;
     match judged(&rt, alloc, &schema, text.as_str(), &none)? {
-        Ok(cost) => panic!(rt; "660 numbers: {cost:?}"),
+        Ok(cost) => panic!(rt; "401 numbers: {cost:?}"),
         Err(fault) => assert_eq!(rt; fault.code, code::NO_PROGRAM),
     }
     Ok(())

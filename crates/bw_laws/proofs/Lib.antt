@@ -3,6 +3,7 @@ pub mod AsDirectLemmas
 pub mod BackupLemmas
 pub mod CutFileLemmas
 pub mod DumpSizes
+pub mod InMemoryLemmas
 pub mod InferredTextLemmas
 pub mod JoinedLemmas
 pub mod KeptPlanLemmas

@@ -18,12 +18,12 @@ use Rattle.bw_query.specs.TableAnswer.{AnswersFile, by_statement}
 use Rattle.bw_laws.proofs.OneMeaningLemmas.{one_meaning}
 
 -- a sink took the meaning over these rows of a query that the statement spells under this schema
-record TookMeaning (schema : Schema) (rows : List (List Value)) (sql : List ℕ) (old new : Option (List ℕ)) : Type 0 where
-  query : Query
-  spelled : Spells schema sql (asked query)
-  took : Appends old new (csv_text (meaning (names_of schema.columns.items) query rows))
+pub record TookMeaning (schema : Schema) (rows : List (List Value)) (sql : List ℕ) (old new : Option (List ℕ)) : Type 0 where
+  pub query : Query
+  pub spelled : Spells schema sql (asked query)
+  pub took : Appends old new (csv_text (meaning (names_of schema.columns.items) query rows))
 
-took_meaning : (layout : Layout) (schema : Schema) (rows : List (List Value)) (bytes sql : List ℕ) (program old new : Option (List ℕ))
+pub took_meaning : (layout : Layout) (schema : Schema) (rows : List (List Value)) (bytes sql : List ℕ) (program old new : Option (List ℕ))
     → IsFileBytes bytes layout schema rows → AnswersFile (by_statement program sql) bytes old new → TookMeaning schema rows sql old new
 took_meaning layout schema rows bytes sql program old new is file =
     let same = of_one_table bytes layout file.layout schema file.schema rows file.rows is file.file in

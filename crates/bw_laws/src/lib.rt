@@ -1,7 +1,7 @@
 //! Laws that join definitions of several crates, for those who use the store: a statement over a CSV text has one
-//! answer, what is loaded is answered as `direct` answers, a dump is a backup, a plan that was kept is used, a table file
-//! that is cut is refused, a schema text spells one schema or has one fault, and an inferred schema is spelled by its
-//! text. Nothing stands on them.
+//! answer, what is loaded is answered as `direct` answers, a table in memory is answered as its file, a dump is a backup,
+//! a plan that was kept is used, a table file that is cut is refused, a schema text spells one schema or has one fault,
+//! and an inferred schema is spelled by its text. Nothing stands on them.
 //!
 //! Read `joined.rt` with `specs/Joined.antt` first, and then `as_direct.rt` with `specs/AsDirect.antt`.
 #![tactic(auto)]
@@ -9,6 +9,7 @@
 mod as_direct;
 mod backup;
 mod cut_file;
+mod in_memory;
 mod inferred_text;
 mod joined;
 mod kept_plan;
@@ -25,6 +26,7 @@ pub use backup::{
     a_dump_is_a_backup, a_file_is_restored, a_load_is_restored, what_is_dumped_is_loaded,
 };
 pub use cut_file::a_cut_file_is_refused;
+pub use in_memory::a_table_in_memory_is_answered_as_its_file;
 pub use inferred_text::an_inferred_schema_text_spells_its_schema;
 pub use joined::what_is_loaded_is_answered;
 pub use kept_plan::a_kept_plan_is_used;

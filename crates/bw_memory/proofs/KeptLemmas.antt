@@ -1,12 +1,12 @@
 -- Segments that are kept column by column, one after the other.
-use Rattle.std.proofs.Common.{◌≡◌, ◌∙◌, refl, sym, ap, ap₂, subst, ℕ, zero, suc, ◌+◌, ◌-◌, ◌*◌, ◌<◌, ◌≤◌, min, List, [], ◌∷◌, ◌++◌, map, length, Result, Ok, Err, inl, inr, arith}
+use Rattle.std.proofs.Common.{◌≡◌, ◌∙◌, refl, sym, ap, ap₂, subst, ℕ, zero, suc, ◌+◌, ◌-◌, ◌*◌, ◌<◌, ◌≤◌, min, List, [], ◌∷◌, ◌++◌, map, length, Result, Ok, Err, inl, inr, add-one, length-append, arith}
 use Rattle.std.specs.Prelude.{OnOk}
 use Rattle.std.specs.List.{range_with_len}
 use Rattle.std.proofs.lemmas.Bool.{cases_lt}
 use Rattle.std.proofs.lemmas.List.FromFn.{length-map-range_with_len, map-range_with_len_more}
 use Rattle.bw_device.specs.Shared.{bytes_in}
 use Rattle.bw_model.specs.declared.column.Column.{Column}
-use Rattle.bw_model.specs.Groups.{group_size}
+use Rattle.bw_model.specs.Groups.{group_size, together}
 use Rattle.bw_model.specs.Row.{Value}
 use Rattle.bw_segment.specs.declared.column_blocks.ColumnBlocks.{ColumnBlocks}
 use Rattle.bw_segment.specs.ColumnBlocks.{KeepBlocks, segment_numbered}
@@ -16,6 +16,7 @@ use Rattle.bw_file.specs.declared.segments.AnySegment.{AnySegment}
 use Rattle.bw_file.specs.declared.segments.AnySegment.TheVariants.{Planes, Slices}
 use Rattle.bw_file.specs.AnySegment.{any_layout, any_meaning}
 use Rattle.bw_file.specs.Blocks.{IsSound, form_of, rows_spelled}
+use Rattle.bw_file.proofs.MemoryAnswers.{together_more}
 use Rattle.bw_memory.specs.Kept.{AddSegment, AreOf, KeepSegments, group_kept, groups_kept, rows_numbered}
 
 pub on_ok_three : {E A K L M P : Type 0} (result : Result A E) → (K → L → M → P) → OnOk result K → OnOk result L → OnOk result M → OnOk result P
@@ -51,7 +52,7 @@ rows_cut rows number most is = omega (arith, is)
 
 -- nothing is kept
 pub none_kept : (layout : Layout) (columns : List Column) (kept : List ColumnBlocks) → KeepBlocks (form_of layout) columns 0 kept → KeepSegments layout columns 0 0 kept
-none_kept layout columns kept blocks = record { blocks = blocks; some = λ number lt. absurd (omega arith); sound = λ number lt. absurd (omega arith) }
+none_kept layout columns kept blocks = record { blocks = blocks; all = omega arith; some = λ number lt. absurd (omega arith); sound = λ number lt. absurd (omega arith) }
 
 -- one segment more, after full ones
 module _ (layout : Layout) (columns : List Column) (rows count more : ℕ) (old new : List ColumnBlocks) (bytes : List ℕ) (keep : KeepSegments layout columns rows count old)
@@ -68,6 +69,7 @@ module _ (layout : Layout) (columns : List Column) (rows count more : ℕ) (old 
   unfolding group_size
   segment_added = record {
     blocks = add.keep count keep.blocks;
+    all = omega (arith, full, few);
     some = λ number lt. omega (arith, full, some);
     sound = λ number lt. elim (cases_lt number count) [
       | inl before ↦
@@ -121,3 +123,13 @@ pub rows_before : (layout : Layout) (columns : List Column) (rows number taken :
 unfolding group_size
 rows_before layout columns rows number taken kept so_far =
     omega (arith, so_far, length-rows_spelled (form_of layout) columns (rows_numbered rows number) (segment_numbered kept number))
+
+-- how many rows the first segments have
+pub length-rows : (layout : Layout) (columns : List Column) (rows count : ℕ) (kept : List ColumnBlocks) → length (together (groups_kept layout columns rows count kept)) ≡ min rows (group_size * count)
+unfolding group_size groups_kept
+length-rows layout columns rows zero kept = omega arith
+length-rows layout columns rows (suc count) kept =
+    let group = group_kept layout columns rows kept count in
+    let before = together (groups_kept layout columns rows count kept) in
+    let all = ap (λ n. together (groups_kept layout columns rows n kept)) (sym (add-one count)) ∙ ap together (groups_more layout columns rows count kept) ∙ together_more (groups_kept layout columns rows count kept) group in
+    omega (arith, ap length all, length-append before group, length-rows layout columns rows count kept, length-rows_spelled (form_of layout) columns (rows_numbered rows count) (segment_numbered kept count))

@@ -1,5 +1,5 @@
 -- The segments of a table, kept column by column.
-use Rattle.std.specs.Prelude.{◌≡◌, ℕ, ◌-◌, ◌*◌, ◌+◌, ◌<◌, min, List, length, map}
+use Rattle.std.specs.Prelude.{◌≡◌, ℕ, ◌-◌, ◌*◌, ◌+◌, ◌<◌, ◌≤◌, min, List, length, map}
 use Rattle.std.specs.List.{range_with_len}
 use Rattle.bw_model.specs.declared.column.Column.{Column}
 use Rattle.bw_model.specs.Groups.{group_size}
@@ -15,10 +15,11 @@ use Rattle.bw_file.specs.Blocks.{IsSound, form_of, rows_spelled}
 abbrev pub rows_numbered : ℕ → ℕ → ℕ
 rows_numbered rows number = min group_size (rows - group_size * number)
 
--- Of so many rows each segment, so many, is kept in columns: it has rows, and its blocks are without fault.
+-- So many rows are kept in so many segments, in columns: each segment has rows, and its blocks are without fault.
 pub record KeepSegments (layout : Layout) (columns : List Column) (rows count : ℕ)
     (kept : List ColumnBlocks) : Type 0 where
   pub blocks : KeepBlocks (form_of layout) columns count kept
+  pub all : rows ≤ group_size * count
   pub some : (number : ℕ) → number < count → group_size * number < rows
   pub sound : (number : ℕ) → number < count
       → IsSound layout columns (rows_numbered rows number) (segment_numbered kept number)

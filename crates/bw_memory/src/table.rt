@@ -1,5 +1,5 @@
 //! A table in memory.
-ghost use Rattle.std.specs.Prelude.{◌≡◌, ◌<◌, ◌≤◌, length, vec_len, IfOk, IsOkUnless};
+ghost use Rattle.std.specs.Prelude.{◌≡◌, ◌<◌, ◌≤◌, length, IfOk, IsOkUnless};
 ghost use Rattle.bw_model.specs.Fault.{no_memory};
 ghost use Rattle.bw_model.specs.Groups.{groups_of, together};
 ghost use Rattle.bw_model.specs.Limits.{most_rows};
@@ -30,7 +30,7 @@ pub struct MemoryTable {
 }
 
 impl MemoryTable {
-    ghost use Rattle.bw_memory.specs.MemoryTable.{layout_of, meaning_numbered, schema_of, segments_in};
+    ghost use Rattle.bw_memory.specs.MemoryTable.{layout_of, meaning_numbered, rows_of, schema_of, segments_in};
 
     /// The table's schema.
     pub fn schema(&self) -> &Schema
@@ -47,7 +47,9 @@ impl MemoryTable {
     }
 
     /// How many rows the table has.
-    pub fn rows(&self) -> u32 {
+    pub fn rows(&self) -> u32
+        ensures { result ≡ length (rows_of self.now) }
+    {
         self.rows
     }
 

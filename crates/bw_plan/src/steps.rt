@@ -11,6 +11,10 @@ use bw_cert_text::ConditionEntry;
 use bw_model::{Cond, Op, Operand, Truth};
 use bw_program::ColumnIndex;
 
+/// A list has so many items at most: to plan a longer one takes longer than to look up the rows of a table that isn't
+/// very large.
+const MAX_LIST: usize = 400;
+
 /// The numbers of a condition's nodes: where it is TRUE, and where it is FALSE.
 #[derive(Clone, Copy)]
 pub(crate) struct TruthNodes {
@@ -97,6 +101,9 @@ fn among(
     x: Operand,
     items: &[Operand],
 ) -> Result<TruthNodes, Refusal> {
+    if items.len() > MAX_LIST {
+        return Err(Refusal::NoProgram);
+    }
     let Some((first, others)) = items.split_first() else {
         return Err(Refusal::NoProgram);
     };

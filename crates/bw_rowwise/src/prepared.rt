@@ -126,7 +126,7 @@ fn items_of(alloc: Global, items: &[Operand]) -> Result<Items, Fault>
         }
     }
     Ok(Items {
-        numbers: Numbers::new(numbers),
+        numbers: Numbers::new(alloc, numbers)?,
         others,
     })
 }

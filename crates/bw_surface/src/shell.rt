@@ -3,7 +3,7 @@ ghost use Rattle.std.specs.Prelude.{◌-◌, ◌^◌, ◌<◌};
 
 use bw_file::{Layout, Sink, Source};
 use bw_model::Fault;
-use bw_shell::{Accepted, By, Input, ProgramFile, Served};
+use bw_shell::{Accepted, By, Input, Listener, MemoryTable, ProgramFile, Served};
 use std::alloc::Global;
 
 pub fn makes_whole(bytes: Vec<u8>) -> Input {
@@ -157,4 +157,35 @@ pub fn calls_plan_text<K: Sink>(
     requires { K.failures sink.old < 2 ^ 64 - 1 }
 {
     bw_shell::plan_text(alloc, schema, sql, sink)
+}
+
+pub fn calls_read_table<S: Source>(alloc: Global, table: &mut S) -> Result<MemoryTable, Fault>
+    requires { S.failures table.old < 2 ^ 64 - 1 }
+{
+    MemoryTable::read(alloc, table)
+}
+
+pub fn calls_answer_in_memory<K: Sink>(
+    alloc: Global,
+    table: &MemoryTable,
+    sql: &[u8],
+    program: Option<&[u8]>,
+    sink: &mut K,
+) -> Result<Served, Fault>
+    requires { K.failures sink.old < 2 ^ 64 - 1 }
+{
+    bw_shell::answer_in_memory(alloc, table, sql, program, sink)
+}
+
+pub fn calls_answer_statements<S: Source, K: Sink, L: Listener>(
+    alloc: Global,
+    table: &MemoryTable,
+    input: &mut S,
+    sink: &mut K,
+    listener: &mut L,
+) -> Result<Option<Fault>, Fault>
+    requires input { S.failures input.old < 2 ^ 64 - 1 }
+    requires sink { K.failures sink.old < 2 ^ 64 - 1 }
+{
+    bw_shell::answer_statements(alloc, table, input, sink, listener)
 }

@@ -18,16 +18,16 @@ pub(crate) fn next_token(text: &[u8]) -> Option<(Token<'_>, &[u8])> {
     let text = after_blanks(text);
     let first = *text.first()?;
     if begins_word(first) {
-        let (word, rest) = split_after(text, count(text, goes_on_in_word));
+        let (word, rest) = split_after(text, text.iter().take_while(|byte| goes_on_in_word(**byte)).count());
         return Some((Token::Word(word), rest));
     }
     if matches!(first, b'\'' | b'"' | b'`') {
         return Some((Token::Quoted(first), after_quote(text, first)));
     }
-    let digits = count(text, is_digit);
+    let digits = digits_of(text);
     let (_, after) = split_after(text, digits);
     let decimals = match after.split_first() {
-        Some((b'.', fraction)) => count(fraction, is_digit),
+        Some((b'.', fraction)) => digits_of(fraction),
         _ => 0,
     };
     if digits > 0 || decimals > 0 {
@@ -46,10 +46,10 @@ pub(crate) fn next_token(text: &[u8]) -> Option<(Token<'_>, &[u8])> {
 fn after_blanks(text: &[u8]) -> &[u8] {
     let mut text = text;
     for _ in 0..text.len() {
-        let (blanks, rest) = split_after(text, count(text, |byte| byte.is_ascii_whitespace()));
+        let (blanks, rest) = split_after(text, text.iter().take_while(|byte| byte.is_ascii_whitespace()).count());
         text = rest;
         if text.starts_with(b"--") {
-            text = split_after(text, count(text, |byte| byte != b'\n')).1;
+            text = split_after(text, text.iter().take_while(|byte| **byte != b'\n').count()).1;
         } else if blanks.is_empty() {
             break;
         }
@@ -61,7 +61,7 @@ fn after_blanks(text: &[u8]) -> &[u8] {
 fn after_quote(text: &[u8], quote: u8) -> &[u8] {
     let mut rest = split_after(text, 1).1;
     for _ in 0..text.len() {
-        rest = split_after(rest, count(rest, |byte| byte != quote)).1;
+        rest = split_after(rest, rest.iter().take_while(|byte| **byte != quote).count()).1;
         rest = split_after(rest, 1).1;
         if rest.first() != Some(&quote) {
             break;
@@ -71,13 +71,9 @@ fn after_quote(text: &[u8], quote: u8) -> &[u8] {
     rest
 }
 
-/// How many of the first bytes of a text are of one kind.
-fn count<F: Fn(u8) -> bool>(text: &[u8], is_kind: F) -> usize {
-    text.iter().take_while(|byte| is_kind(**byte)).count()
-}
-
-fn is_digit(byte: u8) -> bool {
-    byte.is_ascii_digit()
+/// How many of the first bytes of a text are digits.
+fn digits_of(text: &[u8]) -> usize {
+    text.iter().take_while(|byte| byte.is_ascii_digit()).count()
 }
 
 /// So many first bytes of a text, or all, and the others.

@@ -23,5 +23,5 @@ pub returns-clause-items : goal.returns-clause-items
 returns-clause-items c = λ row x.
     let items = c.args.items.now in
     let all : take c.loop-item.item-index items ≡ items = take_all c.loop-item.item-index items (omega arith) in
-    ap (λ (t : Truth). greatest t (among x (map (operand_value row) c.loop-item.others.items))) (c.new.ensures x)
+    ap (λ (t : Truth). greatest t (among x (map (operand_value row) c.loop-item.others.items))) (c.in_ok-new.ensures x)
     ∙ c.loop-item.invariant row x ∙ ap (λ (those : List Operand). among x (map (operand_value row) those)) all
