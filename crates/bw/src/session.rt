@@ -9,6 +9,7 @@ use std::io::IsTerminal;
 const PROMPT: &str = "bw> ";
 
 /// Tells on standard error what a session does.
+#[derive(Drop)]
 pub struct Teller<'a> {
     rt: &'a HostRuntime,
     schema: &'a Schema,
