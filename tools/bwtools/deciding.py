@@ -35,6 +35,9 @@ class Seen:
         self.ends, self.lengths, self.has_zero, self.marks, self.grouped = {}, set(), False, {}, None
         # of dates and times: the formats that all dates may have and the first date, and how the times are spelled
         self.dates, self.date, self.clocks, self.betweens, self.zones, self.digits = None, "", set(), set(), set(), 0
+        # the first field that was read, and the first with a decimal sign, each with its line
+        self.firsts: dict[str, str] = {}
+        self.noted: list[str] = []
         # how fields are spelled, None among them for one that won't come back as it stands, and the first of these
         self.styles, self.odd = set(), None
         # why it is a column of texts, whether the codes have all texts, and whether the file has to be read again for it
@@ -69,6 +72,9 @@ class Seen:
             if why is not None:
                 self.why = f"line {chunk.line_of(fields.index(text))}: {shown(text)}{why}"
                 return
+            for what in self.noted:
+                self.firsts[what] = f"{shown(text)} in line {chunk.line_of(fields.index(text))}"
+            self.noted.clear()
 
     def add_plain(self, fields: Sequence[str]) -> Numbered | None:
         """Takes fields into account, and keeps them, where all but the nulls are numbers that are spelled as such come back, or
@@ -145,7 +151,9 @@ class Seen:
         moment = None if number else spelling.moment_of(text)
         form = "number" if number else "truth" if text in spelling.TRUTH_OF else moment and spelling.moment_form(moment)
         if form is None or self.form not in (None, form):
-            return why or ("" if self.form is None else " is of another kind than those before it")
+            return why or ("" if self.form is None else f" is of another kind than {self.firsts.get('form', 'those before it')}")
+        if self.form is None:
+            self.noted.append("form")
         self.form = form
         if number:
             return self.judge_number(text, number)
@@ -162,9 +170,11 @@ class Seen:
         if number.mark == "," and self.separator == "," and not self.is_number:
             return " has a comma, and commas part the fields; --number reads it as a decimal sign"
         if number.mark:
+            if not self.marks:
+                self.noted.append("mark")
             self.marks.setdefault(number.mark, text)
             if len(self.marks) > 1:
-                return " has another decimal sign than those before it"
+                return f" has another decimal sign than {self.firsts.get('mark', 'those before it')}"
             self.grouped = number.is_grouped and self.grouped is not False
         if not kinds.LEAST <= number.value <= kinds.GREATEST or number.digits > spelling.MOST_DIGITS:
             return " is past 64 bits"
@@ -175,9 +185,10 @@ class Seen:
     def judge_moment(self, text: str, moment: Moment) -> str | None:
         dates = list(moment.days) if self.dates is None else [form for form in self.dates if form in moment.days]
         if moment.days and not dates:
-            return " is of another form than the dates before it"
+            return f" is of another form than {self.firsts.get('form', 'the dates before it')}"
         if self.zones and moment.zone not in self.zones:
-            return f" has {'a' if moment.zone else 'no'} zone, and those before it have {'none' if moment.zone else 'one'}"
+            first = self.firsts.get("form", "the first one")
+            return f" has {'a' if moment.zone else 'no'} zone, and {first} has {'none' if moment.zone else 'one'}"
         self.dates, self.date, self.digits = dates, self.date or text, max(self.digits, moment.digits)
         self.zones.add(moment.zone)
         self.clocks.add(moment.clock)

@@ -2,13 +2,14 @@
 from __future__ import annotations
 
 import argparse
+import csv
 import functools
 import pathlib
 import tempfile
 
 from bwtools import command, keeping, writing
 from bwtools.deciding import Seen
-from bwtools.source import Source
+from bwtools.source import Chunk, Source
 
 
 @functools.lru_cache(64)
@@ -49,7 +50,7 @@ def seen_of(*fields: str, words: tuple = (), separator: str = ",", is_varied: bo
     """What is known of a column `a` of these fields, which are looked at one by one, or all together where it's varied."""
     seen = Seen("a", options(*words), separator)
     seen.is_varied = is_varied
-    seen.add(list(fields), None)
+    seen.add(list(fields), Chunk([fields], 0, "\n".join(fields), 2, csv.reader))
     return seen
 
 

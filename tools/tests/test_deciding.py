@@ -46,15 +46,15 @@ class Kinds(unittest.TestCase):
         with self.subTest("late"):
             table = table_of(b"a\n1\nx\n")
             self.assertEqual((table.columns[0].why, table.columns[0].kind.texts),
-                             ("line 3: 'x' is of another kind than those before it", ["1", "x"]))
+                             ("line 3: 'x' is of another kind than '1' in line 2", ["1", "x"]))
         for data, wanted in [(b"a\n007\n", "line 2: '007' has zeros in front; --number reads such fields as numbers"),
                              (b"a\n99999999999999999999\n", "line 2: '99999999999999999999' is past 64 bits"),
-                             (b"a;b\n1.234;1\n1,5;2\n", "line 3: '1,5' has another decimal sign than those before it"),
+                             (b"a;b\n1.234;1\n1,5;2\n", "line 3: '1,5' has another decimal sign than '1.234' in line 2"),
                              (b"a;b\n1,234;1\n", "'1,234' may be 1234 or 1.234; --number reads the second"),
                              (b"a\n-9223372036854775808\n0\n", "its numbers are too far apart for 64 bits"),
                              (b"a\n2024-05-01T10:00\n2024-05-01T10:00Z\n",
-                              "line 3: '2024-05-01T10:00Z' has a zone, and those before it have none"),
-                             (b"a\n01.05.2024\n2024-05-01\n", "line 3: '2024-05-01' is of another form than the dates before it")]:
+                              "line 3: '2024-05-01T10:00Z' has a zone, and '2024-05-01T10:00' in line 2 has none"),
+                             (b"a\n1.5.2024\n2024-05-01\n", "line 3: '2024-05-01' is of another form than '1.5.2024' in line 2")]:
             with self.subTest(data):
                 self.assertEqual(table_of(data).columns[0].why, wanted)
 
