@@ -2,9 +2,7 @@
 ghost use Rattle.std.specs.Prelude.{◌≡◌, IfOk};
 ghost use Rattle.bw_device.specs.ReadAhead.{read_failures};
 
-use crate::calls::{
-    answer, answer_all, check, direct, dump, infer, info, load, plan, read_table,
-};
+use crate::calls::{answer, answer_all, check, direct, dump, infer, info, load, plan, read_table};
 use crate::in_file::InFile;
 use crate::out_file::{OutFile, is_same_file};
 use crate::out_stream::OutStream;

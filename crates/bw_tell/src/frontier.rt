@@ -57,7 +57,11 @@ pub(crate) fn of_statement(
     }
     match fault.code {
         code::SYNTAX => put_frontier(alloc, &mut text, schema, before)?,
-        code::UNKNOWN_TABLE => writeln!(text, "the table's name is {}", Named(schema.name.as_bytes()))?,
+        code::UNKNOWN_TABLE => writeln!(
+            text,
+            "the table's name is {}",
+            Named(schema.name.as_bytes())
+        )?,
         code::UNKNOWN_COLUMN if text.is_empty() => put_columns(&mut text, schema, word_at(after))?,
         code::MIXED_ITEMS if text.is_empty() => text.push_str(
             "the items are columns alone, or COUNT, SUM, MIN and MAX alone\n",

@@ -16,9 +16,10 @@ impl Kind {
         if bytes.starts_with(b"BWCOLUMN") {
             return Some(Kind::Table);
         }
-        let line = bytes
-            .split(|byte| *byte == b'\n')
-            .find(|line| line.iter().any(|byte| !byte.is_ascii_whitespace()) && !line.starts_with(b"#"))?;
+        let line = bytes.split(|byte| *byte == b'\n').find(|line| line
+            .iter()
+            .any(|byte| !byte.is_ascii_whitespace())
+            && !line.starts_with(b"#"))?;
         let word = line
             .split(|byte| byte.is_ascii_whitespace())
             .find(|word| !word.is_empty())?;
@@ -26,7 +27,10 @@ impl Kind {
             Some(Kind::Schema)
         } else if Opcode::of(word).is_some() {
             Some(Kind::Program)
-        } else if line.iter().any(|byte| matches!(byte, b',' | b';' | b'\t' | b'|')) {
+        } else if line
+            .iter()
+            .any(|byte| matches!(byte, b',' | b';' | b'\t' | b'|'))
+        {
             Some(Kind::Csv)
         } else {
             None

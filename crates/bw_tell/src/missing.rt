@@ -16,13 +16,23 @@ struct Missing {
 }
 
 const GROUPS: &str = "ask once for each group, as docs/COOKBOOK.md shows";
-const ORDERS: &str = "rows come in the order of the file; sort what is printed, as docs/COOKBOOK.md shows";
+
+const ORDERS: &str =
+    "rows come in the order of the file; sort what is printed, as docs/COOKBOOK.md shows";
+
 const LIMITS: &str = "cut what is printed, as `head` does";
+
 const JOINS: &str = "a statement reads one table; join the CSV files before loading them";
+
 const SETS: &str = "ask two statements";
+
 const NESTED: &str = "a statement has no other one in it; ask two statements";
-const PATTERNS: &str = "columns hold whole numbers; tools/ask compares texts that tools/import loaded with = and <, and by IN";
+
+const PATTERNS: &str =
+    "columns hold whole numbers; tools/ask compares texts that tools/import loaded with = and <, and by IN";
+
 const FUNCTIONS: &str = "the functions are COUNT, SUM, MIN and MAX";
+
 const CHANGES: &str = "`bw load` writes a table once; load it again from a changed CSV file";
 
 /// Words, in capitals, and what is missing where one stands that is no name of the schema's.
@@ -104,8 +114,7 @@ pub(crate) fn put_missing(
         writeln!(
             text,
             "{} is not in the language: {}",
-            missing.name,
-            missing.instead
+            missing.name, missing.instead
         )?;
     }
     Ok(())
@@ -116,9 +125,9 @@ fn missing_of(token: Token<'_>, schema: &Schema, follows_operand: bool) -> Optio
     let (name, instead) = match token {
         Token::Word(word) if is_name_of(schema, word) => return None,
         Token::Word(word) => {
-            let (_, name, instead) = WORDS
-                .iter()
-                .find(|(other, _, _)| word.eq_ignore_ascii_case(other.as_bytes()))?;
+            let (_, name, instead) = WORDS.iter().find(|(other, _, _)| word.eq_ignore_ascii_case(
+                other.as_bytes(),
+            ))?;
             (*name, *instead)
         }
         Token::Number { is_fraction: false } => return None,
@@ -136,7 +145,10 @@ fn missing_of(token: Token<'_>, schema: &Schema, follows_operand: bool) -> Optio
         ),
         Token::Mark(b"!=") => ("!=", "write <>"),
         Token::Mark(b"==") => ("==", "write ="),
-        Token::Mark(b".") => ("a table's name before a column's", "write the column's name alone"),
+        Token::Mark(b".") => (
+            "a table's name before a column's",
+            "write the column's name alone",
+        ),
         Token::Mark(b"/" | b"%" | b"||") => ("arithmetic", ARITHMETIC),
         Token::Mark(b"+" | b"-" | b"*") if follows_operand => ("arithmetic", ARITHMETIC),
         Token::Mark(_) => return None,

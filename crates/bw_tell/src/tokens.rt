@@ -5,9 +5,7 @@ use bw_text::{begins_word, goes_on_in_word};
 #[derive(Clone, Copy)]
 pub(crate) enum Token<'a> {
     Word(&'a [u8]),
-    Number {
-        is_fraction: bool,
-    },
+    Number { is_fraction: bool },
     /// What stands in quotation marks of one kind.
     Quoted(u8),
     Mark(&'a [u8]),
@@ -18,7 +16,12 @@ pub(crate) fn next_token(text: &[u8]) -> Option<(Token<'_>, &[u8])> {
     let text = after_blanks(text);
     let first = *text.first()?;
     if begins_word(first) {
-        let (word, rest) = split_after(text, text.iter().take_while(|byte| goes_on_in_word(**byte)).count());
+        let (word, rest) = split_after(
+            text,
+            text.iter()
+                .take_while(|byte| goes_on_in_word(**byte))
+                .count(),
+        );
         return Some((Token::Word(word), rest));
     }
     if matches!(first, b'\'' | b'"' | b'`') {
@@ -31,7 +34,14 @@ pub(crate) fn next_token(text: &[u8]) -> Option<(Token<'_>, &[u8])> {
         _ => 0,
     };
     if digits > 0 || decimals > 0 {
-        let (_, rest) = split_after(after, if decimals > 0 { decimals.saturating_add(1) } else { 0 });
+        let (_, rest) = split_after(
+            after,
+            if decimals > 0 {
+                decimals.saturating_add(1)
+            } else {
+                0
+            },
+        );
         let is_fraction = decimals > 0;
         return Some((Token::Number { is_fraction }, rest));
     }
@@ -46,7 +56,12 @@ pub(crate) fn next_token(text: &[u8]) -> Option<(Token<'_>, &[u8])> {
 fn after_blanks(text: &[u8]) -> &[u8] {
     let mut text = text;
     for _ in 0..text.len() {
-        let (blanks, rest) = split_after(text, text.iter().take_while(|byte| byte.is_ascii_whitespace()).count());
+        let (blanks, rest) = split_after(
+            text,
+            text.iter()
+                .take_while(|byte| byte.is_ascii_whitespace())
+                .count(),
+        );
         text = rest;
         if text.starts_with(b"--") {
             text = split_after(text, text.iter().take_while(|byte| **byte != b'\n').count()).1;

@@ -127,7 +127,12 @@ fn said_of_kind(rt: &HostRuntime, words: &Words<'_>, file: &str, fault: &Fault) 
     }
     let mut text = String::new(rt.alloc());
     let (kind, wanted) = (kind.name(), wanted.name());
-    writeln!(text, "seems to be {kind}, where {wanted} is wanted: {}", words.usage()).ok()?;
+    writeln!(
+        text,
+        "seems to be {kind}, where {wanted} is wanted: {}",
+        words.usage()
+    )
+    .ok()?;
     Some(text)
 }
 
@@ -141,7 +146,11 @@ fn beginning_of(rt: &HostRuntime, path: &str) -> Option<Vec<u8>> {
 
 /// Says on standard error what is wrong with a statement that was refused under a schema.
 pub fn explain_statement(rt: &HostRuntime, schema: &Schema, sql: &[u8], fault: &Fault) {
-    if let (400..500, Place::Byte(byte), Ok(text)) = (fault.code, fault.place, std::str::from_utf8(sql)) {
+    if let (400..500, Place::Byte(byte), Ok(text)) = (
+        fault.code,
+        fault.place,
+        std::str::from_utf8(sql),
+    ) {
         explain_byte(rt, text, byte);
     }
     say(rt, "", of_statement(rt.alloc(), schema, sql, fault).ok());
