@@ -3,7 +3,7 @@
 // a loop by the 128-bit operations of SSE2 over the blocks of the columns that it needs, and of these it reads no more planes or
 // slices than it takes. It judges nothing. So it is faster than any program that doesn't trust its table.
 // It writes each answer to a file of the question's name, and for each question the least time of so many runs, in milliseconds.
-// gcc -O2 -march=x86-64-v2 -o memory bench/memory.c && ./memory RUNS TABLE FOLDER
+// gcc -O3 -march=x86-64-v2 -o memory bench/memory.c && ./memory RUNS TABLE FOLDER
 #include <time.h>
 
 #include "tuned.h"

@@ -357,7 +357,7 @@ INLINED rows_t at_least_by(rows_t (*above)(const struct column *, const unsigned
     return code > c->span ? filled(0) : above(c, codes(which), code - 1);
 }
 
-static inline rows_t at_least(int which, int64_t value) {
+static rows_t at_least(int which, int64_t value) {
     return at_least_by(codes_above, which, value);
 }
 
