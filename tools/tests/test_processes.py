@@ -6,7 +6,7 @@ import time
 import unittest
 from unittest import mock
 
-from bwtools import processes, writing
+from bwtools import processes
 from bwtools.kinds import Refused
 
 from helping import table_of
