@@ -1,4 +1,5 @@
-//! The least and the greatest of the codes in some lanes: one code after the other where these are few.
+//! The minimum and the maximum of the codes in some lanes; if the lanes are few, one code after the
+//! other.
 ghost use Rattle.std.specs.Prelude.{All, ◌≡◌, ◌^◌, ◌<◌, ◌≤◌, length, max, min, IfSome};
 ghost use Rattle.std.specs.List.{reduce};
 ghost use Rattle.bw_lanes.specs.Lanes.{lanes_of_words};
@@ -7,11 +8,11 @@ ghost use Rattle.bw_model.specs.Selection.{picked};
 use crate::layout::CodeLayout;
 use bw_lanes::{LANES, Selection, count, last_between};
 
-/// Up to how many rows the least and the greatest code are found one row after the other, in place of over all 512
-/// lanes.
+/// The most rows whose minimum and maximum are found one row after the other, rather than over all
+/// 512 lanes.
 const FEW: u32 = 4;
 
-/// The least of the codes in some lanes; none where there are no lanes.
+/// Returns the minimum of the codes in the lanes, or None if there are no lanes.
 pub(crate) fn least_in<L: CodeLayout>(width: u32, bytes: &[u8], lanes: &Selection) -> Option<u64>
     requires width { (1 ≤ width) × (width ≤ 63) }
     requires size { length bytes.now ≡ L.packing.size width }
@@ -27,7 +28,7 @@ pub(crate) fn least_in<L: CodeLayout>(width: u32, bytes: &[u8], lanes: &Selectio
     }
 }
 
-/// The greatest of these codes.
+/// Returns the maximum of the codes in the lanes, or None if there are no lanes.
 pub(crate) fn greatest_in<L: CodeLayout>(width: u32, bytes: &[u8], lanes: &Selection) -> Option<u64>
     requires width { (1 ≤ width) × (width ≤ 63) }
     requires size { length bytes.now ≡ L.packing.size width }
@@ -43,7 +44,7 @@ pub(crate) fn greatest_in<L: CodeLayout>(width: u32, bytes: &[u8], lanes: &Selec
     }
 }
 
-/// The least code, from the last lane down.
+/// Returns the minimum code, from the last lane down.
 fn least_of_few<L: CodeLayout>(width: u32, bytes: &[u8], lanes: &Selection) -> Option<u64>
     requires width { (1 ≤ width) × (width ≤ 63) }
     requires size { length bytes.now ≡ L.packing.size width }
@@ -66,7 +67,7 @@ fn least_of_few<L: CodeLayout>(width: u32, bytes: &[u8], lanes: &Selection) -> O
     least
 }
 
-/// The greatest code, from the last lane down.
+/// Returns the maximum code, from the last lane down.
 fn greatest_of_few<L: CodeLayout>(width: u32, bytes: &[u8], lanes: &Selection) -> Option<u64>
     requires width { (1 ≤ width) × (width ≤ 63) }
     requires size { length bytes.now ≡ L.packing.size width }
