@@ -6,7 +6,8 @@ ghost use Rattle.bw_program.specs.Machine.{State, Reaches, FallsThrough, SkipsTo
 ghost use Rattle.bw_program.specs.Program.{ProgramShape};
 ghost use Rattle.bw_program.specs.ProgramText.{IsProgramText, program_of};
 
-/// A law: a run of more steps continues from the state after fewer. Each step changes the place.
+/// A law: after no step a run is at its start, and a run of more steps continues from the state
+/// after fewer.
 pub fn runs_go_on()
     ensures begins { (columns : List Column) (lanes : List Assignment) (program : ProgramShape)
         → state_after columns lanes program 0 ≡ start lanes }
