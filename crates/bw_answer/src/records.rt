@@ -11,8 +11,8 @@ use crate::record::put_record;
 use bw_lanes::{LANES, Selection, last_between};
 use bw_model::Fault;
 
-/// Adds the records of the selected rows to a text. They are written into a draft first, which must
-/// have space for `at_once` rows.
+/// Adds the records of the selected rows to a text. They are written into a draft first, `rows`
+/// rows at a time, for which it must have space.
 pub(crate) fn push_records(
     text: &mut Vec<u8>,
     draft: &mut [u8],
