@@ -1,1 +1,1 @@
-"""What the tools share."""
+"""The modules that the tools share."""

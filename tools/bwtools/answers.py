@@ -1,4 +1,4 @@
-"""Turns an answer of bw back into what its numbers mean."""
+"""Translates a result of bw back to the values that its numbers stand for."""
 from __future__ import annotations
 
 import csv
@@ -17,7 +17,7 @@ MOST_KNOWN, ROWS_AT_ONCE = 1 << 17, 8192
 
 
 class Back(dict):
-    """How the fields under one heading of an answer are turned back: those that were met."""
+    """Translates the fields under one heading of a result back, and remembers those that it has met."""
 
     def __init__(self, heading: str, columns: list[Column]) -> None:
         super().__init__()
@@ -28,7 +28,7 @@ class Back(dict):
         if heading == "COUNT(*)":
             return
         if not named:
-            raise Refused(f"the answer has a column {heading}, which the file of columns doesn't say")
+            raise Refused(f"the result has a column {heading}, which isn't in the columns file")
         column, function = named[0], found.group(1)
         self.heading = f"{function}({column.heading})" if function else column.heading
         self.null, self.is_whole = column.null, column.kind.name == "whole"
@@ -42,7 +42,7 @@ class Back(dict):
         return self[field]
 
     def many(self, fields: Sequence[str]) -> list[str]:
-        """The texts of many fields: those that weren't met are turned at once."""
+        """Returns the texts of many fields; those that weren't met before are translated at once."""
         distinct = dict.fromkeys(fields)
         is_mixed = len(distinct) * 2 < len(fields) or "NULL" in distinct
         fresh = [field for field in distinct if field not in self and field != "NULL"] if is_mixed else fields
@@ -54,7 +54,7 @@ class Back(dict):
         return list(map(self.__getitem__, fields))
 
     def texts(self, fields: Sequence[str], line: Callable[[int], int]) -> list[str]:
-        """The texts of the fields of some rows, in quotes where these are needed. `line` gives the line of a row."""
+        """Returns the texts of the fields of some rows, in quotes if needed. `line` returns the line of a row."""
         joined = "\n".join(fields) + "\n" if self.is_whole else ""
         if joined.count("\n") == len(fields) and WHOLE.fullmatch(joined):
             null = quoted(self.null)
@@ -66,7 +66,7 @@ class Back(dict):
                 try:
                     self[field]
                 except (ValueError, IndexError, OverflowError):
-                    raise Refused(f"line {line(place)} of the answer: {field} is no number of the column "
+                    raise Refused(f"line {line(place)} of the result: {field} isn't a number of column "
                                   f"{self.heading}") from None
             raise
         finally:
@@ -75,9 +75,8 @@ class Back(dict):
 
 
 def no_sum(column: Column) -> str:
-    """Why a column has no sum."""
-    return f"SUM({column.name}): {column.name} holds {column.kind.plural}, and a sum of {column.kind.plural} means nothing; " \
-        "ask for COUNT, MIN or MAX"
+    """Returns why a column has no sum."""
+    return f"SUM({column.name}): {column.name} has {column.kind.plural}, which can't be summed: use COUNT, MIN or MAX"
 
 
 def quoted(field: str) -> str:
@@ -85,14 +84,14 @@ def quoted(field: str) -> str:
 
 
 def csv_lines(columns: Sequence[Sequence[str]]) -> str:
-    """The lines of columns of fields. A line of one empty field has quotes, since an empty line is no record."""
+    """Returns the lines of columns of fields. A line of one empty field has quotes, since an empty line is no record."""
     if len(columns) == 1:
         columns = [[field or QUOTE * 2 for field in columns[0]]]
     return "\n".join(map(",".join, zip(*columns))) + "\n"
 
 
 def blocks(answer: TextIO, width: int) -> Iterator[tuple[int, Sequence[Sequence[str]]]]:
-    """The columns of an answer after its heading, many rows at a time, each with the line before it."""
+    """Yields the columns of a result after its heading, many rows at a time, each with the number of the line before it."""
     before, text = 1, ""
     while True:
         text = answer.read(CHARACTERS_AT_ONCE)
@@ -111,16 +110,16 @@ def blocks(answer: TextIO, width: int) -> Iterator[tuple[int, Sequence[Sequence[
             return
         odd = next((place for place, row in enumerate(rows) if len(row) != width), None)
         if odd is not None:
-            raise Refused(f"line {before + odd + 1} of the answer has {counted(len(rows[odd]), 'field')} and not {width}")
+            raise Refused(f"line {before + odd + 1} of the result has {counted(len(rows[odd]), 'field')}, expected {width}")
         yield before, list(zip(*rows))
         before = first + records.line_num
 
 
 def turn_back(columns: list[Column], answer: TextIO, out: TextIO, progress: Progress | None = None) -> None:
-    """Turns an answer, lines of CSV, back, and writes it as CSV. Nothing is written where its heading is refused."""
+    """Translates a result, lines of CSV, back, and writes it as CSV. If its heading is rejected, nothing is written."""
     heading = next(csv.reader(answer), None)
     if heading is None:
-        raise Refused("the answer is empty")
+        raise Refused("the result is empty")
     backs = [Back(each, columns) for each in heading]
     out.write(csv_lines([[quoted(back.heading)] for back in backs]))
     for before, block in blocks(answer, len(backs)):

@@ -1,4 +1,5 @@
-"""What the tools that ask share: the statements on standard input, and what is said of a statement that bw refuses."""
+"""The parts that the querying tools share: the statements on standard input, and the message for a statement that bw
+rejects."""
 from __future__ import annotations
 
 import io
@@ -12,8 +13,8 @@ from .statements import is_empty, statements_in
 
 
 def answer_all(answer: Callable[[str, str], int]) -> int:
-    """Answers the statements on standard input one after another, to the first one that fails, and gives the status. `answer`
-    gets a statement and what stands before its answer. At a terminal it goes on after a statement that fails."""
+    """Runs the statements on standard input one after another, up to the first one that fails. Returns the status. `answer`
+    gets a statement, and the text to write before its result. At a terminal, a statement that fails doesn't end the run."""
     count, lines = 0, io.TextIOWrapper(sys.stdin.buffer, encoding="utf-8", newline="") if sys.stdin else ()
     for statement in statements_in(lines):
         if is_empty(statement):
@@ -29,8 +30,8 @@ def answer_all(answer: Callable[[str, str], int]) -> int:
 
 
 def pass_on(told: str, turned: str) -> None:
-    """Passes on what bw said on standard error of a statement that was turned."""
+    """Prints what bw wrote to standard error for a translated statement."""
     print(told, end="", file=sys.stderr)
     # its faults of a statement are those from 401 on
     if told.startswith("bw: 4") and " at byte " in told:
-        print(f"{command.own_name()}: where a byte of the statement is told, it's of: {turned}", file=sys.stderr)
+        print(f"{command.own_name()}: the byte is one of the translated statement: {turned}", file=sys.stderr)

@@ -1,5 +1,5 @@
-"""Asks shards side by side by Dask's distributed scheduler: a local cluster, or one that runs already. A shard whose worker dies is
-asked again, of another worker, by the scheduler. Without Dask, shards are asked one after another."""
+"""Queries shards side by side by Dask's distributed scheduler: on a local cluster, or on one that is already running. If a
+worker dies, the scheduler gives its shard to another worker. Without Dask, shards are queried one after another."""
 from __future__ import annotations
 
 import contextlib
@@ -20,18 +20,18 @@ SECONDS = 10
 
 
 class InTurn:
-    """Asks shards one after another."""
+    """Queries shards one after another."""
 
     def replies(self, calls: list[tuple[Any, ...]]) -> Iterator[Reply]:
-        """What each call of ask_shard gives, in their order."""
+        """Returns the replies of these calls of ask_shard, in their order."""
         return (ask_shard(*call) for call in calls)
 
     def close(self) -> None:
-        """Ends nothing."""
+        """Does nothing."""
 
 
 class Cluster:
-    """Asks shards by the workers of a cluster, which is started or joined for the first statement."""
+    """Queries shards on the workers of a cluster, which is started or joined for the first statement."""
 
     def __init__(self, workers: int, scheduler: str | None) -> None:
         self.workers, self.scheduler, self.client = workers, scheduler, None
@@ -51,12 +51,12 @@ class Cluster:
         except Exception as error:
             where = f"the scheduler {self.scheduler}" if self.scheduler else "a cluster of this machine"
             self.stack.close()
-            raise Refused(f"{where} can't be asked: {error}") from None
+            raise Refused(f"{where} can't be used: {error}") from None
 
     def local(self) -> Any:
-        """A cluster of this machine, which listens at the loopback address alone, and whose files are in a temporary folder. Where
-        Python has cryptography, workers and scheduler know one another by certificates that are made for them; else other users of
-        the machine could send them calls."""
+        """Returns a cluster of this machine, which listens only at the loopback address, and whose files are in a temporary
+        folder. If Python has cryptography, workers and scheduler authenticate by certificates that are made for them; else
+        other users of the machine could send them calls."""
         import distributed
         is_closed = importlib.util.find_spec("cryptography") is not None
         folder = self.stack.enter_context(tempfile.TemporaryDirectory(prefix="bw-shards-"))
@@ -65,7 +65,7 @@ class Cluster:
             dashboard_address=None, local_directory=folder, silence_logs=logging.CRITICAL, security=is_closed))
 
     def replies(self, calls: list[tuple[Any, ...]]) -> Iterator[Reply]:
-        """What each call of ask_shard gives, in their order. An answer leaves the cluster once it's taken."""
+        """Returns the replies of these calls of ask_shard, in their order. A reply leaves the cluster once it is consumed."""
         if self.client is None:
             self.start()
 
@@ -86,8 +86,8 @@ class Cluster:
         except Exception as error:
             # whatever the cluster can't do; Dask asks three workers at most
             what = f"{type(error).__name__}: {error}"
-            died = "each worker that asked it has died"
-            return 5, f"the cluster gives no answer: {died if what.startswith('KilledWorker: ') else what}", b""
+            died = "every worker that tried died"
+            return 5, f"the cluster returned no result: {died if what.startswith('KilledWorker: ') else what}", b""
 
     def close(self) -> None:
         """Ends the local cluster, or leaves the one that was joined."""
@@ -95,12 +95,12 @@ class Cluster:
 
 
 def is_installed() -> bool:
-    """Whether this Python has Dask's distributed scheduler."""
+    """Returns whether this Python has Dask's distributed scheduler."""
     return all(importlib.util.find_spec(name) for name in ("distributed", "cloudpickle"))
 
 
 def engine(count: int, workers: int | None, scheduler: str | None) -> Any:
-    """What asks so many shards."""
+    """Returns the engine that queries this many shards."""
     if scheduler:
         if not is_installed():
             raise Refused(f"--scheduler: {MISSING.format(sys.executable)}")
@@ -108,6 +108,6 @@ def engine(count: int, workers: int | None, scheduler: str | None) -> Any:
     if workers == 0 or count == 1:
         return InTurn()
     if not is_installed():
-        print(f"{command.own_name()}: {MISSING.format(sys.executable)}: the shards are asked one after another", file=sys.stderr)
+        print(f"{command.own_name()}: {MISSING.format(sys.executable)}: querying the shards one after another", file=sys.stderr)
         return InTurn()
     return Cluster(min(count, workers or len(os.sched_getaffinity(0))), None)

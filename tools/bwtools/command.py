@@ -1,4 +1,4 @@
-"""What the tools share as commands: their options, the program that they call, and how they end."""
+"""The parts that the tools share as commands: their options, the program that they call, and how they end."""
 from __future__ import annotations
 
 import argparse
@@ -20,16 +20,16 @@ from .source import SEPARATORS
 
 
 def program() -> str:
-    """The program bw: that of the environment variable BW, or the one on the PATH, or the one that the tools came with."""
+    """Returns the program bw: that of the environment variable BW, else the one on the PATH, else the one that the tools came with."""
     found = os.environ.get("BW") or shutil.which("bw") or own_program()
     if not found:
-        raise Refused("there is no program bw on the PATH; BW=FILE says where it is")
+        raise Refused("no program bw on the PATH: set BW=FILE to its path")
     return str(found)
 
 
 def own_program() -> pathlib.Path | None:
-    """The program that the tools came with: that of a checkout's dist/, if it runs here, one beside the folder of the tools, or
-    one that was installed with them. None if there is none."""
+    """Returns the program that the tools came with, or None: that of a checkout's dist/, if it runs here, else one beside the folder
+    of the tools, else one that was installed with them."""
     top = pathlib.Path(__file__).resolve().parent.parent.parent
     shipped = top / "dist" / "bw"
     if is_program(shipped) and not subprocess.run([shipped, "--version"], stdin=subprocess.DEVNULL, stdout=subprocess.DEVNULL,
@@ -43,12 +43,12 @@ def is_program(path: pathlib.Path) -> bool:
 
 
 def own_name() -> str:
-    """The name that a tool was called by, as ask, or bw-ask where it's installed."""
+    """Returns the name by which a tool was called, such as ask, or bw-ask if it is installed."""
     return pathlib.Path(sys.argv[0]).name
 
 
 def call(words: Sequence[Any], output: IO[bytes] | int = subprocess.PIPE) -> None:
-    """Runs a command of bw, which ends where the tool does. Its faults are passed on, and end the tool with their status."""
+    """Runs a command of bw to its end. If it fails, passes on its error and exits with its status."""
     status = subprocess.run([program(), *map(str, words)], stdin=subprocess.DEVNULL, stdout=output, check=False).returncode
     if status:
         print(f"bw {words[0]} ended with status {status}", file=sys.stderr)
@@ -56,16 +56,16 @@ def call(words: Sequence[Any], output: IO[bytes] | int = subprocess.PIPE) -> Non
 
 
 def table_name(given: argparse.Namespace) -> str:
-    """The name of the table to load: the one that is given, or that of the file, or t where that is no name."""
+    """Returns the name of the table to load: the given one, else that of the file, or t if that is not a valid name."""
     stem = pathlib.Path(given.csv).stem
     name = given.name or (stem if deciding.is_name(stem) else "t")
     if not deciding.is_name(name):
-        raise Refused(f"--table: {deciding.shown(name)} is no name: letters, digits and _, and no word of SQL")
+        raise Refused(f"--table: {deciding.shown(name)} is not a valid name: use letters, digits and _, and no reserved word of SQL")
     return name
 
 
 def open_high(path: str, flags: int) -> int:
-    """Opens a file for a program to read by its number, which is none of standard input, output and errors."""
+    """Opens a file that a program reads by its descriptor, which is none of the three standard ones."""
     found = os.open(path, flags)
     try:
         return fcntl.fcntl(found, fcntl.F_DUPFD_CLOEXEC, 3)
@@ -75,66 +75,66 @@ def open_high(path: str, flags: int) -> int:
 
 def one_character(text: str) -> str:
     if len(SEPARATORS.get(text, text)) != 1 or text in "\r\n":
-        raise argparse.ArgumentTypeError("is one character")
+        raise argparse.ArgumentTypeError("must be one character")
     return text
 
 
 class Format(argparse.Action):
-    """Takes COLUMN=FORMAT, as often as it's given."""
+    """Collects the values COLUMN=FORMAT of an option that can be repeated."""
 
     def __call__(self, parser: argparse.ArgumentParser, namespace: argparse.Namespace, values: Any,
                  option_string: str | None = None) -> None:
         column, sign, form = values.rpartition("=")
         if not sign or not form:
-            parser.error(f"{option_string} takes COLUMN=FORMAT, as day=%d/%m/%Y")
+            parser.error(f"{option_string}: expected COLUMN=FORMAT, such as day=%d/%m/%Y")
         setattr(namespace, self.dest, {**getattr(namespace, self.dest), column: form})
 
 
 def add_options(parser: argparse.ArgumentParser) -> None:
-    """Adds the options that say how a file is read."""
+    """Adds the options for reading a file."""
     parser.add_argument("--separator", type=one_character,
-                        help="what parts the fields: comma, semicolon, tab, bar or a character; else the heading tells")
-    parser.add_argument("--encoding", help="as latin-1 or cp1252; else what a byte order mark says, or UTF-8")
-    parser.add_argument("--quote", type=one_character, default='"', help='what stands round a field, else "')
-    parser.add_argument("--escape", type=one_character, help="what takes the meaning of the next character")
+                        help="the separator of fields: comma, semicolon, tab, bar or a character (default: detected in the heading)")
+    parser.add_argument("--encoding", help="the encoding, such as latin-1 or cp1252 (default: by the byte order mark, or UTF-8)")
+    parser.add_argument("--quote", type=one_character, default='"', help='the quotation mark around a field (default: ")')
+    parser.add_argument("--escape", type=one_character, help="the character that escapes the next one (default: none)")
     heading = parser.add_mutually_exclusive_group()
     heading.add_argument("--heading", action="store_true", default=None, help="the first line is a heading, whatever it looks like")
     heading.add_argument("--no-heading", action="store_false", dest="heading",
                          help="the first line is a row; the columns are c1, c2 and so on")
     parser.add_argument("--null", metavar="WORD", action="append", default=[],
-                        help="a word for null in every column, texts too; this and the next ones may be given more than once")
-    parser.add_argument("--text", metavar="COLUMN", action="append", default=[], help="a column to keep as texts, by its heading")
+                        help="a word for null in every column, texts too; this and the next options can be repeated")
+    parser.add_argument("--text", metavar="COLUMN", action="append", default=[], help="a column to load as texts, by its heading")
     parser.add_argument("--number", metavar="COLUMN", action="append", default=[],
-                        help="a column to read as numbers, also with zeros in front, or with a comma as the decimal sign")
+                        help="a column to load as numbers, also with leading zeros, or with a comma as the decimal sign")
     parser.add_argument("--date", metavar="COLUMN=FORMAT", action=Format, default={},
                         help="the format of a column's dates or times, of %%d, %%m, %%Y, %%H, %%M and %%S")
     parser.add_argument("--keep-spelling", action="store_true",
-                        help="make texts of a column of which a field wouldn't come back as it stands, as 2.0 beside 1.25")
+                        help="load a column as texts if a field of it wouldn't be restored exactly, such as 2.0 beside 1.25")
 
 
 def stop(number: int, _: object) -> NoReturn:
-    """Ends as an interrupt does, so that what was begun is taken away."""
+    """Exits as an interrupt does, so that unfinished files are removed."""
     raise SystemExit(128 + number)
 
 
 def drop_output() -> None:
-    """Writes what is left of standard output, or else lets it go nowhere, so that Python doesn't complain of it at the end."""
+    """Flushes standard output, then redirects it to /dev/null, so that Python reports no error at its end."""
     with contextlib.suppress(OSError):
         sys.stdout.flush()
     os.dup2(os.open(os.devnull, os.O_WRONLY), sys.stdout.fileno())
 
 
 def status_of(name: str, work: Callable[[], int | None]) -> int:
-    """Does a tool's work, and gives its status: 3 where something was refused, 5 where a file failed."""
+    """Does a tool's work. Returns its status: 3 if the input was rejected, 5 if I/O failed."""
     for number in (signal.SIGTERM, signal.SIGHUP):
         if signal.getsignal(number) == signal.SIG_DFL:
             signal.signal(number, stop)
-    # much is made and nothing of it goes round in a circle
+    # many objects are made, and none are in a reference cycle
     gc.disable()
     if not sys.stdout:
         print(f"{name}: standard output is closed", file=sys.stderr)
         return 5
-    # with PYTHONUNBUFFERED Python's own has no buffer, and drops without a word what the system doesn't write at once
+    # with PYTHONUNBUFFERED Python's own has no buffer, and silently drops what the system doesn't write at once
     sys.stdout = open(sys.stdout.fileno(), "w", encoding=sys.stdout.encoding, errors="backslashreplace", closefd=False)
     try:
         status = work() or 0

@@ -1,4 +1,4 @@
-"""What each column of a file becomes: what all its fields allow."""
+"""Chooses the kind of each column of a file: the narrowest that fits all its fields."""
 from __future__ import annotations
 
 import argparse
@@ -21,7 +21,7 @@ MOST_KNOWN, MANY = 1 << 17, 1 << 11
 
 
 class Seen:
-    """What is known of a column's fields so far."""
+    """The state of a column, from the fields that were read so far."""
 
     def __init__(self, heading: str, given: argparse.Namespace, separator: str) -> None:
         self.heading, self.separator = heading, separator
@@ -43,10 +43,10 @@ class Seen:
         # why it is a column of texts, whether the codes have all texts, and whether the file has to be read again for it
         self.why, self.is_all, self.is_read_again = None, True, False
         if heading in given.text:
-            self.why = "as --text says"
+            self.why = "by --text"
 
     def add(self, fields: Sequence[str], chunk: Chunk) -> Coded | Numbered | None:
-        """Takes the fields of some rows into account, and keeps them; None where they are to be read again."""
+        """Adds the fields of some rows, and returns them as stored; None if they must be read again."""
         kept = self.add_plain(fields) if self.is_varied and not self.why else None
         if kept:
             return None if self.is_read_again else kept
@@ -63,7 +63,7 @@ class Seen:
         return None if self.is_read_again else kept
 
     def judge_all(self, texts: Sequence[str], fields: Sequence[str], chunk: Chunk) -> None:
-        """Takes texts that weren't met before into account, to the first one that makes the column one of texts."""
+        """Adds texts that weren't met before, up to the first one that makes the column one of texts."""
         for text in texts:
             try:
                 why = self.judge(text)
@@ -77,8 +77,8 @@ class Seen:
             self.noted.clear()
 
     def add_plain(self, fields: Sequence[str]) -> Numbered | None:
-        """Takes fields into account, and keeps them, where all but the nulls are numbers that are spelled as such come back, or
-        times of one shape. None where one isn't."""
+        """Adds fields and returns them as stored, if all but the nulls are numbers in the spelling in which they are
+        restored, or times of one shape. Returns None if one isn't."""
         if self.wanted or self.form not in (None, "number", "time"):
             return None
         # a word for null is neither
@@ -97,7 +97,7 @@ class Seen:
         self.nulls[word] = self.nulls.get(word, 0) + count
 
     def add_present(self, fields: Sequence[str], nulls: bytes) -> Numbered | None:
-        """Takes fields of which none is null into account, and keeps them among the nulls, where all are such numbers or times."""
+        """Adds fields, none of them null, and returns them as stored among the nulls, if all are such numbers or times."""
         kept = self.add_numbers(fields, nulls) if self.form != "time" else None
         kept = kept or (self.add_times(fields, nulls) if self.form != "number" and not self.is_number else None)
         self.is_all = self.is_all and not kept
@@ -135,19 +135,19 @@ class Seen:
         self.lengths.add(digits)
 
     def texts(self) -> list[str]:
-        """The texts of a column of texts, sorted by code points."""
+        """Returns the texts of a column of texts, sorted by code points."""
         absent = [word for word in self.words if word in self.always or word not in self.nulls]
         return sorted(self.codes.keys() - set(absent))
 
     def judge(self, text: str) -> str | None:
-        """Takes a text into account, and says why it makes the column one of texts, if it does."""
+        """Adds a text. Returns why it makes the column one of texts, if it does."""
         if self.wanted:
             if not spelling.read_by(self.wanted.form, text):
-                raise Refused(f"column {shown(self.heading)} holds {shown(text)}, which --date says is {self.wanted.form}")
+                raise Refused(f"column {shown(self.heading)} has {shown(text)}, which isn't of --date's format {self.wanted.form}")
             return self.spelled(text, "wanted" if self.wanted.text(self.wanted.number(text)) == text else None)
         number, why = spelling.number_of(text)
         if number is None and self.is_number:
-            raise Refused(f"column {shown(self.heading)} holds {shown(text)}, and --number says that it's numbers")
+            raise Refused(f"column {shown(self.heading)} has {shown(text)}, which isn't a number, as --number states")
         moment = None if number else spelling.moment_of(text)
         form = "number" if number else "truth" if text in spelling.TRUTH_OF else moment and spelling.moment_form(moment)
         if form is None or self.form not in (None, form):
@@ -166,9 +166,9 @@ class Seen:
 
     def judge_number(self, text: str, number: Number) -> str | None:
         if number.has_zeros and not self.is_number:
-            return " has zeros in front; --number reads such fields as numbers"
+            return " has leading zeros; --number reads such fields as numbers"
         if number.mark == "," and self.separator == "," and not self.is_number:
-            return " has a comma, and commas part the fields; --number reads it as a decimal sign"
+            return " has a comma, which separates the fields; --number reads it as a decimal sign"
         if number.mark:
             if not self.marks:
                 self.noted.append("mark")
@@ -177,7 +177,7 @@ class Seen:
                 return f" has another decimal sign than {self.firsts.get('mark', 'those before it')}"
             self.grouped = number.is_grouped and self.grouped is not False
         if not kinds.LEAST <= number.value <= kinds.GREATEST or number.digits > spelling.MOST_DIGITS:
-            return " is past 64 bits"
+            return " doesn't fit 64 bits"
         self.widen(number.digits, number.value, number.value)
         self.has_zero |= number.digits > 0 and number.value % 10 == 0
         return self.spelled(text, "plain" if number.is_plain else None)
@@ -196,18 +196,18 @@ class Seen:
         return self.spelled(text, (moment.clock, moment.between, moment.digits) if moment.is_plain else None)
 
     def kind(self) -> Whole | None:
-        """The kind of the column, but for the texts, whose kind is None."""
+        """Returns the kind of the column; None for texts, whose list isn't complete yet."""
         if self.why:
             return None
         if self.form is None and not self.styles:
             words = [word for word in self.nulls if word not in self.always]
             if not words or self.wanted or self.is_number:
                 return kinds.Nulls()
-            self.why = f"nothing but {shown(words[0])} and words like it"
+            self.why = f"only {shown(words[0])} and similar words"
             return None
         found = self.wanted or self.kind_of_form()
         if found and self.keeps_spelling and not self.is_exact():
-            self.why = f"{shown(self.odd) if self.odd else 'one of its fields'} wouldn't come back as it stands"
+            self.why = f"{shown(self.odd) if self.odd else 'one of its fields'} wouldn't be restored exactly"
             return None
         return found
 
@@ -220,7 +220,7 @@ class Seen:
         if self.form != "clock" and len(self.dates) > 1:
             first, second = self.dates
             raise Refused(f"column {shown(self.heading)}: {shown(self.date)} may be day, month and year, or month, day and year: "
-                          f"say which by --date '{self.heading}={first}' or --date '{self.heading}={second}', "
+                          f"choose by --date '{self.heading}={first}' or --date '{self.heading}={second}', "
                           f"or --text '{self.heading}' to keep texts")
         clock = max(self.clocks, key=len)
         if self.form == "clock":
@@ -244,7 +244,8 @@ class Seen:
         return kinds.Decimals(digits, len(self.lengths) > 1 and not self.has_zero, "," if "," in self.marks else ".")
 
     def may_be_thousands(self) -> bool:
-        """Whether the decimal signs of all fields may part thousands, which then makes the column one of texts."""
+        """Returns whether the decimal signs of all fields may separate thousands, which then makes the column one of
+        texts."""
         if not self.marks or not self.grouped or self.is_number or self.why:
             return False
         (mark, text), = self.marks.items()
@@ -252,22 +253,22 @@ class Seen:
         return True
 
     def is_exact(self) -> bool:
-        """Whether all fields come back as they stand."""
+        """Returns whether all fields are restored exactly."""
         if self.form == "number":
             return None not in self.styles and (len(self.lengths) <= 1 or not self.has_zero)
         return None not in self.styles and len(self.styles) <= 1
 
     def null(self) -> str:
-        """The word that nulls come back as."""
+        """Returns the word as which nulls are restored."""
         words = self.null_words()
         return words[0] if len(words) == 1 else ""
 
     def null_words(self) -> list[str]:
-        """The words that are null in the column and that stand in it."""
+        """Returns the words for null that occur in the column."""
         return [word for word in self.nulls if not self.why or word in self.always]
 
     def heading_form(self) -> str | None:
-        """What the heading spells, where all fields of the column spell that too; or None."""
+        """Returns the kind of text that the heading is, if all fields of the column are of that kind too, else None."""
         form = spelling.form_of(self.heading)
         if self.wanted:
             return None if self.wanted.number(self.heading) is None else self.wanted.name
@@ -280,22 +281,22 @@ class Seen:
 
 
 def kind_by(form: str) -> Dates:
-    """The kind of a column whose format is given."""
+    """Returns the kind of a column whose format is given."""
     letters = set(re.findall("%(.)", form))
     if not letters - set("YmdHMS%") and (letters >= set("Ymd") or not letters & set("Ymd") and "H" in letters):
         if letters & set("HMS"):
             return (kinds.Times if "Y" in letters else kinds.Clocks)(form)
         return kinds.Dates(form)
-    raise Refused(f"--date: {shown(form)} is no format of %Y, %m and %d, with %H, %M and %S for a time")
+    raise Refused(f"--date: {shown(form)} is not a valid format: use %Y, %m and %d, and %H, %M and %S for a time")
 
 
 def decide(source: Source, given: argparse.Namespace, store: Store | None = None) -> tuple[list[Seen], list[Whole | None]]:
-    """What is known of each column after all rows were read, with all texts of the columns of texts, and their kinds. The rows
-    are kept in a store, if one is given."""
+    """Returns the state of each column after all rows were read, with all texts of the columns of texts, and their kinds.
+    Stores the rows if a store is given."""
     for option in ("text", "number", "date"):
         unknown = [each for each in getattr(given, option) if each not in source.headings]
         if unknown:
-            raise Refused(f"{source.path}: --{option}: no column is headed {shown(unknown[0])}")
+            raise Refused(f"{source.path}: --{option}: no column has the heading {shown(unknown[0])}")
     columns = [Seen(heading, given, source.separator) for heading in source.headings]
     with Progress("read") as progress:
         for chunk in source.chunks():
@@ -322,16 +323,16 @@ def decide(source: Source, given: argparse.Namespace, store: Store | None = None
 
 
 def refuse_heading(source: Source, columns: list[Seen]) -> None:
-    """Refuses a first line that looks like the rows below it."""
+    """Rejects a first line that looks like the rows below it."""
     for seen in columns:
         form = seen.heading_form()
         if form:
             raise Refused(f"{source.path}: the first line has {shown(seen.heading)} above a column of such fields: "
-                          "say --heading if it is a heading all the same, or --no-heading if it is a row")
+                          "use --heading if it is a heading, or --no-heading if it is a row")
 
 
 def shown(text: str) -> str:
-    """A text in a message: its first characters, with none that isn't to be seen."""
+    """Returns a text for a message: its first characters, in quotes and printable."""
     return repr(text if len(text) <= 40 else text[:37] + "...")
 
 
@@ -340,7 +341,7 @@ def is_name(text: str) -> bool:
 
 
 def name_like(heading: str) -> str:
-    """A name that is like a heading."""
+    """Returns a valid name that resembles a heading."""
     plain = unicodedata.normalize("NFKD", heading.strip()).encode("ascii", "ignore").decode()
     name = re.sub("[^A-Za-z0-9_]+", "_", plain)[:63] or "_"
     name = name if re.match("[A-Za-z_]", name) else f"_{name}"[:63]
@@ -348,7 +349,7 @@ def name_like(heading: str) -> str:
 
 
 def names_of(headings: list[str]) -> list[str]:
-    """A name for each heading: the heading, where it's a name that no other column before it has."""
+    """Returns a name for each heading: the heading itself, if it is a valid name that no earlier column has."""
     names, taken = [None] * len(headings), set()
     for place, heading in enumerate(headings):
         if is_name(heading) and heading.upper() not in taken:

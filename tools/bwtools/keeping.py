@@ -1,7 +1,7 @@
-"""The fields of a file in short, from the time when they are read until the kinds of all columns are known.
+"""The fields of a file in compact form, from when they are read until the kinds of all columns are known.
 
-A field of a column is kept as the code of its text, or as the number that it spells: so each distinct text is looked at once,
-and the file is read once. All is in a temporary file, of one to nine bytes a field."""
+A field is stored as the code of its text, or as the number that it spells. So each distinct text is examined once, and the
+file is read once. All is in a temporary file, of one to nine bytes for each field."""
 from __future__ import annotations
 
 import array
@@ -21,8 +21,8 @@ class Coded(NamedTuple):
 
 
 class Numbered(NamedTuple):
-    """The numbers of fields, times ten to `digits`: the type of the array and its bytes; a byte for each field, 1 where it's
-    null, or nothing if none is; the least and the greatest number; and how many fields are spelled in which style."""
+    """The numbers of fields, multiplied by ten to `digits`: the type of the array and its bytes; a byte for each field, 1 if
+    it is null, or nothing if none is; the minimum and the maximum; and how many fields are spelled in which style."""
     type: str
     data: bytes
     nulls: bytes
@@ -33,7 +33,8 @@ class Numbered(NamedTuple):
 
 
 class Codes(dict):
-    """A code for each distinct text, in the order in which they are met. `fresh` has those that came since it was emptied."""
+    """A code for each distinct text, in the order in which they were met. `fresh` has those that were added since it was
+    emptied."""
 
     def __init__(self, texts: Iterable[str] = ()) -> None:
         super().__init__((text, code) for code, text in enumerate(texts))
@@ -46,7 +47,7 @@ class Codes(dict):
 
 
 def coded(codes: Sequence[int], count: int) -> Coded:
-    """Keeps codes, of which there are so many."""
+    """Returns codes as stored, of which `count` are possible."""
     if count <= 1 << 8:
         return Coded("B", bytes(codes))
     kind = "H" if count <= 1 << 16 else "I"
@@ -54,7 +55,7 @@ def coded(codes: Sequence[int], count: int) -> Coded:
 
 
 def numbered(numbers: Sequence[int], nulls: bytes, digits: int, styles: dict[Any, int]) -> Numbered | None:
-    """Keeps numbers; None where one is past 64 bits."""
+    """Returns numbers as stored, or None if one doesn't fit 64 bits."""
     least, greatest = min(numbers), max(numbers)
     kind = next((kind for kind, bits in (("b", 7), ("h", 15), ("i", 31), ("q", 63))
                  if -1 << bits <= least and greatest < 1 << bits), None)
@@ -64,21 +65,21 @@ def numbered(numbers: Sequence[int], nulls: bytes, digits: int, styles: dict[Any
 
 
 def counts_of(kept: Coded, codes: Sequence[int], wanted: frozenset[int]) -> list[tuple[int, int]]:
-    """How often each of the codes that are wanted is among those that were kept, if it is."""
+    """Returns how often each of the wanted codes is among the stored ones, without those that aren't."""
     if kept.type == "B":
         return [(code, kept.data.count(code)) for code in wanted if code in kept.data]
     return [(code, codes.count(code)) for code in sorted(wanted.intersection(codes))]
 
 
 def values_of(kept: Coded | Numbered) -> array.array:
-    """The codes or the numbers that were kept."""
+    """Returns the stored codes or numbers."""
     found = array.array(kept.type)
     found.frombytes(kept.data)
     return found
 
 
 def spread(texts: list[str], nulls: bytes, null: str) -> list[str]:
-    """Texts with the word for null between them, where a byte for each field says so."""
+    """Returns the texts with the word for null between them, at the fields whose byte says so."""
     if not nulls:
         return texts
     rest = iter(texts)
@@ -86,7 +87,7 @@ def spread(texts: list[str], nulls: bytes, null: str) -> list[str]:
 
 
 def split_nulls(fields: Sequence[str], words: frozenset[str]) -> tuple[Sequence[str], bytes]:
-    """The fields that are no word for null, and a byte for each field, or nothing if none is such a word."""
+    """Returns the fields that aren't a word for null, and a byte for each field, or nothing if none is such a word."""
     nulls = bytes(map(words.__contains__, fields))
     if 1 not in nulls:
         return fields, b""
@@ -94,7 +95,7 @@ def split_nulls(fields: Sequence[str], words: frozenset[str]) -> tuple[Sequence[
 
 
 class Store:
-    """What is kept of many rows at a time: for each column, Coded, Numbered or None where the file is to be read again."""
+    """The stored fields of many rows at a time: for each column Coded, Numbered, or None if the file must be read again."""
 
     def __init__(self, folder: pathlib.Path | None = None) -> None:
         self.file, self.places = tempfile.TemporaryFile(dir=folder), [0]
@@ -107,7 +108,7 @@ class Store:
         self.places.append(self.places[-1] + self.file.write(pickle.dumps(kept, pickle.HIGHEST_PROTOCOL)))
 
     def between(self, first: int, end: int) -> Iterator[list[Coded | Numbered | None]]:
-        """What was appended from one place on, up to another. It may be asked by several processes at once."""
+        """Yields what was appended from one place up to another. Several processes may call it at once."""
         self.file.flush()
         for start, stop in zip(self.places[first:end], self.places[first + 1:end + 1]):
             yield pickle.loads(os.pread(self.file.fileno(), stop - start, start))

@@ -1,8 +1,9 @@
-"""The kinds of column: how a text is a number in each and comes back, and where a literal stands among a column's numbers.
+"""The kinds of columns: which number a text has in each, how it is restored, and the place of a literal among a column's
+numbers.
 
-A kind has `number`, which gives the number of a text, or None; `text`, which gives the text of a number; and `place`, which
-gives the greatest number that a literal isn't below, and whether it is that number. `sum` gives the text of a sum of the
-column, or is None where a sum means nothing. `plural` names what a column holds, and `example` how a literal of it looks."""
+A kind has `number`, which returns the number of a text, or None; `text`, which returns the text of a number; and `place`,
+which returns the greatest number that is at most a literal, and whether it is that literal. `sum` returns the text of a sum
+of the column, or is None if a sum has no meaning. `plural` names the values of a column, and `example` is a literal."""
 from __future__ import annotations
 
 import bisect
@@ -18,7 +19,7 @@ RESERVED = set("AND BETWEEN COUNT FALSE FROM IN IS MAX MIN NOT NULL OR SELECT SU
 
 
 class Refused(Exception):
-    """What is refused, and why."""
+    """An input that is rejected, and why."""
 
 
 class Whole:
@@ -38,7 +39,7 @@ class Whole:
         return list(map(self.text, numbers))
 
     def place(self, literal: Any) -> tuple[int, bool] | None:
-        """The place of a literal, or None where it's of another kind."""
+        """Returns the place of a literal, or None if it is of another kind."""
         if not isinstance(literal, fractions.Fraction):
             return None
         return math.floor(literal), literal.denominator == 1
@@ -53,14 +54,14 @@ class Whole:
         return "whole numbers as they are"
 
     def returns(self, style: Any) -> bool:
-        """Whether a number that is spelled as numbers with so many digits after the point are, or a time that is spelled in a
-        format, with so many digits and a zone, comes back as it stands."""
+        """Returns whether a field in this style is restored exactly: for a number the digits after its point, for a time its
+        format, its digits and its zone."""
         return style == 0
 
 
 class Decimals(Whole):
-    """Decimals times a power of ten. All come back with so many digits after the decimal sign; or, trimmed, without zeros at
-    the end there, and then a whole number has no decimal sign."""
+    """Decimals, multiplied by a power of ten. All are restored with this many digits after the decimal sign. If trimmed, they
+    are restored without zeros at the end there, and a whole number has no decimal sign."""
     name, plural, example = "decimals", "decimals", "12.50"
 
     def __init__(self, digits: int, trimmed: bool, mark: str = ".") -> None:
@@ -100,7 +101,7 @@ class Decimals(Whole):
 
 
 class Dates(Whole):
-    """Days since 1970-01-01, which come back in a format."""
+    """Days since 1970-01-01, which are restored in a format."""
     name, plural, sum = "dates", "dates", None
 
     def __init__(self, form: str = "%Y-%m-%d") -> None:
@@ -111,8 +112,8 @@ class Dates(Whole):
         self.example = f"'{spelling.written_by(form, 19844, 45000)}'"
 
     def read(self, text: str) -> tuple[int, int, bool, str] | None:
-        """The seconds since 1970 of a date or a time, times ten to a number of digits, and whether a time is said, and its
-        zone. None of any other text."""
+        """Returns the seconds since 1970 of a date or a time, multiplied by ten to a number of digits, that number, whether
+        it has a time of day, and its zone. Returns None for any other text."""
         found = None if self.date else spelling.read_by(self.form, text)
         if found:
             return found[0] * 86400 + found[1], 0, "%H" in self.form, ""
@@ -147,7 +148,8 @@ class Dates(Whole):
 
 
 class Times(Dates):
-    """Seconds since the first one of 1970, times ten to the number of digits after the point. With a zone Z all are of UTC."""
+    """Seconds since the start of 1970, multiplied by ten to the number of digits after the point. With a zone Z all are in
+    UTC."""
     name, plural, second = "times", "times", 1714566600
 
     def __init__(self, form: str, digits: int = 0, zone: str = "") -> None:
@@ -203,7 +205,7 @@ class Times(Dates):
 
 
 class Clocks(Times):
-    """Times of day, as seconds since midnight, times ten to the number of digits after the point."""
+    """Times of day: seconds since midnight, multiplied by ten to the number of digits after the point."""
     name, plural, second = "clocks", "times of day", 45000
 
     def read(self, text: str) -> tuple[int, int, bool, str] | None:
@@ -256,7 +258,7 @@ class Truths(Whole):
 
 
 class Texts(Whole):
-    """Texts as their places in a list, which is sorted by code points."""
+    """Texts, as their places in a list that is sorted by code points."""
     name, plural, example, sum = "texts", "texts", "'this'", None
 
     def __init__(self, texts: list[str]) -> None:
@@ -293,7 +295,7 @@ class Texts(Whole):
 
 
 class Nulls(Whole):
-    """Nulls alone."""
+    """Only nulls."""
     name, plural, example = "nulls", "nulls alone", "NULL"
 
     def number(self, text: str) -> int | None:
@@ -310,8 +312,8 @@ class Nulls(Whole):
 
 
 class Column:
-    """A column: its name, the heading that it had, its kind, the word that its nulls come back as, the words that were null,
-    the texts of its least and its greatest number, and why it's one of texts."""
+    """A column: its name, its original heading, its kind, the word as which its nulls are restored, the words that were null,
+    the texts of its minimum and maximum, and why it is one of texts."""
 
     def __init__(self, name: str, heading: str, kind: Whole, null: str = "", nulls: Iterable[str] = (),
                  ends: Iterable[str] = (), why: str = "") -> None:
@@ -324,7 +326,7 @@ class Column:
 
 
 def kind_of(record: dict[str, Any]) -> Whole:
-    """The kind that a column's record says."""
+    """Returns the kind of a column's record."""
     if record["kind"] == "decimals":
         return Decimals(record["digits"], record["trimmed"], record["mark"])
     if record["kind"] == "dates":
@@ -339,7 +341,7 @@ def kind_of(record: dict[str, Any]) -> Whole:
 
 
 def column_of(record: dict[str, Any]) -> Column:
-    """The column that a record says."""
+    """Returns the column of a record."""
     return Column(record["name"], record["heading"], kind_of(record), record["null"], record["nulls"], record["ends"],
                   record["why"])
 

@@ -1,4 +1,4 @@
-"""The file that says what a table's numbers mean: JSON, which names the table file that it belongs to."""
+"""The columns file, which says what a table's numbers mean: JSON, which identifies the table file that it belongs to."""
 from __future__ import annotations
 
 import hashlib
@@ -14,7 +14,7 @@ FORM = 1
 
 
 class Meanings:
-    """What a file of columns says: the columns, and the table that they belong to, if it's one of a table."""
+    """The content of a columns file: the columns, and the table that they belong to, if there is one."""
 
     def __init__(self, path: str | os.PathLike[str]) -> None:
         self.path = pathlib.Path(path)
@@ -24,30 +24,30 @@ class Meanings:
                 raise ValueError
             self.table, self.columns = said["table"], [kinds.column_of(record) for record in said["columns"]]
         except (ValueError, KeyError, TypeError, AttributeError):
-            raise Refused(f"{path} is no file of columns that import or to-numbers wrote") from None
+            raise Refused(f"{path} is not a columns file of import or to-numbers") from None
 
     def compare(self, table: str | os.PathLike[str], file: BinaryIO) -> None:
-        """Refuses an open table file that the columns don't belong to."""
+        """Rejects an open table file to which the columns don't belong."""
         if not is_of(self.table, file):
-            raise Refused(f"{self.path} belongs to another table than {table}, which has changed since or was put there: "
-                          "import writes both anew")
+            raise Refused(f"{self.path} belongs to another table than {table}, which has changed or was replaced: "
+                          "run import again, which writes both")
 
 
 def write_columns(path: str | os.PathLike[str], columns: Iterable[Column], table: dict[str, Any] | None = None) -> None:
-    """Writes a file of columns: a record a line."""
+    """Writes a columns file, one record on each line."""
     records = ",\n".join(json.dumps(column.record(), ensure_ascii=False) for column in columns)
     said = json.dumps(table, ensure_ascii=False)
     pathlib.Path(path).write_text(f'{{"bw columns": {FORM}, "table": {said}, "columns": [\n{records}\n]}}\n', encoding="utf-8")
 
 
 def marks_of(file: BinaryIO) -> dict[str, Any]:
-    """What a file is known by without reading it."""
+    """Returns what identifies a file without reading it."""
     told = os.fstat(file.fileno())
     return {"size": told.st_size, "changed": told.st_mtime_ns, "inode": told.st_ino}
 
 
 def sum_of(file: BinaryIO) -> str:
-    """The SHA-256 of a file's bytes."""
+    """Returns the SHA-256 of a file's bytes."""
     found = hashlib.sha256()
     file.seek(0)
     for part in iter(lambda: file.read(1 << 20), b""):
@@ -57,37 +57,37 @@ def sum_of(file: BinaryIO) -> str:
 
 
 def file_record(path: str | os.PathLike[str]) -> dict[str, Any]:
-    """What a file of columns says of a table file."""
+    """Returns a table file's record for a columns file."""
     with open(path, "rb") as file:
         return {**marks_of(file), "sha256": sum_of(file)}
 
 
 def table_record(name: str, path: str | os.PathLike[str]) -> dict[str, Any]:
-    """What a file of columns says of its table."""
+    """Returns a table's record for a columns file."""
     return {"name": name, **file_record(path)}
 
 
 def is_of(record: dict[str, Any], file: BinaryIO) -> bool:
-    """Whether an open file is the one of a record: by what it's known by, or else by its bytes."""
+    """Returns whether an open file is the one of a record: by size, time and inode, or else by its bytes."""
     return {name: record.get(name) for name in ("size", "changed", "inode")} == marks_of(file) or \
         record.get("sha256") == sum_of(file)
 
 
 def columns_beside(table: str | os.PathLike[str]) -> str:
-    """The path of the file of columns of a table file: beside it, or beside the file that it stands for."""
+    """Returns the path of a table's columns file: beside the table, or beside the file that a link points to."""
     beside = f"{table}.columns"
     real = f"{os.path.realpath(table)}.columns"
     return real if not os.path.exists(beside) and os.path.exists(real) else beside
 
 
 def meanings_of(table: str | os.PathLike[str], file: BinaryIO) -> Meanings:
-    """What the numbers of an open table file mean. Refuses a file of columns that belongs to another table."""
+    """Returns the content of an open table's columns file. Rejects one that belongs to another table."""
     path = columns_beside(table)
     if not os.path.exists(path):
-        raise Refused(f"{path} isn't there, and says what the numbers of {table} mean: import writes both; "
-                      "a table of numbers alone is asked by bw query")
+        raise Refused(f"{path} is missing, which says what the numbers of {table} mean: import writes both; "
+                      "query a table of plain numbers with bw query")
     found = Meanings(path)
     if not found.table:
-        raise Refused(f"{path} belongs to no table: to-numbers wrote it, and import writes one for {table}")
+        raise Refused(f"{path} belongs to no table: to-numbers wrote it; run import to write one for {table}")
     found.compare(table, file)
     return found

@@ -1,4 +1,4 @@
-"""Does the parts of one piece of work in processes side by side."""
+"""Runs the parts of one task in processes side by side."""
 from __future__ import annotations
 
 import contextlib
@@ -12,7 +12,7 @@ T = TypeVar("T")
 
 
 def processors() -> int:
-    """How many processes can run side by side, up to MOST."""
+    """Returns how many processes can run side by side, up to MOST."""
     if not hasattr(os, "fork"):
         return 1
     allowed = getattr(os, "sched_getaffinity", None)
@@ -20,7 +20,7 @@ def processors() -> int:
 
 
 class Child:
-    """A process that does one part, and sends its result, or the exception that ended it."""
+    """A process that runs one part, and sends its result, or the exception that ended it."""
 
     def __init__(self, act: Callable[[int], Any], part: int) -> None:
         reading, writing = os.pipe()
@@ -39,7 +39,7 @@ class Child:
         self.reading = open(reading, "rb")
 
     def result(self) -> Any:
-        """Waits for the result of the part. Raises what its process raised; if that ended without a word, OSError."""
+        """Waits for the result of the part. Raises what its process raised, or OSError if that ended without a result."""
         try:
             done, found = pickle.load(self.reading)
         except (EOFError, pickle.UnpicklingError):
@@ -58,7 +58,7 @@ class Child:
 
 
 def outcome(act: Callable[[int], Any], part: int) -> tuple[bool, Any]:
-    """Whether a part was done, and its result, or else the exception."""
+    """Returns whether a part was done, and its result, or else the exception."""
     try:
         return True, act(part)
     except Exception as error:
@@ -66,7 +66,7 @@ def outcome(act: Callable[[int], Any], part: int) -> tuple[bool, Any]:
 
 
 def do_parts(count: int, act: Callable[[int], T]) -> list[T]:
-    """Does `act(0)` here and the other parts in processes of their own. Returns the results in order, or raises the exception
+    """Runs `act(0)` here and the other parts in processes of their own. Returns the results in order, or raises the exception
     of the first part that failed. When it returns or raises, no process is left."""
     children: list[Child] = []
     try:

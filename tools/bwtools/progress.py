@@ -1,4 +1,4 @@
-"""Says on standard error how far a tool is: at a terminal alone, and once its work has taken a second."""
+"""Shows the progress of a tool on standard error: only at a terminal, and once its work has taken a second."""
 from __future__ import annotations
 
 import os
@@ -9,7 +9,7 @@ FIRST, EVERY = 1.0, 0.2
 
 
 class Progress:
-    """A line of rows and megabytes, which is written over and over, and taken away at the end."""
+    """A line of rows and megabytes, which is updated in place and removed at the end."""
 
     def __init__(self, what: str, is_wanted: bool = True) -> None:
         self.what, self.rows, self.begun = what, 0, time.monotonic()
@@ -20,7 +20,7 @@ class Progress:
             self.is_wanted = False
 
     def add(self, rows: int, size: int | None = None) -> None:
-        """Counts rows, and says how many there are, and how many bytes a second where `size` bytes were read so far."""
+        """Counts rows, and shows their number, and the bytes per second if `size` bytes were read so far."""
         self.rows += rows
         now = time.monotonic() if self.is_wanted else 0
         if not self.is_wanted or now < self.next:

@@ -1,4 +1,4 @@
-"""A run of `bw session`, which reads a table once and answers many statements over it, one after another."""
+"""A run of `bw session`, which reads a table once and runs many statements over it, one after another."""
 from __future__ import annotations
 
 import io
@@ -11,18 +11,18 @@ from typing import Any, BinaryIO, NoReturn, Sequence, TextIO
 from . import command
 
 AT_ONCE = 1 << 16
-SURPLUS = "bw session has answered more than it was asked"
+SURPLUS = "bw session returned more results than it was sent statements"
 
 
 class Failed(Exception):
-    """Says why a session can't go on, after what it said itself; and the status to end with."""
+    """Why a session can't continue, what it printed before, and the status to exit with."""
 
     def __init__(self, why: str, told: str = "", status: int = 5) -> None:
         super().__init__(why)
         self.told, self.status = told, status
 
     def report(self) -> int:
-        """Says it on standard error, and gives the status."""
+        """Prints it on standard error. Returns the status."""
         print(self.told, end="", file=sys.stderr)
         if str(self):
             print(f"{command.own_name()}: {self}", file=sys.stderr)
@@ -30,7 +30,7 @@ class Failed(Exception):
 
 
 class Answer(io.RawIOBase):
-    """The bytes of one answer, to the empty line that ends it. No answer has an empty line in it."""
+    """The bytes of one result, up to the empty line that ends it. No result has an empty line in it."""
 
     def __init__(self, session: Session) -> None:
         super().__init__()
@@ -55,8 +55,8 @@ class Answer(io.RawIOBase):
 
 
 class Session:
-    """A run of `bw session` over an open table file. It's sent one statement at a time, and reads the next one after its answer
-    is written, so that neither waits for the other. Standard error has a short line or two for each answer."""
+    """A run of `bw session` over an open table file. It gets one statement at a time, and reads the next one only when its
+    result is written, so that neither waits for the other. Standard error has a short line or two for each result."""
 
     def __init__(self, table: BinaryIO, options: Sequence[str] = ()) -> None:
         # the very file that was looked at is read, whatever stands at its path by now
@@ -74,7 +74,7 @@ class Session:
         self.process.__exit__(*error)
 
     def ask(self, statement: str) -> TextIO | None:
-        """Sends a statement, and gives its answer; None where it's refused, and standard error says why."""
+        """Sends a statement. Returns its result, or None if it is rejected; standard error then has the reason."""
         self.told()
         self.send(f"{one_statement(statement)}\n\n".encode())
         self.answer = Answer(self)
@@ -85,7 +85,7 @@ class Session:
         return None
 
     def send(self, data: bytes) -> None:
-        """Sends bytes, unless the session has ended, which the read of its answer tells."""
+        """Sends bytes, unless the session has ended, which reading its result will show."""
         rest = memoryview(data)
         try:
             while rest:
@@ -94,7 +94,7 @@ class Session:
             pass
 
     def told(self) -> str:
-        """What was said of the last answer on standard error, if it wasn't asked before. What is left of the answer is dropped."""
+        """Returns what was printed on standard error for the last result, once. Drops the rest of the result."""
         if not self.answer:
             return ""
         while self.answer.read(AT_ONCE):
@@ -103,14 +103,14 @@ class Session:
         return self.said()
 
     def said(self) -> str:
-        """What stands on standard error by now. All that belongs to an answer comes before its end."""
+        """Returns what is on standard error by now. All that belongs to a result is printed before its end."""
         said = b""
         while part := self.process.stderr.read(AT_ONCE):
             said += part
         return said.decode("utf-8", "replace")
 
     def end(self) -> int:
-        """Ends the session, and gives its status: 0, or that of the first statement that was refused."""
+        """Ends the session. Returns its status: 0, or that of the first statement that was rejected."""
         self.told()
         self.process.stdin.close()
         if self.process.stdout.read():
@@ -121,15 +121,15 @@ class Session:
         return status
 
     def fail(self) -> NoReturn:
-        """Says what a session said that has ended by itself."""
+        """Raises what a session printed that has ended by itself."""
         self.process.stdin.close()
         status, told = self.process.wait(), self.said()
         if status < 0:
             raise Failed(f"bw session was ended by signal {-status}", told, 128 - status)
-        raise Failed("" if told and status else f"bw session ended with status {status}, and not by an answer", told, status or 5)
+        raise Failed("" if told and status else f"bw session ended with status {status} before a result", told, status or 5)
 
 
 def one_statement(statement: str) -> str:
-    """A statement as the session takes it, which ends at its first semicolon and at an empty line. Where these stand before the
-    end, as in a text that bw refuses anyway, they become a character that bw refuses everywhere."""
+    """Returns a statement in the session's form, which ends at its first semicolon and at an empty line. If these occur
+    before the end, as in a text that bw rejects anyway, they become a character that bw rejects everywhere."""
     return re.sub("[;\r\n]", "?", statement.removesuffix(";")) + ";"

@@ -1,7 +1,7 @@
-"""A folder of shards: tables that one file was split into, and one file that says what their numbers mean and which table files
-belong to it. Each shard is asked on its own, and their answers are joined into the one that a single table would have given.
+"""A folder of shards: the tables into which one file was split, and one columns file, which identifies their table files.
+Each shard is queried on its own, and the results are combined into that of a single table.
 
-`ask_shard` and what it calls use the standard library alone, so that a worker on another machine can run them."""
+`ask_shard` and what it calls use only the standard library, so that a worker on another machine can run them."""
 from __future__ import annotations
 
 import os
@@ -15,7 +15,7 @@ from .kinds import Column, Refused
 from .pairs import is_of
 
 FILE = "shards.columns"
-FOREIGN = "isn't the table that {} names: it has changed since or was put there; shards load writes all of them anew"
+FOREIGN = "isn't the table that {} names: it has changed or was replaced; run shards load again"
 
 # What asking a shard gives: the status of bw, or of a table file that can't be asked; what was said of it; and the answer
 Reply = tuple[int, str, bytes]
@@ -28,7 +28,7 @@ class Folder:
     def __init__(self, path: str) -> None:
         self.path, self.file = path, os.path.join(path, FILE)
         if not os.path.exists(self.file):
-            raise Refused(f"{path} is no folder of shards: {self.file} isn't there, which shards load writes")
+            raise Refused(f"{path} is not a folder of shards: {self.file}, which shards load writes, is missing")
         found = pairs.Meanings(self.file)
         try:
             self.name: str = found.table["name"]
@@ -38,20 +38,20 @@ class Folder:
         except (KeyError, TypeError, ValueError):
             is_whole = False
         if not is_whole:
-            raise Refused(f"{self.file} is no file of columns that shards load wrote")
+            raise Refused(f"{self.file} is not a columns file of shards load")
         self.columns: list[Column] = found.columns
 
     def path_of(self, place: int) -> str:
         return os.path.join(self.path, self.shards[place]["file"])
 
     def foreign_files(self) -> list[str]:
-        """The files in the folder that aren't of its shards."""
+        """Returns the files in the folder that aren't shards."""
         own = {FILE, *(record["file"] for record in self.shards)}
         return sorted(set(os.listdir(self.path)) - own)
 
 
 def ask_shard(program: str, path: str, record: Record, columns: str, options: Sequence[str], statement: str) -> Reply:
-    """Asks a table file by bw, if it's the one of the record. The very file that was compared is read."""
+    """Queries a table file by bw, if it is the one of the record. bw reads the file that was compared."""
     found = program if os.access(program, os.X_OK) else shutil.which("bw") or program
     try:
         with open(path, "rb") as table:
@@ -67,37 +67,37 @@ def ask_shard(program: str, path: str, record: Record, columns: str, options: Se
 
 
 def is_of_statement(reply: Reply) -> bool:
-    """Whether a fault is one of the statement, which each shard would give."""
+    """Returns whether an error is one of the statement, which each shard would return."""
     return reply[0] == 3 and reply[1].startswith("bw: 4")
 
 
 class Joined:
-    """The answers of shards as one: rows follow one another in a file, and totals are kept until the end."""
+    """The results of shards as one: rows follow one another in a file, and totals are stored until the end."""
 
     def __init__(self, out: BinaryIO) -> None:
         self.out, self.heading = out, b""
         self.totals: list[list[int | None]] | None = None
 
     def add(self, answer: bytes) -> None:
-        """Takes the next shard's answer."""
+        """Adds the next shard's result."""
         heading = answer[:answer.find(b"\n") + 1]
         if not self.heading:
             self.heading = heading
             self.out.write(heading)
             self.totals = [[] for _ in heading.split(b",")] if b"(" in heading else None
         if not heading or heading != self.heading:
-            raise Refused(f"the shards' answers have several headings: {self.heading!r} and {heading!r}")
+            raise Refused(f"the shards' results have several headings: {self.heading!r} and {heading!r}")
         if self.totals is None:
             self.out.write(memoryview(answer)[len(heading):])
             return
         fields = answer[len(heading):].decode().rstrip("\n").split(",")
         if len(fields) != len(self.totals):
-            raise Refused(f"a shard's answer has {len(fields)} totals, and not {len(self.totals)}")
+            raise Refused(f"a shard's result has {len(fields)} totals, expected {len(self.totals)}")
         for values, field in zip(self.totals, fields):
             values.append(None if field == "NULL" else int(field))
 
     def end(self) -> None:
-        """Writes the totals, after the last answer."""
+        """Writes the totals, after the last result."""
         if self.totals is not None:
             functions = [item.partition("(")[0] for item in self.heading.decode().split(",")]
             found = [total(function, values) for function, values in zip(functions, self.totals)]
@@ -106,7 +106,8 @@ class Joined:
 
 
 def total(function: str, values: Iterable[int | None]) -> int | None:
-    """The total over all rows, from those of the shards. None is null, the total of no value; a COUNT is never null."""
+    """Returns the total over all rows, from those of the shards. None is null, the total of no value; a COUNT is never
+    null."""
     present = [value for value in values if value is not None]
     if not present:
         return None
@@ -114,21 +115,21 @@ def total(function: str, values: Iterable[int | None]) -> int | None:
 
 
 def refuse_folder(path: str) -> None:
-    """Refuses a folder to write that is there and holds anything but shards that were loaded before."""
+    """Rejects a target folder that exists and has anything but shards that were loaded before."""
     if not os.path.lexists(path):
         return
     if os.path.islink(path) or not os.path.isdir(path):
-        raise Refused(f"{path} would be written over, and is {'a symlink' if os.path.islink(path) else 'no folder'}")
+        raise Refused(f"{path} can't be overwritten: it {'is a symlink' if os.path.islink(path) else 'is no folder'}")
     if not os.listdir(path):
         return
     try:
         foreign = Folder(path).foreign_files()
     except Refused as refused:
-        raise Refused(f"{path} would be written over: {refused}") from None
+        raise Refused(f"{path} can't be overwritten: {refused}") from None
     if foreign:
-        raise Refused(f"{path} would be written over, and has {foreign[0]}, which isn't of its shards")
+        raise Refused(f"{path} can't be overwritten: it has {foreign[0]}, which isn't one of its shards")
 
 
 def shard_file(folder: pathlib.Path, place: int) -> pathlib.Path:
-    """The path of a shard's table file."""
+    """Returns the path of a shard's table file."""
     return folder / f"shard-{place + 1:03}.bw"

@@ -1,4 +1,4 @@
-"""The CSV file that is read: its separator, its encoding, its heading and its rows, of which many are read at a time."""
+"""The CSV file to read: its separator, its encoding, its heading and its rows, of which many are read at a time."""
 from __future__ import annotations
 
 import argparse
@@ -30,7 +30,7 @@ getattr(sys, "set_int_max_str_digits", int)(0)
 
 
 class Chunk:
-    """Some rows as columns of fields, and the text that they stand in, which begins at a line."""
+    """Some rows as columns of fields, and the text that they are in, which begins at a line."""
 
     def __init__(self, columns: Sequence[Sequence[str]], headings: int, text: str, line: int,
                  reader: Callable[[Iterable[str]], Iterator[list[str]]]) -> None:
@@ -42,7 +42,7 @@ class Chunk:
         return list(zip(*self.columns))
 
     def line_of(self, place: int) -> int:
-        """The line at which a row begins."""
+        """Returns the line at which a row begins."""
         line, place = self.line, place + self.headings
         for record in self.reader(io.StringIO(self.text, newline="")):
             if record and place == 0:
@@ -53,7 +53,7 @@ class Chunk:
 
 
 class Source:
-    """The file to read, which is read more than once."""
+    """The file to read, which can be read more than once."""
 
     def __init__(self, path: str | os.PathLike[str], given: argparse.Namespace, most_rows: int = MOST_ROWS) -> None:
         self.path, self.file, self.most_rows = path, open(path, "rb"), most_rows
@@ -64,7 +64,7 @@ class Source:
         begin = self.file.read(4)
         marked = [name for mark, name in MARKS if begin.startswith(mark)]
         if b"\0" in begin and not marked and not given.encoding:
-            raise Refused(f"{path} begins as no UTF-8 text does; give the encoding, as --encoding utf-16-le")
+            raise Refused(f"{path} doesn't begin as UTF-8 text: name the encoding, such as --encoding utf-16-le")
         self.encoding = given.encoding or (marked or ["utf-8"])[0]
         if self.encoding.lower().replace("_", "-") in ("utf-8", "utf8"):
             self.encoding = "utf-8-sig"
@@ -78,7 +78,7 @@ class Source:
         self.headings = self.read_headings()
 
     def marks(self) -> tuple[int, int]:
-        """What changes where the file does."""
+        """Returns what changes if the file does."""
         told = os.fstat(self.file.fileno())
         return told.st_size, told.st_mtime_ns
 
@@ -87,13 +87,13 @@ class Source:
         try:
             text = io.TextIOWrapper(self.file, encoding=self.encoding, newline="")
         except LookupError:
-            raise Refused(f"there is no encoding {self.encoding}") from None
+            raise Refused(f"unknown encoding {self.encoding}") from None
         for _ in range(self.skipped):
             text.readline()
         return text
 
     def said_separator(self) -> str | None:
-        """The separator that the first line says, as Excel's `sep=;`; the line is then left out."""
+        """Returns the separator that the first line names, as Excel's `sep=;`; the line is then skipped."""
         text = self.decoded()
         try:
             found = SAID.fullmatch(text.readline(16))
@@ -104,7 +104,7 @@ class Source:
         return found and found.group(1)
 
     def most_frequent(self) -> str:
-        """The separator that stands in the heading most often, outside of quotes."""
+        """Returns the separator that is most frequent in the heading, outside of quotes."""
         text, counts, quoted = self.decoded(), dict.fromkeys(",;\t|", 0), False
         try:
             for character in text.read(1 << 20).lstrip("\r\n"):
@@ -119,7 +119,7 @@ class Source:
         return max(counts, key=counts.get)
 
     def undecoded(self) -> NoReturn:
-        """Refuses the file at the first line that isn't of the encoding."""
+        """Rejects the file at the first line that isn't in the encoding."""
         self.file.seek(0)
         place = "one of its bytes"
         if not self.encoding.lower().startswith(("utf-16", "utf-32")):
@@ -127,16 +127,16 @@ class Source:
                 try:
                     line.decode(self.encoding)
                 except UnicodeError as error:
-                    place = f"line {number}, byte {error.start + 1} of it,"
+                    place = f"line {number}, byte {error.start + 1}"
                     break
-        raise Refused(f"{self.path}: {place} isn't {self.encoding.removesuffix('-sig')}; "
-                      "give the encoding, as --encoding latin-1 or --encoding cp1252")
+        raise Refused(f"{self.path}: {place} isn't {self.encoding.removesuffix('-sig')}: "
+                      "name the encoding, such as --encoding latin-1 or --encoding cp1252")
 
     def reader(self, lines: Iterable[str]) -> Iterator[list[str]]:
         return csv.reader(lines, delimiter=self.separator, quotechar=self.quote, escapechar=self.escape, strict=True)
 
     def records(self) -> Iterator[tuple[int, list[str]]]:
-        """The records, each with the line at which it begins; an empty line is an empty record."""
+        """Yields the records, each with the line at which it begins; an empty line is an empty record."""
         text, before = self.decoded(), 0
         reader = self.reader(text)
         try:
@@ -151,17 +151,17 @@ class Source:
             text.detach()
 
     def read_headings(self) -> list[str]:
-        """The headings, or c1, c2 and so on where there are none."""
+        """Returns the headings, or c1, c2 and so on if there are none."""
         first = next((record for _, record in self.records() if record), None)
         if first is None:
             raise Refused(f"{self.path}: there is no heading")
         if len(first) > MOST_COLUMNS:
-            raise Refused(f"{self.path}: {len(first)} columns, and a table has at most {MOST_COLUMNS}")
+            raise Refused(f"{self.path}: {len(first)} columns: a table has at most {MOST_COLUMNS}")
         return first if self.has_heading else [f"c{place}" for place in range(1, len(first) + 1)]
 
     def blocks(self) -> Iterator[tuple[int, str, list[list[str]] | None, list[list[str]] | None]]:
-        """The text of the file, some whole records at a time: the line at which it begins, the text, and its columns or, where
-        these aren't to be had at once, its records."""
+        """Yields the text of the file, some complete records at a time: the line at which it begins, the text, and its
+        columns or, if these aren't available at once, its records."""
         file, line, text = self.decoded(), self.skipped + 1, ""
         try:
             while True:
@@ -197,7 +197,7 @@ class Source:
             file.detach()
 
     def to_next_quote(self, file: TextIO) -> str:
-        """The next lines of the file, to the end of one that has a quote, or some thousand."""
+        """Returns the next lines of the file, up to the end of one that has a quote, or some thousand."""
         lines = []
         for line in itertools.islice(iter(file.readline, ""), ROWS_AT_ONCE):
             lines.append(line)
@@ -206,7 +206,7 @@ class Source:
         return "".join(lines)
 
     def chunks(self) -> Iterator[Chunk]:
-        """The rows after the heading, each of which has as many fields: many rows at a time."""
+        """Yields the rows after the heading, many at a time. Each must have as many fields as the heading."""
         self.empty, self.count, left = 0, 0, int(self.has_heading)
         for line, text, columns, records in self.blocks():
             if columns is None:
@@ -223,12 +223,12 @@ class Source:
             self.count += chunk.count
             if self.count > self.most_rows:
                 line = chunk.line_of(self.most_rows - self.count + chunk.count)
-                raise Refused(f"{self.path}: line {line}: a table has at most {self.most_rows:,} rows; tools/shards loads more")
+                raise Refused(f"{self.path}: line {line}: a table has at most {self.most_rows:,} rows: use tools/shards for more")
             if chunk.count:
                 yield chunk
 
     def refuse_width(self, chunk: Chunk, rows: list[list[str]]) -> None:
-        """Refuses rows of which one has another number of fields than the heading."""
+        """Rejects rows of which one has another number of fields than the heading."""
         width = len(self.headings)
         if set(map(len, rows)) - {width}:
             place = next(place for place, row in enumerate(rows) if len(row) != width)
@@ -237,8 +237,9 @@ class Source:
 
 
 def columns_of(parts: list[str], separator: str, width: int) -> list[list[str]] | None:
-    """The columns of a text of whole records, which is parted at its quotes, where all records have so many fields, and quotes
-    stand round whole fields without a quote in them; or None. What isn't so, and an empty line, is the csv module's."""
+    """Returns the columns of a text of complete records, which was split at its quotes, or None. All records must have
+    `width` fields, and quotes must be around whole fields without a quote in them. Anything else, and an empty line, is left
+    to the csv module."""
     # outside of quotes each field in quotes is a NUL, and each line feed a field of its own
     outer, quoted = NUL.join(parts[::2]), parts[1::2]
     if "\r" in outer:
@@ -255,7 +256,8 @@ def columns_of(parts: list[str], separator: str, width: int) -> list[list[str]] 
 
 
 def fill(columns: list[list[str]], quoted: list[str]) -> list[list[str]] | None:
-    """Columns with the fields that were quoted, which come row by row, each in the place of a NUL; None where a NUL isn't alone."""
+    """Returns columns with the quoted fields, which come row by row, each in place of a NUL; None if a field has more than a
+    NUL."""
     counts = [column.count(NUL) for column in columns]
     if sum(counts) != len(quoted):
         return None

@@ -1,4 +1,5 @@
-"""What a field spells: a number, a truth, or a date, a time or a time of day, each as whole numbers that lose nothing."""
+"""The value that a field spells: a number, a boolean, or a date, a time or a time of day, each as whole numbers without
+loss."""
 from __future__ import annotations
 
 import collections
@@ -18,7 +19,7 @@ TRUTH_OF = {word: (value, words) for words in TRUTHS for value, word in enumerat
 
 NUMBER = re.compile(r"([+-]?)([0-9]*)(?:([.,])([0-9]*))?(?:[eE]([+-]?[0-9]{1,6}))?")
 GROUPED = re.compile(r"[+-]?[1-9][0-9]{0,2}[,.][0-9]{3}")
-# a number of more characters is past 64 bits
+# a number of more characters doesn't fit 64 bits
 LONGEST = 100
 DATE = re.compile(r"([0-9]{1,2}|[0-9]{4})([-./])([0-9]{1,2})\2([0-9]{4}|[0-9]{1,2})")
 CLOCK = re.compile(r"([0-9]{1,2}):([0-9]{2})(?::([0-9]{2})(?:([.,])([0-9]{1,6}))?)?(Z|[+-][0-9]{2}(?::?[0-9]{2})?)?")
@@ -29,8 +30,8 @@ OWN = re.compile("(?:{})(?:[T ]%H:%M(?::%S)?)?".format("|".join(form for forms i
 
 
 class Number(NamedTuple):
-    """A number: `value` is all its digits, `digits` of them after the decimal sign `mark`. `is_plain` where it's spelled as such
-    numbers come back, `has_zeros` where zeros are in front, `is_grouped` where its decimal sign may part thousands."""
+    """A number: `value` is all its digits, `digits` of them after the decimal sign `mark`. `is_plain` if it is spelled as
+    numbers are restored, `has_zeros` if it has leading zeros, `is_grouped` if its decimal sign may separate thousands."""
     value: int
     digits: int
     mark: str | None
@@ -40,8 +41,8 @@ class Number(NamedTuple):
 
 
 class Moment(NamedTuple):
-    """A date, a time or a time of day: the day since 1970 by each format that it may be of, the second of the day times ten to
-    `digits`, and how it's spelled: `clock` is the format of the time of day, `zone` is Z where it's of UTC."""
+    """A date, a time or a time of day: the day since 1970 by each possible format, the second of the day multiplied by ten to
+    `digits`, and its spelling. `clock` is the format of the time of day, `zone` is Z if it is in UTC."""
     days: dict[str, int]
     part: int
     digits: int
@@ -52,8 +53,8 @@ class Moment(NamedTuple):
 
 
 class PlainNumbers(NamedTuple):
-    """Numbers of fields that all are spelled as numbers come back: they are times ten to `digits`, and `counts` says how many
-    fields have how many digits after the decimal sign `mark`."""
+    """The numbers of fields that are all spelled as numbers are restored. They are multiplied by ten to `digits`, and
+    `counts` has how many fields have how many digits after the decimal sign `mark`."""
     numbers: list[int]
     digits: int
     counts: dict[int, int]
@@ -61,18 +62,18 @@ class PlainNumbers(NamedTuple):
 
 
 class PlainTimes(NamedTuple):
-    """The seconds since 1970 of fields that all are times of one shape, times ten to `digits`; `style` is how such times come
-    back, or None where they don't come back as they stand."""
+    """The seconds since 1970 of fields that are all times of one shape, multiplied by ten to `digits`. `style` is how such
+    times are restored, or None if they aren't restored exactly."""
     numbers: list[int]
     digits: int
     style: tuple[str, int, str] | None
 
 
 def number_of(text: str) -> tuple[Number | None, str]:
-    """The number that a text spells, or None; and why not, where it's a number that is too long."""
+    """Returns the number that a text spells, or None, and why it isn't one, if it is too long."""
     found = NUMBER.fullmatch(text)
     if found and len(text) > LONGEST:
-        return None, " is past 64 bits"
+        return None, " doesn't fit 64 bits"
     if not found or not (found.group(2) or found.group(4)):
         return None, ""
     sign, whole, mark, part, power = found.groups()
@@ -90,7 +91,7 @@ def number_of(text: str) -> tuple[Number | None, str]:
 
 
 def exact(value: int, digits: int, power: int) -> tuple[int, int | None]:
-    """A number times a power of ten, without zeros at its end after the point; no digits where it has too many."""
+    """Returns a number times a power of ten, without zeros at its end after the point; no digits if it has too many."""
     while value and digits and value % 10 == 0:
         value, digits = value // 10, digits - 1
     digits -= power
@@ -103,7 +104,7 @@ def exact(value: int, digits: int, power: int) -> tuple[int, int | None]:
 
 
 def plain_numbers(fields: Sequence[str]) -> PlainNumbers | None:
-    """The numbers of fields that all are spelled as numbers come back, or None where one isn't."""
+    """Returns the numbers of fields that are all spelled as numbers are restored, or None if one isn't."""
     if max(map(len, fields)) > LONGEST:
         return None
     joined = "\n".join(fields) + "\n"
@@ -123,7 +124,8 @@ def plain_numbers(fields: Sequence[str]) -> PlainNumbers | None:
 
 
 def are_whole(fields: Sequence[str], joined: str) -> bool:
-    """Whether fields without line feeds, and joined with one after each, all are whole numbers as they come back."""
+    """Returns whether fields without line feeds, which are joined with one after each, are all whole numbers as they are
+    restored."""
     digits = joined.replace("\n", "").replace("-", "")
     # ASCII alone: other scripts have digits too
     if not digits.isdigit() or not digits.isascii() or "-0" in joined or "--" in joined or "-\n" in joined:
@@ -135,7 +137,7 @@ def are_whole(fields: Sequence[str], joined: str) -> bool:
 
 @functools.lru_cache(2)
 def plain_of(mark: str) -> re.Pattern[str]:
-    """What finds lines of whole numbers and decimals with a decimal sign, none of them negative nothing."""
+    """Returns the pattern of lines of whole numbers and decimals with a decimal sign, without negative zeros."""
     return re.compile(rf"(?:(?!-0(?:[{mark}]0+)?\n)-?(?:0|[1-9][0-9]*)(?:[{mark}][0-9]+)?\n)*")
 
 
@@ -145,7 +147,8 @@ SHAPE = re.compile(r"[0-9]{4}-[0-9]{2}-[0-9]{2}([T ])[0-9]{2}:[0-9]{2}(:[0-9]{2}
 
 
 def plain_times(fields: Sequence[str]) -> PlainTimes | None:
-    """The times of fields that all are of the shape of the first, as 2024-05-01 12:30:00; or None where one isn't."""
+    """Returns the times of fields that all have the shape of the first, such as 2024-05-01 12:30:00, or None if one
+    hasn't."""
     shape = SHAPE.fullmatch(fields[0])
     if not shape:
         return None
@@ -167,7 +170,8 @@ def plain_times(fields: Sequence[str]) -> PlainTimes | None:
 
 
 def minute_of(text: str, between: str, length: int) -> int:
-    """The minute since 1970 of the start of a time, as 2024-05-01 12:30 or 2024-05-01 12:30:, with this sign between."""
+    """Returns the minute since 1970 of the start of a time, such as 2024-05-01 12:30 or 2024-05-01 12:30:, with this sign
+    between."""
     found = MINUTE.fullmatch(text) if len(text) == length else None
     day = date_part(text[:10])[0].get("%Y-%m-%d") if found and found[1] == between else None
     if day is None:
@@ -176,8 +180,8 @@ def minute_of(text: str, between: str, length: int) -> int:
 
 
 def seconds_of(ends: list[str], length: int, digits: int, zone: str) -> Iterable[int]:
-    """The seconds of the ends of times, as 07.250Z, which have so many digits before and after the point, times ten to those
-    after it."""
+    """Returns the seconds of the ends of times, such as 07.250Z, which have `length` digits before and `digits` after the
+    point, multiplied by ten to the latter."""
     count, joined = len(ends), "\n".join(ends) + "\n"
     # the sign at each place of an end, or none for a digit; each place of all ends is a slice
     signs = [*[""] * length, *["."] * bool(digits), *[""] * digits, *zone, "\n"]
@@ -194,7 +198,7 @@ def seconds_of(ends: list[str], length: int, digits: int, zone: str) -> Iterable
 
 @functools.lru_cache(1 << 16)
 def day_of(year: int, month: int, day: int) -> int | None:
-    """The day since 1970, or None where there is none."""
+    """Returns the day since 1970, or None if there is no such day."""
     try:
         return datetime.date(year, month, day).toordinal() - FIRST_DAY
     except ValueError:
@@ -203,7 +207,7 @@ def day_of(year: int, month: int, day: int) -> int | None:
 
 @functools.lru_cache(1 << 16)
 def date_part(text: str) -> tuple[dict[str, int], bool]:
-    """The days that a date may mean, by the format, and whether it has all its zeros; no days where it's no date."""
+    """Returns the days that a date may mean, by format, and whether it has all its zeros; no days if it isn't a date."""
     found, days = DATE.fullmatch(text), {}
     if not found:
         return days, False
@@ -218,8 +222,8 @@ def date_part(text: str) -> tuple[dict[str, int], bool]:
 
 @functools.lru_cache(1 << 17)
 def clock_part(text: str) -> tuple[int, int, int, str, str, bool] | None:
-    """The second of a time of day times ten to a number of digits, that number, the seconds that its zone is ahead of UTC, its
-    format, its zone, and whether it's spelled as it comes back; or None."""
+    """Returns the second of a time of day multiplied by ten to a number of digits, that number, the seconds that its zone is
+    ahead of UTC, its format, its zone, and whether it is spelled as it is restored; or None."""
     found = CLOCK.fullmatch(text)
     if not found:
         return None
@@ -233,7 +237,7 @@ def clock_part(text: str) -> tuple[int, int, int, str, str, bool] | None:
 
 
 def moment_of(text: str) -> Moment | None:
-    """The date, the time or the time of day that a text spells, or None."""
+    """Returns the date, the time or the time of day that a text spells, or None."""
     if text[2:3] == ":" or text[1:2] == ":":
         clock = clock_part(text)
         return Moment({}, clock[0], clock[1], "", clock[3], "", clock[5]) if clock and not clock[4] else None
@@ -255,7 +259,7 @@ def moment_of(text: str) -> Moment | None:
 
 
 def offset_of(zone: str) -> int | None:
-    """The seconds that a zone is ahead of UTC, or None where there is no such zone."""
+    """Returns the seconds that a zone is ahead of UTC, or None if there is no such zone."""
     if not zone or zone == "Z":
         return 0
     hours, minutes = int(zone[1:3]), int(zone[3:].lstrip(":") or 0)
@@ -264,13 +268,13 @@ def offset_of(zone: str) -> int | None:
 
 @functools.lru_cache(64)
 def reader_of(form: str) -> re.Pattern[str]:
-    """What reads the texts of a format of %Y, %m, %d, %H, %M and %S."""
+    """Returns the pattern of a format of %Y, %m, %d, %H, %M and %S."""
     parts = {"%Y": "(?P<Y>[0-9]{4})", "%%": "%", **{f"%{letter}": f"(?P<{letter}>[0-9]{{1,2}})" for letter in "mdHMS"}}
     return re.compile("".join(parts[piece] if len(piece) == 2 else re.escape(piece) for piece in re.findall("%.|[^%]", form)))
 
 
 def read_by(form: str, text: str) -> tuple[int, int] | None:
-    """The day and the second of the day that a text of a format spells, or None."""
+    """Returns the day and the second of the day that a text spells in a format, or None."""
     found = reader_of(form).fullmatch(text)
     if not found:
         return None
@@ -283,7 +287,7 @@ def read_by(form: str, text: str) -> tuple[int, int] | None:
 
 @functools.lru_cache(1 << 17)
 def written_by(form: str, day: int, second: int) -> str:
-    """The text of a day and a second of the day in a format."""
+    """Returns the text of a day and a second of the day in a format."""
     date = datetime.date.fromordinal(day + FIRST_DAY)
     parts = {"%Y": f"{date.year:04}", "%m": f"{date.month:02}", "%d": f"{date.day:02}", "%H": f"{second // 3600:02}",
              "%M": f"{second // 60 % 60:02}", "%S": f"{second % 60:02}", "%%": "%"}
@@ -291,7 +295,7 @@ def written_by(form: str, day: int, second: int) -> str:
 
 
 def form_of(text: str) -> str | None:
-    """What a text spells: `number`, `truth`, `date`, `time` or `clock`, or None for anything else."""
+    """Returns the kind of a text: `number`, `truth`, `date`, `time` or `clock`, or None for anything else."""
     if text in TRUTH_OF:
         return "truth"
     if number_of(text)[0]:

@@ -1,4 +1,4 @@
-"""Loads a file of any length as several tables: its numbers are cut into pieces that one load takes."""
+"""Loads a file of any length as several tables: its numbers are cut into pieces, each within the limits of one load."""
 from __future__ import annotations
 
 import argparse
@@ -15,7 +15,7 @@ from .source import MOST_ROWS
 
 
 class Loads:
-    """Takes the lines of a CSV file of numbers, as a file does, and loads each piece of it as a table in a folder."""
+    """Consumes the lines of a CSV file of numbers, as a file does, and loads each piece of it as a table in a folder."""
 
     def __init__(self, name: str, room: pathlib.Path, made: pathlib.Path, most_rows: int) -> None:
         self.name, self.room, self.made, self.most_rows = name, room, made, most_rows
@@ -26,7 +26,7 @@ class Loads:
         self.records: list[Record] = []
 
     def write(self, text: str) -> None:
-        """Takes the heading first, and then whole lines, which may be many. All are ASCII."""
+        """Writes the heading first, and then complete lines, one or more at a time. All are ASCII."""
         at = 0
         if not self.heading:
             self.heading, at = text[:text.index("\n") + 1], text.index("\n") + 1
@@ -42,7 +42,7 @@ class Loads:
             at = end
 
     def end_of_fitting(self, text: str, at: int) -> int:
-        """Where the lines end that the current piece has room for."""
+        """Returns the end of the lines that fit the current piece."""
         room = writing.MOST_BYTES - (self.size or len(self.heading))
         end = len(text) if len(text) - at <= room else text.rfind("\n", at, at + room) + 1 or at
         surplus = self.rows + text.count("\n", at, end) - self.most_rows
@@ -72,14 +72,14 @@ class Loads:
         self.out, self.rows, self.size = None, 0, 0
 
     def end(self) -> None:
-        """Loads what is left: a file without rows is one shard too."""
+        """Loads the rest; a file without rows is one shard too."""
         if self.out is not None or not self.records:
             self.begin()
             self.load()
 
 
 def put_folder(made: pathlib.Path, path: str, before: pathlib.Path) -> None:
-    """Moves a folder to its place, and what was there to `before`: both, or none."""
+    """Moves a folder to its place, and the previous one to `before`: both, or none."""
     held = (signal.SIGINT, signal.SIGTERM, signal.SIGHUP)
     masked = signal.pthread_sigmask(signal.SIG_BLOCK, held)
     try:
@@ -98,7 +98,7 @@ def put_folder(made: pathlib.Path, path: str, before: pathlib.Path) -> None:
 
 
 def load(given: argparse.Namespace) -> None:
-    """Splits a file into shards and loads them, all or none, and says what each column became."""
+    """Splits a file into shards and loads them, all or none. Prints the kind of each column."""
     most_rows = MOST_ROWS if given.rows is None else given.rows
     if not 1 <= most_rows <= MOST_ROWS:
         raise Refused(f"--rows: a shard has from 1 to {MOST_ROWS:,} rows")

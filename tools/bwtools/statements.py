@@ -1,9 +1,9 @@
-"""Turns a statement over a table's texts, decimals, dates and times into one over its numbers, which bw answers.
+"""Translates a statement over a table's texts, decimals, dates and times to one over its numbers, which bw runs.
 
-The statement is cut into words, and each comparison, BETWEEN, IN and IS NULL is turned on its own; all else stays as it is,
-and is bw's to judge. A literal that the column can't have is kept right: a number stands below it and the next one above it,
-so `< 12.505` is `<= 1250` on hundredths. A condition that is FALSE for each value is written as `x <> x`, and one that is
-TRUE as `x = x`: both are UNKNOWN where x is null, as what they stand for."""
+The statement is cut into words, and each comparison, BETWEEN, IN and IS NULL is translated on its own. All else stays as it
+is, and is left to bw. Literals that no row can have are compared correctly: such a literal is between two numbers, so
+`< 12.505` is `<= 1250` on hundredths. A condition that is FALSE for each value becomes `x <> x`, and one that is TRUE becomes
+`x = x`: both are UNKNOWN if x is null, as the original is."""
 from __future__ import annotations
 
 import fractions
@@ -27,26 +27,27 @@ UNKNOWN = "NULL = NULL"
 
 
 class Piece(NamedTuple):
-    """A piece of a statement: what it is, its text, and the character at which it stands."""
+    """A piece of a statement: its kind, its text, and the character at which it is."""
     kind: str
     text: str
     at: int
 
 
 class Operand(NamedTuple):
-    """What is compared: a column, or the value of a literal, or neither, which is NULL; and how it stands in the statement."""
+    """An operand of a comparison: a column, or the value of a literal, or neither, which is NULL; and its text in the
+    statement."""
     column: Column | None
     value: str | fractions.Fraction | None
     text: str
 
 
 def pieces_of(statement: str) -> list[Piece]:
-    """The pieces of a statement, without blanks and comments."""
+    """Returns the pieces of a statement, without blanks and comments."""
     pieces, at = [], 0
     while at < len(statement):
         found = PIECES.match(statement, at)
         if not found:
-            raise Refused(f"{statement[at]!r} at character {at} of the statement begins no word")
+            raise Refused(f"unexpected {statement[at]!r} at character {at} of the statement")
         kind, text = found.lastgroup, found.group()
         if kind == "word" and text.upper() in RESERVED:
             kind, text = "key", text.upper()
@@ -65,31 +66,31 @@ def always(column: Column) -> str:
 
 
 def held(column: Column) -> str:
-    """What a column holds, in a message."""
+    """Returns what a column has, in a message."""
     ends = f" from {column.ends[0]} to {column.ends[1]}" if column.ends and column.kind.name not in ("texts", "truths") else ""
-    return f"{column.name} holds {column.kind.plural}{ends}{f' ({column.why})' if column.why else ''}"
+    return f"{column.name} has {column.kind.plural}{ends}{f' ({column.why})' if column.why else ''}"
 
 
 def place_of(column: Column, literal: Operand, is_equal: bool = False) -> tuple[int, bool]:
-    """Where a literal stands among the numbers of a column."""
+    """Returns the place of a literal among the numbers of a column."""
     if literal.value in column.nulls and (is_equal or column.kind.name != "texts"):
-        raise Refused(f"{literal.text} is null in {column.name}: ask for {column.name} IS NULL")
+        raise Refused(f"{literal.text} is null in {column.name}: use {column.name} IS NULL")
     place = column.kind.place(literal.value)
     if place is None:
-        raise Refused(f"{literal.text} can't be compared with {column.name}: {held(column)}, and a literal of that kind is "
-                      f"written as {column.kind.example}")
+        raise Refused(f"{literal.text} can't be compared with {column.name}: {held(column)}; "
+                      f"write such a literal as {column.kind.example}")
     return place
 
 
 def compared(left: Operand, sign: str, right: Operand) -> str:
-    """A comparison over numbers."""
+    """Returns a comparison over numbers."""
     if None in (left.column or left.value, right.column or right.value):
         return UNKNOWN
     if left.column and right.column:
         if left.column is not right.column and not (left.column.kind.alike(right.column.kind)
                                                     or right.column.kind.alike(left.column.kind)):
-            raise Refused(f"{left.column.name} and {right.column.name} can't be compared: {held(left.column)}, and "
-                          f"{held(right.column)}, of which the same number means something else")
+            raise Refused(f"{left.column.name} and {right.column.name} can't be compared: {held(left.column)}, "
+                          f"{held(right.column)}, and equal numbers mean different values")
         return f"{left.column.name} {sign} {right.column.name}"
     if right.column:
         return compared(right, SWAPPED[sign], left)
@@ -101,7 +102,7 @@ def compared(left: Operand, sign: str, right: Operand) -> str:
 
 
 def placed(column: Column, sign: str, number: int, is_exact: bool) -> str:
-    """The comparison of a column with a literal whose place is known."""
+    """Returns the comparison of a column with a literal whose place is known."""
     if number < LEAST:
         return always(column) if sign in (">", ">=", "<>") else never(column)
     if number > GREATEST:
@@ -114,7 +115,7 @@ def placed(column: Column, sign: str, number: int, is_exact: bool) -> str:
 
 
 def between(operand: Operand, negated: str, low: Operand, high: Operand) -> str:
-    """A BETWEEN over numbers: one, where its ends are literals that have a place, or else two comparisons."""
+    """Returns a BETWEEN over numbers: one BETWEEN, if its ends are literals that have a place, or else two comparisons."""
     if operand.column and None not in (low.value, high.value):
         least, is_exact = place_of(operand.column, low)
         least, greatest = least if is_exact else least + 1, place_of(operand.column, high)[0]
@@ -124,7 +125,7 @@ def between(operand: Operand, negated: str, low: Operand, high: Operand) -> str:
 
 
 def among(operand: Operand, negated: str, members: list[Operand]) -> str:
-    """An IN over numbers, without the members that the column can't have."""
+    """Returns an IN over numbers, without the members that the column can't have."""
     parts = [compared(operand, "=", member) for member in members]
     if not operand.column:
         return f"{negated}({' OR '.join(parts)})"
@@ -140,7 +141,7 @@ def among(operand: Operand, negated: str, members: list[Operand]) -> str:
 
 
 class Turner:
-    """Turns the pieces of a statement, from the first on."""
+    """Translates the pieces of a statement, from the first on."""
 
     def __init__(self, statement: str, columns: list[Column], table: str | None) -> None:
         self.pieces = [*pieces_of(statement), Piece("end", "", len(statement))]
@@ -154,7 +155,7 @@ class Turner:
         return self.pieces[self.place - 1]
 
     def takes(self, *texts: str) -> str:
-        """Takes the next piece, where it's one of these key words and signs."""
+        """Consumes the next piece and returns its text, if it is one of these keywords and signs."""
         if self.next().text in texts and self.next().kind in ("key", "mark", "compare"):
             return self.take().text
         return ""
@@ -167,24 +168,23 @@ class Turner:
 
     def refuse(self, wanted: str) -> NoReturn:
         piece = self.next()
-        raise Refused(f"{wanted} is expected at character {piece.at} of the statement, "
-                      + (f"and not {piece.text}" if piece.text else "where it ends"))
+        raise Refused(f"expected {wanted} at character {piece.at} of the statement, found {piece.text or 'its end'}")
 
     def column(self) -> Column:
-        """The column of the next piece: by its name, or in double quotes by its heading or its name."""
+        """Consumes the next piece, and returns the column of this name, or of this heading or name in double quotes."""
         piece = self.take()
         name = piece.text if piece.kind == "word" else piece.text[1:-1].replace('""', '"')
         headed = [column for column in self.columns if column.heading == name] if piece.kind == "quoted" else []
         if len(headed) > 1:
             names = " or ".join(column.name for column in headed)
-            raise Refused(f"{len(headed)} columns are headed {piece.text}: say {names}, without quotes")
+            raise Refused(f"{len(headed)} columns have the heading {piece.text}: use {names}, without quotes")
         named = [column for column in self.columns if column.name.lower() == name.lower()]
         if not headed and not named:
             raise Refused(f"there is no column {piece.text}; there are {', '.join(each.name for each in self.columns)}")
         return (headed or named)[0]
 
     def operand(self) -> Operand:
-        """The column, the literal or the NULL that is next."""
+        """Consumes the next column, literal or NULL, and returns it."""
         first = self.next()
         if first.text.upper() in ("DATE", "TIMESTAMP") and self.pieces[self.place + 1:][:1] and \
                 self.pieces[self.place + 1].kind == "text":
@@ -206,7 +206,7 @@ class Turner:
         return Operand(None, fractions.Fraction(text), text)
 
     def members(self) -> list[Operand]:
-        """The operands in brackets."""
+        """Consumes the operands in brackets, and returns them."""
         self.wants("(")
         found = [self.operand()]
         while self.wants(",", ")") == ",":
@@ -214,7 +214,8 @@ class Turner:
         return found
 
     def predicate(self) -> str:
-        """A comparison, BETWEEN, IN or IS NULL over numbers. A column of true and false may stand alone."""
+        """Consumes a comparison, BETWEEN, IN or IS NULL, and returns it over numbers. A column of true and false may be one
+        by itself."""
         operand = self.operand()
         if self.next().kind == "compare":
             sign = self.take().text
@@ -236,7 +237,7 @@ class Turner:
         return self.refuse("a comparison, BETWEEN, IN or IS")
 
     def condition(self) -> None:
-        """A condition over numbers, to the end of the statement."""
+        """Translates a condition, up to the end of the statement."""
         while self.next().kind != "end":
             if self.takes("IS"):
                 self.out += ["IS", self.takes("NOT"), self.wants("TRUE", "FALSE", "UNKNOWN")]
@@ -246,7 +247,7 @@ class Turner:
                 self.out.append(self.predicate())
 
     def items(self) -> None:
-        """The items of the statement, to FROM."""
+        """Translates the items of the statement, up to FROM."""
         while self.next().text != "FROM" or self.next().kind != "key":
             if self.next().kind == "end":
                 self.refuse("FROM")
@@ -259,7 +260,7 @@ class Turner:
             self.out.append(column.name)
 
     def statement(self) -> str:
-        """The whole statement over numbers."""
+        """Returns the whole statement over numbers."""
         self.out.append(self.wants("SELECT"))
         self.items()
         self.out.append(self.wants("FROM"))
@@ -277,12 +278,12 @@ class Turner:
 
 
 def turned(statement: str, columns: list[Column], table: str | None = None) -> str:
-    """The statement over the numbers of a table's columns."""
+    """Returns the statement over the numbers of a table's columns."""
     return Turner(statement, columns, table).statement()
 
 
 def statements_in(lines: Iterable[str]) -> Iterator[str]:
-    """The statements of lines, each of which ends with a semicolon, an empty line or the last line."""
+    """Yields the statements in these lines, each of which ends with a semicolon, an empty line or the last line."""
     text, quote = "", ""
     for line in lines:
         at = 0
@@ -304,7 +305,7 @@ def statements_in(lines: Iterable[str]) -> Iterator[str]:
 
 
 def is_empty(statement: str) -> bool:
-    """Whether a statement has nothing but comments, blanks and a semicolon."""
+    """Returns whether a statement has nothing but comments, blanks and a semicolon."""
     try:
         return all(piece.text == ";" for piece in pieces_of(statement))
     except Refused:

@@ -1,4 +1,4 @@
-"""Writes the numbers of a file's fields, says what was done with each column, and puts files into their places."""
+"""Writes the numbers of a file's fields, reports what was done with each column, and moves files into place."""
 from __future__ import annotations
 
 import argparse
@@ -26,8 +26,8 @@ CHUNKS_A_PART = 16
 
 
 class Numbers:
-    """The numbers of a column's fields: how they are written, the least and the greatest, and how many fields won't come back
-    as they stand."""
+    """The numbers of a column's fields: how they are written, the minimum and the maximum, and how many fields aren't
+    restored exactly."""
 
     def __init__(self, kind: Whole, null: str) -> None:
         self.kind, self.null, self.digits = kind, null, getattr(kind, "digits", 0)
@@ -41,18 +41,18 @@ class Numbers:
         return self.changed, self.least, self.greatest
 
     def add(self, changed: int, least: int | None, greatest: int | None) -> None:
-        """Takes what another process counted into account."""
+        """Adds what another process counted."""
         self.changed += changed
         if least is not None:
             self.widen(least, greatest)
 
     def ends(self) -> list[str]:
-        """The texts of the least and of the greatest number."""
+        """Returns the texts of the minimum and of the maximum."""
         return [] if self.least is None else [self.kind.text(self.least), self.kind.text(self.greatest)]
 
 
 class Kept(Numbers):
-    """Those of fields that were kept."""
+    """The numbers of fields that were stored."""
 
     def __init__(self, kind: Whole, null: str, seen: Seen) -> None:
         Numbers.__init__(self, kind, null)
@@ -73,7 +73,7 @@ class Kept(Numbers):
                     self.odd.add(code)
 
     def written(self, kept: Coded | Numbered) -> list[str]:
-        """What is written for fields that were kept."""
+        """Returns what is written for stored fields."""
         numbers = keeping.values_of(kept)
         if isinstance(kept, keeping.Coded):
             self.changed += sum(map(self.odd.__contains__, numbers)) if self.odd else 0
@@ -85,7 +85,8 @@ class Kept(Numbers):
 
 
 class Again(Numbers):
-    """Those of fields that are read again: the texts that were met, or all of a column of texts, and what is written for them."""
+    """The numbers of fields that are read again: the texts that were met, or all of a column of texts, and what is written
+    for them."""
 
     def __init__(self, kind: Whole, null: str, heading: str, nulls: Iterable[str]) -> None:
         Numbers.__init__(self, kind, null)
@@ -101,7 +102,7 @@ class Again(Numbers):
         self.odd, self.known = set(), dict(self.nulls)
 
     def written(self, fields: Sequence[str]) -> list[str]:
-        """What is written for the fields of some rows."""
+        """Returns what is written for the fields of some rows."""
         for text in set(fields).difference(self.known):
             self.learn(text)
         self.changed += sum(map(self.odd.__contains__, fields)) if self.odd else 0
@@ -113,7 +114,7 @@ class Again(Numbers):
     def learn(self, text: str) -> None:
         number = None if self.kind.name == "texts" else self.kind.number(text)
         if number is None:
-            raise Refused(f"column {shown(self.heading)} holds {shown(text)}: the file has changed while it was read")
+            raise Refused(f"column {shown(self.heading)} has {shown(text)}: the file changed while it was read")
         if self.kind.text(number) != text:
             self.odd.add(text)
         self.known[text] = str(number)
@@ -143,7 +144,7 @@ class Table:
         return any(seen.is_read_again for seen in self.seen)
 
     def chunks(self, first: int = 0, end: int | None = None) -> Iterator[list[list[str]]]:
-        """The columns of what is written for many rows at a time: for all, or for a part of those that were kept."""
+        """Yields the columns of what is written, for many rows at a time: for all rows, or for a part of the stored ones."""
         again = self.source.chunks() if self.is_read_again else itertools.repeat(None)
         for kept, chunk in zip(self.store.between(first, self.store.count if end is None else end), again):
             found = [each.written(chunk.columns[place] if isinstance(each, Again) else kept[place])
@@ -153,10 +154,10 @@ class Table:
             yield found
 
     def refuse_changed(self) -> NoReturn:
-        raise Refused(f"{self.source.path}: the file has changed while it was read")
+        raise Refused(f"{self.source.path}: the file changed while it was read")
 
     def write(self, path: str | os.PathLike[str]) -> None:
-        """Writes the numbers of all rows, for one table: a part in each of some processes, if there are many rows."""
+        """Writes the numbers of all rows, for one table. If there are many rows, several processes write a part each."""
         parts = 1 if self.is_read_again else min(processes.processors(), self.store.count // CHUNKS_A_PART) or 1
         ends = [self.store.count * part // parts for part in range(parts + 1)]
 
@@ -177,7 +178,8 @@ class Table:
         self.finish()
 
     def write_to(self, out: Any, most_bytes: int = sys.maxsize) -> None:
-        """Writes the numbers of all rows: the heading at once, and then whole lines. Refuses those of more bytes."""
+        """Writes the numbers of all rows: the heading first, and then complete lines. Rejects more bytes than
+        `most_bytes`."""
         self.write_rows(out, self.heading(), 0, self.store.count, most_bytes)
         self.finish()
 
@@ -198,18 +200,18 @@ class Table:
 
     def refuse_long(self, size: int, most_bytes: int) -> None:
         if size > most_bytes:
-            raise Refused(f"{self.source.path}: its numbers would be more than 1 GiB of CSV, which is the most that is "
-                          "loaded; tools/shards loads more")
+            raise Refused(f"{self.source.path}: its numbers take more than 1 GiB of CSV, the limit of a load: "
+                          "use tools/shards")
 
     def finish(self) -> None:
-        """Refuses a file that has changed, and says the ends of each column."""
+        """Rejects a file that has changed, and sets the minimum and the maximum of each column."""
         if self.rows != self.source.count or self.marks != self.source.marks():
             self.refuse_changed()
         for column, each in zip(self.columns, self.written):
             column.ends = each.ends()
 
     def report(self) -> None:
-        """Prints what was done with each column, a line each."""
+        """Prints what was done with each column, one line each."""
         lines = [("COLUMN", "HEADING", "WHAT IT IS", "FROM", "TO", "NULLS", "NOTES")]
         for column, seen, each in zip(self.columns, self.seen, self.written):
             ends = [shown(end)[1:-1] for end in column.ends] or ["", ""]
@@ -221,12 +223,12 @@ class Table:
         for line in lines:
             print("  ".join(cell.ljust(width) for cell, width in zip(line, widths) if width).rstrip())
         source = self.source
-        print(f"{counted(source.count, 'row')}, parted by {source.separator!r}, in {source.encoding.removesuffix('-sig')}"
-              + (f"; {counted(source.empty, 'empty line')} left out" if source.empty else ""))
+        print(f"{counted(source.count, 'row')}, separated by {source.separator!r}, in {source.encoding.removesuffix('-sig')}"
+              + (f"; {counted(source.empty, 'empty line')} skipped" if source.empty else ""))
 
 
 def notes(column: Column, seen: Seen, changed: int) -> str:
-    """What has to be known of a column: why it's one of texts, and what doesn't come back as it stood."""
+    """Returns the notes on a column: why it is one of texts, and what isn't restored exactly."""
     found = [f"texts: {column.why}"] if column.why else []
     words = [(word, count) for word, count in seen.nulls.items() if word not in column.nulls]
     found += [f"{shown(word)} is a text in {counted(count, 'field')}, and null by --null {word}" for word, count in words]
@@ -236,24 +238,24 @@ def notes(column: Column, seen: Seen, changed: int) -> str:
 
 
 def refuse_target(path: str | os.PathLike[str], sources: Iterable[str | os.PathLike[str]]) -> None:
-    """Refuses a file to write that is there and isn't a regular file, or is one of those that are read."""
+    """Rejects a target that exists and isn't a regular file, or is one of the files to read."""
     try:
         mode = os.lstat(path).st_mode
     except FileNotFoundError:
         return
     if not stat.S_ISREG(mode):
         what = {stat.S_IFDIR: "a folder", stat.S_IFLNK: "a symlink", stat.S_IFIFO: "a FIFO", stat.S_IFSOCK: "a socket"}
-        raise Refused(f"{path} would be written over, and is {what.get(stat.S_IFMT(mode), 'a device')}")
+        raise Refused(f"{path} can't be overwritten: it is {what.get(stat.S_IFMT(mode), 'a device')}")
     if any(os.path.exists(source) and os.path.samefile(path, source) for source in sources):
-        raise Refused(f"{path} would be written over, and is the file to read")
+        raise Refused(f"{path} can't be overwritten: it is the file to read")
 
 
 @contextlib.contextmanager
 def new_folder(beside: str | os.PathLike[str]) -> Iterator[pathlib.Path]:
-    """A new folder beside a file to write, which is gone at the end."""
+    """Makes a folder beside a file to write, which is removed at the end."""
     parent = pathlib.Path(beside).parent
     if not parent.is_dir():
-        raise Refused(f"{parent} is no folder")
+        raise Refused(f"{parent} isn't a folder")
     with tempfile.TemporaryDirectory(dir=parent, prefix=".bw-") as name:
         yield pathlib.Path(name)
 

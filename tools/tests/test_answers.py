@@ -35,13 +35,13 @@ class Answers(unittest.TestCase):
         self.assertEqual(back('n,city\r\n"5","2"\r\n'), 'n,city\n5,"x,y"\n')
 
     def test_refused(self):
-        for answer, wanted in [("", "the answer is empty"), ("other\n1\n", "a column other, which the file of columns doesn't say"),
-                               ("SUM(day)\n1\n", "SUM(day): day holds dates"),
-                               ("n,day\n1,2\n3\n", "line 3 of the answer has 1 field"),
-                               ("city\n0\n3\n", "line 3 of the answer: 3 is no number of the column city"),
-                               ("day\nx\n", "line 2 of the answer: x is no number of the column day"),
-                               ("n\n1\n\n", "line 3 of the answer"),
-                               ('n\n"1\n2"\n', "is no number of the column n")]:
+        for answer, wanted in [("", "the result is empty"), ("other\n1\n", "a column other, which isn't in the columns file"),
+                               ("SUM(day)\n1\n", "SUM(day): day has dates"),
+                               ("n,day\n1,2\n3\n", "line 3 of the result has 1 field"),
+                               ("city\n0\n3\n", "line 3 of the result: 3 isn't a number of column city"),
+                               ("day\nx\n", "line 2 of the result: x isn't a number of column day"),
+                               ("n\n1\n\n", "line 3 of the result"),
+                               ('n\n"1\n2"\n', "isn't a number of column n")]:
             with self.subTest(answer), self.assertRaises(Refused) as refused:
                 back(answer)
             self.assertIn(wanted, str(refused.exception))
@@ -50,7 +50,7 @@ class Answers(unittest.TestCase):
         was, answers.CHARACTERS_AT_ONCE = answers.CHARACTERS_AT_ONCE, 4
         try:
             self.assertEqual(back("day\n" + "19844\n0\nNULL\n" * 5), "day\n" + '2024-05-01\n1970-01-01\n""\n' * 5)
-            with self.assertRaisesRegex(Refused, "line 7 of the answer: x is"):
+            with self.assertRaisesRegex(Refused, "line 7 of the result: x is"):
                 back("day\n1\n2\n3\n4\n5\nx\n")
         finally:
             answers.CHARACTERS_AT_ONCE = was

@@ -39,7 +39,7 @@ class Kinds(unittest.TestCase):
     def test_nulls(self):
         self.assertEqual(kind("", "NA", "5", "-"), ("whole", {}))
         self.assertEqual(kind("", ""), ("nulls", {}))
-        self.assertEqual(kind("NA", ""), "nothing but 'NA' and words like it")
+        self.assertEqual(kind("NA", ""), "only 'NA' and similar words")
         self.assertEqual(kind("NA", words=("--null", "NA")), ("nulls", {}))
 
     def test_why_texts(self):
@@ -47,8 +47,8 @@ class Kinds(unittest.TestCase):
             table = table_of(b"a\n1\nx\n")
             self.assertEqual((table.columns[0].why, table.columns[0].kind.texts),
                              ("line 3: 'x' is of another kind than '1' in line 2", ["1", "x"]))
-        for data, wanted in [(b"a\n007\n", "line 2: '007' has zeros in front; --number reads such fields as numbers"),
-                             (b"a\n99999999999999999999\n", "line 2: '99999999999999999999' is past 64 bits"),
+        for data, wanted in [(b"a\n007\n", "line 2: '007' has leading zeros; --number reads such fields as numbers"),
+                             (b"a\n99999999999999999999\n", "line 2: '99999999999999999999' doesn't fit 64 bits"),
                              (b"a;b\n1.234;1\n1,5;2\n", "line 3: '1,5' has another decimal sign than '1.234' in line 2"),
                              (b"a;b\n1,234;1\n", "'1,234' may be 1234 or 1.234; --number reads the second"),
                              (b"a\n-9223372036854775808\n0\n", "its numbers are too far apart for 64 bits"),
@@ -60,17 +60,17 @@ class Kinds(unittest.TestCase):
 
     def test_by_options(self):
         self.assertEqual(kind("007", words=("--number", "a")), ("whole", {}))
-        self.assertEqual(kind("1", words=("--text", "a")), "as --text says")
+        self.assertEqual(kind("1", words=("--text", "a")), "by --text")
         self.assertEqual(kind("01/02/2024", words=("--date", "a=%d/%m/%Y")), ("dates", {"format": "%d/%m/%Y"}))
-        self.assertEqual(kind("1.5", "2.50", words=("--keep-spelling",)), "one of its fields wouldn't come back as it stands")
-        self.assertEqual(kind("+1", words=("--keep-spelling",)), "'+1' wouldn't come back as it stands")
+        self.assertEqual(kind("1.5", "2.50", words=("--keep-spelling",)), "one of its fields wouldn't be restored exactly")
+        self.assertEqual(kind("+1", words=("--keep-spelling",)), "'+1' wouldn't be restored exactly")
         for data, words in [(b"a\nx\n", ("--number", "a")), (b"a\n1\n", ("--number", "b")), (b"a\nx\n", ("--date", "a=%Y-%m-%d"))]:
             with self.subTest(words), self.assertRaises(Refused):
                 table_of(data, *words)
 
     def test_a_heading_like_its_rows_is_refused(self):
         for data in (b"1\n2\n", b"2024-05-01\n2024-05-02\n", b"01\n02\n"):
-            with self.subTest(data), self.assertRaisesRegex(Refused, "say --heading"):
+            with self.subTest(data), self.assertRaisesRegex(Refused, "use --heading"):
                 table_of(data)
             table_of(data, "--heading")
             table_of(data, "--no-heading")

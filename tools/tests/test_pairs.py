@@ -46,14 +46,14 @@ class Pairs(unittest.TestCase):
 
     def test_no_file_of_columns(self):
         self.columns.unlink()
-        with self.assertRaisesRegex(Refused, "isn't there, and says what the numbers of"):
+        with self.assertRaisesRegex(Refused, "is missing, which says what the numbers of"):
             self.meanings()
 
     def test_files_of_other_forms(self):
         for text in ["", "[]", "{}", '{"bw columns": 2, "table": null, "columns": []}', '{"bw columns": 1, "table": null}',
                      '{"bw columns": 1, "table": null, "columns": [{"name": "a"}]}', "\ud800"]:
             self.columns.write_bytes(text.encode("utf-8", "surrogatepass"))
-            with self.subTest(text), self.assertRaisesRegex(Refused, "is no file of columns"):
+            with self.subTest(text), self.assertRaisesRegex(Refused, "is not a columns file"):
                 self.meanings()
 
     def test_columns_of_no_table(self):

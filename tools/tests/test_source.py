@@ -100,11 +100,11 @@ class Files(unittest.TestCase):
     def test_refused(self):
         for data, wanted in [(b"", "there is no heading"), (b"a,b\n1,2\n3\n", "line 3 has 1 field, and the heading has 2"),
                              (b'a,b\n1,2\n3,"x"y\n', "line 3: "), (b'a,b\n1,"\n2\n', "line 2: unexpected end of data"),
-                             (b"a\n1\n\xff\n", "line 3, byte 1 of it, isn't utf-8"),
-                             (b",".join([b"a"] * 65), "65 columns, and a table"),
-                             (b"a\0\n", "begins as no UTF-8 text does")]:
+                             (b"a\n1\n\xff\n", "line 3, byte 1 isn't utf-8"),
+                             (b",".join([b"a"] * 65), "65 columns: a table"),
+                             (b"a\0\n", "doesn't begin as UTF-8 text")]:
             with self.subTest(data[:20]), self.assertRaises(Refused) as refused:
                 columns_of(data)
             self.assertIn(wanted, str(refused.exception))
-        with self.assertRaisesRegex(Refused, "there is no encoding none"):
+        with self.assertRaisesRegex(Refused, "unknown encoding none"):
             columns_of(b"a\n", "--encoding", "none")

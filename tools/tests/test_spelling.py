@@ -31,7 +31,7 @@ class Numbers(unittest.TestCase):
         self.assertEqual(number_of("1e19"), (None, " has more than 18 digits"))
         self.assertEqual(number_of("1e-19"), (None, " has more than 18 digits"))
         self.assertEqual(self.value("1e17"), (10 ** 17, 0))
-        self.assertEqual(number_of("1" * 101), (None, " is past 64 bits"))
+        self.assertEqual(number_of("1" * 101), (None, " doesn't fit 64 bits"))
 
     def test_plain_is_what_comes_back(self):
         plain = ["0", "-5", "10", "1.50", "0.0", "-0.5", "1,5"]

@@ -55,13 +55,13 @@ class Conditions(unittest.TestCase):
 
     def test_refused(self):
         for condition, wanted in [
-                ("n = 'x'", "'x' can't be compared with n: n holds whole numbers from 1 to 9"),
-                ("city = 5", "5 can't be compared with city: city holds texts"),
-                ("day = 5", "5 can't be compared with day"), ("city = '-'", "'-' is null in city: ask for city IS NULL"),
+                ("n = 'x'", "'x' can't be compared with n: n has whole numbers from 1 to 9"),
+                ("city = 5", "5 can't be compared with city: city has texts"),
+                ("day = 5", "5 can't be compared with day"), ("city = '-'", "'-' is null in city: use city IS NULL"),
                 ("price = n", "price and n can't be compared"), ("5 = 'x'", "5 and 'x' can't be compared"),
                 ("nothing = 5", "there is no column nothing; there are n, price"), ("n LIKE 5", "LIKE"),
                                   ("n =", "a column or a literal"),
-                ("n", "a comparison"), ("n = 5 # so", "begins no word")]:
+                ("n", "a comparison"), ("n = 5 # so", "unexpected")]:
             with self.subTest(condition), self.assertRaises(Refused) as refused:
                 where(condition)
             self.assertIn(wanted, str(refused.exception))
@@ -73,16 +73,16 @@ class Statements(unittest.TestCase):
                          "SELECT COUNT ( * ) , SUM ( price ) , MAX ( day ) FROM T ;")
 
     def test_refused(self):
-        for statement, wanted in [("SELECT SUM(day) FROM t", "SUM(day): day holds dates"),
+        for statement, wanted in [("SELECT SUM(day) FROM t", "SUM(day): day has dates"),
                                   ("SELECT n FROM u", "there is no table u"),
-                                  ("SELECT SUM(city) FROM t", "a sum of texts means nothing"), ("SELECT n", "FROM")]:
+                                  ("SELECT SUM(city) FROM t", "can't be summed"), ("SELECT n", "FROM")]:
             with self.subTest(statement), self.assertRaises(Refused) as refused:
                 statements.turned(statement, COLUMNS, "t")
             self.assertIn(wanted, str(refused.exception))
 
     def test_headings_that_are_alike(self):
         columns = [Column("a", "x y", kinds.Whole()), Column("b", "x y", kinds.Whole())]
-        with self.assertRaisesRegex(Refused, "2 columns are headed \"x y\": say a or b"):
+        with self.assertRaisesRegex(Refused, "2 columns have the heading \"x y\": use a or b"):
             statements.turned('SELECT "x y" FROM t', columns)
 
     def test_places_of_numbers(self):

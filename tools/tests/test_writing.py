@@ -49,7 +49,7 @@ class Tables(unittest.TestCase):
                                          "                     spelling changed in 2 fields, values kept\n"
                                          "b                texts as places among 2  NA    x     1 null as nothing  "
                                          "texts: line 2: 'x'; 'NA' is a text in 1 field, and null by --null NA\n"
-                                         "3 rows, parted by ',', in utf-8\n")
+                                         "3 rows, separated by ',', in utf-8\n")
 
     def test_changed_spelling_is_counted_alike(self):
         fields = ["1.5", "2.25", "3", "4.10", "+5.00"]
@@ -66,7 +66,7 @@ class Tables(unittest.TestCase):
             path.write_bytes(b"a\n1\n")
             table = writing.Table(str(path), options())
             path.write_bytes(b"a\n1\n2\n")
-            with self.assertRaisesRegex(Refused, "the file has changed while it was read"):
+            with self.assertRaisesRegex(Refused, "the file changed while it was read"):
                 table.write(os.devnull)
 
     def test_too_much_is_refused(self):
@@ -109,7 +109,7 @@ class Files(unittest.TestCase):
         with writing.new_folder(self.folder / "out") as folder:
             self.assertEqual(folder.parent, self.folder)
         self.assertFalse(folder.exists())
-        with self.assertRaisesRegex(Refused, "is no folder"), writing.new_folder(self.folder / "no" / "out"):
+        with self.assertRaisesRegex(Refused, "isn't a folder"), writing.new_folder(self.folder / "no" / "out"):
             pass
 
 
