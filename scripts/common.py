@@ -1,7 +1,8 @@
-"""What the scripts that run the built program share: which program that is, the calls that a page has, and the last line.
+"""The parts that the scripts share which run the built program: which program that is, the calls of a page, and the last
+line.
 
-A page is Markdown. In its blocks, indented by four spaces, a line that begins with `$ ` is run by sh, lines that begin with
-`> ` go on with it, and the others are what it prints; an empty line ends a block. `cases/README.md` has tables too."""
+A page is Markdown. In its blocks, indented by four spaces, sh runs a line that begins with `$ `, which lines that begin with
+`> ` continue; the other lines are its output. An empty line ends a block. `cases/README.md` describes tables too."""
 import collections
 import contextlib
 import os

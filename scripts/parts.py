@@ -1,4 +1,4 @@
-"""What ./check is made of: parts, which are commands whose last line counts what passed, and a tally of them all."""
+"""The parts of ./check, which are commands whose last line has the counts of tests, and their tally."""
 import concurrent.futures
 import os
 import pathlib
