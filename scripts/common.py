@@ -30,7 +30,8 @@ except OSError:
 
 
 def program(path=None):
-    """The program to run: the one of this path, or of the environment variable BW, or the one that ./bw runs."""
+    """Returns the program to run: the one of this path, else that of the environment variable BW, else the one that ./bw
+    runs."""
     path = path or os.environ.get("BW")
     if not path:
         path = subprocess.run([ROOT / "bw", "--where"], stdout=subprocess.PIPE, text=True, check=False).stdout.strip()
@@ -43,7 +44,8 @@ def program(path=None):
 
 @contextlib.contextmanager
 def new_folder(bw):
-    """A new folder with the examples, the cases, the scripts and the tools, and with `bin`, in which `bw` is the program."""
+    """Makes a new folder with the examples, the cases, the scripts and the tools, and with `bin`, in which `bw` is the
+    program."""
     with tempfile.TemporaryDirectory() as name:
         folder = pathlib.Path(name)
         (folder / "bin").mkdir()
@@ -54,7 +56,7 @@ def new_folder(bw):
 
 
 def sh(command, folder, seconds=60, **names):
-    """A run of a command by sh in a folder, with the program on the path: its output, its errors, and its status."""
+    """Runs a command by sh in a folder, with the program on the PATH. Returns its output, its errors, and its status."""
     path = f"{folder / 'bin'}:{os.environ.get('PATH', os.defpath)}"
     names = {**os.environ, **names, "PATH": path, "LC_ALL": "C"}
     done = subprocess.run(["timeout", str(seconds), "sh", "-c", command], cwd=folder, env=names, stdin=subprocess.DEVNULL,
@@ -69,20 +71,21 @@ def lines(text):
 
 
 def came(done):
-    """What a run printed, first on standard output and then on standard error, and its status where that doesn't tell it."""
+    """Returns what a run printed, first on standard output and then on standard error, and its status if the output doesn't
+    show it."""
     printed = lines(done.stdout) + lines(done.stderr)
     return printed + ([] if done.returncode == status_of(printed) else [f"(status {done.returncode})"])
 
 
 def status_of(printed):
-    """The status that printed lines tell: that of the fault among them, or 0."""
+    """Returns the status that printed lines show: that of the error among them, or 0."""
     faults = [line for line in printed if re.match(r"bw: [1-8]\d\d ", line)]
     return STATUS[faults[0][4]] if faults else 0
 
 
 def misplaced(done):
-    """The lines that stand on the wrong stream: results and the version go to standard output, faults, what `--stats` tells
-    and what is said of a command line that is no use to standard error."""
+    """Returns the lines that are on the wrong stream. Results and the version belong on standard output; errors, `--stats`
+    lines and messages on wrong arguments on standard error."""
     usage = done.returncode == 2
     is_error = [usage or re.match(r"bw: \d{3} |served ", line) is not None for line in lines(done.stdout)]
     wrong = [line for line, error in zip(lines(done.stdout), is_error) if error]
@@ -90,12 +93,13 @@ def misplaced(done):
 
 
 def quoted(cell, before):
-    """A cell in a command, after this text of the command: in its single quotes, or in quotes of its own."""
+    """Returns a cell for a command, after this text of the command: within its single quotes, or in quotes of its own."""
     return cell.replace("'", "'\\''") if before.count("'") % 2 else shlex.quote(cell)
 
 
 def filled(template, given):
-    """A table's command for a row: `…` stands for the first cell that is given to it, and `…2` for the second."""
+    """Returns a table's command for a row: `…` is replaced by the first cell that the command gets, and `…2` by the
+    second."""
     return re.sub(r"…(\d?)", lambda place: quoted(given[int(place.group(1) or 1) - 1], template[:place.start()]), template)
 
 
@@ -105,12 +109,12 @@ def cells_of(line):
 
 
 def plain(cell):
-    """A cell without the backticks round it."""
+    """Returns a cell without the backticks around it."""
     return cell[1:-1] if re.fullmatch("`[^`]*`", cell) else cell
 
 
 def told(cell):
-    """The lines that a cell says are printed: they are parted by strokes, and a fault's line begins with its number."""
+    """Returns the lines of output in a cell, which strokes separate; the line of an error begins with its number."""
     text, status = re.fullmatch(r"(.*?) ?(\(status \d+\))?", cell).groups()
     found = [] if text in ("", "nothing") else plain(text).split("/")
     found = [f"bw: {line}" if re.match(r"[1-8]\d\d [a-z]", line) else line for line in found]
@@ -118,8 +122,8 @@ def told(cell):
 
 
 def calls(page):
-    """The calls of a page, in its order. A table's first cell has the commands that are run for each row; a column `prints`
-    says what each of them prints, a column `why` is for the reader, and the others are given to the commands."""
+    """Yields the calls of a page, in its order. A table's first cell has the commands that are run for each row. A column
+    `prints` has the output of each, a column `why` is for the reader, and the commands get the others."""
     found, section, block, call, table = [], "", 0, None, None
     for number, line in enumerate(page.read_text(encoding="utf-8").splitlines(), 1):
         if line.startswith("##"):
@@ -152,11 +156,11 @@ def calls(page):
 
 
 def skip(what, install):
-    """Says that something can't be tried here, and what to install so that it can."""
+    """Prints that something can't be tested here, and what to install for it."""
     print(f"skipped: {what}: install {install}")
 
 
 def ended(name, passed, failed, skipped=0):
-    """Prints a script's last line, and gives its status."""
+    """Prints a script's last line, and returns its status."""
     print(f"{name}: {passed} passed, {failed} failed" + (f", {skipped} skipped" if skipped else ""))
     return 1 if failed else 0

@@ -17,7 +17,7 @@ def libraries():
 
 
 def below(name, named):
-    """A crate and all that it stands on."""
+    """Returns a crate and all libraries that it uses, directly or not."""
     found = {name}
     for each in named[name]:
         found |= below(each, named)
@@ -31,7 +31,7 @@ def cost(name):
 
 
 def link(source, target):
-    """Has a file under a second name, or a copy of it where that can't be."""
+    """Gives a file a second name, or copies it if that is impossible."""
     try:
         os.link(source, target)
     except OSError:
@@ -39,7 +39,7 @@ def link(source, target):
 
 
 def furnish(room, name, named):
-    """Puts into a folder what it takes to prove a crate there."""
+    """Fills a folder with what is needed to prove a crate there."""
     crates = sorted(below(name, named))
     listed = dict(line.split(":", 1) for line in (ROOT / "crates.txt").read_text(encoding="utf-8").splitlines() if ":" in line)
     (room / "crates.txt").write_text("".join(f"{each}:{listed[each]}\n" for each in crates), encoding="utf-8")

@@ -11,15 +11,15 @@ COUNTS = re.compile(r"^(?:[\w-]+: )?(\d+) passed, (\d+) failed(?:, (\d+) skipped
 
 
 class Part:
-    """A command and, once it has run, its numbers of passed, failed and skipped tests, as its last line says them; its other
-    lines; its status; and the seconds that it took, of the clock and of processors."""
+    """A command and, once it has run, its numbers of passed, failed and skipped tests, by its last line; its other lines; its
+    status; and the seconds that it took, of the clock and of processors."""
 
     def __init__(self, words):
         self.words, self.counts, self.lines = words, (0, 0, 0), []
 
     def run(self, started=None, show=None):
-        """Runs the command. `started` gets the number of its process, and `show` each line as it comes; without it the lines
-        are kept."""
+        """Runs the command. `started` gets the number of its process, and `show` each line as it comes; without `show` the
+        lines are stored."""
         begun = time.monotonic()
         with subprocess.Popen(self.words, cwd=ROOT, stdin=subprocess.DEVNULL, stdout=subprocess.PIPE, stderr=subprocess.STDOUT,
                               text=True, errors="replace") as process:
@@ -68,8 +68,8 @@ class Tally:
         self.add(name, Part(words).run(show=lambda line: print(line, end="", flush=True)))
 
     def run_beside(self, parts, lanes):
-        """Runs parts side by side, each a name and its words, and counts them in their order. Shows all that a part said if it
-        failed, and else which of its tests it skipped."""
+        """Runs parts side by side, each a name and its arguments, and counts them in their order. If a part failed, shows its
+        whole output, else only the tests that it skipped."""
         with concurrent.futures.ThreadPoolExecutor(lanes) as pool:
             for name, running in [(name, pool.submit(Part(words).run)) for name, words in parts]:
                 part = running.result()
@@ -77,7 +77,7 @@ class Tally:
                 self.add(name, part)
 
     def end(self):
-        """Prints what failed, and the last line; gives the status."""
+        """Prints what failed, and the last line. Returns the status."""
         if self.names:
             print(f"FAILED: {', '.join(self.names)}")
         left = f", {self.skipped} skipped" if self.skipped else ""

@@ -30,7 +30,8 @@ def processes():
 
 
 def kind_of(process):
-    """What a process of `rt ci` does, over which crate, and in which folder; None if it's no check of the prover."""
+    """Returns what a process of `rt ci` does, for which crate, and in which folder, or None if it isn't a check of the
+    prover."""
     try:
         with open(f"/proc/{process}/cmdline", "rb") as file:
             words = file.read().decode(errors="replace").split("\0")
@@ -44,7 +45,7 @@ def kind_of(process):
 
 
 class Progress:
-    """What is known of a run of `rt ci` in this repository."""
+    """The state of a run of `rt ci` in this repository."""
 
     def __init__(self, log):
         self.log, self.block, self.begun = log, [], time.monotonic()
@@ -62,7 +63,7 @@ class Progress:
         self.watch.start()
 
     def take(self, line):
-        """Takes a line of `rt ci`, which prints in one piece what the prover said of a crate, from `== NAME` to the verdict.
+        """Reads a line of `rt ci`, which prints the prover's output for a crate in one piece, from `== NAME` to the verdict.
         Writes each line to the log. Shows the verdict, and the rest of the piece if the crate isn't proved."""
         self.log.write(line)
         verdict = ENDED.match(line)
@@ -78,7 +79,7 @@ class Progress:
             self.block = []
 
     def keep_watch(self):
-        """Looks at the processes until the end, and says how far they are."""
+        """Inspects the processes until the end, and prints the progress."""
         said = last = time.monotonic()
         while not self.ended.wait(STEP):
             now = time.monotonic()
@@ -89,7 +90,7 @@ class Progress:
                 print(f"-- {self.far()}", flush=True)
 
     def look(self, seconds):
-        """Adds what each process below the watched one has worked, and the seconds since the last look to each kind at work."""
+        """Adds the work of each process below the watched one, and to each kind at work the seconds since the last look."""
         alive = processes()
         below, seen = {}, [self.top]
         for process, (parent, _, _) in alive.items():
@@ -116,8 +117,8 @@ class Progress:
             self.lasted[kind] += seconds
 
     def far(self):
-        """How far the run is. An edit counts once it is begun. After a crate's edits the crate itself is checked once more, which
-        counts as none of them."""
+        """Returns the progress of the run. An edit counts once it is begun. After a crate's edits the crate itself is checked
+        once more, which doesn't count as one."""
         tried = sum(min(len(rooms), self.edits.get(name, 0)) for name, rooms in self.rooms.items())
         now = ", ".join(sorted(f"{crate}{'' if kind == 'proofs' else f' ({kind})'}" for crate, kind in self.working))
         return (f"{(time.monotonic() - self.begun) / 60:.0f} min: {len(self.proved)} of {self.crates} crates proved, "
