@@ -1,4 +1,5 @@
-//! The least and the greatest of the codes in some lanes: one code after the other where these are few.
+//! The minimum and the maximum of the codes in some lanes; if the lanes are few, one code after the
+//! other.
 ghost use Rattle.std.specs.Prelude.{All, ◌≡◌, ◌^◌, ◌<◌, ◌≤◌, length, max, min, IfSome, if◌then◌else◌};
 ghost use Rattle.std.specs.List.{reduce};
 ghost use Rattle.bw_lanes.specs.Lanes.{lanes_of_words};
@@ -7,11 +8,10 @@ ghost use Rattle.bw_model.specs.Selection.{picked};
 use crate::layout::CodeLayout;
 use bw_lanes::{LANES, Selection, count, last_between};
 
-/// Up to how many rows the least and the greatest code are found one row after the other, in place of over all 512
-/// lanes.
+/// If there are at most this many lanes, their codes are read one by one.
 const FEW: u32 = 4;
 
-/// The least of the codes in some lanes; none where there are no lanes.
+/// Returns the minimum of the codes in some lanes, or None if there are no lanes.
 pub(crate) fn least_in<L: CodeLayout>(width: u32, bytes: &[u8], lanes: &Selection) -> Option<u64>
     requires width { (1 ≤ width) × (width ≤ 63) }
     requires size { length bytes.now ≡ L.packing.size width }
@@ -27,7 +27,7 @@ pub(crate) fn least_in<L: CodeLayout>(width: u32, bytes: &[u8], lanes: &Selectio
     }
 }
 
-/// The greatest of these codes.
+/// Returns the maximum of these codes, or None if there are no lanes.
 pub(crate) fn greatest_in<L: CodeLayout>(width: u32, bytes: &[u8], lanes: &Selection) -> Option<u64>
     requires width { (1 ≤ width) × (width ≤ 63) }
     requires size { length bytes.now ≡ L.packing.size width }
@@ -43,7 +43,7 @@ pub(crate) fn greatest_in<L: CodeLayout>(width: u32, bytes: &[u8], lanes: &Selec
     }
 }
 
-/// Returns the greatest of the codes in some lanes, or the least, from the last lane down.
+/// Returns the maximum of the codes in some lanes, or the minimum, from the last lane down.
 #[inline(always)]
 fn extreme_of_few<L: CodeLayout>(
     width: u32,
@@ -72,7 +72,7 @@ fn extreme_of_few<L: CodeLayout>(
     extreme
 }
 
-/// Returns the greater of two codes, or the smaller.
+/// Returns the greater of two codes, or the smaller one.
 #[inline(always)]
 fn extreme_of(code: u64, other: u64, greatest: bool) -> u64
     ensures { result ≡ (if greatest then max else min) code other }
