@@ -33,8 +33,8 @@ const MAX_ROWS_TO_SKIP_PARTS: usize = 10_000;
 /// takes longer to plan and to check than to look up the rows of a small table.
 const MAX_LINE_PRODUCTS: u32 = 24_000;
 
-/// More bits than those of seven columns of 63 bits.
-const MANY_BITS: u32 = 500;
+/// The bits of seven columns of 63 bits.
+const MANY_BITS: u32 = 441;
 
 /// What is known of a register: the node that it holds, whether it's needed, and whether it holds a plane
 /// as it was loaded, which may be wanted again.
