@@ -9,12 +9,13 @@ use crate::chains::Link;
 use crate::facts::Facts;
 use crate::ledger::Ledger;
 use crate::line::PlannedLine;
+use crate::nodes::Branch;
 use crate::products::Row;
 use crate::refusal::Refusal;
 use bw_cert_text::{
     Body, BodyLine, Certificate, ChainLine, EdgeProducts, EndLine, NodeLine, ProductLine,
 };
-use bw_diagram::{ChainColumns, Node, Reason};
+use bw_diagram::{ChainColumns, Reason};
 use bw_model::{Schema, code};
 use bw_program::{ColumnIndex, Instr, Program, Register, SliceIndex};
 use bw_text::{Opcode, Piece, push_line};
@@ -155,19 +156,11 @@ pub(crate) fn certificate(
 }
 
 /// The lines of nodes, from a number of a line on.
-fn node_lines(alloc: Global, nodes: &Ledger<Node>, first: u64) -> Result<Vec<NodeLine>, Refusal> {
+fn node_lines(alloc: Global, nodes: &[Branch], first: u64) -> Result<Vec<NodeLine>, Refusal> {
     let mut lines = Vec::with_capacity(alloc, nodes.len())?;
-    for number in 0..nodes.len() {
-        let Some(node) = nodes.get(number) else {
-            break;
-        };
-        lines.push(NodeLine {
-            line: first.saturating_add(number as u64),
-            n: (number as u64).saturating_add(2),
-            v: u64::from(node.v),
-            low: u64::from(node.low),
-            high: u64::from(node.high),
-        })?;
+    for node in nodes {
+        let number = lines.len() as u64;
+        lines.push(node_line(first.saturating_add(number), number, *node))?;
     }
     Ok(lines)
 }
@@ -226,6 +219,17 @@ fn body_lines(
         })?;
     }
     Ok(lines)
+}
+
+/// The line of a node.
+fn node_line(line: u64, number: u64, node: Branch) -> NodeLine {
+    NodeLine {
+        line,
+        n: number.saturating_add(2),
+        v: u64::from(node.variable),
+        low: u64::from(node.low),
+        high: u64::from(node.high),
+    }
 }
 
 /// The line of a product row.

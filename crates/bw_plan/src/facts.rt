@@ -1,11 +1,11 @@
 //! What a certificate states: nodes, chains and product rows.
 use crate::chains::{self, Link, MAX_CHAINS};
 use crate::ledger::Ledger;
-use crate::nodes::Nodes;
+use crate::nodes::{Branch, Nodes};
 use crate::order::{Ranks, VariableOrder};
 use crate::products::{self, Cited, MAX_PRODUCTS, Pending, Question, Row};
 use crate::refusal::Refusal;
-use bw_diagram::{ChainKind, Connective, Node};
+use bw_diagram::{ChainKind, Connective};
 use bw_model::{Cond, Schema};
 use bw_program::ColumnIndex;
 use std::alloc::Global;
@@ -49,7 +49,7 @@ impl<'a> Facts<'a> {
     /// How many there are so far.
     pub(crate) fn extent(&self) -> Extent {
         Extent {
-            nodes: self.nodes.ledger.len(),
+            nodes: self.nodes().len(),
             chains: self.chains.len(),
             products: self.products.len(),
         }
@@ -59,12 +59,12 @@ impl<'a> Facts<'a> {
     pub(crate) fn return_to(&mut self, extent: Extent) {
         self.products.truncate(extent.products);
         self.chains.truncate(extent.chains);
-        self.nodes.ledger.truncate(extent.nodes);
+        self.nodes.truncate(extent.nodes);
     }
 
     /// The nodes, of which the first has number 2.
-    pub(crate) fn nodes(&self) -> &Ledger<Node> {
-        &self.nodes.ledger
+    pub(crate) fn nodes(&self) -> &[Branch] {
+        self.nodes.as_slice()
     }
 
     /// The chains, of which the first has number 0.

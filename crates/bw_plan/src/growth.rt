@@ -1,5 +1,6 @@
 //! How many facts the parts of a condition take, foretold before all are joined.
 use crate::facts::{Extent, Facts};
+use crate::nodes::MAX_NODES;
 use crate::refusal::Refusal;
 
 /// Before anything is foretold, the first parts take this part of the product rows that there may be.
@@ -51,7 +52,7 @@ impl Growth {
             let early = self.early.extent;
             let nodes = self.foretold(early.nodes, now.nodes);
             let rows = self.foretold(early.products, now.products);
-            if nodes > facts.nodes().limit() || rows > limit {
+            if nodes > MAX_NODES || rows > limit {
                 return Err(Refusal::NoProgram);
             }
         }

@@ -1,9 +1,9 @@
 //! Product rows: connectives of nodes, each worked out once.
 use crate::ledger::{Entry, Ledger};
-use crate::nodes::Nodes;
+use crate::nodes::{Branch, Nodes};
 use crate::order::{Ranks, VariableOrder};
 use crate::refusal::Refusal;
-use bw_diagram::{Connective, Node};
+use bw_diagram::Connective;
 
 /// The planner works out so many product rows for a program at most. A certificate may have more, but to work them out
 /// takes longer than to look up the rows of a small table.
@@ -203,11 +203,15 @@ fn split(ranks: &Ranks, nodes: &Nodes, question: Question) -> Result<(Question, 
     let (a, b) = (nodes.get(question.a), nodes.get(question.b));
     let variable = match (a, b) {
         (Some(a), Some(b)) => {
-            let first = ranks.rank(question.order, a.v);
-            let second = ranks.rank(question.order, b.v);
-            if first <= second { a.v } else { b.v }
+            let first = ranks.rank(question.order, a.variable);
+            let second = ranks.rank(question.order, b.variable);
+            if first <= second {
+                a.variable
+            } else {
+                b.variable
+            }
         }
-        (Some(node), None) | (None, Some(node)) => node.v,
+        (Some(node), None) | (None, Some(node)) => node.variable,
         (None, None) => return Err(Refusal::NoProgram),
     };
     let (a_low, a_high) = children(a, question.a, variable);
@@ -235,9 +239,9 @@ fn split(ranks: &Ranks, nodes: &Nodes, question: Question) -> Result<(Question, 
 
 /// What a node of a number is where a variable is 0, and where it is 1: its children, if it tests that variable; else
 /// itself.
-fn children(node: Option<Node>, number: u32, variable: u32) -> (u32, u32) {
+fn children(node: Option<Branch>, number: u32, variable: u32) -> (u32, u32) {
     match node {
-        Some(node) if node.v == variable => (node.low, node.high),
+        Some(node) if node.variable == variable => (node.low, node.high),
         _ => (number, number),
     }
 }
