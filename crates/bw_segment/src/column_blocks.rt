@@ -1,4 +1,4 @@
-//! The blocks of a table's columns, of one segment after the other.
+//! The blocks of a table, stored by columns.
 ghost use Rattle.std.specs.Prelude.{◌≡◌, ◌+◌, ◌<◌, ◌≤◌, ℕ, length, IfOk, OnOk, IsOkUnless};
 ghost use Rattle.bw_device.specs.Shared.{bytes_in};
 ghost use Rattle.bw_model.specs.Fault.{no_memory};
@@ -17,7 +17,7 @@ use bw_model::Fault;
 use std::alloc::Global;
 use std::rc::Rc;
 
-/// The blocks of one column of a table, of one segment after the other, back to back.
+/// The blocks of one column, those of all segments back to back.
 #[derive(Drop)]
 pub struct ColumnBlocks {
     size: usize,
@@ -27,7 +27,8 @@ pub struct ColumnBlocks {
 impl ColumnBlocks {
     ghost use Rattle.std.specs.Prelude.{◌++◌};
 
-    /// Adds a block. Memory grows by what is added, or by a sixteenth of the bytes so far where that is more.
+    /// Adds a block. Memory grows by the block, or by a sixteenth of the bytes so far if that is
+    /// more. Errors: 801 if memory is refused.
     fn push(&mut self, block: &[u8]) -> Result<(), Fault>
         ensures size { self.new.size ≡ self.old.size }
         ensures bytes { OnOk result (self.new.bytes.items ≡ self.old.bytes.items ++ block.now) }
@@ -42,7 +43,7 @@ impl ColumnBlocks {
     }
 }
 
-/// The columns of a table in a layout, without a block.
+/// Returns the columns of a table in a layout, without a block. Errors: 801 if memory is refused.
 pub fn no_blocks<L: CodeLayout>(
     alloc: Global,
     placement: &Placement,
@@ -60,8 +61,8 @@ pub fn no_blocks<L: CodeLayout>(
     Ok(kept)
 }
 
-/// Adds the blocks of a segment, each to its column, after those of the segments before it. Where memory is refused,
-/// some columns may have a block more than others.
+/// Adds the blocks of a segment, each to its column, after those of earlier segments. Errors: 801
+/// if memory is refused; some columns may then have one block more than others.
 pub fn push_blocks<L: CodeLayout>(
     kept: &mut [ColumnBlocks],
     segment: &PackedSegment<L>,
@@ -84,7 +85,7 @@ pub fn push_blocks<L: CodeLayout>(
     Ok(())
 }
 
-/// The blocks of the segment of a number, each of which stands in its column.
+/// The blocks of one segment, by its number, each within its column.
 #[derive(Clone, Copy)]
 pub struct NumberedBlocks<'a> {
     columns: &'a [ColumnBlocks],
@@ -109,7 +110,8 @@ impl Blocks for NumberedBlocks<'_> {
 }
 
 impl<'a, L: CodeLayout> PackedSegment<L, NumberedBlocks<'a>> {
-    /// The segment of a number, of so many rows, of those whose blocks are kept in columns, each without fault.
+    /// Returns the segment of this number, which has `rows` rows. Its blocks, which are stored by
+    /// columns, must be valid.
     pub fn of_columns(
         placement: Rc<Placement>,
         rows: u32,
