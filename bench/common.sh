@@ -1,5 +1,6 @@
 # What the scripts of this folder share; they read it by `.`, with `top` set to the repository's folder. Bash 5, GNU time, gcc.
 
+# shellcheck shell=bash disable=SC2154
 # figures and clocks are read with a point
 export LC_ALL=C
 

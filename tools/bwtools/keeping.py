@@ -7,6 +7,7 @@ from __future__ import annotations
 import array
 import itertools
 import operator
+import os
 import pathlib
 import pickle
 import tempfile
@@ -96,13 +97,20 @@ class Store:
     """What is kept of many rows at a time: for each column, Coded, Numbered or None where the file is to be read again."""
 
     def __init__(self, folder: pathlib.Path | None = None) -> None:
-        self.file, self.count = tempfile.TemporaryFile(dir=folder), 0
+        self.file, self.places = tempfile.TemporaryFile(dir=folder), [0]
+
+    @property
+    def count(self) -> int:
+        return len(self.places) - 1
 
     def append(self, kept: list[Coded | Numbered | None]) -> None:
-        pickle.dump(kept, self.file, pickle.HIGHEST_PROTOCOL)
-        self.count += 1
+        self.places.append(self.places[-1] + self.file.write(pickle.dumps(kept, pickle.HIGHEST_PROTOCOL)))
+
+    def between(self, first: int, end: int) -> Iterator[list[Coded | Numbered | None]]:
+        """What was appended from one place on, up to another. It may be asked by several processes at once."""
+        self.file.flush()
+        for start, stop in zip(self.places[first:end], self.places[first + 1:end + 1]):
+            yield pickle.loads(os.pread(self.file.fileno(), stop - start, start))
 
     def __iter__(self) -> Iterator[list[Coded | Numbered | None]]:
-        self.file.seek(0)
-        for _ in range(self.count):
-            yield pickle.load(self.file)
+        return self.between(0, self.count)

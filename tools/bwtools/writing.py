@@ -6,13 +6,14 @@ import contextlib
 import itertools
 import os
 import pathlib
+import shutil
 import signal
 import stat
 import sys
 import tempfile
 from typing import Any, Iterable, Iterator, NoReturn, Sequence
 
-from . import keeping, kinds
+from . import keeping, kinds, processes
 from .deciding import MOST_KNOWN, Seen, decide, names_of, shown
 from .keeping import Coded, Numbered
 from .kinds import Column, Refused, Whole, counted
@@ -20,6 +21,8 @@ from .progress import Progress
 from .source import MOST_ROWS, Source
 
 MOST_BYTES = 1 << 30
+# a process of its own writes so many chunks of rows at least
+CHUNKS_A_PART = 16
 
 
 class Numbers:
@@ -33,6 +36,15 @@ class Numbers:
     def widen(self, *numbers: int) -> None:
         ends = [*numbers, self.least, self.greatest] if self.least is not None else numbers
         self.least, self.greatest = min(ends), max(ends)
+
+    def counts(self) -> tuple[int, int | None, int | None]:
+        return self.changed, self.least, self.greatest
+
+    def add(self, changed: int, least: int | None, greatest: int | None) -> None:
+        """Takes what another process counted into account."""
+        self.changed += changed
+        if least is not None:
+            self.widen(least, greatest)
 
     def ends(self) -> list[str]:
         """The texts of the least and of the greatest number."""
@@ -124,12 +136,16 @@ class Table:
                         Kept(column.kind, null, seen) for column, seen in zip(self.columns, self.seen)]
         for seen in self.seen:
             seen.codes = None
+        self.rows = self.source.count
 
-    def chunks(self) -> Iterator[list[list[str]]]:
-        """The columns of what is written for many rows at a time."""
-        is_read_again = any(seen.is_read_again for seen in self.seen)
-        again = self.source.chunks() if is_read_again else itertools.repeat(None)
-        for kept, chunk in zip(self.store, again):
+    @property
+    def is_read_again(self) -> bool:
+        return any(seen.is_read_again for seen in self.seen)
+
+    def chunks(self, first: int = 0, end: int | None = None) -> Iterator[list[list[str]]]:
+        """The columns of what is written for many rows at a time: for all, or for a part of those that were kept."""
+        again = self.source.chunks() if self.is_read_again else itertools.repeat(None)
+        for kept, chunk in zip(self.store.between(first, self.store.count if end is None else end), again):
             found = [each.written(chunk.columns[place] if isinstance(each, Again) else kept[place])
                      for place, each in enumerate(self.written)]
             if len(set(map(len, found))) > 1:
@@ -140,25 +156,54 @@ class Table:
         raise Refused(f"{self.source.path}: the file has changed while it was read")
 
     def write(self, path: str | os.PathLike[str]) -> None:
-        """Writes the numbers of all rows, for one table."""
-        with open(path, "w", encoding="ascii", newline="") as out:
-            self.write_to(out, MOST_BYTES)
+        """Writes the numbers of all rows, for one table: a part in each of some processes, if there are many rows."""
+        parts = 1 if self.is_read_again else min(processes.processors(), self.store.count // CHUNKS_A_PART) or 1
+        ends = [self.store.count * part // parts for part in range(parts + 1)]
+
+        def write_part(part: int) -> list[tuple[int, int | None, int | None]]:
+            with open(f"{path}.{part}" if part else path, "w", encoding="ascii", newline="") as out:
+                self.write_rows(out, self.heading() if part == 0 else "", ends[part], ends[part + 1], MOST_BYTES, part == 0)
+            return [each.counts() for each in self.written]
+
+        for counts in processes.do_parts(parts, write_part)[1:]:
+            for each, count in zip(self.written, counts):
+                each.add(*count)
+        with open(path, "ab") as out:
+            for part in range(1, parts):
+                with open(f"{path}.{part}", "rb") as rest:
+                    shutil.copyfileobj(rest, out, 1 << 20)
+                os.unlink(f"{path}.{part}")
+            self.refuse_long(out.tell(), MOST_BYTES)
+        self.finish()
 
     def write_to(self, out: Any, most_bytes: int = sys.maxsize) -> None:
         """Writes the numbers of all rows: the heading at once, and then whole lines. Refuses those of more bytes."""
-        count, heading = self.source.count, ",".join(column.name for column in self.columns) + "\n"
+        self.write_rows(out, self.heading(), 0, self.store.count, most_bytes)
+        self.finish()
+
+    def heading(self) -> str:
+        return ",".join(column.name for column in self.columns) + "\n"
+
+    def write_rows(self, out: Any, heading: str, first: int, end: int, most_bytes: int, is_shown: bool = True) -> None:
+        """Writes a heading, and the numbers of a part of the rows."""
         size = len(heading)
         out.write(heading)
-        with Progress("written") as progress:
-            for columns in self.chunks():
+        with Progress("written", is_shown) as progress:
+            for columns in self.chunks(first, end):
                 lines = "\n".join(map(",".join, zip(*columns))) + "\n"
                 size += len(lines)
-                if size > most_bytes:
-                    raise Refused(f"{self.source.path}: its numbers would be more than 1 GiB of CSV, which is the most that is "
-                                  "loaded; tools/shards loads more")
+                self.refuse_long(size, most_bytes)
                 out.write(lines)
                 progress.add(len(columns[0]))
-        if count != self.source.count or self.marks != self.source.marks():
+
+    def refuse_long(self, size: int, most_bytes: int) -> None:
+        if size > most_bytes:
+            raise Refused(f"{self.source.path}: its numbers would be more than 1 GiB of CSV, which is the most that is "
+                          "loaded; tools/shards loads more")
+
+    def finish(self) -> None:
+        """Refuses a file that has changed, and says the ends of each column."""
+        if self.rows != self.source.count or self.marks != self.source.marks():
             self.refuse_changed()
         for column, each in zip(self.columns, self.written):
             column.ends = each.ends()

@@ -1,4 +1,4 @@
--- The lanes of a segment that are picked, and what stands in them.
+-- The selected lanes of a segment, and their values.
 use Rattle.std.specs.Prelude.{◌≡◌, ℕ, ℤ, ◌≤◌, Bool, false, not, ◌&&◌, List, map, slice_index_or, [], ◌∷◌, length}
 use Rattle.std.specs.Simd.Lanes.{zip2}
 use Rattle.bw_model.specs.Code.{value_at}
@@ -9,23 +9,23 @@ use Rattle.bw_segment.specs.Meaning.{Meaning, null_bits}
 use Rattle.bw_segment.specs.Picked.{codes_in}
 use Rattle.bw_rowwise.specs.Accumulator.{Tally, tally_joined}
 
--- no lane past the first so many is 1
+-- no lane past the first `rows` is 1
 abbrev pub IsWithin : ℕ → List Bool → Type 0
 IsWithin rows lanes = (row : ℕ) → rows ≤ row → slice_index_or lanes row false ≡ false
 
--- the lanes that are 1 and whose row isn't null in a column
+-- the selected lanes whose row isn't null in a column
 unfoldable pub present_lanes : Meaning → ℕ → List Bool → List Bool
 present_lanes meaning column lanes = zip2 (λ a b. a && b) lanes (map not (null_bits meaning.rows column))
 
--- the values of the codes of a column in the lanes that are 1
+-- the values of a column's codes in the lanes that are 1
 abbrev pub values_in : Meaning → ℕ → List Bool → List ℤ
 values_in meaning column lanes = map (value_at meaning.columns column) (codes_in meaning column lanes)
 
--- the picked rows of a segment
+-- the selected rows of a segment
 abbrev pub picked_rows : Meaning → List Bool → List (List Value)
 picked_rows meaning lanes = picked lanes meaning.rows
 
--- a tally and rows that were picked: where there are none, it stays as it is
+-- a tally with these selected rows more: if there are none, it stays as it is
 abbrev pub with_picked : Tally → List (List Value) → Tally
 with_picked tally [] = tally
 with_picked tally (row ∷ rows) = tally_joined tally (length (row ∷ rows)) (total tally.item (row ∷ rows))

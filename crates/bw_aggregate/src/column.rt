@@ -1,4 +1,4 @@
-//! What an aggregate asks of a column in the picked rows of one segment.
+//! The aggregates of a column over the selected rows of one segment.
 ghost use Rattle.std.specs.Prelude.{◌≡◌, ◌^◌, ◌<◌, ◌≤◌, ◌+ℤ◌, ◌*ℤ◌, ℕ, pos, Some, length};
 ghost use Rattle.std.specs.List.{reduce};
 ghost use Rattle.std.specs.Int.{int_min, int_max};
@@ -10,7 +10,7 @@ ghost use Rattle.bw_aggregate.specs.Picked.{present_lanes, values_in};
 use bw_lanes::{Selection, and, count, not};
 use bw_segment::Segment;
 
-/// Of some rows those in which a column isn't null.
+/// Returns the selected rows in which a column isn't null.
 #[tactic(auto, unfolding(crate::specs::Picked::present_lanes))]
 pub(crate) fn present<S: Segment>(segment: &S, col: usize, rows: &Selection) -> Selection
     requires { col < length (S.meaning segment.now).columns }
@@ -20,7 +20,7 @@ pub(crate) fn present<S: Segment>(segment: &S, col: usize, rows: &Selection) -> 
     and(rows, &not(&segment.nulls(col)))
 }
 
-/// The least value that a column takes, which has the code 0.
+/// Returns the minimum of a column, which has the code 0.
 fn lowest<S: Segment>(segment: &S, col: usize) -> i64
     requires { col < length (S.meaning segment.now).columns }
     ensures { (code : ℕ) → value_at (S.meaning segment.now).columns col code ≡ result +ℤ pos code }
@@ -28,7 +28,7 @@ fn lowest<S: Segment>(segment: &S, col: usize) -> i64
     segment.schema().columns[col].lo
 }
 
-/// The sum of the values of the codes in some rows; none where there are none.
+/// Returns the sum of the values of the codes in these rows, or None if there are no rows.
 pub(crate) fn sum<S: Segment>(segment: &S, col: usize, rows: &Selection) -> Option<i128>
     requires { col < length (S.meaning segment.now).columns }
     ensures sum { result ≡ reduce (λ a b. a +ℤ b)
@@ -43,7 +43,7 @@ pub(crate) fn sum<S: Segment>(segment: &S, col: usize, rows: &Selection) -> Opti
     Some(sum_of_values(lowest(segment, col), number, codes))
 }
 
-/// The least value of the codes in some rows; none where there are none.
+/// Returns the minimum value of the codes in these rows, or None if there are no rows.
 pub(crate) fn least<S: Segment>(segment: &S, col: usize, rows: &Selection) -> Option<i128>
     requires { col < length (S.meaning segment.now).columns }
     ensures least { result
@@ -54,7 +54,7 @@ pub(crate) fn least<S: Segment>(segment: &S, col: usize, rows: &Selection) -> Op
     Some(value_of_code(lowest(segment, col), code))
 }
 
-/// The greatest value of the codes in some rows; none where there are none.
+/// Returns the maximum value of the codes in these rows, or None if there are no rows.
 pub(crate) fn greatest<S: Segment>(segment: &S, col: usize, rows: &Selection) -> Option<i128>
     requires { col < length (S.meaning segment.now).columns }
     ensures greatest { result
@@ -65,7 +65,7 @@ pub(crate) fn greatest<S: Segment>(segment: &S, col: usize, rows: &Selection) ->
     Some(value_of_code(lowest(segment, col), code))
 }
 
-/// The value of a code, where that of the code 0 is the lowest.
+/// Returns the value of a code, if `lowest` is that of the code 0.
 fn value_of_code(lowest: i64, code: u64) -> i128
     requires { code < 2 ^ 63 }
     ensures value { result ≡ lowest +ℤ pos code }
@@ -74,7 +74,8 @@ fn value_of_code(lowest: i64, code: u64) -> i128
     i128::from(lowest) + i128::from(code)
 }
 
-/// The sum of so many values, whose codes have this sum: the lowest value in each of them, and the codes.
+/// Returns the sum of `number` values, whose codes have this sum: `lowest` for each of them, plus
+/// the codes.
 fn sum_of_values(lowest: i64, number: u32, codes: u128) -> i128
     requires number { number ≤ 512 }
     requires codes { codes ≤ 2 ^ 72 }

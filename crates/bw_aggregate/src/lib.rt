@@ -1,11 +1,12 @@
-//! Totals of the picked rows of a table, segment by segment, without looking at one row.
+//! Totals of the selected rows of a table, segment by segment, without reading rows one by one.
 //!
-//! The contract that the crates above use: [`add_picked`] adds to an `Accumulator` of `bw_rowwise` the rows of a
-//! segment that a selection picks. COUNT counts its ones. SUM, MIN and MAX ask the segment for the sum, the least and
-//! the greatest of a column's codes in the picked rows that aren't null, and each layout answers in its own way. Read
-//! `picked.rt` first, and then `column.rt`.
+//! The contract that the crates above use: [`add_picked`] adds the selected rows of a segment to an
+//! `Accumulator` of `bw_rowwise`. COUNT counts the selection's ones. SUM, MIN and MAX ask the
+//! segment for the sum, the minimum and the maximum of a column's codes in the selected rows that
+//! aren't null, which each layout computes in its own way. Read `picked.rt` first, then
+//! `column.rt`.
 //!
-//! [`Totals`], for one aggregate over segments of one's own, is the library's public face:
+//! [`Totals`] is the library's call for one aggregate over a caller's own segments:
 //!
 //! ```
 //! let mut totals = Totals::new(&Item::Max(0));

@@ -1,4 +1,4 @@
-//! What the picked rows of a segment add to a total.
+//! The totals of the selected rows of a segment.
 ghost use Rattle.std.specs.Prelude.{◌≡◌, ◌+◌, ◌≤◌, ◌++◌, List, length, IsTrue};
 ghost use Rattle.bw_lanes.specs.Lanes.{lanes_of_words};
 ghost use Rattle.bw_model.specs.Limits.{most_rows};
@@ -13,9 +13,10 @@ use bw_model::Item;
 use bw_rowwise::Accumulator;
 use bw_segment::Segment;
 
-/// Adds the rows of a segment that a selection picks to a total: row i is picked where lane i is 1. The selection has
-/// no bit past the segment's rows, the segment has the aggregate's column, and with the segment's rows the total is of
-/// at most 2^24. Where no row is picked, only the selection is looked at.
+/// Adds the selected rows of a segment to a total: row i is selected if lane i is 1. The selection
+/// must have no bit past the segment's rows, and the segment must have the aggregate's column. With
+/// the segment's rows the total must be of at most 2^24. If no row is selected, only the selection
+/// is read.
 pub fn add_picked<S: Segment>(total: &mut Accumulator, segment: &S, selection: &Selection)
     requires column { IsTrue (item_within (length (S.meaning segment.now).columns) total.old.item) }
     requires selection { IsWithin (length (S.meaning segment.now).rows) (lanes_of_words selection.now) }
@@ -36,8 +37,8 @@ pub fn add_picked<S: Segment>(total: &mut Accumulator, segment: &S, selection: &
     }
 }
 
-/// The total over the rows of a segment that a selection picks. A count of rows is found here: the other totals may need
-/// planes, which would be cleared for it too.
+/// Returns the total of the selected rows of a segment. A count of rows is computed here: the other
+/// totals may need planes, which would be cleared for it too.
 fn total_of<S: Segment>(item: Item, segment: &S, selection: &Selection) -> Option<i128>
     requires column { IsTrue (item_within (length (S.meaning segment.now).columns) item) }
     requires selection { IsWithin (length (S.meaning segment.now).rows) (lanes_of_words selection.now) }
@@ -51,7 +52,7 @@ fn total_of<S: Segment>(item: Item, segment: &S, selection: &Selection) -> Optio
     }
 }
 
-/// The same, of any item.
+/// Returns the same, for any item.
 #[inline(never)]
 fn total_by_columns<S: Segment>(item: Item, segment: &S, selection: &Selection) -> Option<i128>
     requires column { IsTrue (item_within (length (S.meaning segment.now).columns) item) }

@@ -1,4 +1,4 @@
-//! The total of an aggregate over the picked rows of segments, one segment after another.
+//! The total of an aggregate over the selected rows of segments, one segment after another.
 ghost use Rattle.std.specs.Prelude.{◌≡◌, ◌+◌, ◌≤◌, List, [], ◌++◌, length, IsTrue};
 ghost use Rattle.bw_lanes.specs.Lanes.{lanes_of_words};
 ghost use Rattle.bw_model.specs.Limits.{most_rows};
@@ -14,7 +14,8 @@ use bw_rowwise::Accumulator;
 use bw_segment::Segment;
 use std::marker::Model;
 
-/// The total of an aggregate over the picked rows of the segments so far, which have at most 2^24 rows together.
+/// The total of an aggregate over the selected rows of the segments so far, which have at most 2^24
+/// rows together.
 #[derive(Clone, Copy)]
 pub struct Totals {
     picked: Accumulator,
@@ -36,7 +37,7 @@ impl Model for Totals {
 }
 
 impl Totals {
-    /// The total of an aggregate over no rows.
+    /// Returns the total of an aggregate over no rows.
     pub fn new(item: &Item) -> Self
         requires { IsTrue (is_aggregate item.now) }
         ensures picked { result.picked ≡ tally_of item.now [] }
@@ -48,9 +49,9 @@ impl Totals {
         }
     }
 
-    /// Adds the rows of a segment that a selection picks: row i is picked where lane i is 1. The selection has no bit
-    /// past the segment's rows, and the segment has the aggregate's column. With the rows of the segments
-    /// before it there are at most 2^24.
+    /// Adds the selected rows of a segment: row i is selected if lane i is 1. The selection must
+    /// have no bit past the segment's rows, and the segment must have the aggregate's column. With
+    /// this segment there must be at most 2^24 rows.
     #[tactic(auto, using(crate::proofs::PickedLemmas::few_picked))]
     pub fn add<S: Segment>(&mut self, segment: &S, selection: &Selection)
         requires column { IsTrue (item_within (length (S.meaning segment.now).columns) self.old.picked.item) }
@@ -70,14 +71,15 @@ impl Totals {
         };
     }
 
-    /// How many rows the segments so far have, picked or not.
+    /// Returns how many rows the segments so far have, selected or not.
     pub fn rows(&self) -> u64
         ensures { result ≡ self.now.rows }
     {
         u64::from(self.rows)
     }
 
-    /// The total of the picked rows so far: null is the total of no values, but for COUNT, where it is 0.
+    /// Returns the total of the selected rows so far: null if there are no values, but for COUNT,
+    /// which is 0.
     pub fn finish(&self) -> Option<i128>
         ensures { result ≡ self.now.picked.answer }
     {

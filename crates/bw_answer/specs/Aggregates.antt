@@ -1,11 +1,11 @@
--- The aggregates that a query asks for, each once, and the answers to them.
+-- The aggregates of a query, each once, and their results.
 use Rattle.std.specs.Prelude.{ℕ, ℤ, Bool, ◌==◌, ◌&&◌, not, List, [], ◌∷◌, filter, Option, None, if◌then◌else◌}
 use Rattle.bw_model.specs.declared.query.Item.{Item}
 use Rattle.bw_model.specs.declared.query.Item.TheVariants.{Plain, CountAll, Count, Sum, Min, Max}
 use Rattle.bw_model.specs.Total.{is_aggregate}
 use Rattle.bw_rowwise.specs.Accumulator.{Tally}
 
--- the number of an item's function, and the column that it is of
+-- the number of an item's function, and the item's column
 abbrev pub function_of : Item → ℕ
 function_of (Plain column) = 0
 function_of CountAll = 1
@@ -22,11 +22,11 @@ column_in (Sum column) = column
 column_in (Min column) = column
 column_in (Max column) = column
 
--- two items are the same: one function of one column
+-- two items are the same: they have the same function and the same column
 abbrev pub is_same : Item → Item → Bool
 is_same item other = (function_of item == function_of other) && (column_in item == column_in other)
 
--- items, each of them once, in the order in which they first appear
+-- the items, each once, in the order in which they first appear
 unfoldable pub each_once : List Item → List Item
 each_once [] = []
 each_once (item ∷ items) = item ∷ filter (λ other. not (is_same other item)) (each_once items)
@@ -34,7 +34,7 @@ each_once (item ∷ items) = item ∷ filter (λ other. not (is_same other item)
 abbrev pub aggregates_of : List Item → List Item
 aggregates_of items = each_once (filter is_aggregate items)
 
--- the answer of the first tally of an item; null where none is of it
+-- the result of the first tally of an item; null if there is none
 unfoldable pub answer_for : List Tally → Item → Option ℤ
 answer_for [] item = None
 answer_for (tally ∷ tallies) item = if is_same tally.item item then tally.answer else answer_for tallies item

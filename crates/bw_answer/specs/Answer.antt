@@ -1,4 +1,4 @@
--- What a query means over a table's rows, after SQL-92, and the CSV text of it.
+-- What a query means over a table's rows, after SQL-92, and its CSV text.
 use Rattle.std.specs.Prelude.{ℕ, Bool, true, false, List, [], ◌∷◌, ◌++◌, map, Option, Some, None, codes, slice_index_or, if◌then◌else◌}
 use Rattle.std.specs.List.{filter_map, flat_map, join_with_byte}
 use Rattle.std.specs.Fmt.{signed_decimal}
@@ -26,7 +26,7 @@ heading_of names (Sum column) = call_of (codes "SUM") (slice_index_or names colu
 heading_of names (Min column) = call_of (codes "MIN") (slice_index_or names column [])
 heading_of names (Max column) = call_of (codes "MAX") (slice_index_or names column [])
 
--- a query lists rows where its items are columns, and totals them where they are aggregates
+-- a query lists rows if its first item is a column, and aggregates them if it is an aggregate
 abbrev pub lists_rows : List Item → Bool
 lists_rows [] = false
 lists_rows (Plain column ∷ items) = true
@@ -45,7 +45,7 @@ field_of row (Sum column) = None
 field_of row (Min column) = None
 field_of row (Max column) = None
 
--- a record for each row that is kept, and the one record of totals over them
+-- a record for each matching row, and the one record of totals over them
 abbrev pub listed : Query → List (List Value) → List (List (List ℕ))
 listed query rows = map (λ row. filter_map (field_of row) query.items.items) (kept query.cond rows)
 
@@ -55,8 +55,8 @@ totalled query rows = map (λ item. value_text (total item (kept query.cond rows
 abbrev pub records_of : Query → List (List Value) → List (List (List ℕ))
 records_of query rows = if lists_rows query.items.items then listed query rows else totalled query rows ∷ []
 
--- the meaning of a query over rows of columns of these names: a heading record, and then a record for each row that is
--- kept, or one record of totals over them
+-- the meaning of a query over rows of columns of these names: a heading record, and then a record
+-- for each matching row, or one record of totals over them
 unfoldable pub meaning : List (List ℕ) → Query → List (List Value) → List (List (List ℕ))
 meaning names query rows = map (heading_of names) query.items.items ∷ records_of query rows
 
@@ -67,7 +67,7 @@ record_text fields = join_with_byte 44 fields ++ 10 ∷ []
 unfoldable pub csv_text : List (List (List ℕ)) → List ℕ
 csv_text records = flat_map record_text records
 
--- the item asks for the number of rows
+-- the item is the number of rows
 abbrev pub is_count_all : Item → Bool
 is_count_all (Plain column) = false
 is_count_all CountAll = true

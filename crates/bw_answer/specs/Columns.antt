@@ -6,7 +6,7 @@ use Rattle.bw_model.specs.declared.query.Item.TheVariants.{Plain, CountAll, Coun
 use Rattle.bw_model.specs.Row.{Value, value_in}
 use Rattle.bw_answer.specs.Answer.{value_text}
 
--- the columns that items name as they are
+-- the column of an item that is one
 abbrev pub column_of : Item → Option ℕ
 column_of (Plain column) = Some column
 column_of CountAll = None
@@ -18,6 +18,6 @@ column_of (Max column) = None
 abbrev pub columns_of : List Item → List ℕ
 columns_of items = filter_map column_of items
 
--- a row's values in columns as fields
+-- a row's values in these columns, as fields
 abbrev pub fields_of : List ℕ → List Value → List (List ℕ)
 fields_of columns row = map (λ column. value_text (value_in row column)) columns

@@ -1,4 +1,4 @@
--- A CSV text in the making.
+-- A CSV text that is being written.
 use Rattle.std.specs.Prelude.{◌≡◌, ◌==◌, ℕ, Bool, true, false, List, [], ◌∷◌, ◌++◌, Some, not, Vec}
 use Rattle.std.specs.declared.alloc.Global.{Global}
 use Rattle.std.specs.List.{join_with_byte}
@@ -7,18 +7,18 @@ use Rattle.csv.specs.Writing.{fields_written, has_written, text_written, writer_
 use Rattle.bw_answer.specs.Field.{answer_writer}
 use Rattle.bw_answer.specs.declared.csv_text.CsvText.{CsvText}
 
--- a record that has a field
+-- the record has a field
 abbrev pub is_begun : List (List ℕ) → Bool
 is_begun [] = false
 is_begun (field ∷ fields) = true
 
--- the writer has these bytes of records that are ended, and then these fields of the next one
+-- the writer has these bytes of finished records, and then these fields of the current one
 pub record Drafts (writer : Writer (Vec ℕ Global)) (ended : List ℕ) (fields : List (List ℕ)) : Type 0 where
   pub setup : writer_setup writer ≡ answer_writer
   pub bytes : text_written (λ bytes. Some bytes.items) writer ≡ Some (ended ++ join_with_byte 44 fields)
   pub shown : has_written writer ≡ is_begun fields
   pub begun : (fields_written writer == 0) ≡ not (is_begun fields)
 
--- the same of the text that the writer writes
+-- the text's writer has these bytes and these fields
 abbrev pub Holds : CsvText → List ℕ → List (List ℕ) → Type 0
 Holds text ended fields = Drafts text.writer ended fields

@@ -9,24 +9,24 @@ use Rattle.bw_answer.specs.declared.lanes.ColumnValues.{ColumnValues}
 abbrev pub values_in : List ColumnValues → ℕ → List Value
 values_in lanes column = slice_index_or (map (λ (kept : ColumnValues). kept.values) lanes) column []
 
--- the value that stands in a lane of a column
+-- the value of a column in a lane
 abbrev pub value_in_lane : List ColumnValues → ℕ → ℕ → Value
 value_in_lane lanes number column = slice_index_or (values_in lanes column) number None
 
--- a lane's values in columns as fields
+-- a lane's values in these columns, as fields
 abbrev pub fields_in_lane : List ColumnValues → List ℕ → ℕ → List (List ℕ)
 fields_in_lane lanes columns number = map (λ column. value_text (value_in_lane lanes number column)) columns
 
--- a lane has the values of a row in columns
+-- a lane has the values of this row in these columns
 abbrev pub HasRow : List Value → List ℕ → ℕ → List ColumnValues → Type 0
 HasRow row columns number lanes = (i : ℕ) → i < length columns
     → value_in_lane lanes number (slice_index columns i) ≡ value_in row (slice_index columns i)
 
--- the lanes that bits pick have the values of their rows in columns
+-- the lanes whose bit is 1 have the values of their rows in these columns
 abbrev pub HasPicked : List (List Value) → List Bool → List ℕ → List ColumnValues → Type 0
 HasPicked rows bits columns lanes = (number : ℕ) → number < length rows → slice_index_or bits number false ≡ true
     → HasRow (slice_index_or rows number []) columns number lanes
 
--- the positions of the bits that are 1, from a position up to another
+-- the positions of the bits that are 1, from position `first` up to `past`
 abbrev pub positions_between : ℕ → ℕ → List Bool → List ℕ
 positions_between first past bits = positions_from first (drop first (take past bits))

@@ -1,4 +1,4 @@
-//! The answer to a query over rows that come one at a time, as CSV text.
+//! The result of a query over rows that come one at a time, as CSV text.
 ghost use Rattle.std.specs.Prelude.{◌≡◌, ◌==◌, ◌<◌, ◌≤◌, ◌+◌, ◌-◌, ◌++◌, ◌∷◌, List, [], ℕ, true, false, All, IsTrue, IfOk, IfErr, OnOk, length, replicate, vec_len};
 ghost use Rattle.std.specs.List.{list_all};
 ghost use Rattle.bw_model.specs.Column.{admits_values, names_of};
@@ -30,22 +30,22 @@ use bw_rowwise::{Accumulator, Filter, Prepared, keeps_all};
 use bw_segment::Segment;
 use std::alloc::Global;
 
-/// Takes the rows of a table of so many columns, one after another, and makes the text of the answer to a query: the
-/// heading, and then a record for each row that is kept, or one record of totals over them.
+/// Consumes the rows of a table, one after another, and makes the text of a query's result: the
+/// heading, and then a record for each matching row, or one record of totals over them.
 #[derive(Drop)]
 pub struct Answer<'a> {
     width: usize,
     rows: u32,
     query: &'a Query,
-    /// The query's condition, made ready for many rows.
+    /// The query's condition, prepared for many rows.
     filter: Filter,
-    /// Whether the query lists rows, and doesn't total them.
+    /// Whether the query lists rows, and doesn't aggregate them.
     lists: bool,
     /// The columns that it lists.
     records: Listing,
-    /// The heading, and then the records of the rows that are kept, where the query lists them.
+    /// The heading, and then the records of the matching rows, if the query lists them.
     text: Vec<u8>,
-    /// The total of each aggregate that is asked for, once, over the rows that are kept.
+    /// The total of each aggregate of the query, each once, over the matching rows.
     totals: Vec<Accumulator>,
     ghost prepared: { IsPreparedFrom query.now.cond filter },
     ghost items: { IsTrue (list_all (item_within width) query.now.items.items) },
@@ -60,10 +60,9 @@ impl<'a> Answer<'a> {
     ghost use Rattle.bw_answer.specs.Over.{IsOver, GoesOver, asked_by};
     ghost use Rattle.bw_answer.specs.declared.answer.Answer.{Answer};
 
-    /// The answer over no rows.
-    ///
-    /// That the query has an item, that its items are all columns or all aggregates, and that the schema has each
-    /// column among them, is the caller's condition. Refuses as 801 alone.
+    /// Returns the result over no rows. The query must have an item, its items must be all columns
+    /// or all aggregates, and the schema must have each column among them. Errors: 801 if memory is
+    /// refused.
     pub fn new(alloc: Global, schema: &Schema, query: &'a Query) -> Result<Self, Fault>
         requires items { IsTrue (list_all (item_within (vec_len schema.now.columns)) query.now.items.items) }
         requires some { 1 ≤ length query.now.items.items }
@@ -90,15 +89,15 @@ impl<'a> Answer<'a> {
         })
     }
 
-    /// The query.
+    /// Returns the query.
     pub fn query(&self) -> &Query
         ensures { result.now ≡ asked_by self.now }
     {
         self.query
     }
 
-    /// Reserves memory for the answer over so many rows, where the query lists each row. So an answer that is too long
-    /// for memory is refused before the first row is taken. Refuses as 801 alone.
+    /// Reserves memory for the result over `count` rows, if the query lists each row. So a result
+    /// that is too long for memory fails before the first row. Errors: 801 if memory is refused.
     pub fn reserve(&mut self, count: u32) -> Result<(), Fault>
         ensures over { (names : List (List ℕ)) (query : Query) (rows : List (List Value))
             → IsOver names query rows self.old → IsOver names query rows self.new }
@@ -112,15 +111,15 @@ impl<'a> Answer<'a> {
         Ok(())
     }
 
-    /// Whether the query keeps every row and asks for nothing but their number: then no row need be looked at.
+    /// Returns whether every row matches and the query only counts them. No row need be read then.
     pub fn counts_rows(&self) -> bool
         ensures { result ≡ true → CountsRows (asked_by self.now) }
     {
         keeps_all(&self.query.cond) && count_all_alone(&self.query.items)
     }
 
-    /// Takes so many rows, whichever they are. That the query asks for nothing but their number, and that there is
-    /// room for them, is the caller's condition.
+    /// Consumes `count` rows, whatever their values. The query must only count rows, and have space
+    /// for them.
     pub fn take_count(&mut self, count: u32)
         requires counts { CountsRows (asked_by self.old) }
         requires room { self.old.rows + count ≤ most_rows }
@@ -133,9 +132,9 @@ impl<'a> Answer<'a> {
         self.rows += count;
     }
 
-    /// Takes the rows of a segment, of which a selection picks those that the query keeps. Only the columns that the
-    /// query names are fetched. That there is room for the segment's rows, and that it is of the answer's table, is the
-    /// caller's condition. Refuses as 801 alone.
+    /// Consumes the rows of a segment; `selection` selects those that match the query. Only the
+    /// columns that the query names are fetched. The segment must be of the query's table, and
+    /// there must be space for its rows. Errors: 801 if memory is refused.
     pub fn take_picked<S: Segment>(
         &mut self,
         segment: &S,
@@ -166,9 +165,9 @@ impl<'a> Answer<'a> {
         Ok(())
     }
 
-    /// Takes the rows of a segment, each of which is looked at, in so far as the query names its columns. That there is
-    /// room for the segment's rows, and that it is of the answer's table, is the caller's condition. Refuses as 801
-    /// alone.
+    /// Consumes the rows of a segment, and tests the condition on each. Only the columns that the
+    /// query names are fetched. The segment must be of the query's table, and there must be space
+    /// for its rows. Errors: 801 if memory is refused.
     pub fn take_segment<S: Segment>(&mut self, segment: &S) -> Result<(), Fault>
         requires wide { length (S.meaning segment.now).columns ≡ self.old.width }
         requires room { self.old.rows + length (S.meaning segment.now).rows ≤ most_rows }
@@ -183,8 +182,8 @@ impl<'a> Answer<'a> {
         self.take_picked(segment, &kept)
     }
 
-    /// Takes a row. That there is room for it, and that it has a value in each of the table's columns, is the caller's
-    /// condition. Refuses as 801 alone.
+    /// Consumes a row. There must be space for it, and it must have a value for each of the table's
+    /// columns. Errors: 801 if memory is refused.
     fn take_row(&mut self, row: &Row) -> Result<(), Fault>
         requires wide { length (values_of row.now) ≡ self.old.width }
         requires room { self.old.rows < most_rows }
@@ -207,7 +206,8 @@ impl<'a> Answer<'a> {
         Ok(())
     }
 
-    /// The text of the answer over the rows that were taken. Refuses as 801 alone.
+    /// Returns the text of the result over the rows that were consumed. Errors: 801 if memory is
+    /// refused.
     pub fn into_text(self) -> Result<Vec<u8>, Fault>
         ensures text { IfOk result (λ text. (names : List (List ℕ)) → (query : Query) → (rows : List (List Value))
             → IsOver names query rows self.entry → text.items ≡ csv_text (meaning names query rows)) }
@@ -245,7 +245,7 @@ impl RowTaker for Answer<'_> {
     }
 }
 
-/// Adds a row to the text or to the totals, if it is kept.
+/// Adds a row to the text or to the totals, if it matches.
 fn put_row(
     text: &mut Vec<u8>,
     totals: &mut [Accumulator],
@@ -280,7 +280,7 @@ fn put_row(
     Ok(())
 }
 
-/// Adds the rows of a segment that are kept, and that a selection picks, to the text or to the totals.
+/// Adds the matching rows of a segment, which the selection selects, to the text or to the totals.
 fn put_picked<S: Segment>(
     text: &mut Vec<u8>,
     totals: &mut [Accumulator],
@@ -318,7 +318,7 @@ fn put_picked<S: Segment>(
     Ok(())
 }
 
-/// Whether items ask for rows: the first is a column. Else they ask for totals.
+/// Returns whether the items list rows: the first is a column. Else they are aggregates.
 fn lists_rows(items: &[Item]) -> bool
     ensures { result ≡ lists_rows items.now }
 {
@@ -328,14 +328,14 @@ fn lists_rows(items: &[Item]) -> bool
     }
 }
 
-/// Whether items ask for nothing but the number of rows.
+/// Returns whether the items only count rows.
 fn count_all_alone(items: &[Item]) -> bool
     ensures { result ≡ list_all is_count_all items.now }
 {
     items.iter().all(|item| is_count_all(*item))
 }
 
-/// Whether an item asks for the number of rows.
+/// Returns whether an item is the number of rows.
 fn is_count_all(item: Item) -> bool
     ensures { result ≡ is_count_all item }
 {

@@ -1,5 +1,5 @@
-//! A CSV text in the making: fields joined by commas, each record ended by a line feed, numbers in decimal and
-//! null as `NULL`.
+//! A CSV text that is being written: fields joined by commas, each record ended by a line feed,
+//! numbers in decimal and null as `NULL`.
 ghost use Rattle.std.specs.Prelude.{◌≡◌, ℕ, [], ◌∷◌, ◌++◌, List, IsTrue, OnOk, IfOk, IfErr};
 ghost use Rattle.bw_model.specs.Fault.{no_memory};
 ghost use Rattle.bw_answer.specs.Answer.{record_text, value_text};
@@ -10,14 +10,14 @@ use bw_model::{Fault, code};
 use csv::{Error, Writer, WriterBuilder};
 use itoa::Buffer;
 
-/// The records so far, and the fields so far of the next one.
+/// The records so far, and the fields so far of the current one.
 #[derive(Drop)]
 pub struct CsvText {
     writer: Writer<Vec<u8>>,
 }
 
 impl CsvText {
-    /// A text that begins with the records of bytes.
+    /// Returns a text that begins with the records of these bytes.
     pub fn onto(bytes: Vec<u8>) -> Self
         ensures { Holds result bytes.items [] }
     {
@@ -26,7 +26,7 @@ impl CsvText {
         }
     }
 
-    /// Adds a field to the record at hand.
+    /// Adds a field to the current record.
     pub fn push_field(&mut self, field: &[u8]) -> Result<(), Fault>
         requires { IsTrue (needs_no_quotes field.now) }
         ensures field { OnOk result ((ended : List ℕ) → (fields : List (List ℕ)) → Holds self.old ended fields
@@ -36,7 +36,7 @@ impl CsvText {
         write_field(&mut self.writer, field)
     }
 
-    /// Adds a number, or null, to the record at hand.
+    /// Adds a number, or null, to the current record.
     #[tactic(auto, using(crate::proofs::PlainFields::plain_numbers), unfolding(crate::specs::Field::needs_no_quotes))]
     pub fn push_number(&mut self, number: Option<i128>) -> Result<(), Fault>
         ensures field { OnOk result ((ended : List ℕ) → (fields : List (List ℕ)) → Holds self.old ended fields
@@ -49,7 +49,7 @@ impl CsvText {
         }
     }
 
-    /// Ends the record at hand, which has a field.
+    /// Ends the current record, which must have a field.
     pub fn end_record(&mut self) -> Result<(), Fault>
         ensures ended { OnOk result ((ended : List ℕ) → (fields : List (List ℕ)) → IsTrue (is_begun fields)
             → Holds self.old ended fields → Holds self.new (ended ++ record_text fields) []) }
@@ -61,7 +61,7 @@ impl CsvText {
         }
     }
 
-    /// The text of the records.
+    /// Returns the text of the records.
     pub fn into_bytes(self) -> Result<Vec<u8>, Fault>
         ensures text { IfOk result (λ text. (ended : List ℕ) → Holds self ended [] → text.items ≡ ended) }
         ensures only_memory { IfErr result (λ fault. fault ≡ no_memory) }
@@ -73,7 +73,7 @@ impl CsvText {
     }
 }
 
-/// Adds a field to the record at hand.
+/// Adds a field to the current record.
 fn write_field(writer: &mut Writer<Vec<u8>>, field: &[u8]) -> Result<(), Fault>
     requires { IsTrue (needs_no_quotes field.now) }
     ensures field { OnOk result ((ended : List ℕ) → (fields : List (List ℕ)) → Drafts writer.old ended fields
@@ -86,7 +86,7 @@ fn write_field(writer: &mut Writer<Vec<u8>>, field: &[u8]) -> Result<(), Fault>
     }
 }
 
-/// Only memory can fail, since the text is kept in memory and its records may differ in length.
+/// Only memory can fail, since the text is in memory and its records may differ in length.
 fn refusal(_error: Error) -> Fault
     ensures { result ≡ no_memory }
 {

@@ -1,4 +1,4 @@
-//! The heading record of an answer.
+//! The heading record of a result.
 ghost use Rattle.std.specs.Prelude.{◌≡◌, ◌≤◌, ◌++◌, List, [], ℕ, IsTrue, IfErr, IfOk, OnOk, length, map};
 ghost use Rattle.std.specs.List.{list_all};
 ghost use Rattle.bw_model.specs.Column.{names_of};
@@ -12,7 +12,7 @@ use crate::csv_text::CsvText;
 use bw_model::{Column, Fault, Item};
 use std::alloc::Global;
 
-/// The text of the heading record alone.
+/// Returns the text of the heading record.
 pub(crate) fn heading_text(
     alloc: Global,
     columns: &[Column],
@@ -29,7 +29,8 @@ pub(crate) fn heading_text(
     text.into_bytes()
 }
 
-/// Adds the heading record: columns in the schema's spelling, and aggregates as `SUM(a)` or `COUNT(*)`.
+/// Adds the heading record: columns in the schema's spelling, and aggregates as `SUM(a)` or
+/// `COUNT(*)`.
 fn push_heading(
     alloc: Global,
     columns: &[Column],
@@ -50,7 +51,7 @@ fn push_heading(
     text.end_record()
 }
 
-/// Puts the heading of an item in the place of another.
+/// Writes the heading of an item in place of the previous one.
 #[tactic(auto, using(crate::proofs::PlainNames::plain_headings), unfolding(crate::specs::Field::needs_no_quotes))]
 fn put_heading(heading: &mut Vec<u8>, columns: &[Column], item: Item) -> Result<(), Fault>
     requires { IsTrue (item_within (length columns.now) item) }
@@ -70,7 +71,7 @@ fn put_heading(heading: &mut Vec<u8>, columns: &[Column], item: Item) -> Result<
     Ok(())
 }
 
-/// Puts the call of a function at a column in the place of another heading.
+/// Writes the call of a function on a column in place of the previous heading.
 #[tactic(auto, using(crate::proofs::PlainNames::plain_call))]
 fn put_call(heading: &mut Vec<u8>, function: &[u8], column: &Column) -> Result<(), Fault>
     requires { IsTrue (needs_no_quotes function.now) }

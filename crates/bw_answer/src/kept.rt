@@ -1,4 +1,4 @@
-//! Which rows a query keeps.
+//! The rows that match a query.
 ghost use Rattle.std.specs.Prelude.{◌≡◌};
 ghost use Rattle.bw_model.specs.declared.cond.Cond.{Cond};
 ghost use Rattle.bw_model.specs.Cond.{is_kept};
@@ -8,7 +8,7 @@ ghost use Rattle.bw_rowwise.specs.Prepared.{IsPreparedFrom};
 use bw_model::{Row, Truth};
 use bw_rowwise::Prepared;
 
-/// Whether a condition is TRUE on a row: neither FALSE nor UNKNOWN will do.
+/// Returns whether a condition is TRUE on a row: neither FALSE nor UNKNOWN will do.
 pub(crate) fn is_kept(cond: &Prepared, row: &Row) -> bool
     ensures { (asked : Cond) → IsPreparedFrom asked cond.now
         → result ≡ is_kept asked (values_of row.now) }

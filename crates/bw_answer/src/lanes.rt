@@ -1,4 +1,4 @@
-//! The values of columns in the lanes of a segment, fetched for the rows that a selection picks.
+//! The values of columns in the lanes of a segment, fetched for the rows that a selection selects.
 ghost use Rattle.std.specs.Prelude.{◌≡◌, ◌≢◌, ◌<◌, ℕ, [], None, All, IfErr, IfOk, length, slice_index_or, vec_len};
 ghost use Rattle.bw_lanes.specs.Lanes.{lanes_of_words};
 ghost use Rattle.bw_model.specs.Fault.{no_memory};
@@ -10,24 +10,25 @@ use bw_model::{Fault, Row, Value};
 use bw_segment::{Segment, values_in_lanes};
 use std::alloc::Global;
 
-/// From how many picked rows on a segment's column is fetched in all lanes at once, and not row by row.
+/// From this number of selected rows on, a segment's column is fetched in all lanes at once, and
+/// not row by row.
 const MANY: u32 = 128;
 
-/// The values of a column, that of row i in lane i where it was fetched.
+/// The values of a column: lane i has that of row i, if it was fetched.
 #[derive(Drop)]
 pub(crate) struct ColumnValues {
     values: [Value; LANES],
 }
 
 impl ColumnValues {
-    /// Null in each lane.
+    /// Returns null in each lane.
     pub(crate) fn empty() -> Self {
         ColumnValues {
             values: [None; LANES],
         }
     }
 
-    /// The value in a lane.
+    /// Returns the value in a lane.
     #[inline]
     pub(crate) fn value(&self, number: usize) -> Value
         requires { number < 512 }
@@ -36,7 +37,7 @@ impl ColumnValues {
         self.values[number]
     }
 
-    /// Puts a value into a lane.
+    /// Sets the value of a lane.
     #[inline]
     fn put(&mut self, number: usize, value: Value)
         requires { number < 512 }
@@ -58,7 +59,7 @@ impl ColumnValues {
     }
 }
 
-/// So many columns that keep no values.
+/// Returns `count` columns without values.
 pub(crate) fn no_values(alloc: Global, count: usize) -> Result<Vec<ColumnValues>, Fault>
     ensures count { IfOk result (λ lanes. vec_len lanes ≡ count) }
     ensures only_memory { IfErr result (λ fault. fault ≡ no_memory) }
@@ -70,7 +71,7 @@ pub(crate) fn no_values(alloc: Global, count: usize) -> Result<Vec<ColumnValues>
     Ok(lanes)
 }
 
-/// Puts the values that a row has in columns into the first lane.
+/// Sets the first lane to a row's values in these columns.
 pub(crate) fn put_row(lanes: &mut [ColumnValues], columns: &[usize], row: &Row)
     requires lanes { length lanes.old ≡ length (values_of row.now) }
     requires columns { All (λ column. column < length lanes.old) columns.now }
@@ -81,8 +82,8 @@ pub(crate) fn put_row(lanes: &mut [ColumnValues], columns: &[usize], row: &Row)
     }
 }
 
-/// Fetches the values that columns have in the rows of a segment that a selection picks: all of a column at once where
-/// they are many, and else row by row.
+/// Fetches the values of these columns in the selected rows of a segment: all of a column at once
+/// if they are many, else row by row.
 pub(crate) fn fetch_picked<S: Segment>(
     lanes: &mut [ColumnValues],
     columns: &[usize],
@@ -100,7 +101,7 @@ pub(crate) fn fetch_picked<S: Segment>(
     }
 }
 
-/// Fetches the values that columns have in all rows of a segment.
+/// Fetches the values of these columns in all rows of a segment.
 fn fetch_columns<S: Segment>(lanes: &mut [ColumnValues], columns: &[usize], segment: &S)
     requires lanes { length lanes.old ≡ length (S.meaning segment.now).columns }
     requires columns { All (λ column. column < length lanes.old) columns.now }
@@ -112,8 +113,8 @@ fn fetch_columns<S: Segment>(lanes: &mut [ColumnValues], columns: &[usize], segm
     }
 }
 
-/// Fetches the values that columns have in the rows of a segment that a selection picks, row by row from the last one
-/// down.
+/// Fetches the values of these columns in the selected rows of a segment, row by row from the last
+/// one down.
 fn fetch_rows<S: Segment>(
     lanes: &mut [ColumnValues],
     columns: &[usize],
@@ -131,7 +132,7 @@ fn fetch_rows<S: Segment>(
     }
 }
 
-/// Fetches the values that columns have in a row of a segment. Those in other lanes stay.
+/// Fetches the values of these columns in a row of a segment. Those in other lanes stay.
 fn fetch_row<S: Segment>(lanes: &mut [ColumnValues], columns: &[usize], segment: &S, number: usize)
     requires lanes { length lanes.old ≡ length (S.meaning segment.now).columns }
     requires columns { All (λ column. column < length lanes.old) columns.now }

@@ -1,11 +1,11 @@
-//! The answer to a query, as CSV text, over rows that come one at a time.
+//! The result of a query, as CSV text, over rows that come one at a time.
 //!
-//! The contract that the crates above use is that of [`Answer`], which takes rows as the CSV text or the table file
-//! gives them, and then gives the text of the query's meaning over them. What a query means, and the text of that, is
-//! said once, in `specs/Answer.antt`.
+//! The contract that the crates above use is that of [`Answer`]: it consumes rows of a CSV text or
+//! a table file, and returns the text of the query's meaning over them. `specs/Answer.antt` defines
+//! what a query means, and its text.
 //!
-//! Read `specs/Answer.antt` first, and then `answer.rt`; how rows are listed is in `listing.rt`, which fetches values
-//! into `lanes.rt` and has them written by `records.rt`.
+//! Read `specs/Answer.antt` first, then `answer.rt`. `listing.rt` lists rows: it fetches values
+//! into `lanes.rt`, and `records.rt` writes them.
 #![tactic(auto)]
 
 mod answer;

@@ -1,4 +1,4 @@
-//! The rows that a query lists, as records of the columns that its items name.
+//! The rows that a query lists, as records of its columns.
 ghost use Rattle.std.specs.Prelude.{◌≡◌, ◌+◌, ◌*◌, ◌<◌, ◌≤◌, ◌++◌, All, IsTrue, IfErr, IfOk, OnOk, length, map, vec_len};
 ghost use Rattle.std.specs.List.{list_all};
 ghost use Rattle.bw_aggregate.specs.Picked.{IsWithin, picked_rows};
@@ -17,22 +17,24 @@ use bw_model::{Fault, Item, Row, code};
 use bw_segment::Segment;
 use std::alloc::Global;
 
-/// How many bytes a field takes at least: a digit, and the comma or the line feed after it.
+/// The fewest bytes of a field: a digit, and the comma or the line feed after it.
 const SHORTEST: usize = 2;
 
-/// How many bytes of records are written at once, where one record has no more.
+/// The most bytes of records that are written at once, if one record has no more.
 const DRAFT: usize = 32768;
 
-/// The columns that a query lists, and memory for their values and their text, the same for each segment and each row.
+/// The columns that a query lists, and memory for their values and their text, used again for each
+/// segment and each row.
 #[derive(Drop)]
 pub(crate) struct Listing {
-    /// The columns that the items name, in the items' order.
+    /// The columns of the items, in the items' order.
     columns: Vec<usize>,
-    /// The values of the table's columns in the rows at hand: those of the columns above are fetched.
+    /// The values of the table's columns in the current rows; only those of the columns above are
+    /// fetched.
     lanes: Vec<ColumnValues>,
-    /// Room for the records of some rows.
+    /// Space for the records of some rows.
     draft: Vec<u8>,
-    /// Of how many rows.
+    /// The number of these rows.
     at_once: usize,
     ghost within: { All (λ column. column < vec_len lanes) columns.items },
     ghost rows: { (1 ≤ at_once) × (at_once ≤ 512) },
@@ -40,7 +42,7 @@ pub(crate) struct Listing {
 }
 
 impl Listing {
-    /// The columns that items name, of a table of so many columns.
+    /// Returns the listing of the items' columns, of a table of `width` columns.
     pub(crate) fn new(alloc: Global, width: usize, items: &[Item]) -> Result<Self, Fault>
         requires { IsTrue (list_all (item_within width) items.now) }
         ensures columns { IfOk result (λ listing. listing.columns.items ≡ columns_of items.now) }
@@ -57,7 +59,8 @@ impl Listing {
         })
     }
 
-    /// Reserves memory after a text for the records of so many rows, each of which takes two bytes a field at least.
+    /// Reserves memory after a text for the records of `rows` rows, which have at least two bytes
+    /// for each field.
     pub(crate) fn reserve(&self, text: &mut Vec<u8>, rows: u32) -> Result<(), Fault>
         ensures text { text.new.items ≡ text.old.items }
         ensures only_memory { IfErr result (λ fault. fault ≡ no_memory) }
@@ -83,8 +86,8 @@ impl Listing {
         push_record(text, &mut self.draft, &self.lanes, &self.columns)
     }
 
-    /// Adds the records of the rows of a segment that a selection picks to a text. Where it picks none, no row is
-    /// looked at.
+    /// Adds the records of the selected rows of a segment to a text. If none is selected, no row is
+    /// read.
     pub(crate) fn push_picked<S: Segment>(
         &mut self,
         text: &mut Vec<u8>,
@@ -116,7 +119,7 @@ impl Listing {
     }
 }
 
-/// The columns that items name.
+/// Returns the columns of the items.
 fn columns_of(alloc: Global, items: &[Item]) -> Result<Vec<usize>, Fault>
     ensures columns { IfOk result (λ columns. columns.items ≡ columns_of items.now) }
     ensures only_memory { IfErr result (λ fault. fault ≡ no_memory) }
@@ -130,14 +133,14 @@ fn columns_of(alloc: Global, items: &[Item]) -> Result<Vec<usize>, Fault>
     Ok(columns)
 }
 
-/// Of how many rows the records of so many fields are written at once.
+/// Returns how many rows' records, of this many fields, are written at once.
 fn rows_at_once(columns: usize) -> usize
     ensures { (1 ≤ result) × (result ≤ 512) }
 {
     (DRAFT / FIELD / columns.max(1)).max(1).min(LANES)
 }
 
-/// Room for the records of so many columns in so many rows.
+/// Returns space for the records of this many columns in this many rows.
 fn room_for(alloc: Global, columns: usize, rows: usize) -> Result<Vec<u8>, Fault>
     requires { rows ≤ 512 }
     ensures room { IfOk result (λ room. 21 * columns * rows ≤ vec_len room) }

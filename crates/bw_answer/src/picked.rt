@@ -1,4 +1,4 @@
-//! The rows of a segment that a selection picks, in an answer's totals.
+//! The selected rows of a segment in a result's totals.
 ghost use Rattle.std.specs.Prelude.{◌≡◌, ◌+◌, ◌≤◌, IsTrue, All, length, map};
 ghost use Rattle.bw_lanes.specs.Lanes.{lanes_of_words};
 ghost use Rattle.bw_model.specs.Limits.{most_rows};
@@ -10,7 +10,7 @@ use bw_lanes::Selection;
 use bw_rowwise::Accumulator;
 use bw_segment::Segment;
 
-/// Adds the rows of a segment that a selection picks to each total.
+/// Adds the selected rows of a segment to each total.
 pub(crate) fn total_picked<S: Segment>(
     totals: &mut [Accumulator],
     segment: &S,

@@ -1,4 +1,4 @@
-//! A record of values, written from its last byte to its first, as digits come.
+//! A record of values, written from its last byte to its first, since digits come in that order.
 ghost use Rattle.std.specs.Prelude.{◌≡◌, ◌+◌, ◌*◌, ◌<◌, ◌≤◌, ◌++◌, ◌∷◌, All, IfErr, OnOk, drop, length, map};
 ghost use Rattle.std.specs.Fmt.{signed_decimal};
 ghost use Rattle.bw_model.specs.Fault.{no_memory};
@@ -9,11 +9,11 @@ use crate::lanes::ColumnValues;
 use bw_model::{Fault, Value};
 use itoa::write_digits;
 
-/// How many bytes a field takes at most: a sign, 19 digits, and the comma or the line feed after it.
+/// The most bytes of a field: a sign, 19 digits, and the comma or the line feed after it.
 pub(crate) const FIELD: usize = 21;
 
-/// Adds the record of the values that columns have in the first lane to a text. It is written into a draft first, which
-/// has room for it.
+/// Adds the record of these columns' values in the first lane to a text. It is written into a draft
+/// first, which must have space for it.
 pub(crate) fn push_record(
     text: &mut Vec<u8>,
     draft: &mut [u8],
@@ -33,7 +33,8 @@ pub(crate) fn push_record(
     Ok(())
 }
 
-/// Writes the record of the values that columns have in a lane, so that it ends at `end`, and gives where it starts.
+/// Writes the record of these columns' values in a lane, so that it ends at `end`. Returns where it
+/// starts.
 pub(crate) fn put_record(
     text: &mut [u8],
     end: usize,
@@ -60,7 +61,7 @@ pub(crate) fn put_record(
     start
 }
 
-/// The value that a column has in a lane.
+/// Returns the value of a column in a lane.
 #[inline]
 fn value_in_lane(lanes: &[ColumnValues], number: usize, column: usize) -> Value
     requires { (number < 512) × (column < length lanes.now) }
@@ -69,7 +70,7 @@ fn value_in_lane(lanes: &[ColumnValues], number: usize, column: usize) -> Value
     lanes[column].value(number)
 }
 
-/// Writes a number, or null, so that it ends at `end`, and gives where it starts.
+/// Writes a number, or null, so that it ends at `end`. Returns where it starts.
 #[inline]
 fn put_value(text: &mut [u8], end: usize, value: Value) -> usize
     requires { (20 ≤ end) × (end ≤ length text.old) }
@@ -82,7 +83,7 @@ fn put_value(text: &mut [u8], end: usize, value: Value) -> usize
     }
 }
 
-/// Writes null so that it ends at `end`, and gives where it starts.
+/// Writes null so that it ends at `end`. Returns where it starts.
 #[inline]
 fn put_null(text: &mut [u8], end: usize) -> usize
     requires { (4 ≤ end) × (end ≤ length text.old) }
@@ -95,7 +96,7 @@ fn put_null(text: &mut [u8], end: usize) -> usize
     put_byte(text, end, b'N')
 }
 
-/// Writes a number so that it ends at `end`, and gives where it starts.
+/// Writes a number so that it ends at `end`. Returns where it starts.
 #[inline]
 fn put_number(text: &mut [u8], end: usize, n: i64) -> usize
     requires { (20 ≤ end) × (end ≤ length text.old) }
@@ -110,7 +111,7 @@ fn put_number(text: &mut [u8], end: usize, n: i64) -> usize
     }
 }
 
-/// Writes a byte in front of `end`, and gives where it stands.
+/// Writes a byte before `end`. Returns its place.
 #[inline]
 fn put_byte(text: &mut [u8], end: usize, byte: u8) -> usize
     requires { (1 ≤ end) × (end ≤ length text.old) }

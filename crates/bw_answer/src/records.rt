@@ -1,4 +1,4 @@
-//! The records of the rows that a selection picks.
+//! The records of selected rows.
 ghost use Rattle.std.specs.Prelude.{◌≡◌, ◌-◌, ◌*◌, ◌<◌, ◌≤◌, ◌++◌, All, IfErr, OnOk, drop, length, map};
 ghost use Rattle.bw_lanes.specs.Lanes.{lanes_of_words};
 ghost use Rattle.bw_model.specs.Fault.{no_memory};
@@ -11,8 +11,8 @@ use crate::record::put_record;
 use bw_lanes::{LANES, Selection, last_between};
 use bw_model::Fault;
 
-/// Adds the records of the rows that a selection picks to a text. They are written into a draft first, so many rows at
-/// once, for which it has room.
+/// Adds the records of the selected rows to a text. They are written into a draft first, `rows`
+/// rows at a time, for which it must have space.
 pub(crate) fn push_records(
     text: &mut Vec<u8>,
     draft: &mut [u8],
@@ -39,8 +39,8 @@ pub(crate) fn push_records(
     Ok(())
 }
 
-/// Writes the records of the rows from `first` up to `past` that a selection picks so that they end with the draft, and
-/// gives where they start.
+/// Writes the records of the selected rows from `first` up to `past`, so that they end with the
+/// draft. Returns where they start.
 fn put_records(
     draft: &mut [u8],
     lanes: &[ColumnValues],

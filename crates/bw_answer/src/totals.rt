@@ -1,4 +1,4 @@
-//! The totals that a query asks for.
+//! The totals of a query.
 ghost use Rattle.std.specs.Prelude.{◌≡◌, ◌≤◌, ◌+◌, ◌++◌, ◌∷◌, ℕ, List, [], IsTrue, IfOk, IfErr, OnOk, length, map, All};
 ghost use Rattle.std.specs.List.{list_all, list_any};
 ghost use Rattle.bw_model.specs.declared.query.Item.{Item};
@@ -19,7 +19,8 @@ use bw_model::{Fault, Item, Query, Row};
 use bw_rowwise::{Accumulator, Prepared};
 use std::alloc::Global;
 
-/// The totals over no rows, one for each aggregate among the items, however often it is asked for.
+/// Returns the totals over no rows, one for each aggregate among the items, even if it occurs more
+/// than once.
 pub(crate) fn totals_of(alloc: Global, items: &[Item]) -> Result<Vec<Accumulator>, Fault>
     ensures totals { IfOk result (λ totals. totals.items ≡ map (λ item. tally_of item [])
         (aggregates_of items.now)) }
@@ -32,7 +33,7 @@ pub(crate) fn totals_of(alloc: Global, items: &[Item]) -> Result<Vec<Accumulator
     Ok(totals)
 }
 
-/// Puts a total over no rows after others, if the item is an aggregate that has none among them.
+/// Adds a total over no rows, if the item is an aggregate without a total.
 fn include(totals: &mut Vec<Accumulator>, item: Item) -> Result<(), Fault>
     ensures totals { OnOk result ((items : List Item) → totals.old.items
         ≡ map (λ item. tally_of item []) (aggregates_of items)
@@ -49,14 +50,15 @@ fn include(totals: &mut Vec<Accumulator>, item: Item) -> Result<(), Fault>
     Ok(())
 }
 
-/// Whether there is a total of an item. There are at most 257 totals: COUNT(*), and four of each column.
+/// Returns whether an item has a total. There are at most 257 totals: COUNT(*), and four of each
+/// column.
 fn has_total(totals: &[Accumulator], item: Item) -> bool
     ensures { result ≡ list_any (λ tally. is_same tally.item item) totals.now }
 {
     totals.iter().any(|total| is_same(total.item(), item))
 }
 
-/// The total of an item, and null where there is none of it.
+/// Returns the total of an item, or null if it has none.
 fn total_for(totals: &[Accumulator], item: Item) -> Option<i128>
     ensures { result ≡ answer_for totals.now item }
 {
@@ -68,14 +70,14 @@ fn total_for(totals: &[Accumulator], item: Item) -> Option<i128>
     None
 }
 
-/// Whether two items are the same.
+/// Returns whether two items are the same.
 fn is_same(item: Item, other: Item) -> bool
     ensures { result ≡ is_same item other }
 {
     function_of(item) == function_of(other) && column_in(item) == column_in(other)
 }
 
-/// The number of an item's function.
+/// Returns the number of an item's function.
 fn function_of(item: Item) -> u32
     ensures { result ≡ function_of item }
 {
@@ -89,7 +91,7 @@ fn function_of(item: Item) -> u32
     }
 }
 
-/// The column that an item is of, or 0 for the number of rows.
+/// Returns the column of an item, or 0 for the number of rows.
 fn column_in(item: Item) -> usize
     ensures { result ≡ column_in item }
 {
@@ -103,7 +105,7 @@ fn column_in(item: Item) -> usize
     }
 }
 
-/// Adds a row to each total, if it is kept.
+/// Adds a row to each total, if it matches.
 #[tactic(auto, using(crate::proofs::TotalsLemmas::kept_steps))]
 pub(crate) fn add_kept(totals: &mut [Accumulator], query: &Query, cond: &Prepared, row: &Row)
     requires prepared { IsPreparedFrom query.now.cond cond.now }
@@ -134,7 +136,7 @@ fn add_row(totals: &mut [Accumulator], row: &Row)
     }
 }
 
-/// Adds so many rows, whichever they are, to each total, as to a count of rows.
+/// Adds `count` rows, whatever their values, to each total, as to a count of rows.
 pub(crate) fn add_count(totals: &mut [Accumulator], count: u32)
     requires { All (λ tally. tally.count + count ≤ most_rows) totals.old }
     ensures { totals.new ≡ map (λ tally. counted tally count) totals.old }
@@ -144,7 +146,7 @@ pub(crate) fn add_count(totals: &mut [Accumulator], count: u32)
     }
 }
 
-/// The text with a record more: the total of each item.
+/// Returns the text with one record more: the total of each item.
 pub(crate) fn with_totals(
     bytes: Vec<u8>,
     totals: &[Accumulator],

@@ -1,4 +1,5 @@
--- Where the lines of instructions and joins are refused, and that a first fault is what they are refused with.
+-- Where the lines of instructions and joins are refused, and that a first fault is what they are
+-- refused with.
 use Rattle.std.proofs.Common.{◌≡◌, ◌∙◌, refl, sym, ap, ap₂, subst, ◌⊎◌, inl, inr, ℕ, suc, ◌<◌, Bool, true, false, not, ◌&&◌, List, [], ◌∷◌, ◌++◌, map, length, Option, Some, None, Result, Ok, Err, arith}
 use Rattle.std.proofs.Math.Bool.{and-true}
 use Rattle.bw_model.proofs.BitsLemmas.{both}

@@ -1,4 +1,5 @@
--- What texts are accepted as is said of a schema and of a query that are read of them, whichever others they spell.
+-- What texts are accepted as is said of a schema and of a query that are read of them, whichever
+-- others they spell.
 use Rattle.std.proofs.Common.{◌≡◌, IfOk, sym, ap, subst, ℕ, List, Result, Ok, Err}
 use Rattle.bw_model.specs.declared.column.Column.{Column}
 use Rattle.bw_model.specs.declared.cond.Cond.{Cond}

@@ -33,7 +33,8 @@ certificates_same : (file text other stated another : List ℕ) (first second : 
 certificates_same file text other stated another first second a b =
     ap₂ (λ n lines. certificate_from 0 (numbered_from n lines) (n + length lines)) (a.number ∙ sym b.number) (a.after ∙ sym b.after)
 
--- what is read of program texts and of certificate texts, and that certificates are judged by what they say
+-- what is read of program texts and of certificate texts, and that certificates are judged by what
+-- they say
 pub record Laws : Type 0 where
   pub program : (columns : List Column) (text : List ℕ) (program : ProgramShape) → IsProgramText columns text program → program_of columns text ≡ Ok program
   pub certificate : (first : ℕ) (text : List ℕ) (certificate : CertificateFields) → IsCertificateText first text certificate → certificate_of first text ≡ Ok certificate

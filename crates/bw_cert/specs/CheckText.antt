@@ -1,4 +1,5 @@
--- What a check of a program file is to answer, by the texts of a schema, of a statement and of the file.
+-- The expected result of checking a program file, from the texts of a schema, of a statement and of
+-- the file.
 use Rattle.std.specs.Prelude.{◌≡◌, ℕ, List, Ok, Err}
 use Rattle.bw_model.specs.declared.fault.Fault.{Fault}
 use Rattle.bw_model.specs.declared.query.Query.{Query}
@@ -10,8 +11,8 @@ use Rattle.bw_sql.specs.Statement.{IsReadAs}
 use Rattle.bw_report.specs.declared.accepted.Accepted.{Accepted}
 use Rattle.bw_cert.specs.Judged.{Certifies, IsFileFault, counted}
 
--- A text spells a schema, a statement a query under it, and a file a program and a certificate that is valid for it and
--- the query's condition; these are their numbers.
+-- The first text spells a schema, the statement a query under it, and the file a program and a
+-- certificate that is valid for it and the query's condition. These are their numbers.
 pub record IsAccepted (text sql file : List ℕ) (accepted : Accepted) : Type 0 where
   pub schema : Schema
   pub query : Query
@@ -22,7 +23,8 @@ pub record IsAccepted (text sql file : List ℕ) (accepted : Accepted) : Type 0 
   pub certifies : Certifies schema.columns.items query.cond file program certificate
   pub numbers : accepted ≡ counted program certificate
 
--- The fault of these three: the schema text's; else the statement's under the schema; else the file's.
+-- The error of these three: that of the schema text; else that of the statement under the schema;
+-- else that of the file.
 pub data IsCheckFault (text sql file : List ℕ) : Fault → Type 0 where
   schema_refused : {fault : Fault} → schema_of text ≡ Err fault → IsCheckFault text sql file fault
   statement_refused : {schema : Schema} {fault : Fault} → IsSchemaText text (schema_shape schema) →

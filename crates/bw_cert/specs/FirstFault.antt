@@ -1,5 +1,6 @@
--- The first fault in the lines of a program's instructions and joins, by what stands before it: the lines of parts that
--- obey. No walk over the lines is in `FirstFault`; `StandsOn` says of the walk that it looks no further.
+-- The first error in the lines of a program's instructions and joins, by the lines before it: those
+-- of parts that satisfy their rules. `FirstFault` doesn't mention any walk over the lines;
+-- `StandsOn` states that the walk looks no further.
 use Rattle.std.specs.Prelude.{◌≡◌, ◌<◌, ◌⊎◌, ℕ, suc, false, IsTrue, List, [], ◌∷◌, ◌++◌, length, map, Some, None, Ok, Err, slice_get, ⊤}
 use Rattle.bw_model.specs.FaultTable.{INSTRUCTION_LINE, JOIN}
 use Rattle.bw_model.specs.declared.fault.Fault.{Fault}
@@ -16,25 +17,25 @@ use Rattle.bw_cert_parts.specs.Join.{edge_of, with_edge, edges_into}
 use Rattle.bw_cert_parts.specs.Known.{Known}
 use Rattle.bw_cert_parts.specs.Walk.{instruction_on, is_join, keep_in, judged}
 
--- lines that begin with no line KEEP
+-- the lines don't begin with a line KEEP
 abbrev pub NoKeep : List BodyLine → Type 0
 NoKeep [] = ⊤
 NoKeep (line ∷ lines) = keep_in line.entry ≡ None
 
--- the lines KEEP of the last part's join, if it has one, are all that there are
+-- if the last part has a join, no line KEEP follows those of the join
 abbrev pub KeepsAreAll : List Part → List BodyLine → Type 0
 KeepsAreAll parts rest =
     (place : ℕ) (part : Part) (join : JoinLines)
     → suc place ≡ length parts → slice_get parts place ≡ Some part → part.join ≡ Some join → NoKeep rest
 
--- Where the line of an instruction is wanted, the next one is another, or breaks its rule, whatever comes after it.
--- Where there is none, that is so at END (607).
+-- The line of an instruction is expected. The next line is another, or breaks its rule, whatever
+-- follows it; or there is none, and the error is at END (607).
 abbrev pub WrongLine : Facts → ℕ → Known → Instr → List BodyLine → Fault → Type 0
 WrongLine facts end known instr [] fault = fault ≡ at_line INSTRUCTION_LINE end
 WrongLine facts end known instr (line ∷ lines) fault = instruction_on facts known instr line line.entry ≡ Err fault
 
--- After lines KEEP that hold, of registers that ascend from the least, comes one that doesn't, whatever comes after it
--- (608).
+-- After lines KEEP that are true, of registers that ascend from the least, follows one that isn't,
+-- whatever follows it (608).
 pub record WrongKeep (facts : Facts) (through : Known) (edges : List Edge) (least : ℕ) (lines : List BodyLine)
     (fault : Fault) : Type 0 where
   pub keeps : List KeepLine
@@ -45,16 +46,16 @@ pub record WrongKeep (facts : Facts) (through : Known) (edges : List Edge) (leas
   pub broken : are_kept facts through edges least (keeps ++ wrong ∷ []) ≡ false
   pub stands : fault ≡ at_line JOIN wrong.line
 
--- Where the line JOIN of a place is wanted, the next one is another (608); where there is none, that is so at END. Or
--- it is that line, and a line KEEP after it doesn't hold.
+-- The line JOIN of a place is expected. The next line is another (608); or there is none, and the
+-- error is at END; or it is that line, and a line KEEP after it isn't true.
 abbrev pub WrongJoin : Facts → ℕ → ℕ → Known → List Edge → List BodyLine → Fault → Type 0
 WrongJoin facts end place through edges [] fault = fault ≡ at_line JOIN end
 WrongJoin facts end place through edges (line ∷ lines) fault =
     ((is_join place line.entry ≡ false) × (fault ≡ at_line JOIN line.line))
     ⊎ (IsTrue (is_join place line.entry) × WrongKeep facts through edges 0 lines fault)
 
--- The next line is the instruction's and obeys its rule, but skips come to the place after it, and the next lines
--- aren't that place's join.
+-- The next line is the instruction's and satisfies its rule. Skips lead to the place after it, but
+-- the next lines aren't that place's join.
 pub record WrongPlace (facts : Facts) (end place : ℕ) (known : Known) (edges : List Edge) (instr : Instr)
     (lines : List BodyLine) (fault : Fault) : Type 0 where
   pub line : ℕ
@@ -66,36 +67,37 @@ pub record WrongPlace (facts : Facts) (end place : ℕ) (known : Known) (edges :
   pub skips : 0 < length edges
   pub wrong : WrongJoin facts end place through edges rest fault
 
--- what is known after some first instructions
+-- what is known after these first instructions
 abbrev pub known_after : Facts → List Instr → List Part → Known
 known_after facts first parts = before facts first parts (length first)
 
--- the edges of the skips, among these and one more instruction, to the place after them
+-- the edges of the skips, among these and one more instruction, that lead to the place after them
 abbrev pub edges_after : Facts → List Instr → List Part → Instr → List Edge
 edges_after facts first parts instr =
     edges_into (suc (length first)) (with_edge (edges_before facts first parts (length first))
     (edge_of (known_after facts first parts) instr))
 
--- The first fault in lines, of which END is this one's number.
+-- The first error in the lines, if END has this number.
 pub record FirstFault (facts : Facts) (instrs : List Instr) (end : ℕ) (lines : List BodyLine)
     (fault : Fault) : Type 0 where
-  -- the instructions are some first ones, then this one, and others
+  -- the instructions are some first ones, then this one, then others
   pub first : List Instr
   pub instr : Instr
   pub others : List Instr
   pub instructions : instrs ≡ first ++ instr ∷ others
-  -- the lines begin with those of parts that obey, for the first ones
+  -- the lines begin with those of parts that satisfy the rules of the first instructions
   pub parts : List Part
   pub obeys : Obeys facts first parts
   pub rest : List BodyLine
   pub spelled : lines ≡ lines_of 0 parts ++ rest
   pub whole : KeepsAreAll parts rest
-  -- and of the rest, the line of this one, or of the join after it, is the first that breaks its rule
+  -- of the remaining lines, that of this instruction, or of the join after it, is the first that
+  -- breaks its rule
   pub wrong : WrongLine facts end (known_after facts first parts) instr rest fault
       ⊎ WrongPlace facts end (suc (length first)) (known_after facts first parts)
       (edges_after facts first parts instr) instr rest fault
 
--- The fault stands on one of the lines, and is the same whatever lines come after that one.
+-- The error is on one of the lines, and is the same whatever lines follow that one.
 pub record StandsOn (facts : Facts) (instrs : List Instr) (end : ℕ) (lines : List BodyLine)
     (fault : Fault) : Type 0 where
   pub upto : List BodyLine

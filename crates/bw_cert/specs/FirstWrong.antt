@@ -1,5 +1,5 @@
--- Why a certificate is refused, section by section: what stands before the first line that breaks a rule, and that
--- line.
+-- Why a certificate is rejected, section by section: the first line that breaks a rule, and the
+-- lines before it.
 use Rattle.std.specs.Prelude.{◌≡◌, ◌⊎◌, List, ◌∷◌, ◌++◌, Result, Ok, Err}
 use Rattle.bw_model.specs.declared.column.Column.{Column}
 use Rattle.bw_model.specs.declared.cond.Cond.{Cond}
@@ -19,8 +19,8 @@ use Rattle.bw_cert.specs.FirstFault.{FirstFault}
 use Rattle.bw_cert.specs.Stated.{facts_stated, with_lines, with_node_line, with_chain_line, with_product_line}
 use Rattle.bw_cert.specs.Valid.{end_on}
 
--- Of lines that state something, one after the other, this is the first that breaks its rule: those before it obey
--- theirs.
+-- Of lines that state something, one after the other, this is the first that breaks its rule: those
+-- before it satisfy theirs.
 pub record WrongStated (Line : Type 0) (add : Facts → Line → Result Facts Fault) (facts : Facts) (lines : List Line)
     (fault : Fault) : Type 0 where
   pub upto : List Line
@@ -31,7 +31,7 @@ pub record WrongStated (Line : Type 0) (add : Facts → Line → Result Facts Fa
   pub stated : with_lines add facts upto ≡ Ok held
   pub broken : add held line ≡ Err fault
 
--- a line NODE; after all of these, a line CHAIN; and after all of these, a line ROW
+-- a line NODE; or after all of these, a line CHAIN; or after all of these, a line ROW
 abbrev pub WrongFact : List Column → CertificateShape → Fault → Type 0
 WrongFact columns certificate fault =
     WrongStated NodeLine with_node_line (no_facts columns) certificate.nodes fault
@@ -40,14 +40,15 @@ WrongFact columns certificate fault =
     ⊎ ((chains : Facts) × (with_lines with_chain_line nodes certificate.chains ≡ Ok chains)
     × WrongStated ProductLine with_product_line chains certificate.products fault)))
 
--- after a condition's lines, the first fault in those of the program's instructions and joins; and after these, END
+-- after a condition's lines, the first error in the lines of the program's instructions and joins;
+-- or after these, END
 abbrev pub WrongProgram : Facts → ProgramShape → CertificateShape → Pair → List BodyLine → Fault → Type 0
 WrongProgram facts program certificate pair lines fault =
     FirstFault facts program.instrs certificate.end.line lines fault
     ⊎ ((taken : Taken) × Accepts facts program.instrs lines taken
     × (end_on facts certificate.end.line taken program.result pair.yes certificate.end.row ≡ Err fault))
 
--- the lines of the condition's steps, and then the program's
+-- a line of the condition's steps; or after all of these, one of the program's
 abbrev pub WrongBody : List Column → Facts → Cond → ProgramShape → CertificateShape → Fault → Type 0
 WrongBody columns facts cond program certificate fault =
     (pair_of columns facts certificate.end.line cond certificate.body ≡ Err fault)
@@ -55,7 +56,7 @@ WrongBody columns facts cond program certificate fault =
     ≡ Ok (pair, rest))
     × WrongProgram facts program certificate pair rest fault)
 
--- what the NODE, CHAIN and ROW lines state, and then the body
+-- a line NODE, CHAIN or ROW; or after all of these, a line of the body
 abbrev pub FirstWrong : List Column → Cond → ProgramShape → CertificateShape → Fault → Type 0
 FirstWrong columns cond program certificate fault =
     WrongFact columns certificate fault

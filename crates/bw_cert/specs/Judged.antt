@@ -1,4 +1,4 @@
--- What a program file is judged as, under a schema's columns and for a condition.
+-- The expected result of certifying a program file, under a schema's columns and for a condition.
 use Rattle.std.specs.Prelude.{◌≡◌, ◌≤◌, ◌<◌, ℕ, List, length, count_by, Err, Bool, ◌&&◌, ◌||◌, nat_le}
 use Rattle.bw_model.specs.FaultTable.{PROGRAM_FORM, PROGRAM_FILE_TOO_LONG, NODE, END}
 use Rattle.bw_model.specs.declared.column.Column.{Column}
@@ -15,7 +15,7 @@ use Rattle.bw_report.specs.declared.accepted.Accepted.{Accepted}
 use Rattle.bw_cert.specs.declared.certified_file.CertifiedFile.{CertifiedFile}
 use Rattle.bw_cert.specs.ProgramFile.{IsCut, longest_program_file}
 
--- a file spells a program and a certificate that is valid for it and the condition
+-- a file spells a program, and a certificate that is valid for it and the condition
 pub record Certifies (columns : List Column) (cond : Cond) (file : List ℕ) (program : ProgramShape)
     (certificate : CertificateShape) : Type 0 where
   pub short : length file ≤ longest_program_file
@@ -27,7 +27,7 @@ pub record Certifies (columns : List Column) (cond : Cond) (file : List ℕ) (pr
   pub stated : IsCertificateText first certificate_text (certificate_fields certificate)
   pub valid : Valid columns cond program certificate
 
--- the numbers that an accepted file is reported with
+-- the numbers that are reported of an accepted file
 abbrev pub counted : ProgramShape → CertificateShape → Accepted
 counted program certificate = record {
   instructions = length program.instrs;
@@ -37,15 +37,15 @@ counted program certificate = record {
   rows = length certificate.products;
 }
 
--- what a certified file is reported as: its program, and these numbers
+-- what is reported of a certified file: its program and these numbers
 abbrev pub told_of : ProgramShape → CertificateShape → ProgramShape × Accepted
 told_of program certificate = (program, counted program certificate)
 
 abbrev pub told : CertifiedFile → ProgramShape × Accepted
 told found = (found.certified.program, found.accepted)
 
--- The fault of a file: that it is too long; else the first of its program text; else the first of its certificate text;
--- else the first line of the certificate that breaks a rule.
+-- The error of a file: that it is too long; else the first error of its program text; else the
+-- first of its certificate text; else the first line of the certificate that breaks a rule.
 pub data IsFileFault (columns : List Column) (cond : Cond) (file : List ℕ) : Fault → Type 0 where
   too_long : longest_program_file < length file → IsFileFault columns cond file (nowhere PROGRAM_FILE_TOO_LONG)
   program_refused : {text stated : List ℕ} {first : ℕ} {fault : Fault} → length file ≤ longest_program_file →
@@ -59,7 +59,7 @@ pub data IsFileFault (columns : List Column) (cond : Cond) (file : List ℕ) : F
       IsCertificateText first stated (certificate_fields certificate) →
       checked columns cond program certificate ≡ Err fault → IsFileFault columns cond file fault
 
--- one of 501 to 508 or 601 to 610, or out of memory
+-- the error is one of 501 to 508 or 601 to 610, or out of memory
 abbrev pub is_file_fault : Fault → Bool
 is_file_fault fault =
     (nat_le PROGRAM_FORM fault.code && nat_le fault.code PROGRAM_FILE_TOO_LONG)

@@ -1,5 +1,5 @@
--- What the NODE, CHAIN and ROW lines of a certificate state: nodes, chains and product rows, each by the rule of its
--- line.
+-- The content of the NODE, CHAIN and ROW lines of a certificate: nodes, chains and product rows,
+-- each by the rule of its line.
 use Rattle.std.specs.Prelude.{ℕ, List, [], ◌∷◌, Result, Ok, Err}
 use Rattle.bw_model.specs.declared.column.Column.{Column}
 use Rattle.bw_model.specs.declared.fault.Fault.{Fault}
@@ -11,7 +11,7 @@ use Rattle.bw_cert_text.specs.declared.lines.ChainLine.{ChainLine}
 use Rattle.bw_cert_text.specs.declared.lines.ProductLine.{ProductLine}
 use Rattle.bw_cert_text.specs.CertificateShape.{CertificateShape}
 
--- a fault is one of the line of this number
+-- the error, if there is one, is on the line of this number
 abbrev pub on_line : {A : Type 0} → ℕ → Result A Fault → Result A Fault
 on_line line (Ok x) = Ok x
 on_line line (Err fault) = Err (at_line fault.code line)
@@ -27,13 +27,13 @@ abbrev pub with_product_line : Facts → ProductLine → Result Facts Fault
 with_product_line facts line = on_line line.line (with_product facts line.n
     (record { op = line.op; a = line.a; b = line.b; c = line.c }) line.reason)
 
--- what is held after lines, each of which obeys its rule after those before it
+-- the facts after these lines, each of which must satisfy its rule after those before it
 unfoldable pub with_lines : {Line : Type 0} → (Facts → Line → Result Facts Fault) → Facts → List Line
     → Result Facts Fault
 with_lines add facts [] = Ok facts
 with_lines add facts (line ∷ lines) = add facts line >>= λ more. with_lines add more lines
 
--- what a certificate states under columns, or the first line that breaks its rule
+-- the facts that a certificate states under these columns, or the first line that breaks its rule
 abbrev pub facts_stated : List Column → CertificateShape → Result Facts Fault
 facts_stated columns certificate =
     with_lines with_node_line (no_facts columns) certificate.nodes >>= λ facts.

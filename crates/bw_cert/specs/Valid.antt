@@ -1,5 +1,5 @@
--- When a certificate shows that a scan program selects what a condition does, and which line is the first that breaks a
--- rule.
+-- When a certificate shows that a scan program selects the rows on which a condition is TRUE, and
+-- which line is the first that breaks a rule.
 use Rattle.std.specs.Prelude.{◌≡◌, ℕ, List, [], ◌∷◌, length, false, Some, Result, Ok, Err, not, IsTrue, Bool, ◌&&◌, ◌||◌, nat_le}
 use Rattle.bw_model.specs.FaultTable.{CONDITION_LINE, REGISTER_UNKNOWN, END}
 use Rattle.bw_model.specs.declared.column.Column.{Column}
@@ -21,28 +21,31 @@ use Rattle.bw_cert_parts.specs.Known.{Known, node_of}
 use Rattle.bw_cert_parts.specs.Walk.{Taken, judged}
 use Rattle.bw_cert.specs.Stated.{facts_stated}
 
--- A certificate is valid for a condition and a program under columns.
+-- A certificate is valid for a condition and a program under these columns.
 pub record Valid (columns : List Column) (cond : Cond) (program : ProgramShape)
     (certificate : CertificateShape) : Type 0 where
-  -- the NODE, CHAIN and ROW lines obey their rules, and state these nodes, chains and product rows
+  -- the NODE, CHAIN and ROW lines satisfy their rules, and state these nodes, chains and product
+  -- rows
   pub facts : Facts
   pub stated : facts_stated columns certificate ≡ Ok facts
-  -- the lines of the condition's steps obey theirs, and make this pair: where it is TRUE, and where it is FALSE
+  -- the lines of the condition's steps satisfy theirs, and make this truth pair: when it is TRUE,
+  -- and when it is FALSE
   pub pair : Pair
   pub rest : List BodyLine
   pub paired : pair_of columns facts certificate.end.line cond certificate.body ≡ Ok (pair, rest)
-  -- the others are the lines of the program's instructions and joins, which obey theirs, and nothing is left over
+  -- the other lines are those of the program's instructions and joins; they satisfy theirs, and
+  -- none is left over
   pub parts : List Part
   pub obeys : Obeys facts program.instrs parts
   pub spelled : rest ≡ lines_of 0 parts
-  -- at the end the result register has a node, and END cites a product row that says that its XOR with the first node
-  -- of the pair is 0
+  -- at the end the result register's node is known, and END references a product row by which its
+  -- XOR with the first node of the pair is 0
   pub node : ℕ
   pub known : node_of (before facts program.instrs parts (length program.instrs)) program.result ≡ Some node
   pub ended : IsTrue (is_zero (cited facts Xor node pair.yes certificate.end.row))
 
--- END: after the last line of the program (610 at a line that is left over), the result register has a node (609),
--- whose XOR with the condition's is 0 by the row (610)
+-- END: no line is left over (610), the result register's node is known (609), and by the product
+-- row its XOR with the condition's node is 0 (610)
 abbrev pub result_on : Facts → ℕ → Known → ℕ → ℕ → ℕ → Result Facts Fault
 result_on facts end known result first row =
     found_on REGISTER_UNKNOWN end (node_of known result) >>= λ node.
@@ -55,8 +58,8 @@ last_on facts end (line ∷ lines) known result first row = Err (at_line END lin
 abbrev pub end_on : Facts → ℕ → Taken → ℕ → ℕ → ℕ → Result Facts Fault
 end_on facts end taken result first row = last_on facts end taken.rest taken.known result first row
 
--- What a certificate states, if it is valid, or the first line that breaks a rule: the sections one after another, and
--- the lines of each in their order.
+-- The facts that a valid certificate states, or the first line that breaks a rule: the sections one
+-- after another, and the lines of each in their order.
 abbrev pub checked : List Column → Cond → ProgramShape → CertificateShape → Result Facts Fault
 checked columns cond program certificate =
     facts_stated columns certificate >>= λ facts.
@@ -64,13 +67,13 @@ checked columns cond program certificate =
     judged facts program.instrs certificate.end.line read.1 >>= λ taken.
     end_on facts certificate.end.line taken program.result read.0.yes certificate.end.row
 
--- What the checker answers, where this is expected: yes with what is certified, or the program back with the fault, out
--- of memory aside.
+-- What the checker returns is what is expected: it accepts, or it returns the program with the
+-- error, unless it ran out of memory.
 abbrev pub Checks : {C P : Type 0} → Result C (P × Fault) → Result Facts Fault → Type 0
 Checks (Ok certified) expected = (facts : Facts) × (expected ≡ Ok facts)
 Checks (Err refused) expected = is_memory refused.1 ≡ false → expected ≡ Err refused.1
 
--- one of 601 to 604 or 606 to 610, or out of memory
+-- the error is one of 601 to 604 or 606 to 610, or out of memory
 abbrev pub is_check_fault : Fault → Bool
 is_check_fault fault =
     is_diagram_fault fault || (nat_le CONDITION_LINE fault.code && nat_le fault.code END)

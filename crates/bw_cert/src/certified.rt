@@ -20,7 +20,7 @@ use bw_run::{Counts, run_segment};
 use bw_segment::Segment;
 use std::alloc::Global;
 
-/// A scan program that selects exactly the rows for which a condition is TRUE, on every table of a
+/// A scan program that selects exactly the rows on which a condition is TRUE, on every table of a
 /// schema. Only [`check`](crate::check) makes one.
 #[derive(Drop)]
 pub struct Certified {
@@ -32,7 +32,8 @@ pub struct Certified {
 }
 
 impl Certified {
-    /// A program that selects what a condition does, with copies of the schema and the condition.
+    /// Returns a certified program with copies of the schema and the condition. Errors: 801 if
+    /// memory is refused.
     pub(crate) fn new(
         alloc: Global,
         schema: &Schema,
@@ -65,30 +66,32 @@ impl Certified {
         })
     }
 
-    /// The schema whose tables it is for.
+    /// Returns the schema of the tables that it runs on.
     pub fn schema(&self) -> &Schema
         ensures { result.now ≡ self.now.schema }
     {
         &self.schema
     }
 
-    /// The condition.
+    /// Returns the condition.
     pub fn condition(&self) -> &Cond
         ensures { result.now ≡ self.now.condition }
     {
         &self.condition
     }
 
-    /// The program.
+    /// Returns the program.
     pub fn program(&self) -> &Program
         ensures { result.now ≡ self.now.program }
     {
         &self.program
     }
 
-    /// Runs the program on a segment of a table of the schema: gives, for each of its rows, whether
-    /// the condition is TRUE on it, and 0 past the last one, with the counts of the run, which are
-    /// together no more than the program's instructions, and so than 4,096. No memory, no refusal.
+    /// Runs the program on a segment of a table of the schema. Returns, for each row, whether the
+    /// condition is TRUE on it, and 0 past the last row.
+    ///
+    /// The counts of the run add up to at most the number of the program's instructions, so to at
+    /// most 4,096. Allocates no memory and never fails.
     pub fn run_segment<S: Segment>(&self, segment: &S) -> (Selection, Counts)
         requires { (S.meaning segment.now).columns ≡ self.now.schema.columns.items }
         ensures rows { lanes_of_words result.0
@@ -104,8 +107,8 @@ impl Certified {
         run_segment(&self.program, segment)
     }
 
-    /// A law, selection exact: on every table of the schema the program selects exactly the rows
-    /// for which the condition is TRUE, whichever skips its runs on the groups of rows take.
+    /// A law, exact selection: on every table of the schema the program selects exactly the rows on
+    /// which the condition is TRUE, whichever skips its runs on the groups of rows take.
     pub fn selects_rows(&self)
         ensures bits { (rows : List (List Value))
             → list_all (admits_values self.now.schema.columns.items) rows ≡ true

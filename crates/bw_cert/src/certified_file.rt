@@ -24,10 +24,12 @@ pub struct CertifiedFile {
     pub accepted: Accepted,
 }
 
-/// The program of a program file, certified for a condition, whose columns are the schema's.
+/// Returns the program of a program file, certified for a condition whose columns must be the
+/// schema's.
 ///
-/// Refuses in this order: a file of more than 67,108,864 bytes (508), its program text (501 to 507), its certificate
-/// text (605), and the first line that breaks a rule (601 to 604, 606 to 610); out of memory (801) wherever it comes.
+/// Errors, in this order: 508, a file of more than 67,108,864 bytes; 501 to 507, its program text;
+/// 605, its certificate text; 601 to 604 and 606 to 610, the first line that breaks a rule. 801 at
+/// any time, if memory is refused.
 pub fn certify(
     alloc: Global,
     schema: &Schema,
@@ -35,8 +37,8 @@ pub fn certify(
     file: &[u8],
 ) -> Result<CertifiedFile, Fault>
     requires { IsTrue (names_within (length schema.now.columns.items) condition.now) }
-    // What is accepted is spelled and valid, and what is spelled and valid is accepted, be it so for another condition
-    // of the same tree.
+    // What is accepted spells a program and a valid certificate. What spells them is accepted, even
+    // if they are valid for another condition of the same tree.
     ensures valid { IfOk result (λ found. (certificate : CertificateShape)
         × Certifies schema.now.columns.items condition.now file.now found.certified.program certificate
         × (found.accepted ≡ counted found.certified.program certificate)) }
@@ -45,12 +47,12 @@ pub fn certify(
         → Certifies schema.now.columns.items same file.now program certificate
         → Gives told result (Ok (told_of program certificate)) }
 
-    // What is refused has this fault.
+    // A failed call returns the file's error.
     ensures fault { IfErr result (λ fault. is_memory fault ≡ false
         → IsFileFault schema.now.columns.items condition.now file.now fault) }
     ensures code { IfErr result (λ fault. IsTrue (is_file_fault fault)) }
 
-    // What it is certified for.
+    // It is certified for this schema and condition.
     ensures schema { IfOk result (λ found. (found.certified.schema.name ≡ schema.now.name)
         × (found.certified.schema.columns.items ≡ schema.now.columns.items)) }
     ensures condition { IfOk result (λ found.
@@ -60,7 +62,8 @@ pub fn certify(
     judge_file(alloc, schema, condition, file)
 }
 
-/// The same, without the law that what is certified is never refused.
+/// Certifies a program file as [`certify`] does, without the law that what can be certified is
+/// never rejected.
 #[tactic(auto, using(crate::specs::Judged::too_long, crate::specs::Judged::program_refused, crate::specs::Judged::certificate_refused, crate::specs::Judged::line_refused))]
 fn judge_file(
     alloc: Global,

@@ -15,11 +15,11 @@ use bw_report::Accepted;
 use bw_sql::{one_query_of_a_text, parse, schemas_of_one_shape};
 use std::alloc::Global;
 
-/// Checks a program file for the condition of a statement, under the schema of a schema text. Gives the numbers of the
-/// program and of its certificate.
+/// Checks a program file for the condition of a statement, under the schema of a schema text.
+/// Returns the numbers of the program and of its certificate.
 ///
-/// Refuses in this order: the schema text (106, 101 to 105), the statement (401 to 408), and the file, as [`certify`]
-/// does; out of memory (801) wherever it comes.
+/// Errors, in this order: the schema text's (106, 101 to 105), the statement's (401 to 408), and
+/// the file's, as of [`certify`]. 801 at any time, if memory is refused.
 #[tactic(auto, using(crate::specs::CheckText::schema_refused, crate::specs::CheckText::statement_refused, crate::specs::CheckText::file_refused))]
 pub fn check_text(alloc: Global, schema: &[u8], sql: &[u8], file: &[u8]) -> Result<Accepted, Fault>
     ensures accepted { IfOk result (λ accepted. IsAccepted schema.now sql.now file.now accepted) }
@@ -35,7 +35,7 @@ pub fn check_text(alloc: Global, schema: &[u8], sql: &[u8], file: &[u8]) -> Resu
     numbers(alloc, &schema, &query.cond, file)
 }
 
-/// The numbers of a program file that is certified for a condition.
+/// Returns the numbers of a program file that is certified for the condition.
 fn numbers(alloc: Global, schema: &Schema, condition: &Cond, file: &[u8]) -> Result<Accepted, Fault>
     requires { IsTrue (names_within (length schema.now.columns.items) condition.now) }
     ensures valid { IfOk result (λ numbers. (program : ProgramShape) × (certificate : CertificateShape)

@@ -17,14 +17,20 @@ use bw_model::{Cond, Fault, Schema, code};
 use bw_program::Program;
 use std::alloc::Global;
 
-/// Checks a certificate for a program and a condition, whose columns are the schema's.
+/// Checks a certificate for a program and a condition, whose columns must be the schema's. If it
+/// fails, it returns the program with the error.
 ///
-/// Refused is the first line that breaks a rule: a NODE, CHAIN or ROW line that breaks its own (601
-/// to 604); a line that isn't the condition's next, or doesn't show what its step makes (606); one
-/// that isn't the program's next, or doesn't show what its instruction gives (607), or reads a
-/// register that isn't known (609); a join that doesn't hold (608); at END, a line that is left
-/// over, a result register that isn't known (609), or another node than the condition's (610). The
-/// program comes back.
+/// Errors: the first line that breaks a rule.
+///
+/// - 601 to 604: a NODE, CHAIN or ROW line breaks its own rule
+/// - 606: a line isn't the condition's next, or doesn't show the result of its step
+/// - 607: a line isn't the program's next, or doesn't show the result of its instruction
+/// - 608: a join isn't true
+/// - 609: an instruction reads a register that isn't known, or the result register isn't known at
+///   END
+/// - 610: at END, a line is left over, or the result isn't the condition's node
+///
+/// 801 if memory is refused.
 pub fn check(
     alloc: Global,
     schema: &Schema,
@@ -54,7 +60,7 @@ pub fn check(
     Certified::new(alloc, schema, condition, program)
 }
 
-/// Judges the lines of a certificate, section by section.
+/// Checks the lines of a certificate, section by section.
 fn judge(
     alloc: Global,
     schema: &Schema,
@@ -76,7 +82,7 @@ fn judge(
     check_end(&diagram, &at_end, program.result(), nodes.yes, end)
 }
 
-/// Judges the end: nothing is left over, and the result register's node is the condition's.
+/// Checks the end: no line is left over, and the result register's node is the condition's.
 fn check_end(
     diagram: &Diagram<'_>,
     at_end: &AtEnd<'_>,

@@ -1,4 +1,4 @@
-//! Laws: a program file is certified or refused, and in one way.
+//! Laws: a program file is either certified or rejected, in one way only.
 ghost use Rattle.std.specs.Prelude.{◌≡◌, ℕ, List};
 ghost use Rattle.bw_model.specs.declared.column.Column.{Column};
 ghost use Rattle.bw_model.specs.declared.cond.Cond.{Cond};
@@ -13,8 +13,8 @@ use crate::laws::{certificates_are_judged_by_what_they_say, valid_exactly_where_
 use bw_cert_text::certificates_are_read_as_spelled;
 use bw_program::programs_are_read_as_spelled;
 
-/// A law: a file holds at most one program, and certificates for it that say the same. It has at most one fault, and
-/// none where it is certified, be it so for another condition of the same tree.
+/// A law: a file spells at most one program, and all certificates for it have the same content. It
+/// has at most one error, and none if it is certified, even for another condition of the same tree.
 pub fn one_verdict()
     ensures certified { (columns : List Column) (cond same : Cond) (file : List ℕ) (program other : ProgramShape)
         (certificate another : CertificateShape)

@@ -1,5 +1,5 @@
-//! Laws: a certificate is valid exactly where no line breaks a rule, and then the program selects
-//! what the condition does.
+//! Laws: a certificate is valid if and only if no line breaks a rule, and then the program selects
+//! the rows on which the condition is TRUE.
 ghost use Rattle.std.specs.Prelude.{◌≡◌, ◌⊎◌, ℕ, List, Ok, Err, IsTrue, length};
 ghost use Rattle.bw_model.specs.declared.column.Column.{Column};
 ghost use Rattle.bw_model.specs.declared.cond.Cond.{Cond};
@@ -30,7 +30,7 @@ use bw_cert_parts::{
 use bw_diagram::{accepted_lines_are_true, cited_nodes_are_worth};
 use bw_run::runs_come_to_the_end;
 
-/// A law: a certificate is valid exactly where no line breaks a rule.
+/// A law: a certificate is valid if and only if no line breaks a rule.
 pub fn valid_exactly_where_checked()
     ensures sound { (columns : List Column) (cond : Cond) (program : ProgramShape)
         (certificate : CertificateShape) (facts : Facts)
@@ -45,12 +45,13 @@ pub fn valid_exactly_where_checked()
     obeying_lines_are_judged();
 }
 
-/// A law, skip soundness and certified selects: where a certificate is valid, the columns have all
-/// that the program names. In every run, over any lanes and whichever skips it takes, at each place
-/// that it reaches, each register of which a node is known there holds, in the lane of each
-/// assignment, the value of the node. One of these places is that after the last instruction, where
-/// the run ends, and there the result register is 1 exactly in the lanes on whose rows the condition
-/// is TRUE.
+/// A law, skip soundness and exact selection. If a certificate is valid, the schema has all columns
+/// and bits that the program names.
+///
+/// In every run, over any lanes, whichever skips it takes, and at each place that it reaches: if a
+/// register's node is known there, the register has the node's value in the lane of each
+/// assignment. One of these places is the end, after the last instruction. There the result
+/// register is 1 exactly in the lanes on whose rows the condition is TRUE.
 pub fn valid_programs_select()
     ensures fits { (columns : List Column) (cond : Cond) (program : ProgramShape)
         (certificate : CertificateShape)
@@ -77,8 +78,8 @@ pub fn valid_programs_select()
     pairs_tell_truths();
 }
 
-/// A law: certificates that say the same are judged alike, for conditions of one tree: no line breaks
-/// a rule in either, or one fault is the first in both.
+/// A law: certificates of the same content are checked alike, for conditions of the same tree.
+/// Either no line breaks a rule in both, or both have the same first error.
 pub fn certificates_are_judged_by_what_they_say()
     ensures { (columns : List Column) (cond same : Cond) (program : ProgramShape)
         (certificate other : CertificateShape)
@@ -89,11 +90,13 @@ pub fn certificates_are_judged_by_what_they_say()
     lines_are_judged_by_what_they_say();
 }
 
-/// A law: where the lines of a program's instructions and joins are refused, they have a first fault,
-/// which is what they are refused with: before the line on which it stands are those of parts that
-/// obey, for some first instructions, and then what obeys of the next one's part. Lines with a first
-/// fault are refused with it, so that they have one at most. It stands on one of the lines, and is
-/// the same whatever lines come after that one, or at END, where the lines run out.
+/// A law: if the lines of a program's instructions and joins are rejected, the error is their first
+/// error. Before its line are the lines of parts that satisfy their rules, for some first
+/// instructions, and then the valid lines of the next instruction's part.
+///
+/// Lines with a first error are rejected with it, so they have at most one. It is on one of the
+/// lines, and doesn't depend on the lines that follow that one; or it is at END, if the lines run
+/// out.
 pub fn refused_lines_have_a_first_fault()
     ensures stands { (facts : Facts) (instrs : List Instr) (end : ℕ) (lines : List BodyLine)
         (fault : Fault)
@@ -107,10 +110,10 @@ pub fn refused_lines_have_a_first_fault()
         → StandsOn facts instrs end lines fault ⊎ (fault ≡ at_line fault.code end) }
 {}
 
-/// A law: a certificate that is refused has a first line that breaks a rule. It's a NODE, CHAIN or
-/// ROW line after those that obey theirs; or one of the condition's lines, after all of these; or
-/// the first fault of the program's, after the condition's; or, after those of parts that obey, a
-/// line that is left over, or END.
+/// A law: a certificate that is rejected has a first line that breaks a rule. It is a NODE, CHAIN
+/// or ROW line after those that satisfy theirs; or one of the condition's lines, after all of
+/// these; or the first error of the program's lines, after the condition's; or, after all of these,
+/// a line that is left over, or END.
 pub fn refused_certificates_have_a_first_fault()
     ensures { (columns : List Column) (cond : Cond) (program : ProgramShape)
         (certificate : CertificateShape) (fault : Fault)

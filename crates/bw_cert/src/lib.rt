@@ -1,17 +1,18 @@
-//! Certificates checked: where the checker says yes, a scan program selects exactly the rows for
-//! which its condition is TRUE, on every table of the schema, early skips included.
+//! The certificate checker: if it accepts, a scan program selects exactly the rows on which its
+//! condition is TRUE, on every table of the schema, early skips included.
 //!
-//! The contract that the crates above use: [`check`] answers a [`Certified`] exactly where a
-//! [`Certificate`], which `bw_cert_text` reads and prints, is valid, as `specs/Valid.antt` says,
-//! and else the first line that breaks a rule;
-//! [`Certified::run_segment`] gives, for each row of a segment, whether the condition is TRUE on
-//! it. Of a program file, which is the text of both, [`certify`] answers the same exactly where the
-//! file spells a program and a certificate that is valid for it and the condition, and else the
-//! first fault; [`check_text`] does so from the texts of a schema and a statement, and gives the
-//! numbers of what was accepted.
+//! The contract that the crates above use: [`check`] returns a [`Certified`] if and only if a
+//! [`Certificate`], which `bw_cert_text` reads and prints, is valid by `specs/Valid.antt`; else it
+//! returns the first line that breaks a rule. [`Certified::run_segment`] returns, for each row of a
+//! segment, whether the condition is TRUE on it.
 //!
-//! Read `specs/Valid.antt` first, and then `checker.rt`; for program files `specs/ProgramFile.antt`
-//! and `specs/Judged.antt`, and then `certified_file.rt`.
+//! A program file is the text of both. [`certify`] accepts it if and only if it spells a program
+//! and a certificate that is valid for it and the condition; else it returns the first error.
+//! [`check_text`] does so from the texts of a schema and a statement, and returns the numbers of
+//! what was accepted.
+//!
+//! Read `specs/Valid.antt` first, then `checker.rt`. For program files, read
+//! `specs/ProgramFile.antt` and `specs/Judged.antt`, then `certified_file.rt`.
 #![tactic(auto)]
 
 mod certified;

@@ -4,11 +4,11 @@ ghost use Rattle.bw_cert.specs.ProgramFile.{IsCut, divides};
 
 use bw_text::{Lines, is_same_text, only_word};
 
-/// A program file has at most this many bytes: 64 MiB.
+/// The most bytes of a program file: 64 MiB.
 pub const MAX_PROGRAM_FILE_LEN: usize = 1 << 26;
 
-/// The parts of a program file: a program text, a certificate text, and the number in the file of the certificate
-/// text's first line.
+/// The parts of a program file: a program text, a certificate text, and the number in the file of
+/// the certificate text's first line.
 #[derive(Clone, Copy)]
 pub struct ProgramFile<'a> {
     pub program: &'a [u8],
@@ -16,9 +16,9 @@ pub struct ProgramFile<'a> {
     pub first_line: u64,
 }
 
-/// Cuts a program file at the first line whose only word is CERTIFICATE, ignoring case. Where there is none, the whole
-/// is the program text, and the certificate text is empty, its first line being the one after the last. It takes no
-/// memory.
+/// Cuts a program file at the first line whose only word is CERTIFICATE, ignoring case. Without
+/// such a line, all of it is the program text; the certificate text is then empty, and its first
+/// line is the one after the last. Allocates no memory.
 pub fn split_file(file: &[u8]) -> ProgramFile<'_>
     ensures cut { IsCut file.now result.program.now result.certificate.now result.first_line }
     ensures first { (1 ≤ result.first_line) × (result.first_line ≤ length file.now + 1) }
@@ -43,7 +43,7 @@ pub fn split_file(file: &[u8]) -> ProgramFile<'_>
     }
 }
 
-/// Whether a line divides a program file: its only word is CERTIFICATE.
+/// Returns whether a line divides a program file: its only word is CERTIFICATE.
 fn divides(line: &[u8]) -> bool
     ensures { result ≡ divides line.now }
 {

@@ -10,8 +10,8 @@ use bw_diagram::Diagram;
 use bw_model::{Fault, Place, Schema, code};
 use std::alloc::Global;
 
-/// The nodes, chains and product rows that a certificate's lines state under a schema. Refused is
-/// the first line that breaks its rule, or that there is no room for (601 to 604).
+/// Returns the nodes, chains and product rows that a certificate's lines state under a schema.
+/// Errors: 601 to 604, the first line that breaks its rule or a limit; 801 if memory is refused.
 pub(crate) fn diagram_of<'a>(
     alloc: Global,
     schema: &'a Schema,
@@ -28,7 +28,7 @@ pub(crate) fn diagram_of<'a>(
     Ok(diagram)
 }
 
-/// Adds the nodes of some lines.
+/// Adds the nodes of the lines.
 fn add_nodes(diagram: &mut Diagram<'_>, lines: &[NodeLine]) -> Result<(), Fault>
     ensures stated { Gives (λ _. diagram.new) result (with_lines with_node_line diagram.old lines.now) }
     ensures code { IfErr result (λ fault. IsTrue (is_diagram_fault fault)) }
@@ -42,7 +42,7 @@ fn add_nodes(diagram: &mut Diagram<'_>, lines: &[NodeLine]) -> Result<(), Fault>
     Ok(())
 }
 
-/// Adds the chains of some lines.
+/// Adds the chains of the lines.
 fn add_chains(diagram: &mut Diagram<'_>, lines: &[ChainLine]) -> Result<(), Fault>
     ensures stated { Gives (λ _. diagram.new) result (with_lines with_chain_line diagram.old lines.now) }
     ensures code { IfErr result (λ fault. IsTrue (is_diagram_fault fault)) }
@@ -64,7 +64,7 @@ fn add_chain(diagram: &mut Diagram<'_>, line: &ChainLine) -> Result<(), Fault>
     }
 }
 
-/// Adds the product rows of some lines.
+/// Adds the product rows of the lines.
 fn add_products(diagram: &mut Diagram<'_>, lines: &[ProductLine]) -> Result<(), Fault>
     ensures stated { Gives (λ _. diagram.new) result (with_lines with_product_line diagram.old lines.now) }
     ensures code { IfErr result (λ fault. IsTrue (is_diagram_fault fault)) }
@@ -78,7 +78,7 @@ fn add_products(diagram: &mut Diagram<'_>, lines: &[ProductLine]) -> Result<(), 
     Ok(())
 }
 
-/// A fault of a line that stood nowhere. Out of memory stays so.
+/// Returns the error, which has no place yet, at this line. Out of memory stays without a place.
 fn placed(fault: Fault, line: u64) -> Fault
     ensures memory { is_memory fault ≡ true → result ≡ fault }
     ensures line { is_memory fault ≡ false → result ≡ at_line fault.code line }

@@ -159,7 +159,8 @@ compared-null : (op : Op) (v : Value) → compared op v None ≡ Unknown
 compared-null op None = refl
 compared-null op (Some m) = refl
 
--- the pair of a comparison that has a truth where m is 1, and is TRUE there where e is 1, or where e is 0
+-- the pair of a comparison that has a truth where m is 1, and is TRUE there where e is 1, or where
+-- e is 0
 abbrev split_truth : Bool → Bool → Bool → Truth
 split_truth negated there bit = cond there (truth_from (turned_bit negated bit)) Unknown
 

@@ -1,4 +1,5 @@
--- The nodes that a condition's line takes from the rows that it cites are worth what the rows claim.
+-- The nodes that a condition's line takes from the rows that it cites are worth what the rows
+-- claim.
 use Rattle.std.proofs.Common.{◌≡◌, ◌∙◌, refl, ap, subst, ℕ, Bool, true, false, not, cond, ◌&&◌, List, Option, Some, None, slice_get, arith}
 use Rattle.std.specs.Option.{option_map}
 use Rattle.std.proofs.lemmas.Option.{option_and_then_some}

@@ -54,7 +54,8 @@ kept_through facts lanes through registers keep worth holds is =
     let node = chained (node_of through keep.register) (λ f. cited facts connective.Xor f keep.node keep.through) 0 (zero_is _ is) in
     holds keep.register node.0 node.1 ∙ map_same _ _ lanes (same_worth facts node.0 keep.node keep.through worth node.2)
 
--- where a node is 0 in all lanes, and another is 1 only where it is 1, two nodes that differ only where the other is 1 have the same values
+-- where a node is 0 in all lanes, and another is 1 only where it is 1, two nodes that differ only
+-- where the other is 1 have the same values
 same_where_zero : (facts : Facts) (lanes : List Assignment) (g h z q differs within : ℕ) → AreWorth facts → cited facts connective.Xor g h differs ≡ Some z → cited facts connective.Diff z q within ≡ Some 0 →
     is_zero_in_all (values facts lanes q) ≡ true → values facts lanes g ≡ values facts lanes h
 same_where_zero facts [] g h z q differs within worth xor diff zeros = refl

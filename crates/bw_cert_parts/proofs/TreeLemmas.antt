@@ -1,4 +1,5 @@
--- A condition's lines are read by its tree, and by what the lines say, wherever their parts lie in memory.
+-- A condition's lines are read by its tree, and by what the lines say, wherever their parts lie in
+-- memory.
 use Rattle.std.proofs.Common.{◌≡◌, ◌∙◌, refl, sym, ap, ap₂, ℕ, List, [], ◌∷◌, map, Option, Some, None, Ok, Err}
 use Rattle.std.specs.Option.{option_and_then}
 use Rattle.bw_model.specs.declared.column.Column.{Column}

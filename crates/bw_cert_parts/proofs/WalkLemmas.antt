@@ -11,7 +11,8 @@ use Rattle.bw_cert_parts.specs.Edges.{Holds}
 use Rattle.bw_cert_parts.specs.Join.{edge_of, with_edge, edges_into}
 use Rattle.bw_cert_parts.specs.Walk.{Taken, instruction_taken, joined, walked, judged}
 
--- the walk has come to an instruction: what the lines say is what those that are left say, after what is known there
+-- the walk has come to an instruction: what the lines say is what those that are left say, after
+-- what is known there
 pub record Walking (facts : Facts) (instrs : List Instr) (end : ℕ) (lines : List BodyLine) (by_target : List (List Edge)) (number : ℕ) (taken : Taken) : Type 0 where
   pub edges : List Edge
   pub holds : Holds by_target edges

@@ -1,4 +1,5 @@
--- What it is for lines to say what is known of a program's registers, place by place. No line's judge is in it.
+-- When lines state what is known of a program's registers, place by place. It doesn't mention how
+-- lines are checked.
 use Rattle.std.specs.Prelude.{◌≡◌, ℕ, zero, suc, Bool, true, false, ◌&&◌, IsTrue, List, [], ◌∷◌, ◌++◌, length, map, Option, Some, None, Result, Ok, Err, slice_get}
 use Rattle.bw_model.specs.declared.fault.Fault.{Fault}
 use Rattle.bw_diagram.specs.Facts.{Facts}
@@ -36,19 +37,20 @@ abbrev pub join_lines : ℕ → Option JoinLines → List BodyLine
 join_lines place None = []
 join_lines place (Some join) = record { line = join.line; entry = line_of.Join place } ∷ map keep_line join.keeps
 
--- the lines of parts of which the first has this number
+-- the lines of parts, the first of which has this number
 unfoldable pub lines_of : ℕ → List Part → List BodyLine
 lines_of place [] = []
 lines_of place (part ∷ parts) =
     record { line = part.line; entry = line_of.Instruction part.entry }
     ∷ (join_lines (suc place) part.join ++ lines_of (suc place) parts)
 
--- what lines KEEP leave known: the registers that they name, and nothing else
+-- what is known after lines KEEP: the registers that they name, and nothing else
 unfoldable pub kept_by : Known → List KeepLine → Known
 kept_by known [] = known
 kept_by known (k ∷ keeps) = kept_by (with_node known k.keep.register k.keep.node) keeps
 
--- What is known on falling through an instruction, as its line says; nothing, where the line breaks its rule.
+-- What is known on fall-through from an instruction, by its line; nothing if the line breaks its
+-- rule.
 abbrev pub known_or_nothing : Result Known Fault → Known
 known_or_nothing (Ok known) = known
 known_or_nothing (Err fault) = nothing_known
@@ -56,7 +58,8 @@ known_or_nothing (Err fault) = nothing_known
 abbrev pub fallen : Facts → Known → Instr → Part → Known
 fallen facts known instr part = known_or_nothing (after facts known part.line instr part.entry)
 
--- what is known after an instruction: what its join keeps, and where there is none, what falls through
+-- what is known after an instruction: what its join keeps, or what falls through if there is no
+-- join
 abbrev pub past : Known → Option JoinLines → Known
 past through None = through
 past through (Some join) = kept_by nothing_known join.keeps
@@ -84,20 +87,22 @@ edges_before facts instrs parts (suc place) =
     with_edge (edges_before facts instrs parts place) (edge_at (before facts instrs parts place)
     (slice_get instrs place))
 
--- lines KEEP of registers that ascend from the least, each of which is kept
+-- the lines KEEP are of ascending registers, from the least on, and each is true
 unfoldable pub are_kept : Facts → Known → List Edge → ℕ → List KeepLine → Bool
 are_kept facts through edges least [] = true
 are_kept facts through edges least (k ∷ keeps) =
     is_kept facts through edges least k.keep && are_kept facts through edges (suc k.keep.register) keeps
 
--- A join stands exactly where skips come to the place, and what it keeps is so on falling through and by each skip.
+-- There is a join exactly if skips lead to the place, and what it keeps is true on fall-through and
+-- by each skip.
 abbrev pub obeys_join : Facts → Known → List Edge → Option JoinLines → Bool
 obeys_join facts through [] None = true
 obeys_join facts through [] (Some join) = false
 obeys_join facts through (edge ∷ edges) None = false
 obeys_join facts through (edge ∷ edges) (Some join) = are_kept facts through (edge ∷ edges) 0 join.keeps
 
--- Parts, one for each instruction, obey: each instruction's line its rule, and each place's join its own.
+-- Parts, one for each instruction, satisfy their rules: each instruction's line its own, and each
+-- place's join its own.
 pub record Obeys (facts : Facts) (instrs : List Instr) (parts : List Part) : Type 0 where
   pub counted : length parts ≡ length instrs
   pub instruction : (place : ℕ) (instr : Instr) (part : Part) → slice_get instrs place ≡ Some instr
@@ -109,7 +114,8 @@ pub record Obeys (facts : Facts) (instrs : List Instr) (parts : List Part) : Typ
       → IsTrue (obeys_join facts (fallen facts (before facts instrs parts place) instr part)
       (edges_into (suc place) (edges_before facts instrs parts (suc place))) part.join)
 
--- Lines say what is known at the end of a program, and others follow: they are those of parts that obey.
+-- The lines state what is known at the end of a program, and others follow: they are those of parts
+-- that satisfy their rules.
 pub record Accepts (facts : Facts) (instrs : List Instr) (lines : List BodyLine) (taken : Taken) : Type 0 where
   pub parts : List Part
   pub obeys : Obeys facts instrs parts

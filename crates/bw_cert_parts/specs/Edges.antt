@@ -3,7 +3,7 @@ use Rattle.std.specs.Prelude.{◌≡◌, ◌<◌, ℕ, List, [], length, slice_i
 use Rattle.bw_cert_parts.specs.declared.edge.Edge.{Edge}
 use Rattle.bw_cert_parts.specs.Join.{edges_into}
 
--- at each place there is, the edges into it
+-- for each place, the edges into it
 abbrev pub Holds : List (List Edge) → List Edge → Type 0
 Holds by_target edges = (place : ℕ) → place < length by_target → slice_index_or by_target place []
     ≡ edges_into place edges

@@ -1,4 +1,4 @@
--- The rules of joins: what is known where skips meet what falls through to their target.
+-- The rules of joins: what is known where skips and fall-through meet.
 use Rattle.std.specs.Prelude.{ℕ, Bool, true, false, ◌&&◌, ◌==◌, if◌then◌else◌, List, [], ◌∷◌, ◌++◌, Option, Some, None, nat_le}
 use Rattle.std.specs.Option.{option_and_then}
 use Rattle.bw_diagram.specs.declared.product.Connective.TheVariants as connective
@@ -12,7 +12,7 @@ use Rattle.bw_text.specs.Register.{is_register}
 use Rattle.bw_cert_parts.specs.declared.edge.Edge.{Edge}
 use Rattle.bw_cert_parts.specs.Known.{Known, node_of}
 
--- the edge of an instruction that is a skip: its target, its register and what is known there
+-- the edge of an instruction that is a skip: its target, its register, and what is known there
 abbrev pub edge_of : Known → Instr → Option Edge
 edge_of known (Load r column bit) = None
 edge_of known (Nulls r column) = None
@@ -39,20 +39,21 @@ abbrev pub is_zero : Option ℕ → Bool
 is_zero None = false
 is_zero (Some node) = node == 0
 
--- Falling through, the register's node is the kept one: their XOR is 0 by the row.
+-- On fall-through, the register's node equals the kept one: their XOR is 0 by the product row.
 abbrev pub keeps_through : Facts → Known → Keep → Bool
 keeps_through facts through keep = is_zero (option_and_then (λ f. cited facts connective.Xor f keep.node keep.through)
     (node_of through keep.register))
 
--- By a skip, its node there differs from the kept one nowhere but where the skip's register is 1: one row says where
--- they differ, and the other that this "and not" the skip's register is 0.
+-- By a skip, the register's node there differs from the kept one only if the skip's register is 1:
+-- one product row states how they differ, and the other that the difference "and not" the skip's
+-- register is 0.
 abbrev pub keeps_by_skip : Facts → Keep → Edge → EdgeProducts → Bool
 keeps_by_skip facts keep edge rows =
     is_zero (option_and_then (λ differs. option_and_then (λ skipped.
     cited facts connective.Diff differs skipped rows.within) (node_of edge.known edge.register))
     (option_and_then (λ g. cited facts connective.Xor g keep.node rows.differs) (node_of edge.known keep.register)))
 
--- so by each skip, one pair of rows each
+-- so it is by each skip, with one pair of product rows each
 unfoldable pub keeps_by_skips : Facts → Keep → List Edge → List EdgeProducts → Bool
 keeps_by_skips facts keep [] [] = true
 keeps_by_skips facts keep [] (rows ∷ more) = false
@@ -60,7 +61,8 @@ keeps_by_skips facts keep (edge ∷ edges) [] = false
 keeps_by_skips facts keep (edge ∷ edges) (rows ∷ more) = keeps_by_skip facts keep edge rows
     && keeps_by_skips facts keep edges more
 
--- A register, from this one on, has the node that its line names, however the join is come to.
+-- The register isn't below the least, and has the node that its line names on every way to the
+-- join.
 unfoldable pub is_kept : Facts → Known → List Edge → ℕ → Keep → Bool
 is_kept facts through edges least keep =
     nat_le least keep.register && is_register keep.register && keeps_through facts through keep

@@ -1,5 +1,5 @@
--- What is known of a program's registers at a place: for each of the 64 the node that it is worth in every lane, or
--- none.
+-- What is known of a program's registers at a place: for each of the 64 the node whose value it has
+-- in every lane, or none.
 use Rattle.std.specs.Prelude.{ℕ, Bool, ◌&&◌, ◌||◌, List, replicate, Option, Some, None, nat_le, slice_index_or, slice_set}
 use Rattle.bw_model.specs.FaultTable.{INSTRUCTION_LINE, REGISTER_UNKNOWN}
 use Rattle.bw_model.specs.declared.fault.Fault.{Fault}
@@ -9,7 +9,7 @@ use Rattle.bw_text.specs.Register.{register_count}
 abbrev pub Known : Type 0
 Known = List (Option ℕ)
 
--- the node of a register, where one is known
+-- the node of a register, if one is known
 abbrev pub node_of : Known → ℕ → Option ℕ
 node_of known register = slice_index_or known register None
 
@@ -17,10 +17,10 @@ node_of known register = slice_index_or known register None
 unfoldable pub nothing_known : Known
 nothing_known = replicate register_count None
 
--- a register has this node now, and the others what they had
+-- this register has this node, and the others have what they had
 abbrev pub with_node : Known → ℕ → ℕ → Known
 with_node known register node = slice_set known register (Some node)
 
--- one of 607 to 609, or out of memory
+-- the error is one of 607 to 609, or out of memory
 abbrev pub is_known_fault : Fault → Bool
 is_known_fault fault = (nat_le INSTRUCTION_LINE fault.code && nat_le fault.code REGISTER_UNKNOWN) || is_memory fault

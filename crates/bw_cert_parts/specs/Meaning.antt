@@ -1,4 +1,4 @@
--- What a pair of nodes says of a condition.
+-- What a truth pair states of a condition.
 use Rattle.std.specs.Prelude.{◌≡◌, List}
 use Rattle.bw_model.specs.declared.cond.Truth.{Truth}
 use Rattle.bw_model.specs.declared.cond.Truth.TheVariants.{No, Yes}
@@ -8,8 +8,8 @@ use Rattle.bw_diagram.specs.declared.node.Node.{Node}
 use Rattle.bw_diagram.specs.Node.{IsNode, node_value}
 use Rattle.bw_cert_parts.specs.declared.nodes.Pair.{Pair}
 
--- The pair's nodes are nodes, and under every assignment the first is 1 exactly where the truth is TRUE, and the second
--- exactly where it is FALSE.
+-- The pair is two of these nodes, and under every assignment the first is 1 exactly if the truth is
+-- TRUE, and the second exactly if it is FALSE.
 pub record Tells (nodes : List Node) (truth : Assignment → Truth) (pair : Pair) : Type 0 where
   pub yes_node : IsNode nodes pair.yes
   pub no_node : IsNode nodes pair.no

@@ -1,5 +1,5 @@
--- The pair of nodes of a condition: where it is TRUE, and where it is FALSE, as a certificate's lines make it step by
--- step, operands first.
+-- The truth pair of a condition, as a certificate's lines make it step by step, operands first: the
+-- node that is 1 if it is TRUE, and the node that is 1 if it is FALSE.
 use Rattle.std.specs.Prelude.{◌≡◌, ℕ, List, [], ◌∷◌, map, Option, Some, None, Result, Ok, Err}
 use Rattle.std.specs.Option.{option_and_then}
 use Rattle.bw_model.specs.FaultTable.{CONDITION_LINE}
@@ -31,41 +31,44 @@ use Rattle.bw_cert_parts.specs.declared.steps.Junction.TheVariants.{All, Any}
 use Rattle.bw_cert_parts.specs.Rows.{if_both, exchanged, null_cited}
 use Rattle.bw_cert_parts.specs.Comparison.{fixed, comparison}
 
--- What reading a certificate's lines gives: a pair, and the lines after those that made it, or the first fault.
+-- The result of reading a certificate's lines: a truth pair and the lines after those that made it,
+-- or the first error.
 abbrev pub Reading : Type 0
 Reading = Result (Pair × List BodyLine) Fault
 
--- the same, the lines after being what they say, wherever their parts lie in memory
+-- The same result with each line replaced by its fields, so that equal lines at different addresses
+-- compare equal.
 abbrev pub told : Reading → Result (Pair × List BodyFields) Fault
 told (Ok read) = Ok (read.0, map body_fields read.1)
 told (Err fault) = Err fault
 
--- what a reader answered is a reading
+-- what a reader returned is this reading
 abbrev pub Answers : Result (Pair × BodyLines) Fault → Reading → Type 0
 Answers (Ok read) reading = reading ≡ Ok (read.0, body_lines read.1)
 Answers (Err fault) reading = reading ≡ Err fault
 
--- what a line says of a condition, if it is a condition's
+-- the fields of a line, if it is a condition's
 abbrev pub condition_entry : Entry → Option ConditionEntry
 condition_entry (Condition entry) = Some entry
 condition_entry _ = None
 
--- the same of the next line, if there is one
+-- the fields of the next line, if there is one and it is a condition's
 abbrev pub next_entry : List BodyLine → Option ConditionEntry
 next_entry [] = None
 next_entry (line ∷ rest) = condition_entry line.entry
 
--- the number of the next line; of END's, where there is none
+-- the number of the next line, or that of END if there is none
 abbrev pub next_number : ℕ → List BodyLine → ℕ
 next_number end [] = end
 next_number end (line ∷ rest) = line.line
 
--- a pair that the next line makes, and the lines after it; 606 at that line, or at END, where it makes none
+-- the truth pair that the next line makes, and the lines after it; or 606 at that line, or at END
+-- if there is none
 abbrev pub taken : ℕ → Option Pair → List BodyLine → Reading
 taken end (Some pair) (line ∷ rest) = Ok (pair, rest)
 taken end _ lines = Err (at_line CONDITION_LINE (next_number end lines))
 
--- the same of a rule for what the line says
+-- the truth pair that this rule makes of the next line's fields, and the lines after it
 unfoldable pub by_line : ℕ → (ConditionEntry → Option Pair) → List BodyLine → Reading
 by_line end rule lines = taken end (option_and_then rule (next_entry lines)) lines
 
@@ -81,7 +84,8 @@ is_null_test columns facts (Col column) entry = null_test facts (null_variable c
 is_null_test columns facts (Lit n) entry = fixed truth.No entry
 is_null_test columns facts Null entry = fixed truth.Yes entry
 
--- AND is TRUE where both parts are, and FALSE where one of them is; OR the other way round.
+-- AND is TRUE if both parts are, and FALSE if one of them is. OR is TRUE if one part is, and FALSE
+-- if both are.
 unfoldable pub joined_pair : Facts → Junction → Pair → Pair → ConditionEntry → Option Pair
 joined_pair facts All a b (And i j) =
     if_both (cited facts connective.And a.yes b.yes i) (cited facts connective.Or a.no b.no j)
@@ -98,7 +102,7 @@ negated_pair pair _ = None
 abbrev pub with_opposite : Facts → ℕ → ℕ → Option Pair
 with_opposite facts node number = if_both (Some node) (cited facts connective.Diff 1 node number)
 
--- a part is UNKNOWN where neither of its nodes is 1
+-- a part is UNKNOWN if neither of its nodes is 1
 abbrev pub unknown_pair : Facts → Option ℕ → ℕ → Option Pair
 unknown_pair facts (Some known) number = if_both (cited facts connective.Diff 1 known number) (Some known)
 unknown_pair facts None number = None
@@ -112,23 +116,23 @@ tested_pair facts truth.Unknown pair (IsUnknown i j) =
 tested_pair facts _ pair _ = None
 
 module _ (columns : List Column) (facts : Facts) (end : ℕ) where
-  -- the lines of a further part, and then the one that joins it to the parts before it
+  -- the lines of a further part, and then the line that combines it with the parts before it
   abbrev pub one_more : Junction → (List BodyLine → Reading) → Pair × List BodyLine → Reading
   one_more junction part before =
       part before.1 >>= λ next. by_line end (joined_pair facts junction before.0 next.0) next.1
 
-  -- the same of all further parts, in order
+  -- the lines of all further parts, in order
   abbrev pub more_parts : Junction → List (List BodyLine → Reading) → Pair × List BodyLine → Reading
   more_parts junction [] before = Ok before
   more_parts junction (part ∷ parts) before =
       one_more junction part before >>= λ next. more_parts junction parts next
 
-  -- the lines of parts that are joined by AND or OR, of which there is one or more
+  -- the lines of one or more parts that are combined by AND or OR
   abbrev pub joined_parts : Junction → List (List BodyLine → Reading) → List BodyLine → Reading
   joined_parts junction [] lines = taken end None lines
   joined_parts junction (part ∷ parts) lines = part lines >>= λ first. more_parts junction parts first
 
-  -- the lines of the equations that IN stands for
+  -- the lines of the equations that IN means
   abbrev pub equations : Operand → List Operand → List (List BodyLine → Reading)
   equations x items = map (λ item. by_line end (comparison columns facts Eq x item)) items
 
@@ -148,6 +152,6 @@ module _ (columns : List Column) (facts : Facts) (end : ℕ) where
   pair_step (layer.Test part t) lines =
       part.value lines >>= λ read. by_line end (tested_pair facts t read.0) read.1
 
-  -- the pair of a condition, and the lines after its own, or the first fault
+  -- the truth pair of a condition and the lines after its own, or the first error
   unfoldable pub pair_of : Cond → List BodyLine → Reading
   pair_of cond = fold-Cond (List BodyLine → Reading) pair_step cond

@@ -1,5 +1,5 @@
--- The lines of a program's instructions and joins, judged one after another: what is known at the end, or the first
--- fault.
+-- The lines of a program's instructions and joins, checked one after another: what is known at the
+-- end, or the first error.
 use Rattle.std.specs.Prelude.{ℕ, suc, Bool, false, not, ◌==◌, List, [], ◌∷◌, map, Option, Some, None, Result, Ok, Err}
 use Rattle.bw_model.specs.FaultTable.{INSTRUCTION_LINE, JOIN}
 use Rattle.bw_model.specs.declared.fault.Fault.{Fault}
@@ -16,18 +16,19 @@ use Rattle.bw_cert_parts.specs.Known.{Known, with_node, nothing_known}
 use Rattle.bw_cert_parts.specs.Instruction.{after}
 use Rattle.bw_cert_parts.specs.Join.{edge_of, with_edge, edges_into, is_kept}
 
--- what is known where lines have been taken, and the lines to come
+-- what is known after the lines that were consumed, and the other lines
 pub record Taken : Type 0 where
   pub known : Known
   pub rest : List BodyLine
 
--- what was found, the lines to come being what they say, wherever their parts lie in memory
+-- The same result with each line replaced by its fields, so that equal lines at different addresses
+-- compare equal.
 abbrev pub told : Result Taken Fault → Result (Known × List BodyFields) Fault
 told (Ok taken) = Ok (taken.known, map body_fields taken.rest)
 told (Err fault) = Err fault
 
--- where the line of an instruction is wanted, any other is wrong (607); where the lines have run out, that is so at the
--- end
+-- the line of an instruction is expected: any other is wrong (607), and if the lines have run out,
+-- END is
 abbrev pub instruction_on : Facts → Known → Instr → BodyLine → Entry → Result Known Fault
 instruction_on facts known instr line (line_of.Instruction given) = after facts known line.line instr given
 instruction_on facts known instr line (line_of.Condition given) = Err (at_line INSTRUCTION_LINE line.line)
@@ -56,13 +57,13 @@ keep_in (line_of.Instruction given) = None
 keep_in (line_of.Condition given) = None
 keep_in (line_of.Join place) = None
 
--- what is made of a line KEEP, or of another
+-- a result for a line KEEP, or another for any other line
 abbrev pub by_keep : {A : Type 0} → Option Keep → A → (Keep → A) → A
 by_keep None other kept = other
 by_keep (Some keep) other kept = kept keep
 
--- All KEEP lines that follow it, of ascending registers from the least on: those registers alone have nodes then. One
--- that breaks its rule is refused (608).
+-- All KEEP lines that follow, of ascending registers from the least on: only those registers then
+-- have nodes. A line that breaks its rule is 608.
 unfoldable pub keeps_taken : Facts → Known → List Edge → ℕ → Known → List BodyLine → Result Taken Fault
 keeps_taken facts through edges least kept [] = Ok (record { known = kept; rest = [] })
 keeps_taken facts through edges least kept (line ∷ lines) =
@@ -70,13 +71,14 @@ keeps_taken facts through edges least kept (line ∷ lines) =
     (λ keep. refused_if (not (is_kept facts through edges least keep)) (at_line JOIN line.line)
     (keeps_taken facts through edges (suc keep.register) (with_node kept keep.register keep.node) lines))
 
--- where skips come to a place, its join; where none does, what falls through is known
+-- if skips lead to a place, its join is expected; else what falls through is known
 abbrev pub joined : Facts → ℕ → ℕ → List Edge → Taken → Result Taken Fault
 joined facts end place [] taken = Ok taken
 joined facts end place (edge ∷ edges) taken =
     join_taken end place taken.rest >>= λ lines. keeps_taken facts taken.known (edge ∷ edges) 0 nothing_known lines
 
--- the lines of instructions from a place on, where these edges come from before it and this is known there
+-- the lines of instructions from a place on, to which these edges lead from before it, with what is
+-- known there
 unfoldable pub walked : Facts → ℕ → ℕ → List Edge → List Instr → Taken → Result Taken Fault
 walked facts end place edges [] taken = Ok taken
 walked facts end place edges (instr ∷ instrs) taken =
@@ -85,6 +87,6 @@ walked facts end place edges (instr ∷ instrs) taken =
     >>= λ joined.
     walked facts end (suc place) (with_edge edges (edge_of taken.known instr)) instrs joined
 
--- the lines of all of a program's instructions; END stands on the line of this number
+-- the lines of all of a program's instructions; END has the number `end`
 abbrev pub judged : Facts → List Instr → ℕ → List BodyLine → Result Taken Fault
 judged facts instrs end lines = walked facts end 0 [] instrs (record { known = nothing_known; rest = lines })

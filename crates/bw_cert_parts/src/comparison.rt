@@ -1,4 +1,4 @@
-//! The pair of a comparison: of a column with a literal, of two columns, or one that has the same
+//! The truth pair of a comparison: of a column with a literal, of two columns, or with the same
 //! truth on every row.
 ghost use Rattle.std.specs.Prelude.{◌≡◌, ◌==◌, ◌-ℤ◌, ◌<ℤ◌, ◌^◌, pos, ◌≤◌, ◌<◌, Some, None, IsTrue, length, if◌then◌else◌};
 ghost use Rattle.bw_model.specs.Cond.{is_within};
@@ -12,8 +12,8 @@ use bw_cert_text::ConditionEntry;
 use bw_diagram::{ChainKind, Connective, Diagram};
 use bw_model::{Op, Operand, Schema, Truth};
 
-/// A comparison of a code with a number: the code is less than (equal to) `limit`, or, where it is
-/// negated, it isn't.
+/// A comparison of a code with a number: the code is less than (equal to) `limit`, or isn't if it
+/// is negated.
 #[derive(Clone, Copy)]
 pub struct Bound {
     kind: ChainKind,
@@ -22,7 +22,7 @@ pub struct Bound {
 }
 
 /// A comparison of the codes of two columns: that of `left` is less than (equal to) that of
-/// `right`, or, where it is negated, it isn't.
+/// `right`, or isn't if it is negated.
 #[derive(Clone, Copy)]
 pub struct Order {
     kind: ChainKind,
@@ -31,7 +31,8 @@ pub struct Order {
     negated: bool,
 }
 
-/// The pair of a comparison by its line, which is `CMP`, `CMP2` or `FIXED`.
+/// Returns the truth pair of a comparison by its line, which is `CMP`, `CMP2` or `FIXED`, or None
+/// if the line doesn't fit.
 #[tactic(auto, unfolding(crate::specs::Comparison::comparison))]
 pub fn comparison(
     schema: &Schema,
@@ -60,7 +61,7 @@ pub fn comparison(
     }
 }
 
-/// The pair of a step with one truth on every row, by its line `FIXED`.
+/// Returns the truth pair of a step with the same truth on every row, by its line `FIXED`.
 pub fn fixed(truth: Truth, entry: ConditionEntry) -> Option<Pair>
     ensures { result ≡ fixed truth entry }
 {
@@ -70,8 +71,9 @@ pub fn fixed(truth: Truth, entry: ConditionEntry) -> Option<Pair>
     }
 }
 
-/// The pair of a comparison that has a truth where node `m` is 1, and is TRUE there where node `e`
-/// is 1, or, where it is negated, where it is 0. The line cites a product row for each.
+/// Returns the truth pair of a comparison that is UNKNOWN unless node `m` is 1. If it is, the
+/// comparison is TRUE if node `e` is 1, or 0 if it is negated. The line references a product row
+/// for each.
 fn split(
     diagram: &Diagram<'_>,
     m: Option<u64>,
@@ -91,7 +93,7 @@ fn split(
     Some(if negated { pair.exchanged() } else { pair })
 }
 
-/// The pair of a column against a literal, by its line `CMP`.
+/// Returns the truth pair of a column and a literal, by their line `CMP`.
 #[tactic(auto, unfolding(crate::specs::Comparison::with_literal))]
 fn with_literal(
     schema: &Schema,
@@ -119,7 +121,7 @@ fn with_literal(
     split(diagram, m, e, bound.negated, yes, no)
 }
 
-/// The least value of a column.
+/// Returns the minimum of a column.
 fn lo_of(schema: &Schema, column: usize) -> i64
     requires { column < length schema.now.columns.items }
     ensures { result ≡ lo_at schema.now.columns.items column }
@@ -127,7 +129,7 @@ fn lo_of(schema: &Schema, column: usize) -> i64
     schema.columns[column].lo
 }
 
-/// What a comparison of a column with a literal says of the column's code.
+/// Returns the comparison of a column's code that a comparison of the column with a literal means.
 fn literal_bound(schema: &Schema, op: Op, column: usize, n: i64) -> Bound
     requires { column < length schema.now.columns.items }
     ensures { result ≡ bound_of op (n -ℤ lo_at schema.now.columns.items column) }
@@ -135,7 +137,7 @@ fn literal_bound(schema: &Schema, op: Op, column: usize, n: i64) -> Bound
     bound_of(op, distance(n, lo_of(schema, column)))
 }
 
-/// How far a literal is above a column's least value.
+/// Returns how far a literal is above a column's minimum.
 fn distance(n: i64, lo: i64) -> i128
     ensures distance { result ≡ n -ℤ lo }
     ensures above { (pos 0 -ℤ pos (2 ^ 64)) <ℤ result }
@@ -144,8 +146,8 @@ fn distance(n: i64, lo: i64) -> i128
     i128::from(n) - i128::from(lo)
 }
 
-/// What a comparison of a column with a literal says of the column's code, where the literal is so
-/// far above the column's least value.
+/// Returns the comparison of a column's code that a comparison of the column means, with a literal
+/// that is `distance` above the column's minimum.
 fn bound_of(op: Op, distance: i128) -> Bound
     requires { distance <ℤ pos (2 ^ 64) }
     ensures { result ≡ bound_of op distance }
@@ -160,8 +162,8 @@ fn bound_of(op: Op, distance: i128) -> Bound
     }
 }
 
-/// The node that is 1 where a column's code is less than (equal to) a bound: a terminal, for `-`,
-/// or that of the chain that a line cites.
+/// Returns the node that is 1 if a column's code is less than (equal to) a bound: a terminal, for
+/// `-`, or the node of the chain that the line references.
 fn bound_node(
     schema: &Schema,
     diagram: &Diagram<'_>,
@@ -184,7 +186,7 @@ fn bound_node(
 }
 
 impl Bound {
-    /// A comparison with a limit.
+    /// Returns a comparison with a limit.
     const fn new(kind: ChainKind, limit: i128, negated: bool) -> Self
         ensures { result ≡ record { kind = kind; limit = limit; negated = negated } }
     {
@@ -195,8 +197,8 @@ impl Bound {
         }
     }
 
-    /// The terminal that is worth whether a number of so many bits is less than (equal to) the
-    /// limit, if no such number or each of them is.
+    /// Returns the terminal whose value is whether a number of `width` bits is less than (equal to)
+    /// the limit, if it is the same for all such numbers.
     fn terminal(self, width: u32) -> Option<u64>
         requires { width ≤ 63 }
         ensures { result ≡ terminal_of self.kind self.limit width }
@@ -211,7 +213,7 @@ impl Bound {
     }
 }
 
-/// The pair of a column against a column of the same least value, by its line `CMP2`.
+/// Returns the truth pair of two columns of the same minimum, by their line `CMP2`.
 #[tactic(auto, unfolding(crate::specs::Comparison::with_column))]
 fn with_column(
     schema: &Schema,
@@ -250,7 +252,8 @@ fn with_column(
     split(diagram, m, e, order.negated, yes, no)
 }
 
-/// What a comparison of two columns of one least value says of their codes.
+/// Returns the comparison of their codes that a comparison of two columns of the same minimum
+/// means.
 const fn order_of(op: Op, c: usize, d: usize) -> Order
     ensures { result ≡ order_of op c d }
 {
@@ -270,8 +273,8 @@ const fn order_of(op: Op, c: usize, d: usize) -> Order
     }
 }
 
-/// The node that is 1 where two columns have values, which a line cites by the number of a product
-/// row.
+/// Returns the node that is 1 if two columns have values, which the line references by the number
+/// of a product row.
 fn both_node(
     diagram: &Diagram<'_>,
     left: Option<u64>,
@@ -286,8 +289,8 @@ fn both_node(
     }
 }
 
-/// The node that is 1 where the codes of two columns compare so: a terminal, for `-`, where they
-/// are one column, or that of the chain that a line cites.
+/// Returns the node that is 1 if the comparison of two codes is true: a terminal, for `-`, if they
+/// are of one column, or the node of the chain that the line references.
 fn order_node(
     schema: &Schema,
     diagram: &Diagram<'_>,
@@ -310,7 +313,8 @@ fn order_node(
 }
 
 impl Order {
-    /// The terminal that is worth whether a column's code compares so to itself.
+    /// Returns the terminal whose value is whether the comparison of a code with itself is true, if
+    /// both are of one column.
     fn terminal(self) -> Option<u64>
         ensures { result ≡ (if self.left == self.right then Some (first_node self.kind) else None) }
     {

@@ -8,7 +8,7 @@ use bw_program::{Instr, Register};
 use std::alloc::{AllocError, Global};
 use std::marker::Model;
 
-/// The edge of a skip to its target: it's taken where its register is 0 in every lane.
+/// The edge of a skip to its target, which is taken if its register is 0 in every lane.
 #[derive(Clone, Copy)]
 pub struct Edge {
     pub target: usize,
@@ -36,7 +36,7 @@ impl Edges {
     ghost use Rattle.bw_cert_parts.specs.Edges.{Holds};
     ghost use Rattle.bw_cert_parts.specs.declared.edge.Edge.{Edge};
 
-    /// No edges, to targets up to the last place.
+    /// Returns no edges, with space for targets up to the last place.
     pub(crate) fn new(alloc: Global, last: usize) -> Result<Self, AllocError>
         requires { last ≤ 4096 }
         ensures { IfOk result (λ edges. (length edges ≡ last + 1) × Holds edges []) }
@@ -59,7 +59,7 @@ impl Edges {
         Ok(())
     }
 
-    /// Adds the edge of an instruction, if it is a skip, by what is known before it.
+    /// Adds the edge of an instruction, if it is a skip, with what is known before it.
     pub(crate) fn add(&mut self, known: &Known, instr: Instr) -> Result<(), AllocError>
         requires some { 1 ≤ length self.old }
         requires within { goes_past (length self.old - 1) instr ≡ false }
@@ -77,7 +77,7 @@ impl Edges {
         }
     }
 
-    /// The edges into a place.
+    /// Returns the edges into a place.
     pub(crate) fn into_place(&self, place: usize) -> &[Edge]
         requires { place < length self.now }
         ensures { (edges : List Edge) → Holds self.now edges

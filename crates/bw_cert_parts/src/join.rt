@@ -1,4 +1,4 @@
-//! The lines of joins, each judged by its rule.
+//! The lines of joins, each checked by its rule.
 ghost use Rattle.std.specs.Prelude.{◌≡◌, ◌<◌, true, IsTrue, IfOk, IfErr, Ok, Err};
 ghost use Rattle.bw_cert_text.specs.BodyLines.{body_lines};
 ghost use Rattle.bw_cert_parts.specs.Join.{is_zero, is_kept, keeps_through, keeps_by_skip, keeps_by_skips};
@@ -13,8 +13,9 @@ use bw_diagram::Connective;
 use bw_model::{Fault, code};
 
 impl Judge<'_> {
-    /// Takes the lines of a place's join, if skips come to it, and gives those that follow. Before
-    /// it the registers are known as on falling through, and after it as the join keeps them.
+    /// Consumes the lines of a place's join, if skips lead there, and returns the lines that
+    /// follow. `known` is what is known on fall-through before the call, and what the join keeps
+    /// after it.
     pub(crate) fn take_join<'a>(
         self,
         known: &mut Known,
@@ -42,7 +43,7 @@ impl Judge<'_> {
         self.take_keeps(known, edges, rest)
     }
 
-    /// Takes the lines KEEP that follow a line JOIN.
+    /// Consumes the lines KEEP that follow a line JOIN.
     fn take_keeps<'a>(
         self,
         known: &mut Known,
@@ -76,8 +77,8 @@ impl Judge<'_> {
         Ok(rest)
     }
 
-    /// Whether a register, not below the least, has the node that its line names, however the join
-    /// is come to.
+    /// Returns whether a register, which isn't below the least, has the node that its line names,
+    /// on every way to the join.
     #[tactic(auto, unfolding(crate::specs::Join::is_kept))]
     fn is_kept(self, through: &Known, edges: &[Edge], least: u8, keep: &Keep<'_>) -> bool
         ensures kept { result
@@ -90,7 +91,7 @@ impl Judge<'_> {
             && self.keeps_by_skips(keep, edges)
     }
 
-    /// Whether it has that node on falling through.
+    /// Returns whether it has that node on fall-through.
     fn keeps_through(self, through: &Known, keep: &Keep<'_>) -> bool
         requires { keep.now.register < 64 }
         ensures { result ≡ keeps_through self.entry.diagram.now through.now keep.now }
@@ -103,7 +104,7 @@ impl Judge<'_> {
             == Some(0)
     }
 
-    /// Whether it has that node by each skip, of which each has a pair of rows.
+    /// Returns whether it has that node by each skip; each has a pair of product rows.
     fn keeps_by_skips(self, keep: &Keep<'_>, edges: &[Edge]) -> bool
         requires { keep.now.register < 64 }
         ensures { result
@@ -123,7 +124,7 @@ impl Judge<'_> {
         pairs.is_empty()
     }
 
-    /// Whether its node at a skip differs from that one nowhere but where the skip's register is 1.
+    /// Returns whether its node at a skip differs from that node only if the skip's register is 1.
     fn keeps_by_skip(self, keep: &Keep<'_>, edge: &Edge, rows: EdgeProducts) -> bool
         requires { keep.now.register < 64 }
         ensures { result ≡ keeps_by_skip self.entry.diagram.now keep.now edge.now rows }
@@ -147,7 +148,7 @@ impl Judge<'_> {
     }
 }
 
-/// Whether a line is the line JOIN of a place.
+/// Returns whether a line is the line JOIN of a place.
 fn is_join(entry: &Entry<'_>, place: usize) -> bool
     ensures { result ≡ is_join place entry.now }
 {

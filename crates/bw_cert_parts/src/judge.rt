@@ -1,4 +1,4 @@
-//! The lines of instructions, each judged by its rule.
+//! The lines of instructions, each checked by its rule.
 ghost use Rattle.std.specs.Prelude.{◌≡◌, ◌<◌, ◌≤◌, ◌&&◌, IsTrue, IfOk, IfErr, Ok, Err, length, nat_lt};
 ghost use Rattle.bw_model.specs.FaultTable.{INSTRUCTION_LINE};
 ghost use Rattle.bw_model.specs.Code.{width_at, slices_at};
@@ -15,22 +15,22 @@ use bw_diagram::{ChainKind, Connective, Diagram};
 use bw_model::{Fault, Schema, code};
 use bw_program::{BitIndex, ColumnIndex, Instr, Register, SliceIndex};
 
-/// What lines are judged by: a schema, and the nodes, chains and product rows that a certificate
-/// states under it.
+/// What lines are checked against: a schema, and the nodes, chains and product rows that a
+/// certificate states under it.
 #[derive(Clone, Copy)]
 pub(crate) struct Judge<'a> {
     pub(crate) schema: &'a Schema,
     pub(crate) diagram: &'a Diagram<'a>,
 }
 
-/// A line that isn't what its instruction wants.
+/// Returns the error of a line that isn't what its instruction expects.
 const fn unfit(line: u64) -> Fault
     ensures { result ≡ at_line INSTRUCTION_LINE line }
 {
     Fault::at_line(code::INSTRUCTION_LINE, line)
 }
 
-/// A register gets a node, where there is one.
+/// Sets a register's node, if there is one.
 fn put(known: &mut Known, register: Register, node: Result<u64, Fault>) -> Result<(), Fault>
     requires register { register < 64 }
     requires code { IfErr node (λ fault. IsTrue (is_known_fault fault)) }
@@ -42,7 +42,7 @@ fn put(known: &mut Known, register: Register, node: Result<u64, Fault>) -> Resul
     Ok(())
 }
 
-/// A register gets the node of a constant.
+/// Sets a register's node to that of a constant.
 fn fill(
     known: &mut Known,
     line: u64,
@@ -62,7 +62,7 @@ fn fill(
     Ok(())
 }
 
-/// A register that a skip looks at has to have a node; nothing new is known after it.
+/// Checks that the register which a skip reads has a node; nothing new is known after it.
 fn look(known: &Known, line: u64, register: Register, given: InstructionEntry) -> Result<(), Fault>
     requires register { register < 64 }
     ensures known { IfOk result (λ _. look known.now line register given ≡ Ok known.now) }
@@ -77,8 +77,8 @@ fn look(known: &Known, line: u64, register: Register, given: InstructionEntry) -
 }
 
 impl Judge<'_> {
-    /// What is known after an instruction, by its line. Where the line is refused, it may be known
-    /// already or not.
+    /// Updates what is known by an instruction and its line. If it fails, `known` may be changed or
+    /// not.
     #[tactic(auto, unfolding(crate::specs::Instruction::after))]
     pub(crate) fn after(
         self,
@@ -127,7 +127,7 @@ impl Judge<'_> {
         }
     }
 
-    /// The node of the plane of a column's bit.
+    /// Returns the node of the plane of a column's bit.
     fn plane(
         self,
         line: u64,
@@ -158,7 +158,7 @@ impl Judge<'_> {
         }
     }
 
-    /// The node of a column's null plane.
+    /// Returns the node of a column's null plane.
     fn nulls(self, line: u64, col: ColumnIndex, given: InstructionEntry) -> Result<u64, Fault>
         requires columns { self.diagram.now.columns ≡ self.schema.now.columns.items }
         ensures node { result ≡ plane_on self.entry.diagram.now line
@@ -183,7 +183,7 @@ impl Judge<'_> {
         }
     }
 
-    /// The node of an operation on two registers.
+    /// Returns the node of an operation on two registers.
     fn joined(
         self,
         known: &Known,
@@ -205,7 +205,7 @@ impl Judge<'_> {
         self.operation(line, op, a, b, row)
     }
 
-    /// The node of a register's opposite.
+    /// Returns the node of a register's complement.
     fn opposite(
         self,
         known: &Known,
@@ -224,7 +224,7 @@ impl Judge<'_> {
         self.operation(line, Connective::Diff, 1, a, row)
     }
 
-    /// The node that a row says an operation gives.
+    /// Returns the node of an operation, which its product row states.
     fn operation(self, line: u64, op: Connective, a: u64, b: u64, row: u64) -> Result<u64, Fault>
         ensures node { result ≡ operation_on self.entry.diagram.now line op a b row }
         ensures code { IfErr result (λ fault. IsTrue (is_known_fault fault)) }
@@ -235,7 +235,7 @@ impl Judge<'_> {
         }
     }
 
-    /// The node of a comparison of a slice's bytes.
+    /// Returns the node of a byte comparison.
     fn byte(
         self,
         line: u64,
@@ -264,8 +264,8 @@ impl Judge<'_> {
         }
     }
 
-    /// The node of a comparison of the bytes of a slice that there is, if the chain is named where
-    /// there is one.
+    /// Returns the node of a byte comparison of a slice that exists, if the line names a chain
+    /// exactly if there is one.
     fn byte_node(
         self,
         kind: ChainKind,
@@ -292,7 +292,7 @@ impl Judge<'_> {
     }
 }
 
-/// The node of a comparison of bytes with a number past them.
+/// Returns the node of a comparison of bytes with a number that is greater than each of them.
 const fn past_node(kind: ChainKind) -> u64
     ensures { result ≡ past_node kind }
 {
@@ -302,7 +302,7 @@ const fn past_node(kind: ChainKind) -> u64
     }
 }
 
-/// The node of a register that is read.
+/// Returns the node of a register that is read.
 fn read(known: &Known, line: u64, register: Register) -> Result<u64, Fault>
     requires { register < 64 }
     ensures node { result ≡ read_on known.now line register }

@@ -1,4 +1,4 @@
-//! Laws: what lines say is known, and that it holds in every run.
+//! Laws: what the lines state is known, and that it is true in every run.
 ghost use Rattle.std.specs.Prelude.{◌≡◌, ℕ, List, [], Ok, IsTrue, length, map};
 ghost use Rattle.bw_model.specs.Variable.{Assignment};
 ghost use Rattle.bw_diagram.specs.Facts.{Facts, AreTrue};
@@ -13,10 +13,10 @@ ghost use Rattle.bw_cert_parts.specs.Walk.{Taken, judged, told};
 
 use bw_diagram::cited_nodes_are_worth;
 
-/// A law, skip soundness: let parts obey for a program's instructions, over facts that are true.
-/// Then in every run, over any lanes and whichever skips it takes, at each place that it reaches,
-/// each register of which a node is known there holds, in the lane of each assignment, the value of
-/// the node. So it is at the end, which every run comes to.
+/// A law, skip soundness: let parts satisfy the rules for a program's instructions, with true
+/// facts. In every run, over any lanes, whichever skips it takes, and at each place that it
+/// reaches: if a register's node is known there, the register has the node's value in the lane of
+/// each assignment. So it is at the end, which every run reaches.
 pub fn skip_soundness()
     ensures reached { (facts : Facts) (program : ProgramShape) (parts : List Part)
         → AreTrue facts → IsTrue (is_program program)
@@ -33,14 +33,13 @@ pub fn skip_soundness()
     cited_nodes_are_worth();
 }
 
-/// A law: lines that are judged to be right are those of parts that obey.
+/// A law: lines that are accepted are those of parts that satisfy their rules.
 pub fn judged_lines_obey()
     ensures { (facts : Facts) (instrs : List Instr) (end : ℕ) (lines : List BodyLine) (taken : Taken)
         → judged facts instrs end lines ≡ Ok taken → Accepts facts instrs lines taken }
 {}
 
-/// A law: the lines of parts that obey are judged to be right, and what is known at the end is what
-/// is known before it.
+/// A law: the lines of parts that satisfy their rules are accepted, with what is known at the end.
 pub fn obeying_lines_are_judged()
     ensures { (facts : Facts) (instrs : List Instr) (parts : List Part) (end : ℕ)
         → Obeys facts instrs parts
@@ -48,8 +47,8 @@ pub fn obeying_lines_are_judged()
         ≡ Ok (record { known = before facts instrs parts (length instrs); rest = [] }) }
 {}
 
-/// A law: lines that say the same are judged alike, to what is known at the end and lines after it
-/// that say the same, or to one fault.
+/// A law: lines of the same content are checked alike. The result is the same knowledge at the end,
+/// followed by lines of the same content, or the same error.
 pub fn lines_are_judged_by_what_they_say()
     ensures { (facts : Facts) (instrs : List Instr) (end : ℕ) (lines others : List BodyLine)
         → map body_fields lines ≡ map body_fields others

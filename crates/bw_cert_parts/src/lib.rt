@@ -1,19 +1,21 @@
-//! The two parts of a certificate's body: the lines of the condition, and those of the program's instructions and
-//! joins.
+//! The two parts of a certificate's body: the lines of the condition, and those of the program's
+//! instructions and joins.
 //!
-//! The contract that the crates above use of the first part: [`pair`] takes a condition's lines exactly where each step
-//! has its line and the line cites the rows and chains that `specs/Pair.antt` asks for, and refuses the first other
-//! one. The law [`pairs_tell_truths`] says what the two nodes are that the lines make: under every assignment the one
-//! is 1 exactly where the condition is TRUE on the assignment's row, and the other exactly where it is FALSE. The
-//! three-valued logic is SQL-92's, the lines are this project's own.
+//! The contract that the crates above use, of the first part: [`pair`] accepts a condition's lines
+//! if and only if each step has its line and the line references the product rows and chains that
+//! `specs/Pair.antt` demands; else it fails by the first other line. It returns the condition's
+//! *truth pair*, two nodes. By the law [`pairs_tell_truths`], under every assignment the first is 1
+//! exactly if the condition is TRUE on the assignment's row, and the second exactly if it is FALSE.
+//! The three-valued logic is SQL-92's; the lines are this project's own.
 //!
-//! Of the second part: [`known_at_end`] takes the lines of a program's instructions and joins exactly where each shows
-//! what `specs/Walk.antt` asks for, and refuses the first other one; what the lines say is which node each register is
-//! known to hold at each place. Lines that are taken are those of parts that obey, as `specs/Accepted.antt` says, which
-//! knows no walk; and [`skip_soundness`] says that what is known holds in every run, whichever skips it takes.
+//! Of the second part: [`known_at_end`] accepts the lines of a program's instructions and joins if
+//! and only if each shows what `specs/Walk.antt` demands; else it fails by the first other line.
+//! The lines state each register's node at each place. Accepted lines are those of parts that
+//! satisfy their rules, by `specs/Accepted.antt`, which mentions no walk. By [`skip_soundness`],
+//! what is known is true in every run, whichever skips it takes.
 //!
-//! Neither part knows the other. Read `steps.rt` first, and then `specs/Pair.antt`; of the second part `walk.rt`, and
-//! then `specs/Accepted.antt`.
+//! The parts are independent. Read `steps.rt` first, then `specs/Pair.antt`; for the second part
+//! `walk.rt`, then `specs/Accepted.antt`.
 #![tactic(auto)]
 
 mod comparison;

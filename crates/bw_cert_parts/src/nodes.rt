@@ -1,4 +1,4 @@
-//! Pairs of nodes, and what a line takes from the product rows that it cites.
+//! Truth pairs, and the nodes that a line takes from the product rows that it references.
 ghost use Rattle.std.specs.Prelude.{◌≡◌};
 ghost use Rattle.bw_cert_parts.specs.Comparison.{constant_pair};
 ghost use Rattle.bw_cert_parts.specs.Rows.{pair_of_nodes, if_both, exchanged, null_cited, value_node};
@@ -6,7 +6,8 @@ ghost use Rattle.bw_cert_parts.specs.Rows.{pair_of_nodes, if_both, exchanged, nu
 use bw_diagram::{Connective, Diagram};
 use bw_model::Truth;
 
-/// The nodes of a condition: where it is TRUE, and where it is FALSE.
+/// The truth pair of a condition: the node that is 1 if it is TRUE, and the node that is 1 if it is
+/// FALSE.
 #[derive(Clone, Copy)]
 pub struct Pair {
     pub yes: u64,
@@ -14,14 +15,14 @@ pub struct Pair {
 }
 
 impl Pair {
-    /// The pair of two nodes.
+    /// Returns the truth pair of two nodes.
     pub(crate) const fn new(yes: u64, no: u64) -> Self
         ensures { result ≡ pair_of_nodes yes no }
     {
         Pair { yes, no }
     }
 
-    /// The pair of a step with one truth on every row.
+    /// Returns the truth pair of a step with the same truth on every row.
     pub(crate) const fn constant(truth: Truth) -> Self
         ensures { result ≡ constant_pair truth }
     {
@@ -32,7 +33,7 @@ impl Pair {
         }
     }
 
-    /// The pair of two nodes, if both are there.
+    /// Returns the truth pair of two nodes, if there are both.
     pub(crate) fn of_both(yes: Option<u64>, no: Option<u64>) -> Option<Self>
         ensures { result ≡ if_both yes no }
     {
@@ -42,7 +43,7 @@ impl Pair {
         }
     }
 
-    /// The pair of the opposite condition.
+    /// Returns the truth pair of the negated condition.
     pub(crate) const fn exchanged(self) -> Self
         ensures { result ≡ exchanged self }
     {
@@ -53,8 +54,8 @@ impl Pair {
     }
 }
 
-/// The pair of the product row of a number, if it is the null test of a column with this null
-/// variable: the nodes that are 1 where the column is null, and where it isn't.
+/// Returns the truth pair of a null test, from the product row of a number, if it is the null test
+/// of a column with this null variable.
 pub(crate) fn null_cited(diagram: &Diagram<'_>, variable: u32, number: u64) -> Option<Pair>
     ensures { result ≡ null_cited diagram.now variable number }
 {
@@ -65,8 +66,8 @@ pub(crate) fn null_cited(diagram: &Diagram<'_>, variable: u32, number: u64) -> O
     )
 }
 
-/// The node that is 1 where a column with this null variable has a value, which a line cites by the
-/// number of a product row: 1, for `-`, where the column has no null variable.
+/// Returns the node that is 1 if a column with this null variable has a value, which the line
+/// references by the number of a product row. It is 1, for `-`, if the column has no null variable.
 pub(crate) fn value_node(
     diagram: &Diagram<'_>,
     variable: Option<u32>,

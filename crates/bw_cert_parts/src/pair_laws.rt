@@ -1,4 +1,4 @@
-//! Laws of pairs.
+//! Laws of truth pairs.
 ghost use Rattle.std.specs.Prelude.{◌≡◌, ℕ, List, Ok, IsTrue, length, map};
 ghost use Rattle.bw_model.specs.declared.column.Column.{Column};
 ghost use Rattle.bw_model.specs.declared.cond.Cond.{Cond};
@@ -14,9 +14,9 @@ ghost use Rattle.bw_cert_parts.specs.Pair.{pair_of, told};
 
 use bw_diagram::cited_nodes_are_worth;
 
-/// A law: where what a diagram holds is true, the pair of a condition is two nodes of it, and under
-/// every assignment the one is 1 exactly where the condition is TRUE on the assignment's row, the
-/// other exactly where it is FALSE. The condition names only columns of the diagram.
+/// A law: if the facts of a diagram are true, the truth pair of a condition is two of its nodes.
+/// Under every assignment, the first is 1 exactly if the condition is TRUE on the assignment's row,
+/// and the second exactly if it is FALSE. The condition names only columns of the diagram.
 pub fn pairs_tell_truths()
     ensures { (columns : List Column) (facts : Facts) (end : ℕ) (cond : Cond)
         (lines rest : List BodyLine) (pair : Pair)
@@ -27,8 +27,8 @@ pub fn pairs_tell_truths()
     cited_nodes_are_worth();
 }
 
-/// A law: conditions of one tree are read alike, from lines that say the same: to one pair and lines
-/// after it that say the same, or to one fault.
+/// A law: conditions of the same tree, and lines of the same content, are read alike. The result is
+/// the same truth pair, followed by lines of the same content, or the same error.
 pub fn pairs_are_of_trees()
     ensures { (columns : List Column) (facts : Facts) (end : ℕ) (cond same : Cond)
         (lines others : List BodyLine)

@@ -1,4 +1,4 @@
-//! The steps of a condition, operands first: each takes the next line.
+//! The steps of a condition, operands first: each consumes the next line.
 ghost use Rattle.std.specs.Prelude.{◌≡◌, [], ◌∷◌, Some, IsTrue, IfErr, length, map};
 ghost use Rattle.std.specs.List.{list_all};
 ghost use Rattle.bw_model.specs.FaultTable.{CONDITION_LINE};
@@ -16,21 +16,21 @@ use bw_cert_text::{BodyLines, ConditionEntry, Entry};
 use bw_diagram::{Connective, Diagram};
 use bw_model::{Cond, Fault, Op, Operand, Schema, Truth, code};
 
-/// A pair, and the lines after those that made it.
+/// A truth pair and the lines after those that made it, or an error.
 type Read<'a> = Result<(Pair, BodyLines<'a>), Fault>;
 
-/// What joins the parts of a condition: AND, or OR.
+/// The connective of a condition's parts: AND, or OR.
 #[derive(Clone, Copy)]
 pub enum Junction {
     All,
     Any,
 }
 
-/// The nodes of a condition: where it is TRUE, and where it is FALSE. The lines begin with the
-/// condition's, and those after them are answered too. Refused is, as 606, the first line that
-/// isn't one of the condition's next step, or that breaks its rule; where the lines have run out,
-/// the one of END, whose number is `end`. The condition's columns are the schema's. Takes no
-/// memory.
+/// Returns the truth pair of a condition and the lines after its own, with which the lines must
+/// begin. The condition's columns must be the schema's. Allocates no memory.
+///
+/// Errors: 606 at the first line that isn't that of the condition's next step, or that breaks its
+/// rule. If the lines run out, it is at END, whose number is `end`.
 #[tactic(auto, using(crate::proofs::PairLemmas::pairs, bw_model::proofs::CondLemmas::names))]
 #[cycle(pair)]
 pub fn pair<'a>(
@@ -64,8 +64,8 @@ pub fn pair<'a>(
     }
 }
 
-/// The pair of parts that are joined: the first part's lines, and then for each further part its
-/// lines and the one that joins it.
+/// Returns the truth pair of combined parts: the first part's lines, and then for each further part
+/// its lines and the line that combines it with those before.
 #[cycle(pair)]
 fn joined<'a>(
     schema: &Schema,
@@ -93,7 +93,7 @@ fn joined<'a>(
     Ok((made, left))
 }
 
-/// The pair of a list of equations with one operand, of which one holds.
+/// Returns the truth pair of equations with one operand, combined by OR.
 fn among<'a>(
     schema: &Schema,
     diagram: &Diagram<'_>,
@@ -118,7 +118,7 @@ fn among<'a>(
     Ok((made, left))
 }
 
-/// The pair of one of these equations more, joined to the pair so far.
+/// Returns the truth pair so far, combined with that of one more equation.
 fn one_more<'a>(
     schema: &Schema,
     diagram: &Diagram<'_>,
@@ -138,7 +138,7 @@ fn one_more<'a>(
     join(diagram, Junction::Any, made, next, rest, end)
 }
 
-/// The pair of `x >= y AND x <= z`.
+/// Returns the truth pair of `x >= y AND x <= z`.
 fn between<'a>(
     schema: &Schema,
     diagram: &Diagram<'_>,
@@ -161,7 +161,7 @@ fn between<'a>(
     join(diagram, Junction::All, lower, upper, rest, end)
 }
 
-/// The pair of a comparison, by the next line.
+/// Returns the truth pair of a comparison, by the next line.
 #[tactic(auto, unfolding(crate::specs::Pair::by_line))]
 fn compared<'a>(
     schema: &Schema,
@@ -185,7 +185,7 @@ fn compared<'a>(
     taken(made, lines, end)
 }
 
-/// The pair of a step with one truth on every row, by the next line.
+/// Returns the truth pair of a step with the same truth on every row, by the next line.
 #[tactic(auto, unfolding(crate::specs::Pair::by_line))]
 fn constant<'a>(truth: Truth, lines: BodyLines<'a>, end: u64) -> Read<'a>
     ensures pair { Answers result (by_line end (fixed truth) (body_lines lines.entry)) }
@@ -198,7 +198,7 @@ fn constant<'a>(truth: Truth, lines: BodyLines<'a>, end: u64) -> Read<'a>
     taken(made, lines, end)
 }
 
-/// The pair of `IS NULL`, by the next line.
+/// Returns the truth pair of `IS NULL`, by the next line.
 #[tactic(auto, unfolding(crate::specs::Pair::by_line))]
 fn null_tested<'a>(
     schema: &Schema,
@@ -219,7 +219,7 @@ fn null_tested<'a>(
     taken(made, lines, end)
 }
 
-/// The pair of `IS NULL`, by what a line says.
+/// Returns the truth pair of `IS NULL`, by this line.
 #[tactic(auto, unfolding(crate::specs::Pair::is_null_test))]
 fn is_null_test(
     schema: &Schema,
@@ -240,7 +240,7 @@ fn is_null_test(
     }
 }
 
-/// The pair of `IS NULL` of a column with this null variable, by what a line says.
+/// Returns the truth pair of `IS NULL` of a column with this null variable, by this line.
 fn null_test(diagram: &Diagram<'_>, variable: u32, entry: ConditionEntry) -> Option<Pair>
     ensures { result ≡ null_test diagram.now (Some variable) entry }
 {
@@ -250,7 +250,7 @@ fn null_test(diagram: &Diagram<'_>, variable: u32, entry: ConditionEntry) -> Opt
     }
 }
 
-/// The pair of two parts that are joined, by the next line.
+/// Returns the truth pair of two parts combined, by the next line.
 #[tactic(auto, unfolding(crate::specs::Pair::by_line))]
 fn join<'a>(
     diagram: &Diagram<'_>,
@@ -271,7 +271,7 @@ fn join<'a>(
     taken(made, lines, end)
 }
 
-/// The pair of two parts that are joined, by what a line says.
+/// Returns the truth pair of two parts combined, by this line.
 #[tactic(auto, unfolding(crate::specs::Pair::joined_pair))]
 fn joined_pair(
     diagram: &Diagram<'_>,
@@ -295,7 +295,7 @@ fn joined_pair(
     }
 }
 
-/// The pair of NOT, by the next line.
+/// Returns the truth pair of NOT, by the next line.
 #[tactic(auto, unfolding(crate::specs::Pair::by_line, crate::specs::Pair::negated_pair))]
 fn negated<'a>(pair: Pair, lines: BodyLines<'a>, end: u64) -> Read<'a>
     ensures pair { Answers result (by_line end (negated_pair pair) (body_lines lines.entry)) }
@@ -308,7 +308,7 @@ fn negated<'a>(pair: Pair, lines: BodyLines<'a>, end: u64) -> Read<'a>
     taken(made, lines, end)
 }
 
-/// The pair of `IS TRUE`, `IS FALSE` or `IS UNKNOWN`, by the next line.
+/// Returns the truth pair of `IS TRUE`, `IS FALSE` or `IS UNKNOWN`, by the next line.
 #[tactic(auto, unfolding(crate::specs::Pair::by_line))]
 fn tested<'a>(
     diagram: &Diagram<'_>,
@@ -328,7 +328,7 @@ fn tested<'a>(
     taken(made, lines, end)
 }
 
-/// The pair of `IS TRUE`, `IS FALSE` or `IS UNKNOWN`, by what a line says.
+/// Returns the truth pair of `IS TRUE`, `IS FALSE` or `IS UNKNOWN`, by this line.
 #[tactic(auto, unfolding(crate::specs::Pair::tested_pair))]
 fn tested_pair(
     diagram: &Diagram<'_>,
@@ -349,14 +349,14 @@ fn tested_pair(
     }
 }
 
-/// A node, and its opposite, which a line cites by the number of a product row.
+/// Returns a node and its complement, which the line references by the number of a product row.
 fn with_opposite(diagram: &Diagram<'_>, node: u64, number: u64) -> Option<Pair>
     ensures { result ≡ with_opposite diagram.now node number }
 {
     Pair::of_both(Some(node), diagram.cited(Connective::Diff, 1, node, number))
 }
 
-/// What the next line says of a condition, if there is one and it is a condition's.
+/// Returns the fields of the next line, if there is one and it is a condition's.
 fn next_entry(lines: BodyLines<'_>) -> Option<ConditionEntry>
     ensures { result ≡ next_entry (body_lines lines.entry) }
 {
@@ -369,7 +369,8 @@ fn next_entry(lines: BodyLines<'_>) -> Option<ConditionEntry>
     }
 }
 
-/// The pair that the next line makes, and the lines after it, or the refusal of that line.
+/// Returns the truth pair that the next line makes and the lines after it, or the error of that
+/// line.
 fn taken<'a>(made: Option<Pair>, lines: BodyLines<'a>, end: u64) -> Read<'a>
     ensures pair { Answers result (taken end made (body_lines lines.entry)) }
     ensures code { IfErr result (λ fault. fault.code ≡ CONDITION_LINE) }
@@ -380,7 +381,7 @@ fn taken<'a>(made: Option<Pair>, lines: BodyLines<'a>, end: u64) -> Read<'a>
     }
 }
 
-/// The refusal of the next line, or of END's where there is none.
+/// Returns the error of the next line, or that of END if there is none.
 fn refused(lines: BodyLines<'_>, end: u64) -> Fault
     ensures { result ≡ at_line CONDITION_LINE (next_number end (body_lines lines.entry)) }
 {

@@ -1,4 +1,4 @@
-//! The lines of a program's instructions and joins, taken one after another.
+//! The lines of a program's instructions and joins, consumed one after another.
 ghost use Rattle.std.specs.Prelude.{◌≡◌, ◌≤◌, IsTrue, IfOk, IfErr, Ok, Err};
 ghost use Rattle.bw_model.specs.Fault.{Gives};
 ghost use Rattle.bw_program.specs.Program.{named_by};
@@ -16,7 +16,7 @@ use bw_model::{Fault, Schema, code};
 use bw_program::{Instr, Program};
 use std::alloc::Global;
 
-/// What is known where a program ends, and the lines that follow those of its instructions and
+/// What is known at the end of a program, and the lines that follow those of its instructions and
 /// joins.
 #[derive(Clone, Copy)]
 pub struct AtEnd<'a> {
@@ -24,15 +24,18 @@ pub struct AtEnd<'a> {
     pub rest: BodyLines<'a>,
 }
 
-/// Takes the lines of a program's instructions and joins, and gives what is known of the registers
-/// at its end and the lines that follow. `end` is the number of the certificate's last line, after
+/// Consumes the lines of a program's instructions and joins. Returns what is known of the registers
+/// at its end, and the lines that follow. `end` is the number of the certificate's last line, after
 /// all lines.
 ///
-/// Refused is the first line that breaks a rule: where an instruction's line is wanted, another, or
-/// one that doesn't show what the instruction gives (607), or, of the right kind, reads a register
-/// that isn't known (609); where skips meet, another line than JOIN, or a KEEP line that doesn't
-/// hold for falling through and for each skip (608). Where lines are missing, that is so at the
-/// last line.
+/// Errors: the first line that breaks a rule, or the last line if lines are missing.
+///
+/// - 607: another line than the instruction's, or one that doesn't show the instruction's result
+/// - 609: a line of the right kind whose instruction reads a register that isn't known
+/// - 608: another line than JOIN at a place to which skips lead, or a KEEP line that isn't true on
+///   fall-through and by each skip
+///
+/// 801 if memory is refused.
 pub fn known_at_end<'a>(
     alloc: Global,
     schema: &Schema,
@@ -61,7 +64,7 @@ pub fn known_at_end<'a>(
 }
 
 impl Judge<'_> {
-    /// Takes the line of an instruction, and gives those that follow.
+    /// Consumes the line of an instruction, and returns those that follow.
     fn take_instruction<'a>(
         self,
         known: &mut Known,

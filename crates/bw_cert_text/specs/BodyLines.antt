@@ -1,4 +1,4 @@
--- The lines after the product rows that are still to be read.
+-- The lines after the product rows that are still unread.
 use Rattle.std.specs.Prelude.{List}
 use Rattle.bw_cert_text.specs.declared.body.BodyLines.{BodyLines}
 use Rattle.bw_cert_text.specs.declared.lines.BodyLine.{BodyLine}

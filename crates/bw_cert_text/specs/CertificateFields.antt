@@ -1,4 +1,4 @@
--- The lines of a certificate as lists and numbers, apart from how their words lie in memory.
+-- The lines of a certificate as lists and numbers, without the addresses of their words.
 use Rattle.std.specs.Prelude.{ℕ, List, map, Option}
 use Rattle.bw_diagram.specs.declared.chain.ChainKind.{ChainKind}
 use Rattle.bw_diagram.specs.declared.chain.ChainColumns.{ChainColumns}
@@ -16,8 +16,8 @@ use Rattle.bw_cert_text.specs.declared.lines.EdgeProducts.{EdgeProducts}
 use Rattle.bw_cert_text.specs.declared.lines.EndLine.{EndLine}
 use Rattle.bw_cert_text.specs.CertificateShape.{CertificateShape}
 
--- what a chain compares: a column's bits with a number (kind, column, start, len, const, node, prev), or two columns
--- (kind, left, right, len, node, prev)
+-- what a chain compares: a column's bits with a number (kind, column, start, len, const, node,
+-- prev), or two columns (kind, left, right, len, node, prev)
 pub data ColumnFields : Type 0 where
   One : ChainKind → List ℕ → ℕ → ℕ → ℕ → ℕ → Option ℕ → ColumnFields
   Two : ChainKind → List ℕ → List ℕ → ℕ → ℕ → Option ℕ → ColumnFields
@@ -51,7 +51,7 @@ pub record CertificateFields : Type 0 where
   pub body : List BodyFields
   pub end : EndLine
 
--- those of the lines that a program holds
+-- the fields of the code's lines
 abbrev pub column_fields : ChainColumns → ColumnFields
 column_fields (columns.One kind column start len bound node prev) = One kind column.items start len bound node prev
 column_fields (columns.Two kind left right len node prev) = Two kind left.items right.items len node prev

@@ -1,4 +1,4 @@
--- Certificate texts: what a text says, or the first fault in it.
+-- Certificate texts: the certificate that a text spells, or its first error.
 use Rattle.std.specs.Prelude.{◌≤◌, ℕ, Bool, false, ◌||◌, ◌==◌, List, [], ◌∷◌, Option, Some, None, Result, Ok, Err, IsTrue, nat_lt}
 use Rattle.bw_model.specs.FaultTable.{CERTIFICATE_FORM}
 use Rattle.bw_model.specs.declared.fault.Fault.{Fault}
@@ -16,7 +16,7 @@ section_of (Chain chain) = 1
 section_of (Row row) = 2
 section_of (Body body) = 3
 
--- a certificate with one more line in front of those of its section, and one that is its end alone
+-- a certificate with one more line before those of its section, and one that has only its end
 abbrev pub with_part : Part → CertificateFields → CertificateFields
 with_part (Node node) c = record {
   nodes = node ∷ c.nodes;
@@ -50,8 +50,8 @@ with_part (Body body) c = record {
 abbrev pub end_alone : EndLine → CertificateFields
 end_alone end = record { nodes = []; chains = []; products = []; body = []; end = end }
 
--- Lines spell a certificate, none of them being of a section before this one: END is the last line, and each line
--- before it is of this section or a later one, as the lines after it are of that section or a later one.
+-- Lines spell a certificate, from this section on: END is the last line, and each line before it is
+-- of this section or a later one, as the lines after it are of that section or a later one.
 pub data SpellsFrom : ℕ → List NumberedWords → CertificateFields → Type 0 where
   before_end : {section : ℕ} {line : NumberedWords}
       (part : Part) {lines : List NumberedWords} {rest : CertificateFields} →
@@ -61,15 +61,15 @@ pub data SpellsFrom : ℕ → List NumberedWords → CertificateFields → Type 
   at_end : {section : ℕ} {line : NumberedWords} (end : EndLine) →
       Says line end.line (end_tokens end) → SpellsFrom section (line ∷ []) (end_alone end)
 
--- a text, the first line of which has this number, whose lines spell a certificate
+-- the lines of a text, the first of which has this number, spell a certificate
 abbrev pub IsCertificateText : ℕ → List ℕ → CertificateFields → Type 0
 IsCertificateText first text certificate = SpellsFrom 0 (lines_in (from_line first text)) certificate
 
--- another form, which is the one fault of a certificate text
+-- the line has another form, which is the only error of a certificate text
 abbrev pub form_fault : ℕ → Fault
 form_fault line = at_line CERTIFICATE_FORM line
 
--- what a line says, where it has no line of a later section before it
+-- the fields of a line, which must not be of a section before this one
 abbrev pub is_before : ℕ → Said → Bool
 is_before section (Before part) = nat_lt (section_of part) section
 is_before section (End end) = false
@@ -86,22 +86,23 @@ abbrev pub last_line : {A : Type 0} → List NumberedWords → A → Result A Fa
 last_line [] x = Ok x
 last_line (line ∷ lines) x = Err (form_fault line.number)
 
--- what a line and the lines after it say, where the lines after a section say that
+-- the certificate of a line and the lines after it, given that of the lines after a section
 abbrev pub followed : List NumberedWords → (ℕ → Result CertificateFields Fault) → Said → Result CertificateFields Fault
 followed lines after (Before part) = after (section_of part) >>= λ rest. Ok (with_part part rest)
 followed lines after (End end) = last_line lines (end_alone end)
 
--- what lines say that stand in a section or after it, or the first fault in them; they end with this number
+-- the certificate of these lines, none of which may be of a section before this one, or their first
+-- error; `end` is the number of the text's end
 unfoldable pub certificate_from : ℕ → List NumberedWords → ℕ → Result CertificateFields Fault
 certificate_from section [] end = Err (form_fault end)
 certificate_from section (line ∷ lines) end =
     said_on section line >>= λ said. followed lines (λ s. certificate_from s lines end) said
 
--- what a text says, the first line of which has this number, or the first fault in it
+-- the certificate of a text, the first line of which has this number, or the text's first error
 abbrev pub certificate_of : ℕ → List ℕ → Result CertificateFields Fault
 certificate_of first text = certificate_from 0 (lines_in (from_line first text)) (end_in (from_line first text))
 
--- 605, or out of memory
+-- the error is 605, or out of memory
 abbrev pub is_certificate_fault : Fault → Bool
 is_certificate_fault fault = (fault.code == CERTIFICATE_FORM) || is_memory fault
 

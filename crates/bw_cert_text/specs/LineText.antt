@@ -1,4 +1,4 @@
--- What the words of a line say.
+-- The fields that the words of a line spell.
 use Rattle.std.specs.Prelude.{ℕ, List, [], ◌∷◌, Option, Some, None, codes, if◌then◌else◌}
 use Rattle.bw_diagram.specs.declared.chain.ChainKind.{ChainKind}
 use Rattle.bw_diagram.specs.declared.chain.ChainKind.TheVariants as compared
@@ -67,7 +67,7 @@ columns_after form.Equal words = one_column_in compared.Equal words
 columns_after form.LessTwo words = two_columns_in compared.Less words
 columns_after form.EqualTwo words = two_columns_in compared.Equal words
 
--- n, a form, and what it compares
+-- n, a form, and the columns that it compares
 abbrev pub chain_in : ℕ → List (List ℕ) → Option ChainFields
 chain_in line (n ∷ word ∷ words) =
     natural_of n >? λ n. form_of word >? λ form. columns_after form words >? λ columns.
@@ -119,7 +119,7 @@ condition_in condition.Or words = two_in words >? λ two. Some (Or two.0 two.1)
 condition_in condition.Not words = nothing_in words >? λ none. Some Not
 condition_in condition.Is words = is_in words
 
--- the chain of a comparison of bytes, or a hyphen
+-- the chain of a byte comparison, or a hyphen
 abbrev pub byte_in : List (List ℕ) → Option InstructionEntry
 byte_in (chain ∷ []) = optional_of chain >? λ chain. Some (Byte chain)
 byte_in words = None
@@ -132,7 +132,7 @@ instruction_in instruction.Op words = number_in words >? λ i. Some (Op i)
 instruction_in instruction.Byte words = byte_in words
 instruction_in instruction.Skip words = nothing_in words >? λ none. Some Skip
 
--- whole pairs of numbers
+-- complete pairs of numbers
 unfoldable pub edges_in : List (List ℕ) → Option (List EdgeProducts)
 edges_in [] = Some []
 edges_in (i ∷ []) = None
@@ -140,14 +140,14 @@ edges_in (i ∷ j ∷ words) =
     natural_of i >? λ i. natural_of j >? λ j. edges_in words
     >? λ edges. Some (record { differs = i; within = j } ∷ edges)
 
--- r h x, and whole pairs
+-- r h x, and complete pairs
 abbrev pub keep_in : List (List ℕ) → Option KeepFields
 keep_in (r ∷ h ∷ x ∷ words) =
     register_of r >? λ r. natural_of h >? λ h. natural_of x >? λ x. edges_in words >? λ edges.
     Some (record { register = r; node = h; through = x; edges = edges })
 keep_in words = None
 
--- what the words after the first one say in a line of each kind
+-- the fields of a line of each kind, from the words after the first one
 abbrev pub body_at : ℕ → EntryFields → Said
 body_at line entry = Before (Body (record { line = line; entry = entry }))
 
@@ -162,7 +162,7 @@ said_after line kind.Join words = number_in words >? λ target. Some (body_at li
 said_after line kind.Keep words = keep_in words >? λ keep. Some (body_at line (Kept keep))
 said_after line kind.End words = number_in words >? λ row. Some (End (record { line = line; row = row }))
 
--- what the words of a line say, if they are of any of its forms
+-- the fields of a line, if its words have one of the forms
 abbrev pub said_by : ℕ → List (List ℕ) → Option Said
 said_by line [] = None
 said_by line (word ∷ words) = kind_of word >? λ kind. said_after line kind words

@@ -1,9 +1,9 @@
--- What stands after the first word of a line: numbers, and numbers that may be a hyphen.
+-- The words after the first one of a line: numbers, and numbers that may be a hyphen.
 use Rattle.std.specs.Prelude.{ℕ, Bool, true, false, List, [], ◌∷◌, Option, Some, None, codes}
 use Rattle.std.specs.Str.{bytes_eq}
 use Rattle.bw_text.specs.Number.{natural_of}
 
--- what was found, and then what is found with it
+-- a value, if there is one, and then what it leads to
 infixl 10 ◌>?◌
 abbrev pub ◌>?◌ : {A B : Type 0} → Option A → (A → Option B) → Option B
 None >? f = None

@@ -3,7 +3,7 @@ use Rattle.std.specs.Prelude.{◌++◌, map}
 use Rattle.bw_cert_text.specs.declared.parse.Parts.{Parts}
 use Rattle.bw_cert_text.specs.CertificateFields.{CertificateFields, chain_fields, body_fields}
 
--- these, and then those of a certificate that stand after them
+-- these lines, followed by those of a certificate
 abbrev pub joined : Parts → CertificateFields → CertificateFields
 joined parts rest = record {
   nodes = parts.nodes.items ++ rest.nodes;

@@ -1,4 +1,4 @@
--- The canonical text of a certificate: words of the language in capitals, single blanks, names in the schema's
+-- The canonical text of a certificate: keywords in capitals, single blanks, names in the schema's
 -- spelling, numbers without leading zeros, and one line feed after each line.
 use Rattle.std.specs.Prelude.{ℕ, List, [], ◌∷◌, ◌++◌, map, Option, Some, None, codes, slice_index_or}
 use Rattle.std.specs.Fmt.{decimal}
@@ -9,7 +9,7 @@ use Rattle.bw_text.specs.Printed.{line_text}
 use Rattle.bw_text.specs.Register.{register_text}
 use Rattle.bw_cert_text.specs.Token.{Token, Key, Number, Perhaps, Column, Register, node_tokens, chain_tokens, row_tokens, entry_tokens, end_tokens}
 
--- what stands at a place of a line, in its canonical spelling
+-- the canonical spelling of one item of a line
 abbrev pub token_text : Token → List ℕ
 token_text (Key key) = key
 token_text (Number n) = decimal n
@@ -25,7 +25,7 @@ token_words tokens = map token_text tokens
 abbrev pub token_line : List Token → List ℕ
 token_line tokens = line_text (token_words tokens)
 
--- a line for each of a list
+-- a line for each item of a list
 unfoldable pub lines_text : {A : Type 0} → (A → List Token) → List A → List ℕ
 lines_text tokens [] = []
 lines_text tokens (x ∷ xs) = token_line (tokens x) ++ lines_text tokens xs
@@ -39,7 +39,7 @@ certificate_text c =
     lines_text node_tokens c.nodes ++ (lines_text chain_tokens c.chains ++ (lines_text row_tokens c.products
     ++ (lines_text body_tokens c.body ++ token_line (end_tokens c.end))))
 
--- a word in the spelling of the column that it names; a word that names none stands as it is
+-- a word in the spelling of the column that it names, or the word itself if it names none
 abbrev pub spelling_at : List column.Column → List ℕ → Option ℕ → List ℕ
 spelling_at columns word None = word
 spelling_at columns word (Some c) = slice_index_or (names_of columns) c []

@@ -1,4 +1,5 @@
--- What a canonical text is read as: the certificate in the schema's spelling, its lines numbered one after another.
+-- The certificate that a canonical text spells: in the schema's spelling, its lines numbered one
+-- after another.
 use Rattle.std.specs.Prelude.{ℕ, ◌+◌, ◌^◌, Bool, true, ◌&&◌, List, [], ◌∷◌, length, Some, None, nat_lt}
 use Rattle.std.specs.List.{list_all}
 use Rattle.bw_cert_text.specs.declared.lines.NodeLine.{NodeLine}
@@ -7,7 +8,7 @@ use Rattle.bw_cert_text.specs.CertificateFields.{ChainFields, BodyFields, Certif
 use Rattle.bw_cert_text.specs.PrintText.{body_tokens}
 use Rattle.bw_cert_text.specs.Token.{Token, Key, Number, Perhaps, Column, Register, node_tokens, chain_tokens, row_tokens, end_tokens}
 
--- a line of each section with this number
+-- a line of each section, with this number
 abbrev pub node_at : ℕ → NodeLine → NodeLine
 node_at line node = record { line = line; n = node.n; v = node.v; low = node.low; high = node.high }
 
@@ -25,7 +26,7 @@ unfoldable pub numbered_on : {A : Type 0} → (ℕ → A → A) → ℕ → List
 numbered_on at first [] = []
 numbered_on at first (x ∷ xs) = at first x ∷ numbered_on at (first + 1) xs
 
--- a certificate whose lines have the numbers from this one on
+-- a certificate whose lines are numbered from this number on
 abbrev pub renumbered : ℕ → CertificateFields → CertificateFields
 renumbered first c =
     let chains : ℕ = first + length c.nodes in
@@ -39,7 +40,7 @@ renumbered first c =
       end = record { line = body + length c.body; row = c.end.row };
     }
 
--- a number is below 2^64, and a register is one of the 64
+-- a number is below 2^64, or a register is one of the 64
 abbrev pub is_small : Token → Bool
 is_small (Key key) = true
 is_small (Number n) = nat_lt n (2 ^ 64)
@@ -48,11 +49,11 @@ is_small (Perhaps (Some n)) = nat_lt n (2 ^ 64)
 is_small (Column word) = true
 is_small (Register r) = nat_lt r 64
 
--- so with each place of a line
+-- each item of a line is so
 abbrev pub are_small : List Token → Bool
 are_small tokens = list_all is_small tokens
 
--- and of each line of a certificate
+-- each line of a certificate is so
 abbrev pub numbers_fit : CertificateFields → Bool
 numbers_fit c =
     list_all (λ node. are_small (node_tokens node)) c.nodes

@@ -1,4 +1,4 @@
--- What a line says, as lists and numbers.
+-- The fields of a line, as lists and numbers.
 use Rattle.bw_cert_text.specs.declared.line.Part.TheVariants as part
 use Rattle.bw_cert_text.specs.declared.line.Said.TheVariants as said
 use Rattle.bw_cert_text.specs.declared.line.Part as declared_part

@@ -1,5 +1,5 @@
--- How the lines after the product rows are kept: what each is, then the numbers of all lines one after another, and the
--- pairs of rows of all lines KEEP one after another.
+-- How the lines after the product rows are stored: the kinds of all lines, then their numbers one
+-- after another, and the pairs of rows of all lines KEEP one after another.
 use Rattle.std.specs.Prelude.{ℕ, Bool, true, false, ◌&&◌, if◌then◌else◌, List, [], ◌∷◌, length, take, drop, Option, Some, None, nat_le}
 use Rattle.bw_cert_text.specs.declared.kind.Kind.{Kind}
 use Rattle.bw_cert_text.specs.declared.kind.Kind.TheVariants as kind
@@ -30,17 +30,17 @@ size kind.Skip = 1
 size kind.Join = 2
 size (kind.Keep register) = 4
 
--- how many pairs of rows: a line KEEP says so in its last number
+-- how many pairs of rows a line has, which is the last number of a line KEEP
 abbrev pub pairs_of : Kind → List ℕ → ℕ
 pairs_of (kind.Keep register) (line ∷ node ∷ through ∷ count ∷ []) = count
 pairs_of _ numbers = 0
 
--- a number that is there, or `-`
+-- a number, or `-`
 abbrev pub number_if : Bool → ℕ → Option ℕ
 number_if true number = Some number
 number_if false number = None
 
--- what the line of a condition's step says, by its numbers after its own
+-- the fields of a condition's step, from the numbers after the line's own
 abbrev pub condition_of : Kind → List ℕ → ConditionEntry
 condition_of (kind.Compare c v) (chain ∷ value ∷ p ∷ q ∷ []) = Compare (number_if c chain) (number_if v value) p q
 condition_of (kind.CompareColumns c l r) (chain ∷ left ∷ right ∷ both ∷ p ∷ q ∷ []) =
@@ -53,7 +53,7 @@ condition_of kind.Is (i ∷ []) = Is i
 condition_of kind.IsUnknown (i ∷ j ∷ []) = IsUnknown i j
 condition_of _ numbers = Fixed
 
--- what a line says, by these numbers and its pairs
+-- the fields of a line, from the numbers after its own and from its pairs
 abbrev pub entry_of : Kind → List ℕ → List EdgeProducts → Entry
 entry_of kind.Load (node ∷ []) pairs = Instruction (Load node)
 entry_of kind.Fill [] pairs = Instruction Fill
@@ -69,12 +69,12 @@ abbrev pub line_of : Kind → List ℕ → List EdgeProducts → BodyLine
 line_of kind [] pairs = record { line = 0; entry = entry_of kind [] pairs }
 line_of kind (line ∷ numbers) pairs = record { line = line; entry = entry_of kind numbers pairs }
 
--- the numbers and the pairs that the first line has, if there are so many
+-- there are as many numbers and pairs as the first line has
 abbrev pub is_there : Kind → List ℕ → List EdgeProducts → Bool
 is_there kind numbers pairs = nat_le (size kind) (length numbers)
     && nat_le (pairs_of kind (take (size kind) numbers)) (length pairs)
 
--- the lines, up to the first one whose numbers or pairs aren't there
+-- the lines, up to the first one whose numbers or pairs are missing
 unfoldable pub lines_of : List Kind → List ℕ → List EdgeProducts → List BodyLine
 lines_of [] numbers pairs = []
 lines_of (kind ∷ kinds) numbers pairs =
@@ -84,7 +84,7 @@ lines_of (kind ∷ kinds) numbers pairs =
     ∷ lines_of kinds (drop (size kind) numbers) (drop (pairs_of kind own) pairs))
     else []
 
--- the numbers and the pairs are those of these lines, and no more
+-- the numbers and the pairs are exactly those of these lines
 unfoldable pub are_all : List Kind → List ℕ → List EdgeProducts → Bool
 are_all [] [] [] = true
 are_all [] numbers pairs = false

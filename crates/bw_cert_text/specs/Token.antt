@@ -20,7 +20,7 @@ use Rattle.bw_cert_text.specs.LineText.{Part, Node, Chain, Row, Body}
 use Rattle.bw_text.specs.Register.{register_of}
 use Rattle.bw_cert_text.specs.Connective.{connective_spelling}
 
--- what stands at a place of a line: a word of the language, a number, a number or a hyphen, a column's name, a register
+-- one item of a line: a keyword, a number, a number or a hyphen, a column's name, or a register
 pub data Token : Type 0 where
   Key : List ℕ → Token
   Number : ℕ → Token
@@ -28,7 +28,7 @@ pub data Token : Type 0 where
   Column : List ℕ → Token
   Register : ℕ → Token
 
--- A word spells one of these: words of the language and registers ignore case, numbers may have leading zeros, and a
+-- A word spells an item: keywords and registers ignore case, numbers may have leading zeros, and a
 -- column's name is any word.
 abbrev pub IsSpelled : Token → List ℕ → Type 0
 IsSpelled (Key key) word = IsTrue (same_text key word)
@@ -38,13 +38,13 @@ IsSpelled (Perhaps None) word = word ≡ codes "-"
 IsSpelled (Column column) word = word ≡ column
 IsSpelled (Register r) word = register_of word ≡ Some r
 
--- words spell them one by one
+-- words spell these items one by one
 pub data AreSpelled : List Token → List (List ℕ) → Type 0 where
   none : AreSpelled [] []
   next : {token : Token} {word : List ℕ} {tokens : List Token} {words : List (List ℕ)} →
       IsSpelled token word → AreSpelled tokens words → AreSpelled (token ∷ tokens) (word ∷ words)
 
--- a line has this number, and its words spell these
+-- a line has this number, and its words spell these items
 abbrev pub Says : NumberedWords → ℕ → List Token → Type 0
 Says line number tokens = (line.number ≡ number) × AreSpelled tokens line.words
 
@@ -121,7 +121,7 @@ entry_tokens (Kept keep) = keep_tokens keep
 abbrev pub end_tokens : EndLine → List Token
 end_tokens end = Key (codes "END") ∷ Number end.row ∷ []
 
--- any line before the end: what it is written as, and its number
+-- any line before the end: its items, and its number
 abbrev pub part_tokens : Part → List Token
 part_tokens (Node node) = node_tokens node
 part_tokens (Chain chain) = chain_tokens chain

@@ -1,4 +1,4 @@
-//! The lines after the product rows, kept in little memory.
+//! The lines after the product rows, stored in little memory.
 ghost use Rattle.std.specs.Prelude.{◌≡◌, ◌++◌, ◌∷◌, [], length, MatchOption, OnOk, OnErr, is_ok, is_some, if◌then◌else◌};
 ghost use Rattle.bw_cert_text.specs.Stored.{line_of, entry_of, condition_of, pairs_of, number_if};
 ghost use Rattle.bw_cert_text.specs.declared.lines.Entry.TheVariants as said;
@@ -11,13 +11,13 @@ use std::marker::Model;
 
 /// The lines of conditions, instructions and joins, in order.
 ///
-/// A line takes four bytes for what it is, eight for its own number and for each number on it, and eight for how many
-/// pairs a line KEEP has. As a number takes two bytes of text, a digit and a blank, that is at most four bytes for
-/// each byte of the text.
+/// A line has four bytes for its kind, eight for its own number and for each number on it, and
+/// eight for the number of a line KEEP's pairs. As a number has at least two bytes of text, a digit
+/// and a blank, that is at most four bytes for each byte of the text.
 #[derive(Drop)]
 pub struct Body {
     kinds: Vec<Kind>,
-    /// The numbers of all lines, one line after another: of each its own number, and then those on it.
+    /// The numbers of all lines, one line after another: each line's own, then those on it.
     numbers: Vec<u64>,
     /// The pairs of all lines KEEP, one line after another.
     pairs: Vec<EdgeProducts>,
@@ -39,7 +39,7 @@ impl Body {
     ghost use Rattle.bw_cert_text.specs.BodyLines.{body_lines};
     ghost use Rattle.bw_cert_text.specs.Stored.{size, pairs_of, line_of};
 
-    /// No lines.
+    /// Returns no lines.
     #[tactic(auto, unfolding(crate::specs::Stored::lines_of, crate::specs::Stored::are_all))]
     pub fn new(alloc: Global) -> Self
         ensures { result ≡ [] }
@@ -51,7 +51,7 @@ impl Body {
         }
     }
 
-    /// The lines, to be read from the first one on.
+    /// Returns the lines, unread from the first one on.
     #[tactic(auto, unfolding(crate::specs::BodyLines::body_lines))]
     pub fn lines(&self) -> BodyLines<'_>
         ensures { body_lines result ≡ self.now }
@@ -63,14 +63,14 @@ impl Body {
         }
     }
 
-    /// How many lines there are.
+    /// Returns how many lines there are.
     pub fn len(&self) -> usize
         ensures { result ≡ length self.now }
     {
         self.kinds.len()
     }
 
-    /// Adds a line, or leaves the lines as they were where memory runs out.
+    /// Adds a line. Fails if memory is refused; the lines are then as they were.
     pub fn push(&mut self, line: &BodyLine<'_>) -> Result<(), AllocError>
         ensures { self.new ≡ (if is_ok result then self.old ++ line.now ∷ [] else self.old) }
     {
@@ -174,7 +174,7 @@ impl Body {
     }
 }
 
-/// A number, or 0 where there is none.
+/// Returns the number, or 0 if there is none.
 fn or_0(number: Option<u64>) -> u64
     ensures { number_if (is_some number) result ≡ number }
 {
@@ -184,7 +184,7 @@ fn or_0(number: Option<u64>) -> u64
     }
 }
 
-/// How many pairs a line of this kind has.
+/// Returns how many pairs a line of this kind has.
 fn pairs_in(kind: Kind, numbers: &[u64]) -> u64
     ensures { result ≡ pairs_of kind numbers.now }
 {
@@ -194,7 +194,7 @@ fn pairs_in(kind: Kind, numbers: &[u64]) -> u64
     }
 }
 
-/// Lines that are still to be read.
+/// Lines that are still unread.
 #[derive(Clone, Copy)]
 pub struct BodyLines<'a> {
     pub(crate) kinds: &'a [Kind],
@@ -205,7 +205,7 @@ pub struct BodyLines<'a> {
 impl<'a> BodyLines<'a> {
     ghost use Rattle.bw_cert_text.specs.BodyLines.{body_lines};
 
-    /// The next line and those after it, if there is one.
+    /// Returns the next line and those after it, if there is one.
     pub fn next(self) -> Option<(BodyLine<'a>, BodyLines<'a>)>
         ensures cases { MatchOption result (body_lines self.entry ≡ [])
             (λ next. body_lines self.entry ≡ next.0 ∷ body_lines next.1) }
@@ -235,7 +235,7 @@ impl<'a> BodyLines<'a> {
     }
 }
 
-/// The line of this kind with these numbers and pairs.
+/// Returns the line of this kind, with these numbers and pairs.
 fn line_in<'a>(kind: Kind, numbers: &[u64], pairs: &'a [EdgeProducts]) -> BodyLine<'a>
     ensures { result ≡ line_of kind numbers.now pairs.now }
 {
@@ -251,7 +251,7 @@ fn line_in<'a>(kind: Kind, numbers: &[u64], pairs: &'a [EdgeProducts]) -> BodyLi
     }
 }
 
-/// What a line of this kind says, with these numbers after its own and these pairs.
+/// Returns the fields of a line of this kind, with these numbers after its own and these pairs.
 fn entry_in<'a>(kind: Kind, numbers: &[u64], pairs: &'a [EdgeProducts]) -> Entry<'a>
     ensures { result ≡ entry_of kind numbers.now pairs.now }
 {
@@ -274,7 +274,7 @@ fn entry_in<'a>(kind: Kind, numbers: &[u64], pairs: &'a [EdgeProducts]) -> Entry
     }
 }
 
-/// What the line of a condition's step says.
+/// Returns the fields of the line of a condition's step.
 fn condition_in(kind: Kind, numbers: &[u64]) -> ConditionEntry
     ensures { result ≡ condition_of kind numbers.now }
 {
@@ -312,7 +312,7 @@ fn condition_in(kind: Kind, numbers: &[u64]) -> ConditionEntry
     }
 }
 
-/// A number, where there is one.
+/// Returns the number, if there is one.
 fn number_if(is_there: bool, number: u64) -> Option<u64>
     ensures { result ≡ number_if is_there number }
 {

@@ -31,7 +31,7 @@ impl Model for Certificate {
 }
 
 impl Certificate {
-    /// The certificate of these lines.
+    /// Returns the certificate of these lines.
     pub fn new(
         nodes: Vec<NodeLine>,
         chains: Vec<ChainLine>,
@@ -56,56 +56,56 @@ impl Certificate {
         }
     }
 
-    /// How many nodes it states.
+    /// Returns how many nodes it states.
     pub fn nodes(&self) -> usize
         ensures { result ≡ length self.now.nodes }
     {
         self.nodes.len()
     }
 
-    /// How many chains it states.
+    /// Returns how many chains it states.
     pub fn chains(&self) -> usize
         ensures { result ≡ length self.now.chains }
     {
         self.chains.len()
     }
 
-    /// How many product rows it states.
+    /// Returns how many product rows it states.
     pub fn rows(&self) -> usize
         ensures { result ≡ length self.now.products }
     {
         self.products.len()
     }
 
-    /// The lines of its nodes, in order.
+    /// Returns the lines of its nodes, in order.
     pub fn node_lines(&self) -> &[NodeLine]
         ensures { result.now ≡ self.now.nodes }
     {
         &self.nodes
     }
 
-    /// The lines of its chains, in order.
+    /// Returns the lines of its chains, in order.
     pub fn chain_lines(&self) -> &[ChainLine]
         ensures { result.now ≡ self.now.chains }
     {
         &self.chains
     }
 
-    /// The lines of its product rows, in order.
+    /// Returns the lines of its product rows, in order.
     pub fn product_lines(&self) -> &[ProductLine]
         ensures { result.now ≡ self.now.products }
     {
         &self.products
     }
 
-    /// The lines of conditions, instructions and joins, in order.
+    /// Returns the lines of conditions, instructions and joins, in order.
     pub fn body(&self) -> BodyLines<'_>
         ensures { body_lines result ≡ self.now.body }
     {
         self.body.lines()
     }
 
-    /// The last line.
+    /// Returns the last line.
     pub fn end(&self) -> EndLine
         ensures { result ≡ self.now.end }
     {

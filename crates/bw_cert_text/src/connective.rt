@@ -5,7 +5,7 @@ ghost use Rattle.bw_cert_text.specs.Connective.{connective_spelling, connective_
 use bw_diagram::Connective;
 use bw_text::is_same_text;
 
-/// Every connective.
+/// All connectives.
 const CONNECTIVES: [Connective; 4] = [
     Connective::And,
     Connective::Or,
@@ -13,7 +13,7 @@ const CONNECTIVES: [Connective; 4] = [
     Connective::Diff,
 ];
 
-/// A connective's word in capitals.
+/// Returns a connective's word in capitals.
 pub(crate) fn connective_spelling(op: Connective) -> &'static [u8]
     ensures { result.now ≡ connective_spelling op }
 {
@@ -25,7 +25,7 @@ pub(crate) fn connective_spelling(op: Connective) -> &'static [u8]
     }
 }
 
-/// The connective that a word spells, ignoring case.
+/// Returns the connective that a word spells, ignoring case.
 #[tactic(auto, unfolding(crate::specs::Connective::connective_of))]
 pub(crate) fn connective_of(word: &[u8]) -> Option<Connective>
     ensures { result ≡ connective_of word.now }

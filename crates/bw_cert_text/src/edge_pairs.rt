@@ -4,7 +4,8 @@ ghost use Rattle.std.specs.Prelude.{◌≡◌};
 use crate::lines::EdgeProducts;
 use std::marker::Model;
 
-/// The pairs of rows on a line KEEP, one for each skip, wherever they lie in memory.
+/// The pairs of rows on a line KEEP, one for each skip; equal lists at different addresses are
+/// equal.
 #[derive(Drop)]
 pub struct EdgePairs<'a> {
     pairs: &'a [EdgeProducts],
@@ -20,14 +21,14 @@ impl<'a> Model for EdgePairs<'a> {
 }
 
 impl<'a> EdgePairs<'a> {
-    /// These pairs.
+    /// Returns these pairs.
     pub fn new(pairs: &'a [EdgeProducts]) -> Self
         ensures { result ≡ pairs.now }
     {
         EdgePairs { pairs }
     }
 
-    /// The pairs, one after another.
+    /// Returns the pairs, one after another.
     pub fn as_slice(&self) -> &'a [EdgeProducts]
         ensures { result.now ≡ self.now }
     {

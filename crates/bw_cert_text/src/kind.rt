@@ -1,7 +1,7 @@
-//! What the lines after the product rows are, apart from their numbers.
+//! The kinds of the lines after the product rows, without their numbers.
 ghost use Rattle.std.specs.Prelude.{◌≡◌, ◌<◌};
 
-/// What such a line is. Where a number may be `-`, a flag says whether there is one.
+/// The kind of a line. If a number may be `-`, a flag states whether there is one.
 #[derive(Clone, Copy)]
 pub(crate) enum Kind {
     Compare {
@@ -41,7 +41,7 @@ pub(crate) struct KeptRegister {
 impl Kind {
     ghost use Rattle.bw_cert_text.specs.Stored.{size};
 
-    /// How many numbers such a line has, the first of which is the line's own.
+    /// Returns how many numbers such a line has, the first of which is the line's own.
     pub(crate) fn size(self) -> usize
         ensures { result ≡ size self }
     {

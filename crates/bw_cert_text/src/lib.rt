@@ -1,13 +1,15 @@
-//! Certificates as their lines, read from a text and printed line by line: the nodes, chains and product rows that one
-//! states, and the lines that say which of them a condition, a program's instructions and its joins rest on.
+//! Certificates as their lines, read from a text and printed line by line: the nodes, chains and
+//! product rows that a certificate states, and the lines that reference them for a condition, a
+//! program's instructions and its joins.
 //!
-//! The contract that the crates above use: [`Certificate::parse`] reads a text exactly where its lines spell a
-//! certificate, and to that certificate; else the first line that is wrong is reported, by 605 alone.
-//! [`Certificate::print`] gives its canonical text, which spells it, under a schema that has the columns that its
-//! chains name. A planner makes one by [`Certificate::new`]. Nothing here judges what a line states.
+//! The contract that the crates above use: [`Certificate::parse`] reads a text if and only if its
+//! lines spell a certificate, and returns that; else it returns the first wrong line, always as
+//! 605. [`Certificate::print`] returns a certificate's canonical text, which spells it, under a
+//! schema that has the columns that its chains name. A planner makes one by [`Certificate::new`].
+//! This crate doesn't check what a line states.
 //!
-//! Read `lines.rt` first: a line of each kind. `specs/Token.antt` is the table of how these lines are written, and
-//! `specs/CertificateText.antt` says in which order they stand.
+//! Read `lines.rt` first, which has a line of each kind. `specs/Token.antt` is the table of how
+//! these lines are written, and `specs/CertificateText.antt` has their order.
 #![tactic(auto)]
 
 mod body;

@@ -1,4 +1,4 @@
-//! What a line of a certificate text says.
+//! The fields of a certificate text's line.
 ghost use Rattle.std.specs.Prelude.{◌≡◌, List, ℕ, map, option_map, IfOk};
 ghost use Rattle.bw_text.specs.Lines.{line_of};
 ghost use Rattle.bw_cert_text.specs.CertificateFields.{column_fields, chain_fields, keep_fields, entry_fields};
@@ -35,7 +35,7 @@ pub(crate) enum Said<'a> {
     End(EndLine),
 }
 
-/// `n v low high`, of a node.
+/// Returns `n v low high`, of a node.
 fn node_in(line: u64, words: &[&[u8]]) -> Option<NodeLine>
     ensures { result ≡ node_in line (map (λ word. word.now) words.now) }
 {
@@ -55,7 +55,7 @@ fn node_in(line: u64, words: &[&[u8]]) -> Option<NodeLine>
     })
 }
 
-/// `column start len const node prev`, with the column's word in memory of its own.
+/// Returns `column start len const node prev`, with a copy of the column's word.
 fn one_column_in(
     alloc: Global,
     kind: ChainKind,
@@ -89,7 +89,7 @@ fn one_column_in(
     }))
 }
 
-/// `left right len node prev`, with the columns' words in memory of their own.
+/// Returns `left right len node prev`, with copies of the columns' words.
 fn two_columns_in(
     alloc: Global,
     kind: ChainKind,
@@ -120,7 +120,7 @@ fn two_columns_in(
     }))
 }
 
-/// What a chain of this form compares.
+/// Returns the columns of a chain of this form, and what it compares.
 fn columns_after(
     alloc: Global,
     form: Form,
@@ -137,7 +137,7 @@ fn columns_after(
     }
 }
 
-/// A chain's number, its form and what it compares.
+/// Returns a chain's number, its form and what it compares.
 fn chain_in(alloc: Global, line: u64, words: &[&[u8]]) -> Result<Option<ChainLine>, AllocError>
     ensures { IfOk result
         (λ chain. option_map chain_fields chain ≡ chain_in line (map (λ word. word.now) words.now)) }
@@ -157,7 +157,7 @@ fn chain_in(alloc: Global, line: u64, words: &[&[u8]]) -> Result<Option<ChainLin
     Ok(Some(ChainLine { line, n, columns }))
 }
 
-/// `S`, or `V v i j`.
+/// Returns `S`, or `V v i j`.
 fn reason_in(words: &[&[u8]]) -> Option<Reason>
     ensures { result ≡ reason_in (map (λ word. word.now) words.now) }
 {
@@ -180,7 +180,7 @@ fn reason_in(words: &[&[u8]]) -> Option<Reason>
     Some(Reason::Cofactors { v, i, j })
 }
 
-/// A product row's number, its connective, `a b c` and the reason.
+/// Returns a product row's number, its connective, `a b c` and the reason.
 fn row_in(line: u64, words: &[&[u8]]) -> Option<ProductLine>
     ensures { result ≡ row_in line (map (λ word. word.now) words.now) }
 {
@@ -204,7 +204,7 @@ fn row_in(line: u64, words: &[&[u8]]) -> Option<ProductLine>
     })
 }
 
-/// `chain rn rp rq`, of a column against a literal.
+/// Returns `chain rn rp rq`, of a column and a literal.
 fn compare_in(words: &[&[u8]]) -> Option<ConditionEntry>
     ensures { result ≡ compare_in (map (λ word. word.now) words.now) }
 {
@@ -223,7 +223,7 @@ fn compare_in(words: &[&[u8]]) -> Option<ConditionEntry>
     })
 }
 
-/// `chain rc rd rm rp rq`, of a column against a column.
+/// Returns `chain rc rd rm rp rq`, of two columns.
 fn compare_columns_in(words: &[&[u8]]) -> Option<ConditionEntry>
     ensures { result ≡ compare_columns_in (map (λ word. word.now) words.now) }
 {
@@ -246,7 +246,7 @@ fn compare_columns_in(words: &[&[u8]]) -> Option<ConditionEntry>
     })
 }
 
-/// `i`, or `i j`, of a test of a step's truth.
+/// Returns `i`, or `i j`, of a test of a step's truth.
 fn is_in(words: &[&[u8]]) -> Option<ConditionEntry>
     ensures { result ≡ is_in (map (λ word. word.now) words.now) }
 {
@@ -258,7 +258,7 @@ fn is_in(words: &[&[u8]]) -> Option<ConditionEntry>
     Some(ConditionEntry::IsUnknown(i, j))
 }
 
-/// The line of a condition's step.
+/// Returns the line of a condition's step.
 fn condition_in(kind: ConditionKind, words: &[&[u8]]) -> Option<ConditionEntry>
     ensures { result ≡ condition_in kind (map (λ word. word.now) words.now) }
 {
@@ -289,7 +289,7 @@ fn condition_in(kind: ConditionKind, words: &[&[u8]]) -> Option<ConditionEntry>
     }
 }
 
-/// The chain of a comparison of bytes, or `-`.
+/// Returns the chain of a byte comparison, or `-`.
 fn byte_in(words: &[&[u8]]) -> Option<InstructionEntry>
     ensures { result ≡ byte_in (map (λ word. word.now) words.now) }
 {
@@ -300,7 +300,7 @@ fn byte_in(words: &[&[u8]]) -> Option<InstructionEntry>
     Some(InstructionEntry::Byte(chain))
 }
 
-/// The line of an instruction.
+/// Returns the line of an instruction.
 fn instruction_in(kind: InstructionKind, words: &[&[u8]]) -> Option<InstructionEntry>
     ensures { result ≡ instruction_in kind (map (λ word. word.now) words.now) }
 {
@@ -325,7 +325,7 @@ fn instruction_in(kind: InstructionKind, words: &[&[u8]]) -> Option<InstructionE
     }
 }
 
-/// Whole pairs of numbers.
+/// Returns complete pairs of numbers.
 fn edges_in(alloc: Global, words: &[&[u8]]) -> Result<Option<Vec<EdgeProducts>>, AllocError>
     ensures { IfOk result
         (λ edges. option_map (λ edges. edges.items) edges ≡ edges_in (map (λ word. word.now) words.now)) }
@@ -349,7 +349,7 @@ fn edges_in(alloc: Global, words: &[&[u8]]) -> Result<Option<Vec<EdgeProducts>>,
     }
 }
 
-/// `r h x`, and whole pairs, which come to lie in this memory.
+/// Returns `r h x` and complete pairs, which are stored in `pairs`.
 fn keep_in<'a>(
     alloc: Global,
     words: &[&[u8]],
@@ -381,7 +381,7 @@ fn keep_in<'a>(
     }))
 }
 
-/// What a line says, in a line of any form. Its pairs come to lie in this memory.
+/// Returns the fields of a line of any form. Its pairs are stored in `pairs`.
 pub(crate) fn said_in<'a>(
     alloc: Global,
     line: &Line<'_>,
@@ -398,7 +398,7 @@ pub(crate) fn said_in<'a>(
     said_after(alloc, line.number, kind, rest, pairs)
 }
 
-/// What the words after the first one say in a line of this kind.
+/// Returns the fields of a line of this kind, from the words after the first one.
 fn said_after<'a>(
     alloc: Global,
     line: u64,
@@ -431,7 +431,7 @@ fn said_after<'a>(
     }
 }
 
-/// What the words after `NODE` say.
+/// Returns the fields in the words after `NODE`.
 fn node_said<'a>(line: u64, words: &[&[u8]]) -> Option<Said<'a>>
     ensures { option_map said_fields result ≡ said_after line kinds.Node (map (λ word. word.now) words.now) }
 {
@@ -439,7 +439,7 @@ fn node_said<'a>(line: u64, words: &[&[u8]]) -> Option<Said<'a>>
     Some(Said::Before(Part::Node(node)))
 }
 
-/// What the words after `ROW` say.
+/// Returns the fields in the words after `ROW`.
 fn row_said<'a>(line: u64, words: &[&[u8]]) -> Option<Said<'a>>
     ensures { option_map said_fields result ≡ said_after line kinds.Row (map (λ word. word.now) words.now) }
 {
@@ -447,7 +447,7 @@ fn row_said<'a>(line: u64, words: &[&[u8]]) -> Option<Said<'a>>
     Some(Said::Before(Part::Row(row)))
 }
 
-/// What they say in the line of a condition's step.
+/// Returns the fields in the line of a condition's step.
 fn condition_said<'a>(line: u64, kind: ConditionKind, words: &[&[u8]]) -> Option<Said<'a>>
     ensures { option_map said_fields result
         ≡ said_after line (kinds.Condition kind) (map (λ word. word.now) words.now) }
@@ -456,7 +456,7 @@ fn condition_said<'a>(line: u64, kind: ConditionKind, words: &[&[u8]]) -> Option
     Some(in_body(line, Entry::Condition(entry)))
 }
 
-/// What they say in the line of an instruction.
+/// Returns the fields in the line of an instruction.
 fn instruction_said<'a>(line: u64, kind: InstructionKind, words: &[&[u8]]) -> Option<Said<'a>>
     ensures { option_map said_fields result
         ≡ said_after line (kinds.Instruction kind) (map (λ word. word.now) words.now) }
@@ -465,7 +465,7 @@ fn instruction_said<'a>(line: u64, kind: InstructionKind, words: &[&[u8]]) -> Op
     Some(in_body(line, Entry::Instruction(entry)))
 }
 
-/// What they say after `JOIN`.
+/// Returns the fields in the words after `JOIN`.
 fn join_said<'a>(line: u64, words: &[&[u8]]) -> Option<Said<'a>>
     ensures { option_map said_fields result ≡ said_after line kinds.Join (map (λ word. word.now) words.now) }
 {
@@ -473,7 +473,7 @@ fn join_said<'a>(line: u64, words: &[&[u8]]) -> Option<Said<'a>>
     Some(in_body(line, Entry::Join(target)))
 }
 
-/// What they say after `END`.
+/// Returns the fields in the words after `END`.
 fn end_said<'a>(line: u64, words: &[&[u8]]) -> Option<Said<'a>>
     ensures { option_map said_fields result ≡ said_after line kinds.End (map (λ word. word.now) words.now) }
 {
@@ -481,7 +481,7 @@ fn end_said<'a>(line: u64, words: &[&[u8]]) -> Option<Said<'a>>
     Some(Said::End(EndLine { line, row }))
 }
 
-/// A line after the product rows.
+/// Returns a line after the product rows.
 fn in_body<'a>(line: u64, entry: Entry<'a>) -> Said<'a>
     ensures { said_fields result ≡ body_at line (entry_fields entry.entry) }
 {

@@ -1,4 +1,4 @@
-//! The lines of a certificate, by their sections. Each carries the number of its line in the file.
+//! The lines of a certificate, by their sections. Each has the number of its line in the file.
 ghost use Rattle.std.specs.Prelude.{◌<◌};
 
 use crate::edge_pairs::EdgePairs;
@@ -41,7 +41,7 @@ pub struct BodyLine<'a> {
     pub entry: Entry<'a>,
 }
 
-/// What such a line says.
+/// The fields of such a line.
 #[derive(Drop)]
 pub enum Entry<'a> {
     Condition(ConditionEntry),
@@ -54,14 +54,14 @@ pub enum Entry<'a> {
 /// The line of one step of the condition. The numbers are those of a chain or of product rows.
 #[derive(Clone, Copy)]
 pub enum ConditionEntry {
-    /// `CMP chain rn rp rq`: a column against a literal. The first two may be `-`.
+    /// `CMP chain rn rp rq`: a column and a literal. The first two may be `-`.
     Compare {
         chain: Option<u64>,
         value: Option<u64>,
         yes: u64,
         no: u64,
     },
-    /// `CMP2 chain rc rd rm rp rq`: a column against a column. The first three may be `-`.
+    /// `CMP2 chain rc rd rm rp rq`: two columns. The first three may be `-`.
     CompareColumns {
         chain: Option<u64>,
         left: Option<u64>,
@@ -101,8 +101,8 @@ pub enum InstructionEntry {
     Skip,
 }
 
-/// `KEEP r h x { i j }`: after a join register `r`, one of r0 to r63, has node `h`, which row `x` shows of falling
-/// through, and a pair of rows of each skip.
+/// `KEEP r h x { i j }`: after a join, register `r`, one of r0 to r63, has node `h`. Row `x` shows
+/// this on fall-through, and a pair of rows by each skip.
 #[derive(Drop)]
 pub struct Keep<'a> {
     pub register: u8,
@@ -112,8 +112,8 @@ pub struct Keep<'a> {
     pub ghost in_range: { register < 64 },
 }
 
-/// The rows of one skip to a join: where the register's node there differs from the kept one, and that it does so
-/// nowhere but where the skip's register is 1.
+/// The rows of one skip to a join: how the register's node there differs from the kept one, and
+/// that it differs only if the skip's register is 1.
 #[derive(Clone, Copy)]
 pub struct EdgeProducts {
     pub differs: u64,

@@ -1,10 +1,10 @@
-//! What stands after the first word of a line: numbers, and numbers that may be `-`.
+//! The words after the first one of a line: numbers, and numbers that may be `-`.
 ghost use Rattle.std.specs.Prelude.{◌≡◌, map};
 ghost use Rattle.bw_cert_text.specs.Operand.{optional_of, nothing_in, number_in, two_in};
 
 use bw_text::natural_number;
 
-/// A number, or `-` for none.
+/// Returns a number, or `-` for none.
 #[tactic(auto, unfolding(crate::specs::Operand::optional_of))]
 pub(crate) fn optional_of(word: &[u8]) -> Option<Option<u64>>
     ensures { result ≡ optional_of word.now }
@@ -16,14 +16,14 @@ pub(crate) fn optional_of(word: &[u8]) -> Option<Option<u64>>
     }
 }
 
-/// No word.
+/// Returns a value if there is no word.
 pub(crate) fn nothing_in(words: &[&[u8]]) -> Option<()>
     ensures { result ≡ nothing_in (map (λ word. word.now) words.now) }
 {
     if words.is_empty() { Some(()) } else { None }
 }
 
-/// One number.
+/// Returns one number.
 pub(crate) fn number_in(words: &[&[u8]]) -> Option<u64>
     ensures { result ≡ number_in (map (λ word. word.now) words.now) }
 {
@@ -33,7 +33,7 @@ pub(crate) fn number_in(words: &[&[u8]]) -> Option<u64>
     natural_number(n)
 }
 
-/// Two numbers.
+/// Returns two numbers.
 pub(crate) fn two_in(words: &[&[u8]]) -> Option<(u64, u64)>
     ensures { result ≡ two_in (map (λ word. word.now) words.now) }
 {

@@ -1,4 +1,5 @@
-//! Certificate texts, read line by line: nodes, chains and product rows, the lines after them, and `END`.
+//! Certificate texts, read line by line: nodes, chains and product rows, the lines after them, and
+//! `END`.
 ghost use Rattle.std.specs.Prelude.{◌≡◌, ◌≤◌, ◌^◌, ℕ, List, Ok, Err, false, option_map, IfOk, IfErr, OnOk, IsTrue};
 ghost use Rattle.bw_model.specs.Fault.{Gives, is_memory};
 ghost use Rattle.bw_text.specs.Lines.{lines_in, end_in, line_of};
@@ -19,19 +20,19 @@ use std::alloc::{AllocError, Global};
 impl Certificate {
     /// Reads a certificate text, the first line of which has this number, 1 to 2^32.
     ///
-    /// Refused, by 605 alone, is the first line that has another form, that is a node, chain or product row after a
-    /// line of a later section, or that stands after `END`. At the end of the text, one line after the last, an `END`
-    /// that is missing is 605 too.
+    /// Errors: 605 at the first line that has another form, that is a node, chain or product row
+    /// after a line of a later section, or that follows `END`. If `END` is missing, 605 is at the
+    /// end of the text, one line after the last. 801 if memory is refused.
     pub fn parse(alloc: Global, first_line: u64, text: &[u8]) -> Result<Self, Fault>
         requires numbered { 1 ≤ first_line }
         requires few { first_line ≤ 2 ^ 32 }
-        // What is read is spelled so, and what is spelled so is read.
+        // A text that is read spells the certificate, and every text that spells one is read.
         ensures spelled { IfOk result
             (λ certificate. IsCertificateText first_line text.now (certificate_fields certificate)) }
         ensures accepted { (certificate : CertificateFields) → IsCertificateText first_line text.now certificate
             → Gives certificate_fields result (Ok certificate) }
 
-        // Which fault it is.
+        // A failed call returns the first error of the text.
         ensures fault { Gives certificate_fields result (certificate_of first_line text.now) }
         ensures code { IfErr result IsCertificateFault }
 
@@ -42,8 +43,8 @@ impl Certificate {
     }
 }
 
-/// A law: a text is read as a certificate exactly where its lines spell it. So it spells at most one, and then it has
-/// no fault.
+/// A law: a text is read as a certificate if and only if its lines spell it. So it spells at most
+/// one, and then it has no error.
 pub fn certificates_are_read_as_spelled()
     ensures read { (first : ℕ) (text : List ℕ) (certificate : CertificateFields)
         → IsCertificateText first text certificate → certificate_of first text ≡ Ok certificate }
@@ -76,7 +77,8 @@ impl Parts {
     }
 }
 
-/// The section of a line: 0 the nodes, 1 the chains, 2 the product rows, 3 what stands after them.
+/// Returns the section of a line: 0 the nodes, 1 the chains, 2 the product rows, 3 the lines after
+/// them.
 fn section_of(part: &Part<'_>) -> u8
     ensures { result ≡ section_of (part_fields part.now) }
 {
@@ -112,7 +114,7 @@ fn read_certificate(alloc: Global, first_line: u64, text: &[u8]) -> Result<Certi
     Ok(Certificate::new(nodes, chains, products, body, end))
 }
 
-/// Reads the lines up to `END`, and gives that.
+/// Reads the lines up to `END`, and returns that.
 fn read_parts(alloc: Global, lines: &mut Lines<'_>, parts: &mut Parts) -> Result<EndLine, Fault>
     requires { (rest : CertificateFields) → joined parts.old rest ≡ rest }
     ensures read { IfOk result (λ end. certificate_from 0 (lines_in lines.old) (end_in lines.old)
@@ -135,7 +137,8 @@ fn read_parts(alloc: Global, lines: &mut Lines<'_>, parts: &mut Parts) -> Result
     Err(Fault::at_line(code::CERTIFICATE_FORM, lines.number()))
 }
 
-/// What a line says that no line of a section after this one may precede. Its pairs come to lie in this memory.
+/// Returns the fields of a line, which must not be of a section before this one. Its pairs are
+/// stored in `pairs`.
 fn said_on<'a>(
     alloc: Global,
     section: u8,
@@ -154,7 +157,7 @@ fn said_on<'a>(
     Ok(said)
 }
 
-/// Whether a line is of a section before this one.
+/// Returns whether a line is of a section before this one.
 fn is_before(section: u8, said: &Said<'_>) -> bool
     ensures { result ≡ is_before section (said_fields said.now) }
 {
@@ -164,7 +167,7 @@ fn is_before(section: u8, said: &Said<'_>) -> bool
     }
 }
 
-/// Refuses a line after `END`.
+/// Fails if a line follows `END`.
 fn refuse_more(alloc: Global, mut lines: Lines<'_>) -> Result<(), Fault>
     ensures none { OnOk result ((x : CertificateFields) → last_line (lines_in lines.entry) x ≡ Ok x) }
     ensures some { IfErr result (λ fault. is_memory fault ≡ false
@@ -178,7 +181,7 @@ fn refuse_more(alloc: Global, mut lines: Lines<'_>) -> Result<(), Fault>
     }
 }
 
-/// The number of a line, where there is one.
+/// Returns the number of a line, if there is one.
 fn number_of(line: &Option<Line<'_>>) -> Option<u64>
     ensures { result ≡ option_map (λ line. line.number) line.now }
 {

@@ -1,4 +1,4 @@
-//! Certificates, written in their canonical form.
+//! Certificates in their canonical form.
 ghost use Rattle.std.specs.Prelude.{ℕ, List, IsTrue, ◌≡◌, ◌++◌, ◌∷◌, [], map, IfOk, OnOk, IsOkUnless};
 ghost use Rattle.bw_diagram.specs.declared.chain.ChainKind.TheVariants as compared;
 ghost use Rattle.std.specs.List.{list_all};
@@ -28,11 +28,11 @@ use bw_text::{Piece, push_line, push_spaced};
 use std::alloc::{AllocError, Global};
 
 impl Certificate {
-    /// Its canonical text, under a schema that has the columns that its chains name: words of the
-    /// language in capitals, single blanks, columns in the schema's spelling, numbers without
-    /// leading zeros, `-` for none, and one line feed after each line. It spells the certificate,
-    /// its lines numbered one after another from any number on. Refuses only where memory runs out
-    /// (801).
+    /// Returns its canonical text, under a schema that must have the columns that its chains name:
+    /// keywords in capitals, single blanks, columns in the schema's spelling, numbers without
+    /// leading zeros, `-` for none, and one line feed after each line. The text spells the
+    /// certificate, with its lines numbered one after another from any number on. Errors: 801 if
+    /// memory is refused.
     pub fn print(&self, alloc: Global, schema: &Schema) -> Result<Vec<u8>, Fault>
         requires { IsTrue (has_columns schema.now.columns.items (certificate_fields self.now)) }
         ensures text { IfOk result
@@ -51,7 +51,7 @@ impl Certificate {
         Ok(text)
     }
 
-    /// Whether a schema has the columns that its chains name.
+    /// Returns whether a schema has the columns that its chains name.
     pub fn has_columns(&self, schema: &Schema) -> bool
         ensures { result ≡ has_columns schema.now.columns.items (certificate_fields self.now) }
     {
@@ -59,7 +59,7 @@ impl Certificate {
     }
 }
 
-/// Whether a schema has the columns that chains name.
+/// Returns whether a schema has the columns that the chains name.
 fn are_all_named(schema: &Schema, chains: &[ChainLine]) -> bool
     ensures { result ≡ list_all
         (λ chain. are_columns schema.now.columns.items (column_fields chain.columns)) chains.now }
@@ -67,7 +67,7 @@ fn are_all_named(schema: &Schema, chains: &[ChainLine]) -> bool
     chains.iter().all(|chain| is_named(schema, chain))
 }
 
-/// Whether a schema has the columns that a chain names.
+/// Returns whether a schema has the columns that a chain names.
 fn is_named(schema: &Schema, chain: &ChainLine) -> bool
     ensures { result ≡ are_columns schema.now.columns.items (column_fields chain.now.columns) }
 {
@@ -79,10 +79,10 @@ fn is_named(schema: &Schema, chain: &ChainLine) -> bool
     }
 }
 
-/// A law: the canonical text of a certificate spells it, in the schema's spelling and with its lines
-/// numbered one after another, from any number on. Its columns are the schema's, whose names are
-/// names, its numbers are below 2^64, and its registers r0 to r63. So a certificate that is printed
-/// is read back with the same fields in the same order.
+/// A law: the canonical text of a certificate spells it, in the schema's spelling and with its
+/// lines numbered one after another, from any number on. This needs columns of the schema, valid
+/// names, numbers below 2^64, and registers r0 to r63. So a printed certificate is read back with
+/// the same fields in the same order.
 pub fn canonical_texts_spell_certificates()
     ensures { (columns : List Column) (first : ℕ) (certificate : CertificateFields)
         → IsTrue (list_all is_name (names_of columns)) → IsTrue (numbers_fit certificate)
@@ -91,7 +91,7 @@ pub fn canonical_texts_spell_certificates()
         (renumbered first (respelled columns certificate)) }
 {}
 
-/// A law: the numbers of a certificate that a text spells are below 2^64, and its registers r0 to r63.
+/// A law: if a text spells a certificate, its numbers are below 2^64, and its registers r0 to r63.
 pub fn spelled_numbers_fit()
     ensures { (first : ℕ) (text : List ℕ) (certificate : CertificateFields)
         → IsCertificateText first text certificate → IsTrue (numbers_fit certificate) }
@@ -199,7 +199,7 @@ fn put_chain<'a>(
     }
 }
 
-/// The word of a chain that compares a column with a number.
+/// Returns the word of a chain that compares a column with a number.
 fn one_key(kind: ChainKind) -> &'static [u8]
     ensures { Key result.now ≡ one_key kind }
 {
@@ -209,7 +209,7 @@ fn one_key(kind: ChainKind) -> &'static [u8]
     }
 }
 
-/// The word of a chain that compares two columns.
+/// Returns the word of a chain that compares two columns.
 fn two_key(kind: ChainKind) -> &'static [u8]
     ensures { Key result.now ≡ two_key kind }
 {
@@ -219,7 +219,8 @@ fn two_key(kind: ChainKind) -> &'static [u8]
     }
 }
 
-/// A word in the spelling of the schema's column that it names, if it names one.
+/// Returns the name of the schema's column that a word names, in the schema's spelling, or the word
+/// itself if it names none.
 fn name_of<'a>(schema: &'a Schema, word: &'a [u8]) -> &'a [u8]
     ensures { result.now ≡ schema_spelling schema.now.columns.items word.now }
 {
@@ -418,7 +419,7 @@ fn put_edge(alloc: Global, edge: EdgeProducts, text: &mut Vec<u8>) -> Result<(),
     push_spaced(alloc, &pieces, text)
 }
 
-/// A number, as a piece of a line.
+/// Returns a number as a piece of a line.
 fn number(number: u64) -> Piece<'static>
     ensures text { piece_text result ≡ token_text (Number number) }
     ensures fit { IsTrue (is_small (Number number)) }
@@ -435,7 +436,7 @@ fn put_end(alloc: Global, end: EndLine, text: &mut Vec<u8>) -> Result<(), AllocE
     push_line(alloc, &pieces, text)
 }
 
-/// A number, or `-` for none, as a piece of a line.
+/// Returns a number, or `-` for none, as a piece of a line.
 fn perhaps(number: Option<u64>) -> Piece<'static>
     ensures text { piece_text result ≡ token_text (Perhaps number) }
     ensures fit { IsTrue (is_small (Perhaps number)) }

@@ -110,7 +110,8 @@ reads_more s fields field (c ∷ rest) w =
     by true h more = record { next = field; others = []; after = ((step default_config s c).0, rest); is = rw (ends_with_field (step default_config s c).1 fields field h) refl }
     by false h more = more_after (step default_config s c).1 fields field _ (more h)
 
--- So many fields of a text's first record are before a place of the text, and this is where the byte there stands.
+-- So many fields of a text's first record are before a place of the text, and this is where the
+-- byte there stands.
 pub record Begins (text : List ℕ) (i : ℕ) (inside : Inside) (count : ℕ) : Type 0 where
   pub fields : List (List ℕ)
   pub field : List ℕ

@@ -16,7 +16,8 @@ Records = List (List (List ℕ))
 abbrev pub Rows : Type 0
 Rows = List (List Value)
 
--- Of the first records some were read, which have these rows, and those from this number on are to come.
+-- Of the first records some were read, which have these rows, and those from this number on are to
+-- come.
 pub record Passed (rows_at : ℕ → Records → Result Rows Fault) (first : Records) (before : Rows) (number : ℕ) (records : Records) : Type 0 where
   pub done : Records
   pub all : first ≡ done ++ records

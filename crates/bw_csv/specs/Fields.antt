@@ -12,8 +12,8 @@ is_field_closed act.Skip = false
 is_field_closed act.Copy = false
 is_field_closed act.EndRecord = false
 
--- The first of some records has more than so many fields; and the other records are one, of these fields and an empty
--- one.
+-- The first of the records has more than `count` fields. The other list has one record, of the
+-- first `count` of these fields and an empty one.
 pub record IsCutRecord (count : ℕ) (whole cut : List (List (List ℕ))) : Type 0 where
   pub first : List (List ℕ)
   pub many : length first ≡ count
@@ -23,16 +23,17 @@ pub record IsCutRecord (count : ℕ) (whole cut : List (List (List ℕ))) : Type
   pub whole_is : whole ≡ (first ++ next ∷ others) ∷ more
   pub cut_is : cut ≡ (first ++ [] ∷ []) ∷ []
 
--- the same records, or the first of them is cut so
+-- the records are the same, or the first of them is cut after `count` fields
 abbrev pub IsCutAfter : ℕ → List (List (List ℕ)) → List (List (List ℕ)) → Type 0
 IsCutAfter count whole cut = (cut ≡ whole) ⊎ IsCutRecord count whole cut
 
--- The first record of a text has more than so many fields, and the text up to this place has the first of them.
+-- The first record of a text has more than `count` fields, and the text up to this place has the
+-- first of them.
 abbrev pub HasMoreFields : ℕ → List ℕ → ℕ → Type 0
 HasMoreFields count text end = (1 ≤ end) × (end ≤ length text)
     × IsCutRecord count (records_in st.StartRecord (Some text)) (records_in st.StartRecord (Some (take end text)))
 
--- the first of these records has more than so many fields
+-- the first of these records has more than `count` fields
 abbrev pub IsLonger : ℕ → List (List (List ℕ)) → Type 0
 IsLonger count records = (fields : List (List ℕ)) × (more : List (List (List ℕ))) × (records ≡ fields ∷ more)
     × (count < length fields)

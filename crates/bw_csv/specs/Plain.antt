@@ -1,4 +1,4 @@
--- Records without a quotation mark, as they stand in a text.
+-- Records without a quotation mark, within a text.
 use Rattle.std.specs.Prelude.{◌≡◌, ◌≤◌, ℕ, Bool, true, List, [], ◌∷◌, ◌||◌, not, ◌==◌, length, take, drop, Some, Ok}
 use Rattle.std.specs.List.{list_all}
 use Rattle.csv.specs.declared.parser.State.{State}
@@ -10,34 +10,34 @@ use Rattle.bw_csv.specs.declared.heading_end.Inside.TheVariants.{Before, Front, 
 use Rattle.bw_csv.specs.Records.{records_in}
 use Rattle.bw_csv.specs.Rows.{row_of_record}
 
--- a line feed or a carriage return
+-- the byte is a line feed or a carriage return
 abbrev pub ends_line : ℕ → Bool
 ends_line c = (c == 13) || (c == 10)
 
--- a byte that ends a field which isn't quoted: a comma, which is byte 44, or a line's end
+-- the byte ends an unquoted field: it is a comma, which is byte 44, or a line's end
 abbrev pub ends_field : ℕ → Bool
 ends_field c = (c == 44) || ends_line c
 
--- any other byte but a quotation mark, which is byte 34
+-- the byte is any other but a quotation mark, which is byte 34
 abbrev pub is_plain : ℕ → Bool
 is_plain c = not (ends_field c || (c == 34))
 
--- nothing is left of a line
+-- a line ends here
 abbrev pub is_line_end : List ℕ → Bool
 is_line_end [] = true
 is_line_end (c ∷ cs) = ends_line c
 
--- nothing is left of a field
+-- a field ends here
 abbrev pub is_field_end : List ℕ → Bool
 is_field_end [] = true
 is_field_end (c ∷ cs) = ends_field c
 
--- a field of plain bytes stands at the front of a text, and is so long
+-- the text begins with a field of `size` plain bytes
 abbrev pub IsPlainField : List ℕ → ℕ → Type 0
 IsPlainField text size = (size ≤ length text) × (list_all is_plain (take size text) ≡ true)
     × (is_field_end (drop size text) ≡ true)
 
--- the csv reader's state where a byte of a record stands
+-- the csv reader's state at the place of a byte in a record
 abbrev pub state_of : Inside → State
 state_of Before = st.StartRecord
 state_of Front = st.StartField
@@ -45,7 +45,7 @@ state_of Bare = st.InField
 state_of Quoted = st.InQuoted
 state_of Closed = st.AfterQuote
 
--- A text's first record has a row of these values, and after the record this is left of the text.
+-- A text's first record has a row of these values, and `rest` is the text after the record.
 pub record HasRow (number : ℕ) (columns : List Column) (text rest : List ℕ) (values : List Value) : Type 0 where
   pub fields : List (List ℕ)
   pub first : records_in st.StartRecord (Some text) ≡ fields ∷ records_in st.StartRecord (Some rest)

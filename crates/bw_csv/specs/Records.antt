@@ -1,4 +1,4 @@
--- The records that are still to be read of a text.
+-- The records of a text that are still unread.
 use Rattle.std.specs.Prelude.{◌≡◌, ◌+◌, ℕ, List, [], length, Option, Some, None, IsSome, false, true}
 use Rattle.std.specs.Borrow.{Bor}
 use Rattle.csv.specs.Reading.{Ready, has_failed, records_from, source_of, default_config}
@@ -18,25 +18,26 @@ abbrev pub records_in : State → Option (List ℕ) → List (List (List ℕ))
 records_in state None = []
 records_in state (Some bytes) = records_from default_config (length bytes + 1) state bytes
 
--- the records that a reader has still to read
+-- the records that a reader still has to read
 abbrev pub left_in : Reader (Bor (List ℕ)) → List (List (List ℕ))
 left_in reader = records_in reader.state (source_of bytes_under reader)
 
--- the records that are still to be read
+-- the records that are still unread
 unfoldable pub coming : Records → List (List (List ℕ))
 coming records = left_in records.reader
 
--- a reader that was set up to read as the crate's defaults do, whose next record is no heading of its own, and that goes
--- on
+-- a reader with the crate's default settings, which takes no record as a heading of its own, and
+-- hasn't failed or ended
 abbrev pub IsOpenReader : Reader (Bor (List ℕ)) → Type 0
 IsOpenReader reader = (reader.config ≡ default_config) × (reader.trim ≡ trim.None) × Ready reader
     × (has_failed reader ≡ false) × IsSome (source_of bytes_under reader)
 
--- so it is with the reader, and a text that is followed has the records that the reader has still to read
+-- the reader is open, and if the text is followed, its records are those that the reader still has
+-- to read
 unfoldable pub IsOpen : Records → Type 0
 IsOpen records = IsOpenReader records.reader
     × (records.is_followed ≡ true → records_in st.StartRecord (Some records.text.now) ≡ left_in records.reader)
 
--- the fields of the record that was read last
+-- the fields of the last record
 abbrev pub fields_in : Records → List (List ℕ)
 fields_in records = fields_of records.fields

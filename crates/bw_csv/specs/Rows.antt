@@ -1,5 +1,5 @@
--- The rows that a CSV text spells under columns, or the first fault in it. How bytes are cut into records and fields is
--- the csv crate's.
+-- The rows that a CSV text spells under columns, or its first error. The csv crate defines how
+-- bytes are cut into records and fields.
 use Rattle.std.specs.Prelude.{◌≡◌, ◌+◌, ◌-◌, ℕ, ℤ, Bool, true, false, List, [], ◌∷◌, ◌++◌, ◌⊎◌, ◌||◌, ◌&&◌, not, ◌==◌, length, Option, Some, None, Result, Ok, Err, IsOkAnd, IsTrue, if◌then◌else◌, codes, int_le, nat_le, nat_lt, slice_index, drop, take}
 use Rattle.std.specs.List.{prefix_len, suffix_len}
 use Rattle.csv.specs.Reading.{records, strip_bom, default_config}
@@ -14,11 +14,11 @@ use Rattle.bw_text.specs.Number.{are_digits, number_of}
 use Rattle.bw_model.specs.Row.{Value}
 use Rattle.bw_text.specs.Text.{same_text}
 
--- a space or a tab
+-- the byte is a space or a tab
 abbrev pub is_blank : ℕ → Bool
 is_blank c = (c == 32) || (c == 9)
 
--- a field without the blanks at its front, without those at its end, and without both
+-- a field without the blanks at its start, without those at its end, and without both
 abbrev pub without_front_blanks : List ℕ → List ℕ
 without_front_blanks field = drop (prefix_len is_blank field) field
 
@@ -28,47 +28,50 @@ without_end_blanks field = take (length field - suffix_len is_blank field) field
 abbrev pub without_blanks : List ℕ → List ℕ
 without_blanks field = without_end_blanks (without_front_blanks field)
 
--- a number that 64 bits hold, where they do, within the bounds of a column, or the fault of the record of this number
+-- a number that fits 64 bits and is within the bounds of a column, or an error at the record of
+-- this number
 abbrev pub within_bounds : ℕ → Column → Option ℤ → Result Value Fault
 within_bounds number column None = Err (at_record OUT_OF_RANGE number)
 within_bounds number column (Some n) = refused_if (not (int_le column.lo n && int_le n column.hi))
     (at_record OUT_OF_RANGE number) (Ok (Some n))
 
--- what a sign and digits spell: one digit or more, and then a number within the bounds of the column
+-- the number that a sign and digits spell: there is at least one digit, and the number is within
+-- the column's bounds
 abbrev pub number_value : ℕ → Column → Bool → List ℕ → Result Value Fault
 number_value number column is_negative digits =
     refused_if (not (are_digits digits)) (at_record NOT_A_NUMBER number)
     (within_bounds number column (number_of is_negative digits))
 
--- a text that begins with a minus sign, which is byte 45, or a plus sign, byte 43
+-- the text begins with a minus sign, which is byte 45, or with a plus sign, which is byte 43
 abbrev pub is_minus : List ℕ → Bool
 is_minus text = slice_index text 0 == 45
 
 abbrev pub is_plus : List ℕ → Bool
 is_plus text = slice_index text 0 == 43
 
--- a text without its minus sign, and without its sign, where it has one
+-- a text without its minus sign, and without its sign, if it has one
 abbrev pub after_minus : List ℕ → List ℕ
 after_minus text = if is_minus text then drop 1 text else text
 
 abbrev pub unsigned : List ℕ → List ℕ
 unsigned text = if is_minus text || is_plus text then drop 1 text else text
 
--- a text that says nothing, or NULL in any case
+-- the text is empty, or NULL in any case
 abbrev pub is_null_text : List ℕ → Bool
 is_null_text text = (length text == 0) || same_text text (codes "NULL")
 
--- what a text without blanks spells: null, where the column takes it, or an optional sign and then a number
+-- the value that a text without blanks spells: null, if the column is nullable, or an optional sign
+-- and then a number
 abbrev pub text_value : ℕ → Column → List ℕ → Result Value Fault
 text_value number column text =
     if is_null_text text then refused_if (not column.nullable) (at_record NULL_NOT_ALLOWED number) (Ok None)
     else number_value number column (is_minus text) (unsigned text)
 
--- the value of a field in a column of the record of this number, or its fault
+-- the value of a field in a column, or its error at the record of this number
 unfoldable pub value_of_field : ℕ → Column → List ℕ → Result Value Fault
 value_of_field number column field = text_value number column (without_blanks field)
 
--- the values of the fields, from the left, or the first fault among them
+-- the values of the fields, from the left, or the first error among them
 unfoldable pub values_of_fields : ℕ → List Column → List (List ℕ) → Result (List Value) Fault
 values_of_fields number [] fields = Ok []
 values_of_fields number (column ∷ columns) [] = Err (at_record RECORD_LENGTH number)
@@ -76,18 +79,19 @@ values_of_fields number (column ∷ columns) (field ∷ fields) =
     value_of_field number column field >>= λ value. values_of_fields number columns fields
     >>= λ values. Ok (value ∷ values)
 
--- the row of a record, or the first fault in it: the number of its fields, a row past 2^24, and then its fields
+-- the row of a record, or its first error: the number of its fields, a row past 2^24, and then its
+-- fields
 unfoldable pub row_of_record : ℕ → List Column → List (List ℕ) → Result (List Value) Fault
 row_of_record number columns fields =
     refused_if (not (length fields == length columns)) (at_record RECORD_LENGTH number)
     (refused_if (nat_lt most_rows number) (at_record TOO_MANY_ROWS number)
     (values_of_fields number columns fields))
 
--- a row, and the rows after it
+-- a row, followed by the rows after it
 abbrev pub with_row : List Value → Result (List (List Value)) Fault → Result (List (List Value)) Fault
 with_row row more = more >>= λ rows. Ok (row ∷ rows)
 
--- the rows of records, the first of which has this number
+-- the rows of the records, the first of which has this number
 unfoldable pub rows_from : List Column → ℕ → List (List (List ℕ)) → Result (List (List Value)) Fault
 rows_from columns number [] = Ok []
 rows_from columns number (fields ∷ more) =
@@ -101,17 +105,18 @@ is_heading (column ∷ columns) [] = false
 is_heading (column ∷ columns) (field ∷ fields) = same_text column.name (without_blanks field)
     && is_heading columns fields
 
--- the rows of records, the first of which is the heading and has number 0
+-- the rows of the records, the first of which is the heading and has number 0
 unfoldable pub rows_after : List Column → List (List (List ℕ)) → Result (List (List Value)) Fault
 rows_after columns [] = Err (at_record NO_HEADING 0)
 rows_after columns (heading ∷ more) = refused_if (not (is_heading columns heading)) (at_record HEADING 0)
     (rows_from columns 1 more)
 
--- the rows that a text spells, after a byte order mark where it has one, or the first fault in it
+-- the rows that a text spells, without the byte order mark at its start, if it has one, or its
+-- first error
 abbrev pub rows_of : List Column → List ℕ → Result (List (List Value)) Fault
 rows_of columns text = rows_after columns (records default_config (strip_bom text))
 
--- the place is a record, and the record of this number
+-- the place is a record; it is the record of this number
 unfoldable pub is_any_record : Place → Bool
 is_any_record Nowhere = false
 is_any_record (Byte at) = false
@@ -124,31 +129,32 @@ is_record number (Byte at) = false
 is_record number (Line at) = false
 is_record number (Rec at) = at == number
 
--- an error of the reader's own at a record (209), which no rule of the rows foresees
+-- the error is one of the reader's own at a record (209), which no rule of the rows foresees
 abbrev pub is_reader_fault : Fault → Bool
 is_reader_fault fault = (fault.code == CSV_FAULT) && is_any_record fault.place
 
--- out of memory, or an error of the reader's own
+-- the error is exempt: out of memory, or one of the reader's own
 abbrev pub is_aside : Fault → Bool
 is_aside fault = is_memory fault || is_reader_fault fault
 
--- one of 201 to 208, or one that is set aside
+-- the error is one of 201 to 208, or exempt
 abbrev pub is_rows_fault : Fault → Bool
 is_rows_fault fault = (nat_le NO_HEADING fault.code && nat_le fault.code CSV_TOO_LONG) || is_aside fault
 
 abbrev pub IsRowsFault : Fault → Type 0
 IsRowsFault fault = IsTrue (is_rows_fault fault)
 
--- an error of the reader's own stands at the record of this number
+-- an error of the reader's own is at the record of this number
 abbrev pub stands_at : ℕ → Fault → Bool
 stands_at number fault = not (fault.code == CSV_FAULT) || is_record number fault.place
 
--- an error of the reader's own stands at the heading, or at the record after those whose rows were handed over
+-- an error of the reader's own is at the heading, or at the record after those whose rows were
+-- delivered
 abbrev pub stands_after : ℕ → Fault → Bool
 stands_after rows fault = stands_at 0 fault || stands_at (rows + 1) fault
 
--- Records begin with some that have rows, the first of which has number 1; and the fault is an error of the reader's
--- own at the record after them.
+-- The records begin with some that have rows, the first of which has number 1. The error is one of
+-- the reader's own, at the record after them.
 pub record StopsAfter (rows_from_number : ℕ → List (List (List ℕ)) → Result (List (List Value)) Fault)
     (records : List (List (List ℕ))) (fault : Fault) : Type 0 where
   pub done : List (List (List ℕ))
@@ -158,23 +164,25 @@ pub record StopsAfter (rows_from_number : ℕ → List (List (List ℕ)) → Res
   pub good : rows_from_number 1 done ≡ Ok rows
   pub is : fault ≡ at_record CSV_FAULT (length done + 1)
 
--- An error of the reader's own stands at the heading, or at a record after a good heading and records that have rows.
+-- An error of the reader's own is at the heading, or at a record after a right heading and records
+-- that have rows.
 abbrev pub Stops : (List (List ℕ) → List (List (List ℕ)) → Fault → Type 0) → List (List (List ℕ)) → Fault → Type 0
 Stops after records fault =
     (fault ≡ at_record CSV_FAULT 0) ⊎ ((heading : List (List ℕ)) × (more : List (List (List ℕ)))
     × (records ≡ heading ∷ more) × after heading more fault)
 
--- so it is under columns
+-- so it is under these columns
 abbrev pub StopsUnder : List Column → List (List (List ℕ)) → Fault → Type 0
 StopsUnder columns = Stops (λ heading more fault. (is_heading columns heading ≡ true)
     × StopsAfter (rows_from columns) more fault)
 
--- What a call answered is what is expected, but for the faults that are set aside.
+-- What a call returned is what is expected, except for exempt errors.
 abbrev pub GivesButAside : {A B : Type 0} → (A → B) → Result A Fault → Result B Fault → Type 0
 GivesButAside view (Ok x) expected = expected ≡ Ok (view x)
 GivesButAside view (Err fault) expected = is_aside fault ≡ false → expected ≡ Err fault
 
--- A taker was led through the rows that are expected, or the fault is the one that is, but for those set aside.
+-- A consumer was led through the expected rows; or the call failed by the expected error, except
+-- for exempt errors.
 abbrev pub Hands : {K : Type 0} → (K → List (List Value) → K → Type 0) → Result (List (List Value)) Fault → K → K
     → Result (Unit {0}) Fault → Type 0
 Hands led expected old new (Ok x) = IsOkAnd expected (λ rows. led old rows new)

@@ -1,4 +1,4 @@
-//! The rows of records where there is no schema yet.
+//! The rows of records without a schema.
 ghost use Rattle.std.specs.Prelude.{◌≡◌, ◌≤◌, ℕ, List, [], ◌∷◌, true, false, length, Ok, Err, OnOk, IfOk, IfErr, IsTrue};
 ghost use Rattle.std.specs.List.{list_all};
 ghost use Rattle.csv.specs.Records.{fields_of};
@@ -16,10 +16,12 @@ use bw_model::{Fault, MAX_ROWS, Row, Value, code};
 use bw_text::number_in;
 use csv::ByteRecord;
 
-/// Puts the row of the next record, which has this number and is to have so many fields, into `row`, in the place of
-/// what that was, or answers that there is no record. An `Err` is the first fault in the record: the number of its
-/// fields (203), a row past 2^24 (207), and then its fields from the left: no whole number (204), or one that 64 bits
-/// don't hold (205); or it is out of memory, or an error of the reader's own (209).
+/// Reads the next record, which has this number and must have `width` fields, and writes its row
+/// into `row`. Returns whether there was a record.
+///
+/// Errors: the first of the record: the number of its fields (203), a row past 2^24 (207), and then
+/// its fields from the left: not a whole number (204), or one that doesn't fit 64 bits (205). 209
+/// is an error of the reader's own; 801 if memory is refused.
 #[tactic(auto, using(crate::proofs::BareLemmas::rows_of_records, crate::proofs::LongerLemmas::bare_rows_longer))]
 pub fn read_bare_row(
     records: &mut Records<'_>,
@@ -49,7 +51,7 @@ pub fn read_bare_row(
     Ok(true)
 }
 
-/// Puts the row of a record into `row`.
+/// Writes the row of a record into `row`.
 #[tactic(auto, unfolding(crate::specs::Bare::bare_row))]
 fn read_record(fields: &ByteRecord, width: usize, number: u32, row: &mut Row) -> Result<(), Fault>
     ensures row { OnOk result (bare_row number width (fields_of fields.now) ≡ Ok (values_of row.new)) }
@@ -68,7 +70,7 @@ fn read_record(fields: &ByteRecord, width: usize, number: u32, row: &mut Row) ->
     read_values(fields, number, row)
 }
 
-/// Puts the values of the fields into `row`.
+/// Writes the values of the fields into `row`.
 fn read_values(fields: &ByteRecord, number: u32, row: &mut Row) -> Result<(), Fault>
     ensures values { GivesButAside (λ _. values_of row.new) result (bare_values number (fields_of fields.now)) }
     ensures many { OnOk result (length (values_of row.new) ≡ length (fields_of fields.now)) }
@@ -86,8 +88,8 @@ fn read_values(fields: &ByteRecord, number: u32, row: &mut Row) -> Result<(), Fa
     Ok(())
 }
 
-/// The value that a field of the record of this number spells: null, or a number that 64 bits hold; or its fault: no
-/// whole number (204), or one that 64 bits don't hold (205).
+/// Returns the value that a field spells: null, or a number of 64 bits. Errors, at the record of
+/// this number: 204 if it isn't a whole number, 205 if it doesn't fit 64 bits.
 #[tactic(auto, unfolding(crate::specs::Bare::bare_value))]
 pub fn bare_value_of(field: &[u8], number: u32) -> Result<Value, Fault>
     ensures value { GivesButAside (λ value. value) result (bare_value number field.now) }
@@ -105,7 +107,8 @@ pub fn bare_value_of(field: &[u8], number: u32) -> Result<Value, Fault>
     }
 }
 
-/// A law: rows without a schema that columns admit are the rows of the same records under these columns.
+/// A law: if columns admit the rows that are read without a schema, these are the rows of the same
+/// records under the columns.
 pub fn bare_rows_are_rows()
     ensures { (columns : List Column) (number : ℕ) (records : List (List (List ℕ))) (rows : List (List Value))
         → bare_rows (length columns) number records ≡ Ok rows → IsTrue (list_all (admits_values columns) rows)

@@ -6,9 +6,11 @@ ghost use Rattle.bw_csv.specs.Rows.{is_blank, without_front_blanks, without_end_
 use bw_model::{Column, Fault, Value, code};
 use bw_text::{is_same_text, number_in};
 
-/// The value that a field of the record of this number spells in a column, or its fault: no whole number (204), a null
-/// in a column that has none (206), or a number outside the column's bounds (205). Most fields are digits alone, or
-/// after a minus sign, which are read in one pass.
+/// Returns the value that a field spells in a column. Most fields are digits, maybe after a minus
+/// sign, which are read in one pass.
+///
+/// Errors, at the record of this number: 204 if it isn't a whole number, 206 if it is null and the
+/// column isn't nullable, 205 if the number is outside the column's bounds.
 #[tactic(auto, unfolding(crate::specs::Rows::value_of_field))]
 pub fn value_of(column: &Column, field: &[u8], number: u32) -> Result<Value, Fault>
     ensures value { GivesButAside (λ value. value) result (value_of_field number column.now field.now) }
@@ -21,7 +23,7 @@ pub fn value_of(column: &Column, field: &[u8], number: u32) -> Result<Value, Fau
     }
 }
 
-/// The value that a text without blanks at its ends spells.
+/// Returns the value that a text without blanks at its ends spells.
 fn value_of_text(column: &Column, text: &[u8], number: u32) -> Result<Value, Fault>
     ensures value { GivesButAside (λ value. value) result (text_value number column.now text.now) }
     ensures fault { IfErr result IsRowsFault }
@@ -37,7 +39,7 @@ fn value_of_text(column: &Column, text: &[u8], number: u32) -> Result<Value, Fau
     }
 }
 
-/// The number that a sign and digits spell in a column.
+/// Returns the number that a sign and digits spell in a column.
 fn number_of(column: &Column, is_negative: bool, digits: &[u8], number: u32) -> Result<Value, Fault>
     ensures value { GivesButAside (λ value. value) result (number_value number column.now is_negative digits.now) }
     ensures fault { IfErr result IsRowsFault }
@@ -49,7 +51,7 @@ fn number_of(column: &Column, is_negative: bool, digits: &[u8], number: u32) -> 
     }
 }
 
-/// A number that 64 bits hold, where they do, within the bounds of a column.
+/// Returns a number if it fits 64 bits and is within the column's bounds.
 fn within_bounds(column: &Column, spelled: Option<i64>, number: u32) -> Result<Value, Fault>
     ensures value { GivesButAside (λ value. value) result (within_bounds number column.now spelled) }
     ensures fault { IfErr result IsRowsFault }
@@ -61,14 +63,14 @@ fn within_bounds(column: &Column, spelled: Option<i64>, number: u32) -> Result<V
     }
 }
 
-/// Whether a field without blanks says nothing, or NULL in any case.
+/// Returns whether a field without blanks is empty, or NULL in any case.
 pub(crate) fn is_null_text(text: &[u8]) -> bool
     ensures { result ≡ is_null_text text.now }
 {
     text.is_empty() || is_same_text(text, b"NULL")
 }
 
-/// Whether a text begins with a minus sign.
+/// Returns whether a text begins with a minus sign.
 #[inline(always)]
 pub(crate) fn is_minus(text: &[u8]) -> bool
     ensures { result ≡ is_minus text.now }
@@ -76,7 +78,8 @@ pub(crate) fn is_minus(text: &[u8]) -> bool
     !text.is_empty() && text[0] == b'-'
 }
 
-/// A text without its minus sign, where it has one. There is no branch on the sign, which no processor foresees.
+/// Returns a text without its minus sign, if it has one. There is no branch on the sign, which no
+/// processor can predict.
 #[inline(always)]
 pub(crate) fn after_minus(text: &[u8]) -> &[u8]
     ensures { result.now ≡ after_minus text.now }
@@ -84,7 +87,7 @@ pub(crate) fn after_minus(text: &[u8]) -> &[u8]
     &text[is_minus(text) as usize..]
 }
 
-/// A text without its sign, where it has one.
+/// Returns a text without its sign, if it has one.
 pub(crate) fn unsigned(text: &[u8]) -> &[u8]
     ensures { result.now ≡ unsigned text.now }
 {
@@ -95,7 +98,7 @@ pub(crate) fn unsigned(text: &[u8]) -> &[u8]
     }
 }
 
-/// A field without the spaces and tabs at both ends.
+/// Returns a field without the spaces and tabs at both ends.
 pub fn without_blanks(field: &[u8]) -> &[u8]
     ensures { result.now ≡ without_blanks field.now }
 {

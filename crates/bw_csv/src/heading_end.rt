@@ -1,4 +1,4 @@
-//! Where the heading of a text ends, quoted or not.
+//! The end of a text's heading, quoted or not.
 ghost use Rattle.std.specs.Prelude.{◌≡◌, ◌∷◌, ℕ, List, Some, true, false};
 ghost use Rattle.csv.specs.Machine.{is_end, step};
 ghost use Rattle.csv.specs.Reading.{default_config, is_bom, strip_bom};
@@ -8,8 +8,8 @@ ghost use Rattle.bw_csv.specs.Records.{records_in};
 
 use crate::marks::{after, ends_line};
 
-/// Where a byte of a record stands: before the record, at the front of a field, in one without quotation marks, within
-/// quotation marks, or after a quotation mark that may be the last one.
+/// The place of a byte in a record: before the record, at the start of a field, in an unquoted
+/// field, within quotation marks, or after a quotation mark that may be the last one.
 #[derive(Clone, Copy)]
 pub(crate) enum Inside {
     Before,
@@ -19,7 +19,7 @@ pub(crate) enum Inside {
     Closed,
 }
 
-/// A text without its first record: what is left is a line's end, or nothing.
+/// Returns a text without its first record; it begins with a line's end, or is empty.
 pub(crate) fn after_record(text: &[u8]) -> &[u8]
     ensures rest { (fields : List (List ℕ)) → (more : List (List (List ℕ)))
         → records_in st.StartRecord (Some text.now) ≡ fields ∷ more
@@ -36,7 +36,7 @@ pub(crate) fn after_record(text: &[u8]) -> &[u8]
     &[]
 }
 
-/// Whether a byte ends the record.
+/// Returns whether a byte ends the record.
 pub(crate) fn ends_record(inside: Inside, c: u8) -> bool
     ensures end { result ≡ is_end (step default_config (state_of inside) c).1 }
     ensures line { result ≡ true → ends_line c ≡ true }
@@ -47,7 +47,7 @@ pub(crate) fn ends_record(inside: Inside, c: u8) -> bool
     }
 }
 
-/// Where the byte after one stands that doesn't end the record.
+/// Returns the place of the byte that follows this one, which doesn't end the record.
 pub(crate) fn inside_after(inside: Inside, c: u8) -> Inside
     requires { is_end (step default_config (state_of inside) c).1 ≡ false }
     ensures { state_of result ≡ (step default_config (state_of inside) c).0 }
@@ -63,7 +63,7 @@ pub(crate) fn inside_after(inside: Inside, c: u8) -> Inside
     }
 }
 
-/// A text without the byte order mark at its start, where it has one.
+/// Returns a text without the byte order mark at its start, if it has one.
 #[tactic(auto, using(crate::proofs::HeadingLemmas::byte_order_marks))]
 pub(crate) fn after_byte_order_mark(text: &[u8]) -> &[u8]
     ensures { result.now ≡ strip_bom text.now }

@@ -1,4 +1,4 @@
-//! A CSV text, read whole.
+//! A CSV text, read completely.
 ghost use Rattle.std.specs.Prelude.{◌≡◌, ◌+◌, ◌-◌, ◌^◌, ◌<◌, false, IfErr, IsTrue};
 ghost use Rattle.bw_csv.specs.Rows.{is_reader_fault};
 ghost use Rattle.bw_device.specs.Sink.{is_write_fault};
@@ -10,8 +10,11 @@ use bw_device::{Input, Source, read_limited};
 use bw_model::{Fault, MAX_CSV_LEN, code};
 use std::alloc::Global;
 
-/// The bytes of a CSV text, whole: at most 2^30. Refuses its source (701), and a text past that (208); of that it takes
-/// one byte more. That the source's count of failures can rise is the caller's condition.
+/// Reads a CSV text completely: at most 2^30 bytes. The source's count of failures must be less
+/// than 2^64 - 1.
+///
+/// Errors: 701 if a read fails; 208 if the text is longer, of which one byte more is read; 801 if
+/// memory is refused.
 pub fn read_csv<C: Source>(alloc: Global, source: &mut C) -> Result<Vec<u8>, Fault>
     requires { C.failures source.old < 2 ^ 64 - 1 }
     ensures answered { (came : Arrival)

@@ -1,15 +1,16 @@
 //! The rows that a CSV text spells under a schema.
 //!
-//! The contract that the crates above use is that of [`read_rows`]: a text's rows are handed to a
-//! [`RowTaker`](bw_model::RowTaker),
-//! one after another, in one pass, or the first fault in the text is answered. What the rows of a text are is
-//! said once, in `specs/Rows.antt`, over the records that the `csv` crate defines for its bytes. Where there is no
-//! schema yet, [`Records`] and [`read_bare_row`] read the same rows with no bounds but those of 64 bits.
+//! The contract that the crates above use is that of [`read_rows`]: in one pass it delivers a
+//! text's rows to a [`RowTaker`](bw_model::RowTaker), one after another, or returns the text's
+//! first error. `specs/Rows.antt` defines the rows of a text, over the records that the `csv` crate
+//! defines for its bytes. Without a schema, [`Records`] and [`read_bare_row`] read the same rows,
+//! and the only bounds are those of 64 bits.
 //!
-//! Read `specs/Rows.antt` first, and then `rows.rt`, `row.rt` and `field.rt`; `records.rt` has the `csv` crate's
-//! reader behind a few calls, and `bare.rt` rows without a schema. Records without a quotation mark are read from the
-//! text itself, in one pass over its bytes (`plain_row.rt`, `plain_field.rt`), and `rest.rt` has both behind one call:
-//! it goes by `specs/Plain.antt` and `specs/Rest.antt`.
+//! Read `specs/Rows.antt` first, then `rows.rt`, `row.rt` and `field.rt`. `records.rt` has the
+//! `csv` crate's reader behind a few calls, and `bare.rt` rows without a schema. Records without a
+//! quotation mark are read from the text itself, in one pass over its bytes (`plain_row.rt`,
+//! `plain_field.rt`). `rest.rt` has both ways behind one call, by `specs/Plain.antt` and
+//! `specs/Rest.antt`.
 #![tactic(auto)]
 
 mod bare;

@@ -1,11 +1,12 @@
-//! Whether a text has a line so long that its record is looked at before it is read.
+//! Whether a text has a line so long that its record's fields are counted before they are read.
 use crate::marks::ends_line;
 
-/// A record of a line up to twice this length is read without a look at its fields, which take little memory.
+/// The records of lines up to twice this many bytes are read without counting their fields first,
+/// since these take little memory.
 const LONG: usize = 32_768;
 
-/// Whether a line of the text is longer than `LONG` bytes, which one of twice that length always is found to be. Of a
-/// text of short lines few bytes are read.
+/// Returns true only if a line of the text is longer than `LONG` bytes, and always if one is longer
+/// than twice that. Reads few bytes of a text of short lines.
 pub(crate) fn has_long_line(text: &[u8]) -> bool {
     for part in text.chunks_exact(LONG) {
         if !has_line_end(part) {
@@ -15,7 +16,7 @@ pub(crate) fn has_long_line(text: &[u8]) -> bool {
     false
 }
 
-/// Whether a line ends in this part of a text, which is looked for from the part's end.
+/// Returns whether a line ends in this part of a text. The search begins at the part's end.
 fn has_line_end(part: &[u8]) -> bool {
     for i in 0..part.len() {
         if ends_line(part[part.len() - 1 - i]) {

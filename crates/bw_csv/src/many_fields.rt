@@ -1,4 +1,4 @@
-//! Where the first fields of a text's first record end, quoted or not.
+//! The end of the first fields of a text's first record, quoted or not.
 ghost use Rattle.std.specs.Prelude.{◌≡◌, ◌≤◌, true, IfSome};
 ghost use Rattle.csv.specs.Machine.{is_end, step};
 ghost use Rattle.csv.specs.Reading.{default_config};
@@ -8,8 +8,9 @@ ghost use Rattle.bw_csv.specs.Plain.{state_of};
 
 use crate::heading_end::{Inside, after_byte_order_mark, ends_record, inside_after};
 
-/// Returns a text whose first record has at most `most + 1` fields: of a text with more, the part up to the comma after
-/// the first `most`, and any other text as it is. The first record of that part has these fields and an empty one.
+/// Returns a text whose first record has at most `most + 1` fields. If the text's first record has
+/// more, it is the part up to the comma after the first `most`, whose first record has these fields
+/// and an empty one. Any other text is returned as it is.
 pub fn without_more_fields(text: &[u8], most: usize) -> &[u8]
     ensures { IsCutAfter most (records_of text.now) (records_of result.now) }
 {
@@ -20,7 +21,8 @@ pub fn without_more_fields(text: &[u8], most: usize) -> &[u8]
     }
 }
 
-/// Returns the place after the comma behind the first `count` fields of a text's first record, if there is one.
+/// Returns the place after the comma that follows the first `count` fields of a text's first
+/// record, if there is one.
 pub(crate) fn after_fields(text: &[u8], count: usize) -> Option<usize>
     ensures { IfSome result (λ end. HasMoreFields count text.now end) }
 {
@@ -41,7 +43,7 @@ pub(crate) fn after_fields(text: &[u8], count: usize) -> Option<usize>
     None
 }
 
-/// Whether a byte ends a field, and not the record.
+/// Returns whether a byte ends a field, and not the record.
 fn closes_field(inside: Inside, c: u8) -> bool
     ensures { result ≡ is_field_closed (step default_config (state_of inside) c).1 }
 {

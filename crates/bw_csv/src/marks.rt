@@ -1,8 +1,8 @@
-//! Bytes that end fields and lines, where they aren't quoted.
+//! The bytes that end unquoted fields and lines.
 ghost use Rattle.std.specs.Prelude.{◌≡◌, ◌≤◌, length, drop};
 ghost use Rattle.bw_csv.specs.Plain.{ends_field, ends_line, is_field_end, is_line_end, is_plain};
 
-/// A text without so many bytes at its front.
+/// Returns a text without its first `count` bytes.
 #[inline(always)]
 pub(crate) fn after(text: &[u8], count: usize) -> &[u8]
     requires { count ≤ length text.now }
@@ -11,7 +11,7 @@ pub(crate) fn after(text: &[u8], count: usize) -> &[u8]
     &text[count..]
 }
 
-/// Whether nothing is left of a field.
+/// Returns whether a field ends here.
 #[inline(always)]
 pub(crate) fn is_field_end(text: &[u8]) -> bool
     ensures { result ≡ is_field_end text.now }
@@ -19,7 +19,7 @@ pub(crate) fn is_field_end(text: &[u8]) -> bool
     text.is_empty() || ends_field(text[0])
 }
 
-/// Whether nothing is left of a line.
+/// Returns whether a line ends here.
 #[inline(always)]
 pub(crate) fn is_line_end(text: &[u8]) -> bool
     ensures { result ≡ is_line_end text.now }
@@ -27,7 +27,7 @@ pub(crate) fn is_line_end(text: &[u8]) -> bool
     text.is_empty() || ends_line(text[0])
 }
 
-/// Whether a byte that isn't quoted ends a line.
+/// Returns whether an unquoted byte ends a line.
 #[inline(always)]
 pub(crate) fn ends_line(c: u8) -> bool
     ensures { result ≡ ends_line c }
@@ -35,7 +35,7 @@ pub(crate) fn ends_line(c: u8) -> bool
     c == b'\r' || c == b'\n'
 }
 
-/// Whether a byte that isn't quoted ends a field.
+/// Returns whether an unquoted byte ends a field.
 #[inline(always)]
 fn ends_field(c: u8) -> bool
     ensures { result ≡ ends_field c }
@@ -43,7 +43,7 @@ fn ends_field(c: u8) -> bool
     c == b',' || ends_line(c)
 }
 
-/// Whether a byte is part of a plain field.
+/// Returns whether a byte is part of a plain field.
 pub(crate) fn is_plain(c: u8) -> bool
     ensures { result ≡ is_plain c }
 {

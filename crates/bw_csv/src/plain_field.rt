@@ -1,7 +1,7 @@
-//! The value of a plain field, read from the text itself, of which the field stands at the front.
+//! The value of a plain field, read from the text itself, which begins with the field.
 //!
-//! A plain field has no quotation mark, and goes up to a comma, a line's end or the end of the text. What any function
-//! here answers is right; where it answers nothing, the csv reader has to say what the record is.
+//! A plain field has no quotation mark, and ends at a comma, a line's end or the end of the text.
+//! Every result here is right; if a function returns None, the csv reader must read the record.
 ghost use Rattle.std.specs.Prelude.{◌≡◌, ◌^◌, ◌<◌, ◌≤◌, ◌&&◌, ℕ, List, Some, Ok, true, IfSome, int_le, length, take};
 ghost use Rattle.std.specs.List.{list_all};
 ghost use Rattle.bw_text.specs.Number.{are_digits, digits_value, number_of};
@@ -13,29 +13,29 @@ use crate::marks::{after, is_field_end, is_plain};
 use bw_model::{Column, Value};
 use bw_text::with_sign;
 
-/// Digits at the front of a text: what they spell, and how many they are.
+/// The digits with which a text begins: the number that they spell, and how many they are.
 #[derive(Clone, Copy)]
 struct Digits {
     magnitude: u64,
     count: usize,
 }
 
-/// A number at the front of a text, and how many bytes spell it.
+/// The number with which a text begins, and how many bytes spell it.
 #[derive(Clone, Copy)]
 struct Spelled {
     number: i64,
     len: usize,
 }
 
-/// The value of a field at the front of a text, and how long the field is.
+/// The value of a text's first field, and the field's length.
 #[derive(Clone, Copy)]
 pub(crate) struct Found {
     pub(crate) value: Value,
     pub(crate) len: usize,
 }
 
-/// The value that the plain field at the front of a text spells in a column; nothing where the field isn't plain or has
-/// a fault.
+/// Returns the value that a text's first field spells in a column, or None if the field isn't plain
+/// or is an error.
 #[inline(always)]
 pub(crate) fn value_at(column: &Column, text: &[u8], number: u32) -> Option<Found>
     ensures plain { IfSome result (λ found. IsPlainField text.now found.len) }
@@ -48,7 +48,7 @@ pub(crate) fn value_at(column: &Column, text: &[u8], number: u32) -> Option<Foun
     }
 }
 
-/// The same for a field of digits, alone or after a minus sign, of which there are few.
+/// Returns the same for a field of a few digits, maybe after a minus sign.
 #[inline(always)]
 fn number_at(column: &Column, text: &[u8]) -> Option<Found>
     ensures plain { IfSome result (λ found. IsPlainField text.now found.len) }
@@ -68,7 +68,8 @@ fn number_at(column: &Column, text: &[u8]) -> Option<Found>
     }
 }
 
-/// The same for a field of any other form, which few are: so it stays out of the loop over fields.
+/// Returns the same for a field of any other form. Such fields are rare, so this stays out of the
+/// loop over fields.
 #[inline(never)]
 fn other_at(column: &Column, text: &[u8], number: u32) -> Option<Found>
     ensures plain { IfSome result (λ found. IsPlainField text.now found.len) }
@@ -85,8 +86,8 @@ fn other_at(column: &Column, text: &[u8], number: u32) -> Option<Found>
     }
 }
 
-/// The number that digits at the front of a text spell, at most 17, after a minus sign or none, where another byte is
-/// after them.
+/// Returns the number that at most 17 digits spell at the start of a text, maybe after a minus
+/// sign, if another byte follows them.
 #[inline(always)]
 fn spelled_at(text: &[u8]) -> Option<Spelled>
     ensures within { IfSome result (λ spelled. spelled.len < length text.now) }
@@ -104,7 +105,8 @@ fn spelled_at(text: &[u8]) -> Option<Spelled>
     })
 }
 
-/// The digits at the front of a text, one at least and 17 at most, where another byte comes after them.
+/// Returns the digits at the start of a text, at least 1 and at most 17, if another byte follows
+/// them.
 #[inline(always)]
 fn digits_at(text: &[u8]) -> Option<Digits>
     ensures within { IfSome result (λ digits. digits.count < length text.now) }
@@ -131,7 +133,7 @@ fn digits_at(text: &[u8]) -> Option<Digits>
     None
 }
 
-/// Whether a number is within the bounds of a column.
+/// Returns whether a number is within the bounds of a column.
 #[inline(always)]
 fn is_within(column: &Column, n: i64) -> bool
     ensures { result ≡ (int_le column.now.lo n && int_le n column.now.hi) }
@@ -139,7 +141,7 @@ fn is_within(column: &Column, n: i64) -> bool
     column.lo <= n && n <= column.hi
 }
 
-/// How many bytes at the front of a text are those of a plain field.
+/// Returns how many bytes at the start of a text are those of a plain field.
 fn plain_len(text: &[u8]) -> usize
     ensures within { result ≤ length text.now }
     ensures plain { list_all is_plain (take result text.now) ≡ true }

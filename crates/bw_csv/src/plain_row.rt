@@ -10,8 +10,9 @@ use crate::marks::{after, ends_line, is_line_end};
 use crate::plain_field::value_at;
 use bw_model::{Column, MAX_ROWS, Row};
 
-/// Puts the row of the next record of a text, which has this number, into `row`, and answers what is left of the text
-/// after the record, a line's end or nothing; nothing where the record isn't plain or has a fault, or there is none.
+/// Writes the row of a text's next record, which has this number, into `row`. Returns the text
+/// after the record, which begins with a line's end or is empty. Returns None if the record isn't
+/// plain or has an error, or if there is none.
 #[inline(always)]
 pub(crate) fn plain_row<'a>(
     columns: &[Column],
@@ -29,7 +30,7 @@ pub(crate) fn plain_row<'a>(
     row_at(columns, record, number, row)
 }
 
-/// A text without the line ends at its front: most have one, or two.
+/// Returns a text without the line ends at its start, of which most have one or two.
 #[inline(always)]
 fn after_line_ends(text: &[u8]) -> &[u8]
     ensures { records_in st.StartRecord (Some text.now) ≡ records_in st.StartRecord (Some result.now) }
@@ -41,7 +42,7 @@ fn after_line_ends(text: &[u8]) -> &[u8]
     rest
 }
 
-/// The same for a text that begins with a record.
+/// Returns the same for a text that begins with a record.
 #[inline(always)]
 fn row_at<'a>(columns: &[Column], text: &'a [u8], number: u32, row: &mut Row) -> Option<&'a [u8]>
     requires few { number ≤ most_rows }

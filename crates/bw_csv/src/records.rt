@@ -15,21 +15,22 @@ use bw_model::{Fault, code};
 use csv::{ByteRecord, ErrorKind, Reader, ReaderBuilder};
 use std::alloc::Global;
 
-/// The records of a text, of which one is read at a time.
+/// The records of a text, read one at a time.
 #[derive(Drop)]
 pub struct Records<'a> {
     reader: Reader<&'a [u8]>,
     /// The record that was read last.
     pub(crate) fields: ByteRecord,
-    /// What is left of the text for the reader, as long as `is_followed` says so: up to the first record, and on where a
-    /// line is long.
+    /// The text that the reader hasn't read yet, as long as `is_followed` is true: up to the first
+    /// record, and further if a line is long.
     text: &'a [u8],
     is_followed: bool,
     has_long_line: bool,
 }
 
 impl<'a> Records<'a> {
-    /// The records of a whole text, after a byte order mark where it has one.
+    /// Returns the records of a whole text, without the byte order mark at its start, if it has
+    /// one.
     #[tactic(auto, unfolding(crate::specs::Records::coming, crate::specs::Records::IsOpen))]
     pub fn new(alloc: Global, text: &'a [u8]) -> Self
         ensures open { IsOpen result }
@@ -44,9 +45,11 @@ impl<'a> Records<'a> {
         }
     }
 
-    /// Reads the next record, which has this number, or answers that there is none. An `Err` is out of memory,
-    /// or an error of the reader's own (209), and then nothing more is read. That the records are open, as they are
-    /// until then, is the caller's condition.
+    /// Reads the next record, which has this number. Returns whether there was one. The records
+    /// must be open, as they are until the first error.
+    ///
+    /// Errors: 209, an error of the reader's own; 801 if memory is refused. Then nothing more is
+    /// read.
     pub fn next(&mut self, number: u32) -> Result<bool, Fault>
         requires { IsOpen self.old }
         ensures some { IfOk result (λ found. found ≡ true → coming self.old ≡ fields_in self.new ∷ coming self.new) }
@@ -64,8 +67,9 @@ impl<'a> Records<'a> {
         Ok(true)
     }
 
-    /// Returns true only where the next record has more than `most` fields, and always where it also is the first one or
-    /// a line of 64 KiB. So who has no use for such a record takes no memory for its fields.
+    /// Returns true only if the next record has more than `most` fields, and always if it also is
+    /// the first one or a line of 64 KiB. So a caller who rejects such a record allocates no memory
+    /// for its fields.
     pub(crate) fn is_longer(&self, most: usize) -> bool
         requires { IsOpen self.now }
         ensures { result ≡ true → IsLonger most (coming self.now) }
@@ -73,15 +77,15 @@ impl<'a> Records<'a> {
         self.is_followed && after_fields(self.text, most).is_some()
     }
 
-    /// How many fields the record has that was read last.
+    /// Returns how many fields the last record has.
     pub fn field_count(&self) -> usize
         ensures { result ≡ length (fields_in self.now) }
     {
         self.fields.len()
     }
 
-    /// A field of the record that was read last, without the spaces and tabs at both ends. That the record has it is
-    /// the caller's condition.
+    /// Returns a field of the last record, without the spaces and tabs at both ends. The record
+    /// must have it.
     pub fn field(&self, i: usize) -> &[u8]
         requires { i < length (fields_in self.now) }
         ensures { result.now ≡ without_blanks (slice_index_or (fields_in self.now) i []) }
@@ -93,8 +97,8 @@ impl<'a> Records<'a> {
     }
 }
 
-/// Returns a reader of a text. It is given a heading without fields: without one, a reader keeps two copies of the first
-/// record as its heading.
+/// Returns a reader of a text. It gets a heading without fields: without one, a reader stores two
+/// copies of the first record as its heading.
 fn reader_of<'a>(alloc: Global, text: &'a [u8]) -> Reader<&'a [u8]>
     ensures open { IsOpenReader result }
     ensures left { left_in result ≡ records default_config (strip_bom text.now) }
@@ -106,7 +110,7 @@ fn reader_of<'a>(alloc: Global, text: &'a [u8]) -> Reader<&'a [u8]>
     }
 }
 
-/// Returns such a reader without a heading, where there is no memory for one.
+/// Returns a reader without a heading, if there is no memory for one.
 fn other_reader_of<'a>(alloc: Global, text: &'a [u8]) -> Reader<&'a [u8]>
     ensures open { IsOpenReader result }
     ensures left { left_in result ≡ records default_config (strip_bom text.now) }
@@ -117,7 +121,7 @@ fn other_reader_of<'a>(alloc: Global, text: &'a [u8]) -> Reader<&'a [u8]>
         .from_reader(alloc, text)
 }
 
-/// Returns what is left of a text after its first record, where the text is followed.
+/// Returns the text after its first record, if the text is followed.
 fn followed(is_followed: bool, text: &[u8]) -> &[u8]
     ensures { is_followed ≡ true → (fields : List (List ℕ)) → (more : List (List (List ℕ)))
         → records_in st.StartRecord (Some text.now) ≡ fields ∷ more
@@ -130,14 +134,15 @@ fn followed(is_followed: bool, text: &[u8]) -> &[u8]
     }
 }
 
-/// Whether the text is followed after a record too.
+/// Returns whether the text is followed after a record too.
 fn goes_on(is_followed: bool, has_long_line: bool) -> bool
     ensures { result ≡ true → is_followed ≡ true }
 {
     is_followed && has_long_line
 }
 
-/// Reads the next record of a reader, which has this number, into `fields`, or answers that there is none.
+/// Reads the next record of a reader, which has this number, into `fields`. Returns whether there
+/// was one.
 #[tactic(auto, unfolding(crate::specs::Rows::is_any_record))]
 fn read_fields(
     reader: &mut Reader<&[u8]>,

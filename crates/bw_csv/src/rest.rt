@@ -1,4 +1,4 @@
-//! What is still to be read of a text.
+//! The rest of a text, which is still unread.
 ghost use Rattle.std.specs.Prelude.{◌≡◌, ◌≤◌, ◌∷◌, ℕ, List, [], Ok, Err, true, false, IfOk, IfErr, IsTrue};
 ghost use Rattle.bw_model.specs.Column.{admits_values};
 ghost use Rattle.bw_model.specs.Limits.{most_rows};
@@ -15,21 +15,22 @@ use crate::row::read_row;
 use bw_model::{Column, Fault, Row};
 use std::alloc::Global;
 
-/// The records of a text that are still to be read. As long as they are plain, they are read from the text itself; from
-/// the first one on that isn't, or has a fault, the csv reader reads them.
+/// The records of a text that are still unread. As long as they are plain, they are read from the
+/// text itself. The csv reader reads the first one that isn't plain or has an error, and all after
+/// it.
 #[derive(Drop)]
 pub(crate) struct Rest<'a> {
     alloc: Global,
     /// Whether records are read from the text itself, since each so far was plain.
     reads_text: bool,
-    /// What is left of the text while they are: it begins with a line's end, or is nothing.
+    /// The unread text, as long as they are: it begins with a line's end, or is empty.
     text: &'a [u8],
-    /// The reader of the records from then on.
+    /// The reader of all records after that.
     records: Records<'a>,
 }
 
 impl<'a> Rest<'a> {
-    /// The records of a text after the first one, which `records` has read.
+    /// Returns the records of a text after the first one, which `records` has read.
     pub(crate) fn new(alloc: Global, text: &'a [u8], records: Records<'a>) -> Self
         requires { (heading : List (List ℕ)) × (records_of text.now ≡ heading ∷ coming records) }
         ensures readable { IsReadable result }
@@ -43,8 +44,8 @@ impl<'a> Rest<'a> {
         }
     }
 
-    /// Puts the row of the next record, which has this number, into `row`, in the place of what that was, or answers
-    /// that there is no record. An `Err` is as that of `read_row`.
+    /// Reads the next record, which has this number, and writes its row into `row`. Returns whether
+    /// there was a record. Errors: those of `read_row`.
     #[inline(always)]
     pub(crate) fn next_row(
         &mut self,
@@ -75,7 +76,7 @@ impl<'a> Rest<'a> {
         read_row(columns, &mut self.records, number, row)
     }
 
-    /// Has the csv reader read what is left of the text, where it doesn't yet.
+    /// Lets the csv reader read the rest of the text, if it doesn't yet.
     fn turn_to_reader(&mut self)
         requires { IsReadable self.old }
         ensures reader { self.new.reads_text ≡ false }
@@ -87,8 +88,8 @@ impl<'a> Rest<'a> {
         }
     }
 
-    /// Has the csv reader read what is left of the text. It stays out of the loop over rows, which otherwise clears memory
-    /// for a reader at each row.
+    /// Lets the csv reader read the rest of the text. It stays out of the loop over rows, which
+    /// would otherwise clear memory for a reader at each row.
     #[inline(never)]
     fn begin_reader(&mut self)
         requires text { self.old.reads_text ≡ true }

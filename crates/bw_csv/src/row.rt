@@ -12,7 +12,8 @@ use crate::records::Records;
 use bw_model::{Column, Fault, MAX_ROWS, Row, code};
 use csv::ByteRecord;
 
-/// Reads the heading, which is the first record: refuses a text without a record (201), and other names (202).
+/// Reads the heading, which is the first record. Errors: 201 if the text has no record, 202 if its
+/// fields aren't the columns' names.
 #[tactic(auto, using(crate::proofs::RowLemmas::after_heading, crate::proofs::LongerLemmas::rows_after_longer))]
 pub(crate) fn read_heading(columns: &[Column], records: &mut Records<'_>) -> Result<(), Fault>
     requires { IsOpen records.old }
@@ -36,7 +37,7 @@ pub(crate) fn read_heading(columns: &[Column], records: &mut Records<'_>) -> Res
     Ok(())
 }
 
-/// Whether the fields of a record are the names of the columns in order, ignoring case.
+/// Returns whether the fields of a record are the names of the columns in order, ignoring case.
 fn is_heading(columns: &[Column], fields: &ByteRecord) -> bool
     ensures { result ≡ is_heading columns.now (fields_of fields.now) }
 {
@@ -51,9 +52,11 @@ fn is_heading(columns: &[Column], fields: &ByteRecord) -> bool
     fields.len() == columns.len()
 }
 
-/// Puts the row of the next record, which has this number, into `row`, in the place of what that was, or answers
-/// that there is no record. An `Err` is the first fault in the record: the number of its fields (203), a row past
-/// 2^24 (207), and then its fields from the left; or it is out of memory, or an error of the reader's own (209).
+/// Reads the next record, which has this number, and writes its row into `row`. Returns whether
+/// there was a record.
+///
+/// Errors: the first of the record: the number of its fields (203), a row past 2^24 (207), and then
+/// its fields from the left. 209 is an error of the reader's own; 801 if memory is refused.
 #[tactic(auto, using(crate::proofs::RowLemmas::rows_of_records, crate::proofs::LongerLemmas::rows_from_longer))]
 pub(crate) fn read_row(
     columns: &[Column],
@@ -83,7 +86,7 @@ pub(crate) fn read_row(
     Ok(true)
 }
 
-/// Puts the row of a record into `row`.
+/// Writes the row of a record into `row`.
 #[tactic(auto, unfolding(crate::specs::Rows::row_of_record))]
 fn read_record(
     columns: &[Column],
@@ -107,7 +110,7 @@ fn read_record(
     read_values(columns, fields, number, row)
 }
 
-/// Puts the values of the fields into `row`, one a column.
+/// Writes the values of the fields into `row`, one for each column.
 fn read_values(
     columns: &[Column],
     fields: &ByteRecord,

@@ -1,9 +1,10 @@
 //! The rows that a CSV text spells under a schema, one at a time.
 //!
-//! The first record is the heading: the names of the schema's columns in order, ignoring case. Each record
-//! after it is a row. Spaces and tabs at both ends of a field are dropped; what is then empty, or `NULL` in
-//! any case, is null, and anything else must be a sign or none and one digit or more. How the bytes are cut
-//! into records and fields is the `csv` crate's, which drops one byte order mark at the start.
+//! The first record is the heading: the names of the schema's columns in order, ignoring case. Each
+//! record after it is a row. Spaces and tabs at both ends of a field are dropped. What is then
+//! empty, or `NULL` in any case, is null; anything else must be an optional sign and at least one
+//! digit. The `csv` crate cuts the bytes into records and fields, and drops one byte order mark at
+//! the start.
 ghost use Rattle.std.specs.Prelude.{◌≡◌, ◌+◌, ◌<◌, ◌≤◌, ℕ, List, [], ◌∷◌, ◌++◌, Bool, true, OnOk, IfOk, Err, IfErr, IsTrue, length};
 ghost use Rattle.std.specs.List.{list_all};
 ghost use Rattle.bw_model.specs.Column.{admits_values};
@@ -23,13 +24,19 @@ use crate::row::read_heading;
 use bw_model::{Column, Fault, Row, RowTaker, Schema, Value};
 use std::alloc::Global;
 
-/// Hands the rows of a CSV text to a taker, in order. That the taker takes each row that the columns admit is the
-/// caller's condition.
+/// Delivers the rows of a CSV text to a consumer, in order. The consumer must accept each row that
+/// the columns admit.
 ///
-/// Refuses at the first record that is wrong: a text without one (201), a heading of other names (202); then
-/// for each row its number of fields (203), a row past 2^24 (207), and its fields from the left: no whole
-/// number (204), a null in a column that has none (206), or a number outside the column's bounds (205). 209 is
-/// any other error of the reader, at the record that it read. The heading is record 0.
+/// Errors: the first wrong record, of which the heading is record 0.
+///
+/// - 201: a text without a record
+/// - 202: a heading of other names
+/// - then, for each row, 203: the number of its fields; 207: a row past 2^24
+/// - and for its fields, from the left, 204: not a whole number; 206: a null in a column that isn't
+///   nullable; 205: a number outside the column's bounds
+/// - 209: any other error of the reader, at the record that it read
+///
+/// 801 if memory is refused.
 pub fn read_rows<K: RowTaker>(
     alloc: Global,
     schema: &Schema,
@@ -43,7 +50,7 @@ pub fn read_rows<K: RowTaker>(
     ensures handed { Hands K.led (rows_of schema.now.columns.items text.now) taker.old taker.new result }
     ensures fault { IfErr result IsRowsFault }
     ensures place { IfErr result (λ fault. IsTrue (stands_after (K.rows taker.new) fault)) }
-    // An error of the reader's own stands at the heading, or at the record after those whose rows are good.
+    // An error of the reader's own is at the heading, or at the record after those that have rows.
     ensures reader { IfErr result (λ fault. is_reader_fault fault ≡ true
         → StopsUnder schema.now.columns.items (records_of text.now) fault) }
 {
@@ -56,7 +63,8 @@ pub fn read_rows<K: RowTaker>(
     hand_rows(&schema.columns, &mut rest, &mut row, taker)
 }
 
-/// Hands the rows of the records to come, the first of which has number 1, to a taker, in order.
+/// Delivers the rows of the unread records, the first of which has number 1, to a consumer, in
+/// order.
 #[tactic(auto, using(crate::proofs::RowLemmas::so_far))]
 fn hand_rows<K: RowTaker>(
     columns: &[Column],
@@ -90,7 +98,7 @@ pub fn rows_are_admitted()
         (λ rows. length rows ≤ most_rows) }
 {}
 
-/// A law: the fault of a CSV text stands as the table of faults lists it: at a record.
+/// A law: an error of a CSV text is where the table of errors lists it: at a record.
 #[tactic(auto, using(crate::proofs::StandingLemmas::fault_listed))]
 pub fn faults_stand_as_listed()
     ensures { (columns : List Column) (text : List ℕ) (fault : Fault) → rows_of columns text ≡ Err fault

@@ -1,5 +1,5 @@
--- Where a call that reads a schema and a CSV and writes a text ends: at the schema, at the CSV, at what is made of it, or
--- when the text goes out.
+-- Where a call that reads a schema and a CSV and writes a text ends: at the schema, at the CSV, at
+-- what is made of it, or when the text goes out.
 use Rattle.std.proofs.Common.{◌≡◌, ℕ, List, true, false, ◌==◌, Option, Result, Ok, Err, refl, subst, ap}
 use Rattle.std.proofs.lemmas.Bool.{eqb-true}
 use Rattle.bw_model.specs.declared.fault.Fault.{Fault}

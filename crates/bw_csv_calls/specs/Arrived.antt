@@ -1,4 +1,4 @@
--- What the sources of a schema and of a CSV say, by what came of them.
+-- The meaning of a schema and of a CSV, by what their sources yielded.
 use Rattle.std.specs.Prelude.{◌≡◌, ℕ, List, Result, Ok, Err}
 use Rattle.bw_model.specs.FaultTable.{SCHEMA_TOO_LONG}
 use Rattle.bw_model.specs.declared.fault.Fault.{Fault}
@@ -9,9 +9,9 @@ use Rattle.bw_device.specs.Source.{Arrival, NotReached, Whole, TooLong, Failed}
 use Rattle.bw_csv.specs.Bare.{records_of}
 use Rattle.bw_csv.specs.Rows.{StopsUnder}
 
--- What is read of a schema's source, by what came of it. Where the text came whole, it is a schema that the text
--- spells, or the text's first fault; where the text passed the limit, or the source failed, it is that fault. Of a
--- source that wasn't reached nothing is read.
+-- What a schema's source is read as, by what it yielded. If the text was read completely, it is a
+-- schema that the text spells, or the text's first error. If the text is too long, or the source
+-- failed, it is that error. A source that wasn't reached is read as nothing.
 abbrev pub IsSchemaFrom : Arrival → Result Schema Fault → Type 0
 IsSchemaFrom NotReached outcome = ⊥
 IsSchemaFrom (Whole text) (Ok schema) = IsSchemaText text (schema_shape schema)
@@ -19,14 +19,14 @@ IsSchemaFrom (Whole text) (Err fault) = schema_of text ≡ Err fault
 IsSchemaFrom TooLong outcome = outcome ≡ Err (nowhere SCHEMA_TOO_LONG)
 IsSchemaFrom (Failed fault) outcome = outcome ≡ Err fault
 
--- a schema text came whole, and spells this schema
+-- a schema text was read completely, and spells this schema
 pub record SchemaCame (came : Arrival → Type 0) (schema : Schema) : Type 0 where
   pub text : List ℕ
   pub whole : came (Whole text)
   pub spelled : IsSchemaText text (schema_shape schema)
 
--- A CSV text came whole, and the reader's own error stands at the heading, or at the record after those whose rows are
--- good.
+-- A CSV text was read completely, and the reader's own error is at the heading, or at the record
+-- after those that have rows.
 pub record CsvStopped (came : Arrival → Type 0) (schema : Schema) (fault : Fault) : Type 0 where
   pub text : List ℕ
   pub whole : came (Whole text)

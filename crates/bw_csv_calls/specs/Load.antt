@@ -1,4 +1,4 @@
--- What a load is to write, by what came of the schema's source and of the CSV's.
+-- The expected bytes of a load, by what the schema's and the CSV's sources yielded.
 use Rattle.std.specs.Prelude.{ℕ, List, Result, Ok}
 use Rattle.bw_model.specs.declared.fault.Fault.{Fault}
 use Rattle.bw_model.specs.declared.schema.Schema.{Schema}
@@ -10,12 +10,12 @@ use Rattle.bw_file.specs.FileBytes.{file_bytes}
 use Rattle.bw_csv.specs.Input.{IsMadeAfter}
 use Rattle.bw_csv_calls.specs.Arrived.{IsSchemaFrom}
 
--- the table file of the rows that a CSV text spells, or the first fault in that text
+-- the table file of the rows that a CSV text spells, or the text's first error
 abbrev pub file_of : Layout → Schema → List ℕ → Result (List ℕ) Fault
 file_of layout schema csv = rows_of schema.columns.items csv >>= λ rows. Ok (file_bytes layout schema rows)
 
--- The table file, or the first fault in the order of the schema and the CSV. Where the schema is refused, the CSV isn't
--- reached.
+-- The table file, or the first error in the order of the schema and the CSV. If the schema is
+-- rejected, the CSV isn't reached.
 abbrev pub IsFile : Layout → Arrival → Arrival → Result (List ℕ) Fault → Type 0
 IsFile layout came csv given =
     (schema : Result Schema Fault) × IsSchemaFrom came schema × IsMadeAfter schema (file_of layout) csv given

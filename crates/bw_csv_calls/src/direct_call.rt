@@ -1,4 +1,4 @@
-//! A query answered straight from a CSV text.
+//! The result of a query straight from a CSV text.
 ghost use Rattle.std.specs.Prelude.{◌≡◌, ◌+◌, ◌-◌, ◌^◌, ◌<◌, ◌≤◌, ℕ, List, Result, Ok, false, true, length, vec_len, IfErr, IsTrue};
 ghost use Rattle.std.specs.List.{list_all};
 ghost use Rattle.bw_model.specs.declared.fault.Fault.{Fault};
@@ -23,14 +23,14 @@ use bw_model::{Fault, Query, Schema};
 use bw_sql::parse;
 use std::alloc::Global;
 
-/// Answers a statement over the rows of a CSV text, under the schema of a schema text, and writes the answer
-/// as CSV text: a heading record and then the records, fields joined by commas and each record ended by a
-/// line feed.
+/// Runs a query over the rows of a CSV text, under the schema of a schema text. Writes the result
+/// as CSV text: a heading record, then the records, fields joined by commas and each record ended
+/// by a line feed. Nothing is written before all else has succeeded. Each device's count of
+/// failures must be less than 2^64 - 1.
 ///
-/// Refuses in this order: the schema's source (701) and text (106, 101 to 105), the statement (401 to 408), the
-/// CSV's source (701) and text (208, 201 to 209), and the sink (702); out of memory (801) wherever it comes.
-/// Nothing is written before all else has succeeded. That each device's count of failures can rise is the
-/// caller's condition.
+/// Errors, in this order: the schema's source (701) and text (106, 101 to 105), the statement (401
+/// to 408), the CSV's source (701) and text (208, 201 to 209), and the sink (702). 801 at any time,
+/// if memory is refused.
 pub fn direct<S: Source, C: Source, K: Sink>(
     alloc: Global,
     schema_source: &mut S,
@@ -42,9 +42,9 @@ pub fn direct<S: Source, C: Source, K: Sink>(
     requires csv { C.failures csv_source.old < 2 ^ 64 - 1 }
     requires sink { K.failures sink.old < 2 ^ 64 - 1 }
 
-    // What went out is the text of the answer by what came of the sources, or nothing, where that is a fault. If memory
-    // runs out while the schema or the statement is read, the schema's source stands as one that found no memory, and
-    // the CSV's as not reached.
+    // The bytes written are the text of the result, by what the sources yielded, or none if that is
+    // an error. If memory runs out while the schema or the statement is read, the schema's source
+    // counts as one that found no memory, and the CSV's as not reached.
     ensures answer { (schema csv : Arrival) × (given : Result (List ℕ) Fault)
         × Came longest_schema (S.to_come schema_source.old) (S.to_come schema_source.new)
         (S.failures schema_source.old) (S.failures schema_source.new) schema
@@ -54,8 +54,9 @@ pub fn direct<S: Source, C: Source, K: Sink>(
         × Wrote is_aside (K.taken sink.old) (K.taken sink.new) (K.failures sink.old) (K.failures sink.new)
         given result }
 
-    // Where the CSV's reader has an error of its own, the schema and the statement were accepted, the CSV came whole,
-    // and the error's place is the heading, or the record after those whose rows are good.
+    // If the CSV's reader has an error of its own, the schema and the statement were accepted, the
+    // CSV was read completely, and the error is at the heading, or at the record after those that
+    // have rows.
     ensures reader { IfErr result (λ fault. is_reader_fault fault ≡ true → (schema : Schema) × (query : Query)
         × SchemaCame (Came longest_schema (S.to_come schema_source.old) (S.to_come schema_source.new)
         (S.failures schema_source.old) (S.failures schema_source.new)) schema
@@ -63,14 +64,15 @@ pub fn direct<S: Source, C: Source, K: Sink>(
         × CsvStopped (Came longest_csv (C.to_come csv_source.old) (C.to_come csv_source.new)
         (C.failures csv_source.old) (C.failures csv_source.new)) schema fault) }
 
-    // Of a source no more is taken than one byte past its limit. The call refuses by a failed read exactly where the
-    // count of one source rose.
+    // Of a source at most one byte past its limit is read. The call fails by a failed read if and
+    // only if the count of one source rose.
     ensures schema { TookAtMost (longest_schema + 1) (S.to_come schema_source.old) (S.to_come schema_source.new) }
     ensures csv { TookAtMost (longest_csv + 1) (C.to_come csv_source.old) (C.to_come csv_source.new) }
     ensures failed { TellsFailureOfEither (S.failures schema_source.old) (S.failures schema_source.new)
         (C.failures csv_source.old) (C.failures csv_source.new) result }
 
-    // Where the schema's source failed, or the schema or the statement is refused, the CSV's source is as it was.
+    // If the schema's source failed, or the schema or the statement is rejected, the CSV's source
+    // is as it was.
     ensures unread { S.failures schema_source.old < S.failures schema_source.new → csv_source.new ≡ csv_source.old }
     ensures unneeded { IfErr result (λ fault. IsTrue (is_before_csv fault) → csv_source.new ≡ csv_source.old) }
 {
@@ -78,7 +80,8 @@ pub fn direct<S: Source, C: Source, K: Sink>(
     write_whole(sink, &text)
 }
 
-/// The text of the answer to a statement over the rows of a CSV text. Refuses as [`direct`] does, but for the sink.
+/// Returns the text of the result of a statement over the rows of a CSV text. Errors: those of
+/// [`direct`], except for the sink's.
 fn direct_text<S: Source, C: Source>(
     alloc: Global,
     schema_source: &mut S,
@@ -114,7 +117,7 @@ fn direct_text<S: Source, C: Source>(
     answer_text(alloc, &schema, &query, &csv)
 }
 
-/// The text of the answer over the rows of a CSV text. Refuses as [`read_rows`] does.
+/// Returns the text of the result over the rows of a CSV text. Errors: those of [`read_rows`].
 fn answer_text(alloc: Global, schema: &Schema, query: &Query, csv: &[u8]) -> Result<Vec<u8>, Fault>
     requires items { IsTrue (list_all (item_within (vec_len schema.now.columns)) query.now.items.items) }
     requires some { 1 ≤ length query.now.items.items }

@@ -1,4 +1,4 @@
-//! The text of a schema, read whole.
+//! The text of a schema, read completely.
 ghost use Rattle.std.specs.Prelude.{◌≡◌, ◌+◌, ◌-◌, ◌^◌, ◌<◌, false, IfErr};
 ghost use Rattle.bw_csv.specs.Rows.{is_reader_fault};
 ghost use Rattle.bw_device.specs.Sink.{is_write_fault};
@@ -10,7 +10,8 @@ use bw_device::{Input, Source, read_limited};
 use bw_model::{Fault, MAX_SCHEMA_LEN, Schema, code};
 use std::alloc::Global;
 
-/// The schema of a schema text. Refuses its source (701) and then the text (106, 101 to 105).
+/// Reads the schema of a schema text. Errors: the source's (701), and then the text's (106, 101 to
+/// 105); 801 if memory is refused.
 pub(crate) fn read_schema<S: Source>(alloc: Global, source: &mut S) -> Result<Schema, Fault>
     requires { S.failures source.old < 2 ^ 64 - 1 }
     ensures answered { (came : Arrival)

@@ -1,9 +1,12 @@
-//! The calls of `bw` over a CSV text, from end to end over sources and sinks of bytes: [`direct`] and [`load`].
+//! The calls of `bw` over a CSV text, complete over sources and sinks of bytes: [`direct`] and
+//! [`load`].
 //!
-//! The other calls are those of `bw_query`, `bw_cert` and `bw_schemas`; a law of `bw_laws` joins what is loaded with
-//! what is answered. A fault that names a device is answered only where that device has counted a failure.
+//! The other calls are those of `bw_query`, `bw_cert` and `bw_schemas`. A law of `bw_laws` relates
+//! loading and querying. An error that names a device is returned only if that device has counted a
+//! failure.
 //!
-//! Read `specs/Direct.antt` first, and then `direct_call.rt`. Sources and sinks are those of `bw_device`.
+//! Read `specs/Direct.antt` first, then `direct_call.rt`. Sources and sinks are those of
+//! `bw_device`.
 #![tactic(auto)]
 
 mod direct_call;

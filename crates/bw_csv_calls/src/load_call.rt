@@ -18,12 +18,12 @@ use bw_file::{Encoder, Layout};
 use bw_model::{Fault, Schema};
 use std::alloc::Global;
 
-/// Writes the table file of the rows of a CSV text, under the schema of a schema text.
+/// Writes the table file of the rows of a CSV text, under the schema of a schema text. Nothing is
+/// written before all else has succeeded. In memory are the CSV text, the file's bytes, and one
+/// segment. Each device's count of failures must be less than 2^64 - 1.
 ///
-/// Refuses in this order: the schema's source (701) and text (106, 101 to 105), the CSV's source (701) and text
-/// (208, 201 to 209), and the sink (702); out of memory (801) wherever it comes. Nothing is written before all else
-/// has succeeded. Beside the CSV text and the file's bytes, one segment is in memory. That each device's count of
-/// failures can rise is the caller's condition.
+/// Errors, in this order: the schema's source (701) and text (106, 101 to 105), the CSV's source
+/// (701) and text (208, 201 to 209), and the sink (702). 801 at any time, if memory is refused.
 pub fn load<S: Source, C: Source, K: Sink>(
     alloc: Global,
     schema_source: &mut S,
@@ -35,8 +35,9 @@ pub fn load<S: Source, C: Source, K: Sink>(
     requires csv { C.failures csv_source.old < 2 ^ 64 - 1 }
     requires sink { K.failures sink.old < 2 ^ 64 - 1 }
 
-    // What went out is the table file by what came of the sources, or nothing, where that is a fault. If memory runs
-    // out while the schema is read, its source stands as one that found no memory, and the CSV's as not reached.
+    // The bytes written are the table file, by what the sources yielded, or none if that is an
+    // error. If memory runs out while the schema is read, its source counts as one that found no
+    // memory, and the CSV's as not reached.
     ensures file { (schema csv : Arrival) × (given : Result (List ℕ) Fault)
         × Came longest_schema (S.to_come schema_source.old) (S.to_come schema_source.new)
         (S.failures schema_source.old) (S.failures schema_source.new) schema
@@ -46,22 +47,22 @@ pub fn load<S: Source, C: Source, K: Sink>(
         × Wrote is_aside (K.taken sink.old) (K.taken sink.new) (K.failures sink.old) (K.failures sink.new)
         given result }
 
-    // Where the CSV's reader has an error of its own, the schema was accepted, the CSV came whole, and the error's
-    // place is the heading, or the record after those whose rows are good.
+    // If the CSV's reader has an error of its own, the schema was accepted, the CSV was read
+    // completely, and the error is at the heading, or at the record after those that have rows.
     ensures reader { IfErr result (λ fault. is_reader_fault fault ≡ true → (schema : Schema)
         × SchemaCame (Came longest_schema (S.to_come schema_source.old) (S.to_come schema_source.new)
         (S.failures schema_source.old) (S.failures schema_source.new)) schema
         × CsvStopped (Came longest_csv (C.to_come csv_source.old) (C.to_come csv_source.new)
         (C.failures csv_source.old) (C.failures csv_source.new)) schema fault) }
 
-    // Of a source no more is taken than one byte past its limit. The call refuses by a failed read exactly where the
-    // count of one source rose.
+    // Of a source at most one byte past its limit is read. The call fails by a failed read if and
+    // only if the count of one source rose.
     ensures schema { TookAtMost (longest_schema + 1) (S.to_come schema_source.old) (S.to_come schema_source.new) }
     ensures csv { TookAtMost (longest_csv + 1) (C.to_come csv_source.old) (C.to_come csv_source.new) }
     ensures failed { TellsFailureOfEither (S.failures schema_source.old) (S.failures schema_source.new)
         (C.failures csv_source.old) (C.failures csv_source.new) result }
 
-    // Where the schema's source failed, or the schema is refused, the CSV's source is as it was.
+    // If the schema's source failed, or the schema is rejected, the CSV's source is as it was.
     ensures unread { S.failures schema_source.old < S.failures schema_source.new → csv_source.new ≡ csv_source.old }
     ensures unneeded { IfErr result (λ fault. IsTrue (is_before_csv fault) → csv_source.new ≡ csv_source.old) }
 {
@@ -69,8 +70,8 @@ pub fn load<S: Source, C: Source, K: Sink>(
     write_whole(sink, &file)
 }
 
-/// The table file of the rows of a CSV text, under the schema of a schema text. Refuses as [`load`] does, but for the
-/// sink.
+/// Returns the table file of the rows of a CSV text, under the schema of a schema text. Errors:
+/// those of [`load`], except for the sink's.
 fn loaded<S: Source, C: Source>(
     alloc: Global,
     schema_source: &mut S,
@@ -104,7 +105,7 @@ fn loaded<S: Source, C: Source>(
     file_bytes(alloc, layout, &schema, &csv)
 }
 
-/// The table file of the rows of a CSV text. Refuses as [`read_rows`] does.
+/// Returns the table file of the rows of a CSV text. Errors: those of [`read_rows`].
 fn file_bytes(alloc: Global, layout: Layout, schema: &Schema, csv: &[u8]) -> Result<Vec<u8>, Fault>
     ensures bytes { GivesButAside (λ file. file.items) result (file_of layout schema.now csv.now) }
     ensures fault { IfErr result IsRowsFault }

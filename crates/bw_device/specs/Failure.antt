@@ -1,4 +1,4 @@
--- The count of a device's failures.
+-- The count of an I/O device's failures.
 use Rattle.std.specs.Prelude.{ℕ, ◌+◌, Result, Ok, Err}
 
 -- the count after a call: an error raises it by one

@@ -1,4 +1,4 @@
--- What is in a reader that is taken for a source.
+-- The state of a reader that is used as a source.
 use Rattle.std.specs.Prelude.{ℕ}
 use Rattle.bw_device.specs.declared.from_read.FromRead.{FromRead}
 

@@ -1,4 +1,4 @@
--- What is in a source that reads ahead.
+-- The state of a source that reads ahead.
 use Rattle.std.specs.Prelude.{ℕ, List, Option, slice_range}
 use Rattle.std.specs.Io.KnownBytes.{prepend_known}
 use Rattle.bw_device.specs.declared.read_ahead.ReadAhead.{ReadAhead}
@@ -11,10 +11,10 @@ reader_of source = source.inner
 abbrev pub read_failures : {R : Type 0} → ReadAhead R → ℕ
 read_failures source = source.failures
 
--- what was read and not handed over
+-- the bytes that were read ahead and not yet delivered
 abbrev pub kept : {R : Type 0} → ReadAhead R → List ℕ
 kept source = slice_range source.memory.value.items source.start source.end
 
--- the bytes to come: those, and then what the reader has, where that is known
+-- the unread bytes: those, followed by the reader's, if these are known
 abbrev pub coming : {R : Type 0} → (R → Option (List ℕ)) → ReadAhead R → Option (List ℕ)
 coming remaining source = prepend_known (kept source) (remaining source.inner)

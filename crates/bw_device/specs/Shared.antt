@@ -1,4 +1,4 @@
--- What stands in bytes that may be shared.
+-- The content of bytes that can be shared.
 use Rattle.std.specs.Prelude.{ℕ, List, slice_range}
 use Rattle.bw_device.specs.declared.shared.SharedBytes.{SharedBytes}
 

@@ -1,64 +1,69 @@
--- What came of a source that a call read to its end, or until it passed a limit.
+-- What a source yielded to a call that read it to its end, or until it passed a limit.
 use Rattle.std.specs.Prelude.{◌≡◌, ◌⊎◌, ◌==◌, ◌&&◌, ◌||◌, if◌then◌else◌, Bool, ℕ, ◌+◌, ◌≤◌, List, length, Option, IfSome, Result, Ok, Err, MatchBool}
 use Rattle.std.specs.Io.KnownBytes.{Consumes, IsAtEnd}
 use Rattle.bw_model.specs.FaultTable.{READ_FAILED}
 use Rattle.bw_model.specs.declared.fault.Fault.{Fault}
 use Rattle.bw_model.specs.Fault.{nowhere, no_memory, is_memory, stands_nowhere}
 
--- What came of a source that a call reads whole, up to a limit: the call ended before it read the source; all its
--- bytes came; they were more than the limit; or a read failed or memory ran out, which is this fault.
+-- What a source yielded to a call that reads it completely, up to a limit: the call ended before it
+-- read the source; it yielded all its bytes; they were more than the limit; or a read failed or
+-- memory ran out, which is this error.
 pub data Arrival : Type 0 where
   NotReached : Arrival
   Whole : List ℕ → Arrival
   TooLong : Arrival
   Failed : Fault → Arrival
 
--- a failed read, and what a call that only reads refuses by: a failed read or out of memory
+-- the error is a failed read; the error is one of a call that only reads: a failed read or out of
+-- memory
 abbrev pub is_read_fault : Fault → Bool
 is_read_fault fault = (fault.code == READ_FAILED) && stands_nowhere fault.place
 
 abbrev pub is_input_fault : Fault → Bool
 is_input_fault fault = is_memory fault || is_read_fault fault
 
--- how many reads failed in a call that refuses by this fault: one, if it is that of a failed read, and else none
+-- how many reads failed in a call that fails by this error: one if it is that of a failed read,
+-- else none
 abbrev pub failed_reads : Fault → ℕ
 failed_reads fault = if is_read_fault fault then 1 else 0
 
--- how many reads failed in a call that answered this
+-- how many reads failed in a call with this result
 abbrev pub failed_by : {T : Type 0} → Result T Fault → ℕ
 failed_by (Ok x) = 0
 failed_by (Err fault) = failed_reads fault
 
--- The call refused by a failed read exactly where its source's count of failures rose, and then by one.
+-- The call failed by a failed read if and only if its source's count of failures rose, and then it
+-- rose by one.
 abbrev pub TellsFailure : {T : Type 0} → ℕ → ℕ → Result T Fault → Type 0
 TellsFailure before after result = after ≡ before + failed_by result
 
--- A call with two sources refused by a failed read exactly where the count of one of them rose, by one; the other's
--- stayed.
+-- A call with two sources failed by a failed read if and only if the count of one of them rose, by
+-- one; the other's stayed.
 abbrev pub TellsFailureOfEither : {T : Type 0} → ℕ → ℕ → ℕ → ℕ → Result T Fault → Type 0
 TellsFailureOfEither before after second_before second_after result =
     (TellsFailure before after result × (second_after ≡ second_before))
     ⊎ ((after ≡ before) × TellsFailure second_before second_after result)
 
--- all bytes to come, where they are known, came, and there were no more than the limit
+-- all unread bytes, if they are known, were yielded, and they were no more than the limit
 abbrev pub GaveAll : ℕ → Option (List ℕ) → Option (List ℕ) → List ℕ → Type 0
 GaveAll limit old new bytes = (length bytes ≤ limit) × IfSome old (λ xs. bytes ≡ xs) × IsAtEnd new
 
--- one byte more than the limit was taken, of the bytes to come where they are known
+-- one byte more than the limit was consumed, of the unread bytes if they are known
 abbrev pub PassedLimit : ℕ → Option (List ℕ) → Option (List ℕ) → Type 0
 PassedLimit limit old new = (bytes : List ℕ) × Consumes old new bytes × (length bytes ≡ limit + 1)
 
--- at most so many of the bytes to come were taken, where they are known
+-- at most `most` of the unread bytes were consumed, if they are known
 abbrev pub TookAtMost : ℕ → Option (List ℕ) → Option (List ℕ) → Type 0
 TookAtMost most old new = (bytes : List ℕ) × Consumes old new bytes × (length bytes ≤ most)
 
--- What a call leaves of its source: it took at most so many of the bytes to come, and refused by a failed read exactly
--- where the count of failures rose.
+-- How a call leaves its source: it consumed at most `most` of the unread bytes, and failed by a
+-- failed read if and only if the count of failures rose.
 abbrev pub LeavesSource : {T : Type 0} → ℕ → Option (List ℕ) → Option (List ℕ) → ℕ → ℕ → Result T Fault → Type 0
 LeavesSource most old new before after result = TookAtMost most old new × TellsFailure before after result
 
--- A source's count of failures rises from before to after, by one, where a failed read is what came of it, and else
--- stays. A source that wasn't reached is as it was, as far as its bytes to come and its count tell.
+-- A source's count of failures rises from `before` to `after`: by one if it yielded a failed read,
+-- else by none. A source that wasn't reached is as it was, as far as its unread bytes and its count
+-- state.
 abbrev pub Came : ℕ → Option (List ℕ) → Option (List ℕ) → ℕ → ℕ → Arrival → Type 0
 Came limit old new before after NotReached = (new ≡ old) × (after ≡ before)
 Came limit old new before after (Whole bytes) = GaveAll limit old new bytes × (after ≡ before)

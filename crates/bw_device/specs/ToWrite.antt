@@ -1,4 +1,4 @@
--- What is in a writer that is taken for a sink.
+-- The state of a writer that is used as a sink.
 use Rattle.std.specs.Prelude.{ℕ}
 use Rattle.bw_device.specs.declared.to_write.ToWrite.{ToWrite}
 

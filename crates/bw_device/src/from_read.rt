@@ -7,8 +7,8 @@ use crate::shared::SharedBytes;
 use crate::source::Source;
 use std::io::Read;
 
-/// A reader of std as a source, which keeps nothing. Each of its errors, that of an interrupted call too, counts as a
-/// failure.
+/// A reader of std as a source, which buffers nothing. Each of its errors counts as a failure, that
+/// of an interrupted call too.
 #[derive(Drop)]
 pub struct FromRead<R> {
     inner: R,

@@ -1,4 +1,4 @@
-//! Whole inputs, read from a source up to a limit.
+//! Complete inputs, read from a source up to a limit.
 ghost use Rattle.std.specs.Prelude.{◌+◌, ◌-◌, ◌^◌, ◌<◌, IfErr, IsTrue};
 ghost use Rattle.bw_device.specs.Source.{Came, TookAtMost, TellsFailure, is_input_fault};
 ghost use Rattle.bw_device.specs.Input.{arrival};
@@ -8,10 +8,10 @@ use crate::source::Source;
 use bw_model::{Fault, code};
 use std::alloc::Global;
 
-/// How many bytes a read asks for at most.
+/// The most bytes that a read asks for.
 const PIECE: usize = 64 * 1024;
 
-/// What a source gave.
+/// The bytes that a source yielded.
 #[derive(Debug, Drop)]
 pub enum Input {
     /// All its bytes.
@@ -20,9 +20,9 @@ pub enum Input {
     Over,
 }
 
-/// Reads a source to its end, or until it gives one byte more than the limit, which counts bytes. Refuses
-/// as 701 at the first read that fails, and as 801. That the limit is below 2^63 and that the source's count
-/// of failures can rise are the caller's conditions.
+/// Reads a source to its end, or until it yields one byte more than `limit` bytes. The limit must
+/// be less than 2^63, and the source's count of failures less than 2^64 - 1. Errors: 701 at the
+/// first read that fails; 801 if memory is refused.
 pub fn read_limited<S: Source>(alloc: Global, source: &mut S, limit: u64) -> Result<Input, Fault>
     requires countable { S.failures source.old < 2 ^ 64 - 1 }
     requires limited { limit < 2 ^ 63 }

@@ -1,14 +1,15 @@
-//! What a call reads from and writes to: sources and sinks of bytes, which may fail at any call.
+//! I/O sources and sinks of bytes, which may fail at any call.
 //!
-//! An `Ok` of [`Source::read`] hands over the next bytes, an `Ok` of [`Sink::write`] takes bytes
-//! from the front, and each `Err` raises the device's count of failures by one, so that a fault
-//! that names a device can be traced to a failure that was counted. [`FromRead`] and [`ToWrite`]
-//! make a source and a sink of a reader and a writer of std, [`ReadAhead`] a source that reads by large
-//! pieces and shares what it keeps of them, [`read_limited`] reads a source whole, up to a limit, and
-//! [`write_whole`] writes a text.
+//! An `Ok` of [`Source::read`] delivers the next bytes, and an `Ok` of [`Sink::write`] consumes
+//! bytes from the front. Each `Err` raises the device's count of failures by one, so an error that
+//! names a device can be traced to a failure that was counted.
 //!
-//! Read `source.rt` and `specs/Source.antt`, where the crates above find the words for what came of
-//! a source, and `specs/Sink.antt` for what went out.
+//! [`FromRead`] and [`ToWrite`] make a source and a sink of a reader and a writer of std.
+//! [`ReadAhead`] is a source that reads in large pieces and shares what it has buffered of them.
+//! [`read_limited`] reads a source completely, up to a limit, and [`write_whole`] writes a text.
+//!
+//! Read `source.rt` and `specs/Source.antt`, which defines what a source yielded, and
+//! `specs/Sink.antt` for what was written.
 #![tactic(auto)]
 
 mod failed;

@@ -1,4 +1,4 @@
-//! Whole texts, written to a sink.
+//! Complete texts, written to a sink.
 ghost use Rattle.std.specs.Prelude.{◌-◌, ◌^◌, ◌<◌};
 ghost use Rattle.bw_device.specs.Sink.{GoesOut};
 
@@ -6,8 +6,8 @@ use crate::failed::Failed;
 use crate::sink::Sink;
 use bw_model::{Fault, code};
 
-/// Writes a whole text, or refuses as 702 at the first write that fails, when a part from the text's front
-/// has gone out. That the sink's count of failures can rise is the caller's condition.
+/// Writes a complete text. The sink's count of failures must be less than 2^64 - 1. Errors: 702 at
+/// the first write that fails; a part from the text's front has then been written.
 #[tactic(auto, using(crate::proofs::TakenBytes::more_taken))]
 pub fn write_whole<K: Sink>(sink: &mut K, text: &[u8]) -> Result<(), Fault>
     requires { K.failures sink.old < 2 ^ 64 - 1 }

@@ -12,12 +12,13 @@ use std::alloc::Global;
 use std::io::{Error, Read};
 use std::rc::Rc;
 
-/// How many bytes of the memory stay unused before a piece. A system's allocator gives as much memory as a piece takes
-/// from 16 bytes after a multiple of 64 on, and a system copies a file fastest to such a multiple.
+/// The number of unused bytes of the memory before a piece. A system's allocator returns memory as
+/// large as a piece from 16 bytes after a multiple of 64 on, and a system copies a file fastest to
+/// such a multiple.
 const FRONT: usize = 48;
 
-/// A reader of std as a source, which is asked for a piece at a time. What is left of a piece can be shared. Each error
-/// of the reader, that of an interrupted call too, counts as a failure.
+/// A reader of std as a source, which reads one piece at a time. The unread rest of a piece can be
+/// shared. Each error of the reader counts as a failure, that of an interrupted call too.
 #[derive(Drop)]
 pub struct ReadAhead<R> {
     inner: R,
@@ -35,7 +36,8 @@ impl<R: Drop> ReadAhead<R> {
     ghost use Rattle.bw_model.specs.Fault.{no_memory};
     ghost use Rattle.bw_device.specs.ReadAhead.{kept, read_failures, reader_of};
 
-    /// A source that asks a reader for so many bytes at a time, one at least. Refuses as 801 alone.
+    /// Returns a source that reads `piece` bytes at a time, which must be at least 1. Errors: 801
+    /// if memory is refused.
     pub fn new(alloc: Global, inner: R, piece: usize) -> Result<Self, Fault>
         requires { 0 < piece }
         ensures reader { IfOk result (λ source. reader_of source ≡ inner) }
@@ -64,8 +66,8 @@ impl<R: Read> ReadAhead<R> {
     ghost use Rattle.bw_device.specs.Failure.{failures_after};
     ghost use Rattle.bw_device.specs.ReadAhead.{coming, kept, read_failures};
 
-    /// Reads a piece where nothing is left of the one before, and tells whether it could: not while others hold the
-    /// memory.
+    /// Reads a piece if the one before is used up. Returns whether it could: not while others own
+    /// the memory.
     fn fill(&mut self) -> Result<bool, Failed>
         requires countable { read_failures self.old < 2 ^ 64 - 1 }
         requires empty { self.old.start ≡ self.old.end }
@@ -114,7 +116,7 @@ impl<R> ReadAhead<R> {
     ghost use Rattle.std.specs.Prelude.{◌≡◌, ◌++◌, length, min, take};
     ghost use Rattle.bw_device.specs.ReadAhead.{kept, read_failures, reader_of};
 
-    /// Hands over as many bytes as are left and the buffer has room for, and gives how many.
+    /// Copies as many bytes as are left and fit the buffer. Returns how many.
     fn hand_over(&mut self, buffer: &mut [u8]) -> usize
         ensures count { result ≡ min (length (kept self.old)) (length buffer.old) }
         ensures bytes { kept self.old ≡ take result buffer.new ++ kept self.new }

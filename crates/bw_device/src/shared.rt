@@ -1,11 +1,11 @@
-//! Bytes in memory that may have more than one owner.
+//! Bytes in memory with one or more owners.
 ghost use Rattle.std.specs.Prelude.{All, ◌^◌, ◌<◌, ◌≤◌, vec_len};
 
 use bw_model::Fault;
 use std::alloc::Global;
 use std::rc::Rc;
 
-/// Some bytes of memory that others may hold too. Nobody changes these while anybody else holds them.
+/// Bytes of memory that others may own too. Nobody changes them as long as anybody else owns them.
 #[derive(Drop)]
 pub struct SharedBytes {
     memory: Rc<Vec<u8>>,
@@ -20,7 +20,7 @@ impl SharedBytes {
     ghost use Rattle.bw_model.specs.Fault.{no_memory};
     ghost use Rattle.bw_device.specs.Shared.{bytes_in};
 
-    /// All of some bytes. Refuses as 801 alone.
+    /// Returns all of these bytes. Errors: 801 if memory is refused.
     pub fn new(alloc: Global, bytes: Vec<u8>) -> Result<Self, Fault>
         ensures bytes { IfOk result (λ shared. bytes_in shared ≡ bytes.items) }
         ensures only_memory { IsOkUnless result no_memory }
@@ -34,7 +34,8 @@ impl SharedBytes {
         })
     }
 
-    /// The bytes of memory from one place up to another; none where it can't have one owner more.
+    /// Returns the bytes of memory from `start` up to `end`, or None if it can't have one owner
+    /// more.
     pub(crate) fn part(memory: &Rc<Vec<u8>>, start: usize, end: usize) -> Option<Self>
         requires ordered { start ≤ end }
         requires within { end ≤ vec_len memory.now.value }
@@ -46,7 +47,7 @@ impl SharedBytes {
         }
     }
 
-    /// The bytes.
+    /// Returns the bytes.
     #[inline(always)]
     pub fn as_slice(&self) -> &[u8]
         ensures { result.now ≡ bytes_in self.now }
@@ -63,7 +64,7 @@ impl SharedBytes {
     }
 }
 
-/// A law: what a slice holds are bytes.
+/// A law: the items of a slice are bytes.
 fn slice_has_bytes(bytes: &[u8])
     ensures { All (λ byte. byte < 2 ^ 8) bytes.now }
 {}

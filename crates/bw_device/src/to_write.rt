@@ -6,8 +6,8 @@ use crate::failed::Failed;
 use crate::sink::Sink;
 use std::io::Write;
 
-/// A writer of std as a sink. Each of its errors, that of an interrupted call too, counts as a
-/// failure, and so does a write that takes nothing of a slice that isn't empty.
+/// A writer of std as a sink. Each of its errors counts as a failure, that of an interrupted call
+/// too, and so does a write that consumes nothing of a slice that isn't empty.
 #[derive(Drop)]
 pub struct ToWrite<W> {
     inner: W,

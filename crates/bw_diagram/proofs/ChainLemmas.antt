@@ -105,7 +105,8 @@ compares-both : (kind : ChainKind) (p c d : ℕ) → compares kind c d ≡ compa
 compares-both Less p c d = ltb-both p c d
 compares-both Equal p c d = eqb-both p c d
 
--- the outcome by two top bits, of nodes that are worth what f says, is the comparison of the whole numbers
+-- the outcome by two top bits, of nodes that are worth what f says, is the comparison of the whole
+-- numbers
 pub outcome-compares : (f : ℕ → Bool) → f 0 ≡ false → f 1 ≡ true → (kind : ChainKind) (x y : Bool) (e p c d : ℕ) → c < p → d < p → f e ≡ compares kind c d →
     f (outcome kind x y e) ≡ compares kind (cond x p 0 + c) (cond y p 0 + d)
 outcome-compares f z o kind false false e p c d cp dp is = is ∙ compares-both kind 0 c d

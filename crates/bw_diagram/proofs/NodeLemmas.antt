@@ -1,4 +1,5 @@
--- What nodes are worth: the laws of the terminals and of a node, and that later nodes change nothing.
+-- What nodes are worth: the laws of the terminals and of a node, and that later nodes change
+-- nothing.
 use Rattle.std.proofs.Common.{◌≡◌, ◌∙◌, refl, sym, ap, subst, ℕ, zero, suc, ◌+◌, ◌-◌, ◌<◌, Bool, true, false, cond, List, [], ◌∷◌, ◌++◌, length, length-append, get_or, Option, Some, None, slice_get, arith, add-zero}
 use Rattle.std.proofs.Math.Dec.{ltb, eqb}
 use Rattle.std.proofs.lemmas.Bool.{ltb-false, eqb-true}

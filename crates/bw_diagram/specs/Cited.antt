@@ -1,4 +1,5 @@
--- What later lines of a certificate cite: nodes, by the product row or the chain that says what they are worth.
+-- The nodes that later lines of a certificate reference, by the product row or the chain that
+-- states their values.
 use Rattle.std.specs.Prelude.{◌≡◌, ◌⊎◌, ℕ, Bool, true, false, Option, Some, None, slice_get, if◌then◌else◌, ◌&&◌, ◌==◌}
 use Rattle.std.specs.Option.{option_and_then}
 use Rattle.bw_model.specs.Stored.{number_spelled}
@@ -11,34 +12,35 @@ use Rattle.bw_diagram.specs.Chain.{compares, node_of_one, node_of_two, padded_nu
 use Rattle.bw_diagram.specs.Product.{joined, same_connective}
 use Rattle.bw_diagram.specs.Facts.{Facts}
 
--- the third node of a product row, if it joins these two by this connective
+-- the third node of a product row, if its connective and its first two nodes are these
 abbrev pub third_node : Connective → ℕ → ℕ → Product → Option ℕ
 third_node op a b row = if same_connective row.op op && row.a == a && row.b == b then Some row.c else None
 
--- the node that the product row of this number says to be the connective of two nodes
+-- the node that the product row of this number states to be the connective of two nodes
 unfoldable pub cited : Facts → Connective → ℕ → ℕ → ℕ → Option ℕ
 cited facts op a b number = option_and_then (third_node op a b) (slice_get facts.products number)
 
--- the node that the chain of this number compares so many bits of a column by, from the bit `start` upwards, with a
--- number
+-- the node by which the chain of this number compares `len` bits of a column, from the bit `start`
+-- upwards, with a bound
 unfoldable pub chain_cited : Facts → ChainKind → ℕ → ℕ → ℕ → ℕ → ℕ → Option ℕ
 chain_cited facts kind col start len bound number = option_and_then (node_of_one kind col start len bound)
     (slice_get facts.chains number)
 
--- the node that it compares the low bits of two columns by
+-- the node by which the chain of this number compares the low `len` bits of two columns
 unfoldable pub two_cited : Facts → ChainKind → ℕ → ℕ → ℕ → ℕ → Option ℕ
 two_cited facts kind left right len number = option_and_then (node_of_two kind left right len)
     (slice_get facts.chains number)
 
--- the node is worth what its variable is
+-- the node has the value of this variable
 unfoldable pub is_variable : Facts → ℕ → ℕ → Bool
 is_variable facts v number = tests v 0 1 (node_at facts.nodes number)
 
--- the node of this number, if it is
+-- this number, if its node has the value of this variable
 abbrev pub variable_cited : Facts → ℕ → ℕ → Option ℕ
 variable_cited facts v number = if is_variable facts v number then Some number else None
 
--- All that can be cited is so: the terminals, nodes that are variables, product rows and chains.
+-- All nodes that can be referenced have the values that the references state: the terminals, nodes
+-- of variables, product rows and chains.
 pub record AreWorth (facts : Facts) : Type 0 where
   pub zero : (assignment : Assignment) → node_value facts.nodes assignment 0 ≡ false
   pub one : (assignment : Assignment) → node_value facts.nodes assignment 1 ≡ true

@@ -1,4 +1,4 @@
--- What a diagram's fields hold, and what is kept true of them.
+-- The facts that a diagram's fields are, and what is always true of them.
 use Rattle.std.specs.Prelude.{◌≡◌, ◌≤◌, length}
 use Rattle.bw_model.specs.Variable.{variables_of}
 use Rattle.bw_diagram.specs.declared.diagram.Diagram.TheInside.{Inside}
@@ -12,7 +12,7 @@ held diagram = record {
   products = diagram.products.items;
 }
 
--- the number of variables is the schema's, the limits are kept, and the facts are true
+-- the number of variables is the schema's, the limits are respected, and the facts are true
 pub record IsKept (diagram : Inside) : Type 0 where
   pub variable_count : diagram.variables ≡ variables_of diagram.schema.now.columns.items
   pub few_nodes : length diagram.nodes.items ≤ most_nodes

@@ -1,4 +1,4 @@
--- What a diagram holds, what it says of every assignment, and what each line makes of it.
+-- The facts of a diagram, what they claim of every assignment, and the facts after each line.
 use Rattle.std.specs.Prelude.{◌≡◌, ℕ, Bool, not, ◌&&◌, ◌||◌, List, [], ◌∷◌, ◌++◌, length, Option, Some, None, Result, Ok, Err, slice_get, nat_le}
 use Rattle.bw_model.specs.FaultTable.{NODE, PRODUCT_ROW, CHAIN_ROW, LIMIT}
 use Rattle.bw_model.specs.declared.column.Column.{Column}
@@ -13,14 +13,15 @@ use Rattle.bw_diagram.specs.Node.{AreOrdered, obeys_node}
 use Rattle.bw_diagram.specs.Chain.{IsChain, obeys_chain}
 use Rattle.bw_diagram.specs.Product.{IsProduct, obeys_product}
 
--- the columns that it is about, and its nodes, chains and product rows, each in the order of their numbers
+-- the columns of a diagram, and its nodes, chains and product rows, each in the order of their
+-- numbers
 pub record Facts : Type 0 where
   pub columns : List Column
   pub nodes : List Node
   pub chains : List Chain
   pub products : List Product
 
--- at most so many of each
+-- the most nodes, chains and product rows
 abbrev pub most_nodes : ℕ
 most_nodes = 65534
 
@@ -30,29 +31,31 @@ most_chains = 65536
 abbrev pub most_products : ℕ
 most_products = 1048576
 
--- Children come before their nodes, and each chain and each product row is true of every assignment.
+-- Children come before their nodes, and each chain and each product row is true of every
+-- assignment.
 pub record AreTrue (facts : Facts) : Type 0 where
   pub ordered : AreOrdered facts.nodes
   pub chains : (k : ℕ) (chain : Chain) → slice_get facts.chains k ≡ Some chain → IsChain facts.columns facts.nodes chain
   pub products : (k : ℕ) (row : Product) → slice_get facts.products k ≡ Some row → IsProduct facts.nodes row
 
--- what is held before any line
+-- the facts before any line
 abbrev pub no_facts : List Column → Facts
 no_facts columns = record { columns = columns; nodes = []; chains = []; products = [] }
 
--- A node that may come next under a number: 604 where there is no room, and then 601 where it breaks its rule.
+-- A node that is valid as the next one, under this number. At the limit it is 604, else 601 if it
+-- breaks its rule.
 unfoldable pub judged_node : Facts → ℕ → Node → Result Node Fault
 judged_node facts number node =
     refused_if (nat_le most_nodes (length facts.nodes)) (nowhere LIMIT)
     (refused_if (not (obeys_node (variables_of facts.columns) facts.nodes number node)) (nowhere NODE) (Ok node))
 
--- what is held after its line
+-- the facts after the line of a node
 abbrev pub with_node : Facts → ℕ → Node → Result Facts Fault
 with_node facts number node =
     judged_node facts number node >>= λ node. Ok (record facts { nodes = facts.nodes ++ node ∷ [] })
 
--- A chain that may come next under a number, if its line's words name columns: 604 where there is no room, and then 603
--- where they don't, or it breaks its rule.
+-- A chain that is valid as the next one, under this number. At the limit it is 604, else 603 if a
+-- word of its line isn't a column's name, or if it breaks its rule.
 abbrev pub judged_if_named : Facts → ℕ → Option Chain → Result Chain Fault
 judged_if_named facts number None = Err (nowhere CHAIN_ROW)
 judged_if_named facts number (Some chain) =
@@ -62,23 +65,24 @@ unfoldable pub judged_chain : Facts → ℕ → Option Chain → Result Chain Fa
 judged_chain facts number named =
     refused_if (nat_le most_chains (length facts.chains)) (nowhere LIMIT) (judged_if_named facts number named)
 
--- what is held after its line
+-- the facts after the line of a chain
 abbrev pub with_chain : Facts → ℕ → Option Chain → Result Facts Fault
 with_chain facts number named =
     judged_chain facts number named >>= λ chain. Ok (record facts { chains = facts.chains ++ chain ∷ [] })
 
--- A product row that may come next under a number: 604 where there is no room, and then 602 where it breaks its rule.
+-- A product row that is valid as the next one, under this number. At the limit it is 604, else 602
+-- if it breaks its rule.
 unfoldable pub judged_product : Facts → ℕ → Product → Reason → Result Product Fault
 judged_product facts number row reason =
     refused_if (nat_le most_products (length facts.products)) (nowhere LIMIT)
     (refused_if (not (obeys_product (variables_of facts.columns) facts.nodes facts.products number row reason))
     (nowhere PRODUCT_ROW) (Ok row))
 
--- what is held after its line
+-- the facts after the line of a product row
 abbrev pub with_product : Facts → ℕ → Product → Reason → Result Facts Fault
 with_product facts number row reason =
     judged_product facts number row reason >>= λ row. Ok (record facts { products = facts.products ++ row ∷ [] })
 
--- one of 601 to 604, or out of memory
+-- the error is one of 601 to 604, or out of memory
 abbrev pub is_diagram_fault : Fault → Bool
 is_diagram_fault fault = (nat_le NODE fault.code && nat_le fault.code LIMIT) || is_memory fault

@@ -1,4 +1,4 @@
--- Decision diagrams, after Bryant: nodes, and what they are worth under an assignment.
+-- Decision diagrams, after Bryant: nodes, and their values under an assignment.
 use Rattle.std.specs.Prelude.{◌≡◌, ◌<◌, ℕ, ◌+◌, ◌-◌, Bool, true, false, List, [], ◌∷◌, ◌++◌, length, Option, Some, None, slice_get, slice_index_or, if◌then◌else◌, ◌&&◌, ◌==◌, nat_lt}
 use Rattle.bw_model.specs.Variable.{Assignment}
 use Rattle.bw_diagram.specs.declared.node.Node.{Node}
@@ -10,31 +10,31 @@ is_node nodes number = nat_lt number (2 + length nodes)
 abbrev pub IsNode : List Node → ℕ → Type 0
 IsNode nodes number = number < 2 + length nodes
 
--- the node of a number; a terminal tests nothing, and has none
+-- the node of a number; a terminal has none, as it tests nothing
 abbrev pub node_at : List Node → ℕ → Option Node
 node_at nodes number = if nat_lt number 2 then None else slice_get nodes (number - 2)
 
--- the child on the side of a bit
+-- the child for a bit
 abbrev pub child : Bool → Node → ℕ
 child true node = node.high
 child false node = node.low
 
--- what a node is worth, from the values of all that come before it: its high child's value where its variable is 1,
--- else its low child's
+-- the value of a node, from the values of all nodes before it: that of its high child if its
+-- variable is 1, else that of its low child
 abbrev pub chosen : Assignment → List Bool → Node → Bool
 chosen assignment before node = slice_index_or before (child (assignment node.v) node) false
 
--- some values, and then those of nodes that come after them
+-- these values, followed by those of the next nodes
 abbrev pub values_from : Assignment → List Bool → List Node → List Bool
 values_from assignment before [] = before
 values_from assignment before (node ∷ nodes) = values_from assignment (before ++ chosen assignment before node
     ∷ []) nodes
 
--- What a node is worth under an assignment. The terminals are worth 0 and 1.
+-- The value of a node under an assignment. The terminals have the values 0 and 1.
 unfoldable pub node_value : List Node → Assignment → ℕ → Bool
 node_value nodes assignment number = slice_index_or (values_from assignment (false ∷ true ∷ []) nodes) number false
 
--- the child of a node on the side of a variable's bit, if it tests that variable, and else the node itself
+-- the child of a node for a variable's bit, if the node tests that variable, else the node itself
 abbrev pub child_if_tested : ℕ → Bool → ℕ → Option Node → ℕ
 child_if_tested v bit number None = number
 child_if_tested v bit number (Some node) = if node.v == v then child bit node else number
@@ -42,11 +42,12 @@ child_if_tested v bit number (Some node) = if node.v == v then child bit node el
 unfoldable pub cofactor : List Node → ℕ → Bool → ℕ → ℕ
 cofactor nodes v bit number = child_if_tested v bit number (node_at nodes number)
 
--- A node of this number may come next: it tests one of so many variables, and its children are smaller.
+-- A node of this number is valid as the next one: it tests one of the variables, and its children
+-- have smaller numbers.
 unfoldable pub obeys_node : ℕ → List Node → ℕ → Node → Bool
 obeys_node variables nodes number node =
     (number == 2 + length nodes) && nat_lt node.v variables && nat_lt node.low number && nat_lt node.high number
 
--- each node's children are smaller than the node
+-- each node's children have smaller numbers than the node
 abbrev pub AreOrdered : List Node → Type 0
 AreOrdered nodes = (k : ℕ) (node : Node) (bit : Bool) → slice_get nodes k ≡ Some node → child bit node < 2 + k

@@ -1,4 +1,4 @@
--- Product rows: what they claim of every assignment, and by which rule they may come next.
+-- Product rows: what they claim of every assignment, and the rule by which they are accepted.
 use Rattle.std.specs.Prelude.{◌≡◌, ℕ, Bool, true, false, not, List, length, Option, Some, None, slice_get, ◌&&◌, ◌||◌, ◌==◌, nat_lt}
 use Rattle.bw_model.specs.Variable.{Assignment}
 use Rattle.bw_diagram.specs.declared.node.Node.{Node}
@@ -17,7 +17,8 @@ joined Xor a true = not a
 joined Xor a false = a
 joined Diff a b = a && not b
 
--- What a product row claims: its nodes are nodes, and under every assignment c is the connective of a and b.
+-- What a product row claims: its nodes are nodes, and under every assignment c is the connective of
+-- a and b.
 pub record IsProduct (nodes : List Node) (row : Product) : Type 0 where
   pub a_node : IsNode nodes row.a
   pub b_node : IsNode nodes row.b
@@ -25,8 +26,9 @@ pub record IsProduct (nodes : List Node) (row : Product) : Type 0 where
   pub joins : (assignment : Assignment) → node_value nodes assignment row.c
       ≡ joined row.op (node_value nodes assignment row.a) (node_value nodes assignment row.b)
 
--- The shortcuts, in which x is any node: for AND (0,x,0) (x,0,0) (1,x,x) (x,1,x) (x,x,x), for OR (0,x,x) (x,0,x)
--- (1,x,1) (x,1,1) (x,x,x), for XOR (0,x,x) (x,0,x) (x,x,0), for DIFF (0,x,0) (x,0,x) (x,x,0) (x,1,0).
+-- The shortcuts, in which x is any node: for AND (0,x,0) (x,0,0) (1,x,x) (x,1,x) (x,x,x), for OR
+-- (0,x,x) (x,0,x) (1,x,1) (x,1,1) (x,x,x), for XOR (0,x,x) (x,0,x) (x,x,0), for DIFF (0,x,0)
+-- (x,0,x) (x,x,0) (x,1,0).
 unfoldable pub is_shortcut : Connective → ℕ → ℕ → ℕ → Bool
 is_shortcut And a b c =
     (a == 0 && c == 0) || (b == 0 && c == 0) || (a == 1 && c == b) || (b == 1 && c == a) || (a == b && c == a)
@@ -56,12 +58,12 @@ same_connective Diff Xor = false
 abbrev pub same_product : Product → Product → Bool
 same_product row other = same_connective row.op other.op && row.a == other.a && row.b == other.b && row.c == other.c
 
--- there is a row, and it is this one
+-- there is a product row of this number, and it is this one
 abbrev pub is_product : Product → Option Product → Bool
 is_product row None = false
 is_product row (Some other) = same_product other row
 
--- a row of the cofactors of a row's nodes
+-- the product row of the cofactors of a row's nodes
 abbrev pub cofactor_product : List Node → ℕ → Bool → Product → Product
 cofactor_product nodes v bit row = record {
   op = row.op;
@@ -70,14 +72,14 @@ cofactor_product nodes v bit row = record {
   c = cofactor nodes v bit row.c;
 }
 
--- why a row follows from the rows before it, under so many variables
+-- the row follows from the rows before it, for this reason
 abbrev pub follows : ℕ → List Node → List Product → Product → Reason → Bool
 follows variables nodes rows row Shortcut = is_shortcut row.op row.a row.b row.c
 follows variables nodes rows row (Cofactors v i j) =
     nat_lt v variables && is_product (cofactor_product nodes v false row) (slice_get rows i)
     && is_product (cofactor_product nodes v true row) (slice_get rows j)
 
--- A row of this number may come next.
+-- A product row of this number is valid as the next one.
 unfoldable pub obeys_product : ℕ → List Node → List Product → ℕ → Product → Reason → Bool
 obeys_product variables nodes rows number row reason =
     (number == length rows) && is_node nodes row.a && is_node nodes row.b && is_node nodes row.c

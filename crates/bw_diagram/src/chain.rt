@@ -5,7 +5,7 @@ ghost use Rattle.bw_diagram.specs.Chain.{outcome, first_node, node_of, prev_of, 
 
 use crate::node::{Node, cofactor, node_at};
 
-/// What a chain's node compares: `Less` is "less than", `Equal` is "equal to".
+/// The comparison of a chain's node: `Less` is "less than", `Equal` is "equal to".
 #[derive(Clone, Copy, PartialEq, Eq)]
 pub enum ChainKind {
     Less,
@@ -15,8 +15,8 @@ pub enum ChainKind {
 /// A chain row: a node that compares numbers. `prev` is the chain of one bit less.
 #[derive(Clone, Copy)]
 pub enum Chain {
-    /// The node is 1 exactly where the number that bits `start` to `start + len - 1` of the column spell is
-    /// less than (equal to) `bound`.
+    /// The node is 1 exactly if the number that bits `start` to `start + len - 1` of the column
+    /// spell is less than (equal to) `bound`.
     One {
         kind: ChainKind,
         col: u32,
@@ -26,8 +26,8 @@ pub enum Chain {
         node: u32,
         prev: Option<u32>,
     },
-    /// The node is 1 exactly where the number of the low `len` bits of column `left` is less than (equal to)
-    /// that of column `right`. Bits from a column's width on are 0.
+    /// The node is 1 exactly if the number of the low `len` bits of column `left` is less than
+    /// (equal to) that of column `right`. Bits from a column's width on are 0.
     Two {
         kind: ChainKind,
         left: u32,
@@ -39,7 +39,7 @@ pub enum Chain {
 }
 
 impl ChainKind {
-    /// The node that is worth whether a number without bits compares so to another.
+    /// Returns the node of a comparison of two numbers without bits.
     pub(crate) const fn first_node(self) -> u32
         ensures { result ≡ first_node self }
     {
@@ -49,8 +49,8 @@ impl ChainKind {
         }
     }
 
-    /// The node of a comparison of numbers with these top bits, where that of the numbers below the top bits
-    /// is `e`.
+    /// Returns the node of a comparison of numbers with these top bits, if `e` is the node of the
+    /// comparison of the numbers below the top bits.
     pub(crate) const fn outcome(self, x: bool, y: bool, e: u32) -> u32
         ensures { result ≡ outcome self x y e }
     {
@@ -63,7 +63,7 @@ impl ChainKind {
 }
 
 impl Chain {
-    /// What its node compares.
+    /// Returns the kind of its comparison.
     pub(crate) const fn kind(self) -> ChainKind
         ensures { result ≡ kind_of self }
     {
@@ -72,7 +72,7 @@ impl Chain {
         }
     }
 
-    /// How many bits it compares.
+    /// Returns how many bits it compares.
     pub(crate) const fn len(self) -> u32
         ensures { result ≡ length_of self }
     {
@@ -81,7 +81,7 @@ impl Chain {
         }
     }
 
-    /// Its node.
+    /// Returns its node.
     pub(crate) const fn node(self) -> u32
         ensures { result ≡ node_of self }
     {
@@ -90,7 +90,7 @@ impl Chain {
         }
     }
 
-    /// The chain of one bit less.
+    /// Returns the number of the chain of one bit less.
     pub(crate) const fn prev(self) -> Option<u32>
         ensures { result ≡ prev_of self }
     {
@@ -99,8 +99,8 @@ impl Chain {
         }
     }
 
-    /// The node of another chain, if it compares the same over the bits below this chain's top bit, of which
-    /// there are so many.
+    /// Returns the node of another chain, if it is the same comparison over the `lower` bits below
+    /// this chain's top bit.
     pub(crate) fn node_of_lower(self, lower: u32, other: Chain) -> Option<u32>
         requires { lower < 63 }
         ensures { result ≡ node_of_lower self lower other }
@@ -122,7 +122,8 @@ impl Chain {
         }
     }
 
-    /// Its node, if it is a chain over one column of this kind, column, start, length and bound.
+    /// Returns its node, if it is a chain over one column of this kind, column, start, length and
+    /// bound.
     pub(crate) fn node_of_one(
         self,
         kind: ChainKind,
@@ -147,7 +148,8 @@ impl Chain {
         }
     }
 
-    /// Its node, if it is a chain over two columns of this kind, these columns and this length.
+    /// Returns its node, if it is a chain over two columns of this kind, these columns and this
+    /// length.
     pub(crate) fn node_of_two(self, kind: ChainKind, left: u32, right: u32, len: u32) -> Option<u32>
         ensures { result ≡ node_of_two kind left right len self }
     {
@@ -165,7 +167,8 @@ impl Chain {
     }
 }
 
-/// Whether a node tests a variable and has these children, or they are the same, and it is they.
+/// Returns whether the node chooses between two nodes by a variable: it tests the variable and has
+/// them as children, or they are the same and it is that node.
 pub(crate) fn is_choice(nodes: &[Node], v: u32, low: u32, high: u32, node: u32) -> bool
     ensures { result ≡ is_choice nodes.now v low high node }
 {
@@ -176,7 +179,7 @@ pub(crate) fn is_choice(nodes: &[Node], v: u32, low: u32, high: u32, node: u32) 
     tested || (low == high && node == low)
 }
 
-/// What stands after a chain's number in its line. Columns are words, which may name none.
+/// The fields after a chain's number in its line. Columns are words, which may be no column's name.
 #[derive(Drop)]
 pub enum ChainColumns {
     /// `LT|EQ column start len bound node prev`, the last a number or `-`.

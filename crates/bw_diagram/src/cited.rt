@@ -1,4 +1,4 @@
-//! What is cited of a diagram: nodes, by the rows and chains that say what they are worth.
+//! The nodes that later lines reference, by the product rows and chains that state their values.
 ghost use Rattle.std.specs.Prelude.{◌≡◌};
 ghost use Rattle.bw_diagram.specs.Cited.{cited, chain_cited, two_cited, variable_cited, AreWorth};
 ghost use Rattle.bw_diagram.specs.Facts.{Facts, AreTrue};
@@ -8,8 +8,8 @@ use crate::diagram::Diagram;
 use crate::product::Connective;
 
 impl Diagram<'_> {
-    /// The node that product row `number` says to be the connective of `a` and `b`, or None where
-    /// it isn't a row of these.
+    /// Returns the node that product row `number` states to be the connective of `a` and `b`, or
+    /// None if it isn't a row of these.
     #[tactic(auto, unfolding(crate::specs::Cited::cited))]
     pub fn cited(&self, op: Connective, a: u64, b: u64, number: u64) -> Option<u64>
         ensures { result ≡ cited self.now op a b number }
@@ -22,8 +22,8 @@ impl Diagram<'_> {
         }
     }
 
-    /// The node by which chain `number` compares `len` bits of column `col`, from bit `start`
-    /// upwards, with `bound`, or None where it isn't a chain of these.
+    /// Returns the node by which chain `number` compares `len` bits of column `col`, from bit
+    /// `start` upwards, with `bound`, or None if it isn't a chain of these.
     #[tactic(auto, unfolding(crate::specs::Cited::chain_cited))]
     pub fn chain_cited(
         &self,
@@ -41,8 +41,8 @@ impl Diagram<'_> {
             .map(u64::from)
     }
 
-    /// The node by which chain `number` compares the low `len` bits of two columns, or None where
-    /// it isn't a chain of these.
+    /// Returns the node by which chain `number` compares the low `len` bits of two columns, or None
+    /// if it isn't a chain of these.
     #[tactic(auto, unfolding(crate::specs::Cited::two_cited))]
     pub fn two_cited(
         &self,
@@ -59,8 +59,8 @@ impl Diagram<'_> {
             .map(u64::from)
     }
 
-    /// Node `number`, or None where it isn't worth what variable `v` is: it tests it, with children
-    /// 0 and 1.
+    /// Returns `number`, or None if the node doesn't have the value of variable `v`: it must test
+    /// `v`, with children 0 and 1.
     #[tactic(auto, unfolding(crate::specs::Cited::is_variable))]
     pub fn variable_cited(&self, v: u32, number: u64) -> Option<u64>
         ensures { result ≡ variable_cited self.now v number }
@@ -74,7 +74,8 @@ impl Diagram<'_> {
     }
 }
 
-/// A law: where all that is held is true, so is all that can be cited.
+/// A law: if all facts of a diagram are true, every node that can be referenced has the value that
+/// the reference states.
 pub fn cited_nodes_are_worth()
     ensures { (facts : Facts) → AreTrue facts → AreWorth facts }
 {}

@@ -18,17 +18,17 @@ pub use laws::{accepted_lines_are_true, later_nodes_change_no_value, whole_colum
 use std::alloc::Global;
 use std::marker::Model;
 
-/// How many nodes a diagram has at most, terminals aside.
+/// The most nodes of a diagram, without the terminals.
 const MAX_NODES: usize = 65_534;
 
-/// How many chains a diagram has at most.
+/// The most chains of a diagram.
 const MAX_CHAINS: usize = 65_536;
 
-/// How many product rows a diagram has at most.
+/// The most product rows of a diagram.
 const MAX_PRODUCTS: usize = 1_048_576;
 
-/// Nodes, chains and product rows over the variables of a schema, each added by the rule of its line, so
-/// that each is true of every assignment. It is seen as what it holds.
+/// Nodes, chains and product rows over the variables of a schema. Each is added by the rule of its
+/// line, so each is true of every assignment. Its ghost value is these facts.
 #[derive(Drop)]
 pub struct Diagram<'a> {
     schema: &'a Schema,
@@ -51,7 +51,7 @@ impl<'a> Model for Diagram<'a> {
 }
 
 impl<'a> Diagram<'a> {
-    /// The diagram of the terminals alone.
+    /// Returns the diagram of the terminals only.
     pub fn new(alloc: Global, schema: &'a Schema) -> Self
         ensures { result ≡ no_facts schema.now.columns.items }
     {
@@ -64,8 +64,8 @@ impl<'a> Diagram<'a> {
         }
     }
 
-    /// Adds node `n`, which tests variable `v`: 604 where there is no room, 601 where `n` isn't the next
-    /// number, `v` no variable or a child not below `n`.
+    /// Adds node `n`, which tests variable `v`. Errors: 604 at the limit of nodes; 601 if `n` isn't
+    /// the next number, `v` no variable, or a child not less than `n`; 801 if memory is refused.
     pub fn add_node(&mut self, n: u64, v: u64, low: u64, high: u64) -> Result<(), Fault>
         ensures exact { Gives (λ _. self.new) result
             (with_node self.old n (record { v = v; low = low; high = high })) }
@@ -77,9 +77,13 @@ impl<'a> Diagram<'a> {
         Ok(())
     }
 
-    /// Adds chain `n`: 604 where there is no room, 603 where `n` isn't the next number, a column's word names
-    /// none, the bits aren't there, `prev` isn't the chain over the bits below the top bit, or the node doesn't
-    /// choose by the top bits between what follows from that chain's node.
+    /// Adds chain `n`. Errors: 604 at the limit of chains; 801 if memory is refused; and 603 if
+    ///
+    /// - `n` isn't the next number,
+    /// - a word isn't a column's name,
+    /// - the columns don't have these bits,
+    /// - `prev` isn't the chain over the bits below the top bit, or
+    /// - the node doesn't choose by the top bits between the nodes that follow from `prev`'s.
     pub fn add_chain(&mut self, n: u64, columns: &ChainColumns) -> Result<(), Fault>
         ensures exact { Gives (λ _. self.new) result
             (with_chain self.old n (chain_named self.old.columns columns.now)) }
@@ -91,8 +95,8 @@ impl<'a> Diagram<'a> {
         Ok(())
     }
 
-    /// Adds product row `n`: 604 where there is no room, 602 where `n` isn't the next number, `a`, `b` or `c`
-    /// no node, or the reason none.
+    /// Adds product row `n`. Errors: 604 at the limit of product rows; 602 if `n` isn't the next
+    /// number, `a`, `b` or `c` isn't a node, or the reason isn't one; 801 if memory is refused.
     pub fn add_row(
         &mut self,
         n: u64,
@@ -112,7 +116,7 @@ impl<'a> Diagram<'a> {
         Ok(())
     }
 
-    /// The node of these fields, if it may come next.
+    /// Returns the node of these fields, if it is valid as the next one.
     #[tactic(auto, unfolding(crate::specs::Facts::judged_node, crate::specs::Node::obeys_node))]
     fn accepted_node(&self, n: u64, v: u64, low: u64, high: u64) -> Result<Node, Fault>
         ensures judged { result ≡ judged_node self.now n (record { v = v; low = low; high = high }) }
@@ -135,7 +139,7 @@ impl<'a> Diagram<'a> {
         })
     }
 
-    /// The chain of a line, if it may come next.
+    /// Returns the chain of a line, if it is valid as the next one.
     #[tactic(auto, unfolding(crate::specs::Facts::judged_chain, crate::specs::Chain::obeys_chain))]
     fn accepted_chain(&self, n: u64, columns: &ChainColumns) -> Result<Chain, Fault>
         ensures judged { result ≡ judged_chain self.now n (chain_named self.now.columns columns.now) }
@@ -150,7 +154,7 @@ impl<'a> Diagram<'a> {
         }
     }
 
-    /// The product row of these fields, if it may come next.
+    /// Returns the product row of these fields, if it is valid as the next one.
     #[tactic(auto, unfolding(crate::specs::Facts::judged_product, crate::specs::Product::obeys_product))]
     fn accepted_row(
         &self,
@@ -183,21 +187,21 @@ impl<'a> Diagram<'a> {
         Ok(row)
     }
 
-    /// The node of a number. A terminal has none.
+    /// Returns the node of a number, or None for a terminal.
     pub fn node(&self, n: u64) -> Option<Node>
         ensures { result ≡ node_at self.now.nodes n }
     {
         node::node_at(&self.nodes, n)
     }
 
-    /// The chain of a number.
+    /// Returns the chain of a number.
     pub fn chain(&self, n: u64) -> Option<Chain>
         ensures { result ≡ slice_get self.now.chains n }
     {
         self.chains.get(n as usize).copied()
     }
 
-    /// The product row of a number.
+    /// Returns the product row of a number.
     pub fn row(&self, n: u64) -> Option<Product>
         ensures { result ≡ slice_get self.now.products n }
     {

@@ -1,15 +1,15 @@
-//! Decision diagrams as a certificate cites them: nodes, chains and product rows, each true of every
-//! assignment of bits to the variables of a schema.
+//! Decision diagrams as certificates reference them: nodes, chains and product rows, each true of
+//! every assignment of bits to the variables of a schema.
 //!
-//! The contract that the crates above use: what a [`Diagram`] holds is a list of nodes, one of chains and one
-//! of product rows. [`Diagram::add_node`], [`Diagram::add_chain`] and [`Diagram::add_row`] take a line exactly
-//! where it obeys the rule that `specs/Facts.antt` states on those lists, and what they hold is true: the laws
-//! [`Diagram::chains_are_true`] and [`Diagram::products_are_true`] say so for every assignment. No order of
-//! variables is asked for.
+//! The contract that the crates above use: a [`Diagram`] has a list of nodes, one of chains and one
+//! of product rows. [`Diagram::add_node`], [`Diagram::add_chain`] and [`Diagram::add_row`] accept a
+//! line if and only if it satisfies the rule that `specs/Facts.antt` states on these lists. By the
+//! laws [`Diagram::chains_are_true`] and [`Diagram::products_are_true`], the accepted facts are
+//! true of every assignment. Variables may be tested in any order.
 //!
-//! The diagrams and the products of nodes are those of Bryant (Graph-Based Algorithms for Boolean Function
-//! Manipulation, 1986). The chains and the lines' rules are this project's own. Read `diagram.rt` first, and
-//! then `specs/Facts.antt`.
+//! The diagrams and the products of nodes are those of Bryant (Graph-Based Algorithms for Boolean
+//! Function Manipulation, 1986). The chains and the rules of lines are this project's own. Read
+//! `diagram.rt` first, then `specs/Facts.antt`.
 #![tactic(auto)]
 
 mod chain;

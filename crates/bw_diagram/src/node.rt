@@ -2,8 +2,8 @@
 ghost use Rattle.std.specs.Prelude.{◌≡◌};
 ghost use Rattle.bw_diagram.specs.Node.{node_at, child, cofactor};
 
-/// A node of the diagram: it is worth its high child where variable `v` is 1, else its low child. Children
-/// are nodes of smaller numbers, of which 0 and 1 are the terminals.
+/// A node of the diagram: its value is that of its high child if variable `v` is 1, else that of
+/// its low child. Children are nodes of smaller numbers, of which 0 and 1 are the terminals.
 #[derive(Clone, Copy)]
 pub struct Node {
     pub v: u32,
@@ -12,7 +12,7 @@ pub struct Node {
 }
 
 impl Node {
-    /// The child on the side of a bit.
+    /// Returns the child for a bit.
     fn child(self, bit: bool) -> u32
         ensures { result ≡ child bit self }
     {
@@ -20,7 +20,7 @@ impl Node {
     }
 }
 
-/// The node of a number, if it is no terminal.
+/// Returns the node of a number, or None for a terminal.
 pub(crate) fn node_at(nodes: &[Node], number: u64) -> Option<Node>
     ensures { result ≡ node_at nodes.now number }
 {
@@ -30,7 +30,8 @@ pub(crate) fn node_at(nodes: &[Node], number: u64) -> Option<Node>
     nodes.get((number - 2) as usize).copied()
 }
 
-/// The child of a node on the side of a variable's bit, if it tests that variable, and else the node itself.
+/// Returns the child of a node for a variable's bit, if the node tests that variable, else the node
+/// itself.
 #[tactic(auto, unfolding(crate::specs::Node::cofactor))]
 pub(crate) fn cofactor(nodes: &[Node], v: u64, bit: bool, number: u32) -> u32
     ensures { result ≡ cofactor nodes.now v bit number }

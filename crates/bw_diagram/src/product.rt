@@ -1,4 +1,4 @@
-//! Product rows: that a node is a connective of two others, and why.
+//! Product rows: each states that a node is a connective of two others, and why.
 ghost use Rattle.std.specs.Prelude.{◌≡◌, slice_get};
 ghost use Rattle.bw_diagram.specs.Product.{is_shortcut, is_product, same_product, cofactor_product, follows};
 
@@ -25,14 +25,15 @@ pub struct Product {
 /// Why a product row is true.
 #[derive(Clone, Copy)]
 pub enum Reason {
-    /// It is one of the shortcuts of its connective, as `x AND x` is `x`.
+    /// It is one of its connective's shortcuts, as `x AND x` is `x`.
     Shortcut,
-    /// Two earlier rows say it of the cofactors: row `i` where variable `v` is 0, row `j` where it is 1.
+    /// Two earlier rows state it of the cofactors: row `i` if variable `v` is 0, row `j` if it is
+    /// 1.
     Cofactors { v: u64, i: u64, j: u64 },
 }
 
 impl Product {
-    /// Whether the row is a shortcut of its connective.
+    /// Returns whether the row is a shortcut of its connective.
     #[tactic(auto, unfolding(crate::specs::Product::is_shortcut))]
     fn is_shortcut(self) -> bool
         ensures { result ≡ is_shortcut self.op self.a self.b self.c }
@@ -60,7 +61,7 @@ impl Product {
         }
     }
 
-    /// The row of the cofactors of its nodes.
+    /// Returns the product row of its nodes' cofactors.
     fn cofactor(self, nodes: &[Node], v: u64, bit: bool) -> Self
         ensures { result ≡ cofactor_product nodes.now v bit self }
     {
@@ -72,7 +73,7 @@ impl Product {
         }
     }
 
-    /// Whether this is the row of a number.
+    /// Returns whether this is the product row of a number.
     fn is_at(self, rows: &[Product], number: u64) -> bool
         ensures { result ≡ is_product self (slice_get rows.now number) }
     {
@@ -82,7 +83,7 @@ impl Product {
         }
     }
 
-    /// Whether the row follows from the rows before it, for a reason.
+    /// Returns whether the row follows from the rows before it, for this reason.
     pub(crate) fn follows(
         self,
         variables: u32,

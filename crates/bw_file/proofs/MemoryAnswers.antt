@@ -1,4 +1,5 @@
--- What is answered of a file once memory has run out, or by a later read; and groups that come one after the other.
+-- What is answered of a file once memory has run out, or by a later read; and groups that come one
+-- after the other.
 use Rattle.std.proofs.Common.{◌≡◌, ◌∙◌, ℕ, ◌+◌, List, [], ◌∷◌, ◌++◌, true, false, inl, sym, ap, append_assoc, arith}
 use Rattle.std.proofs.lemmas.List.{append-nil}
 use Rattle.bw_model.specs.declared.fault.Fault.{Fault}

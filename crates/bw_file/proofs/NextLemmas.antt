@@ -89,7 +89,8 @@ module _ {S : Type 0} {source next_source : S} {old now : State} {reader next : 
   segment_of (gives unsettled gave) = gave
   segment_of {segment} (repeats again) = absurd (no_segment_again segment again.answer again.again)
 
-  -- where nothing was settled, None tells of a file that was read whole, and a fault is the first one
+  -- where nothing was settled, None tells of a file that was read whole, and a fault is the first
+  -- one
   pub end_of : GivesNext source next_source old now reader next (Ok None) → settled reader ≡ None → EndedWhole old now reader next
   end_of (ends _ ended) unsettled = ended
   end_of (repeats again) unsettled = absurd (cc (again.was_settled, unsettled))

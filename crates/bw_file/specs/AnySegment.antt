@@ -1,4 +1,4 @@
--- What a segment in either layout means, and its layout.
+-- The meaning of a segment in either layout, and its layout.
 use Rattle.bw_device.specs.Shared.{bytes_in}
 use Rattle.bw_planes.specs.Planes.{plane_packing}
 use Rattle.bw_slices.specs.Slices.{slice_packing}
@@ -15,13 +15,13 @@ any_meaning (Planes segment) =
 any_meaning (Slices segment) =
     meaning_spelled slice_packing segment.placement.value.schema segment.rows (bytes_in segment.bytes)
 
--- which is one group's rows
+-- which is the rows of one group
 pub any_is_group : (segment : AnySegment) → IsGroup (any_meaning segment)
 unfolding any_meaning
 any_is_group (Planes segment) = segment.packed.group
 any_is_group (Slices segment) = segment.packed.group
 
--- the layout that the segment is kept in
+-- the layout of the segment
 abbrev pub any_layout : AnySegment → Layout
 any_layout (Planes segment) = layouts.Planes
 any_layout (Slices segment) = layouts.Slices

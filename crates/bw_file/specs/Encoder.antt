@@ -1,4 +1,4 @@
--- What an encoder holds of the rows that were added to it.
+-- The rows that an encoder contains.
 use Rattle.std.specs.Prelude.{◌≡◌, ℕ, ◌*◌, List, ◌++◌, length}
 use Rattle.bw_model.specs.declared.schema.Schema.{Schema}
 use Rattle.bw_model.specs.Groups.{group_size}
@@ -18,15 +18,15 @@ encoder_layout encoder = encoder.layout
 abbrev pub rows_in : Encoder → ℕ
 rows_in encoder = encoder.rows
 
--- these are the bytes of these rows, but that the header tells of no rows yet
+-- these are the bytes of these rows, except that the header still states no rows
 abbrev pub IsBytesOf : Layout → Schema → List ℕ → List (List Value) → Type 0
 IsBytesOf layout schema bytes rows =
     bytes ≡ header_bytes (version_for schema.columns.items) layout schema.name schema.columns.items 0
     ++ segments_bytes layout schema.columns.items rows
 
--- The encoder was given these rows, which the columns admit: the bytes of the groups that are whole,
--- after a header that tells of no rows yet, and less than a group that isn't yet in the bytes, or one
--- that is just whole, which it keeps by columns.
+-- The encoder contains these rows, which the columns admit. The bytes are a header that still
+-- states no rows, and the segments of the first groups. The other rows, at most one group, are
+-- stored by columns.
 pub record Holds (encoder : Encoder) (rows : List (List Value)) : Type 0 where
   pub before : List (List Value)
   pub group : List (List Value)
@@ -39,14 +39,14 @@ pub record Holds (encoder : Encoder) (rows : List (List Value)) : Type 0 where
   pub count : length rows ≡ encoder.rows
   pub admitted : AreRows encoder.placement.schema.columns.items rows
 
--- the encoder, whichever rows it had been given, was given these too
+-- the encoder contains these rows after those that it had, whichever they were
 pub record TookRows (start : Encoder) (rows : List (List Value)) (now : Encoder) : Type 0 where
   pub layout : encoder_layout now ≡ encoder_layout start
   pub schema : encoder_schema now ≡ encoder_schema start
   pub holds : (before : List (List Value)) → Holds start before → Holds now (before ++ rows)
 
--- An encoder is as it was before a call, but for room in its memory: it writes the same table in the
--- same layout, with the same bytes and the same rows after it.
+-- An encoder is as it was before a call, except for the capacity of its memory: it has the same
+-- table, layout, bytes and rows.
 pub record IsAsBefore (old new : Encoder) : Type 0 where
   pub layout : new.layout ≡ old.layout
   pub schema : new.placement.schema ≡ old.placement.schema

@@ -14,11 +14,11 @@ use Rattle.bw_file.specs.declared.layout.Layout.{Layout}
 use Rattle.bw_file.specs.declared.layout.Layout.TheVariants.{Planes, Slices}
 use Rattle.bw_file.specs.Blocks.{segment_bytes}
 
--- the eight bytes that a table file begins with
+-- the first eight bytes of a table file
 unfoldable pub magic : List ℕ
 magic = codes "BWCOLUMN"
 
--- the byte that tells the layout
+-- the byte of a layout
 abbrev pub layout_byte : Layout → ℕ
 layout_byte Planes = 0
 layout_byte Slices = 1
@@ -27,32 +27,32 @@ abbrev pub flag_byte : Bool → ℕ
 flag_byte false = 0
 flag_byte true = 1
 
--- Numbers stand with their least byte first. The first sixteen bytes: the magic, a byte for the
--- version, one for the layout, the number of columns in two bytes and that of rows in four.
+-- Numbers are little-endian. The first sixteen bytes are the magic, a byte for the version, one for
+-- the layout, the number of columns in two bytes and that of rows in four.
 unfoldable pub front_bytes : ℕ → Layout → ℕ → ℕ → List ℕ
 front_bytes version layout columns rows =
     magic ++ (version ∷ layout_byte layout ∷ []) ++ to_le_bytes w16 columns ++ to_le_bytes w32 rows
 
--- a name, after a byte for its length
+-- a name, preceded by a byte for its length
 abbrev pub name_bytes : List ℕ → List ℕ
 name_bytes name = length name ∷ name
 
--- a bound in eight bytes, as two's complement
+-- a bound in eight bytes, in two's complement
 abbrev pub bound_bytes : ℤ → List ℕ
 bound_bytes n = to_le_bytes w64 (cast_unsigned w64 n)
 
--- a column: its name, its bounds, and 1 where it takes null, else 0
+-- a column: its name, its bounds, and 1 if it is nullable, else 0
 unfoldable pub column_bytes : List ℕ → ℤ → ℤ → Bool → List ℕ
 column_bytes name lo hi nullable =
     name_bytes name ++ (bound_bytes lo ++ bound_bytes hi) ++ flag_byte nullable ∷ []
 
--- the header of a table of so many rows
+-- the header of a table of `rows` rows
 unfoldable pub header_bytes : ℕ → Layout → List ℕ → List Column → ℕ → List ℕ
 header_bytes version layout name columns rows =
     front_bytes version layout (length columns) rows ++ name_bytes name
     ++ flat_map (λ column. column_bytes column.name column.lo column.hi column.nullable) columns
 
--- the segments of rows, in groups of 512
+-- the segments of the rows, in groups of 512
 unfoldable pub segments_bytes : Layout → List Column → List (List Value) → List ℕ
 segments_bytes layout columns rows = flat_map (segment_bytes layout columns) (groups_of rows)
 
@@ -68,7 +68,7 @@ bits_of_version version = if version == 1 then 32 else 63
 unfoldable pub are_bounds : ℕ → ℤ → ℤ → Bool
 are_bounds version lo hi = int_le lo hi && int_lt (hi -ℤ lo) (pos (2 ^ bits_of_version version))
 
--- version 1 where it has room for every column, and else version 2
+-- version 1 if every column fits it, else version 2
 abbrev pub version_for : List Column → ℕ
 version_for columns = if list_all (λ column. are_bounds 1 column.lo column.hi) columns then 1 else 2
 
@@ -80,12 +80,12 @@ file_bytes layout schema rows =
 abbrev pub file_bytes2 : Layout → Schema → List (List Value) → List ℕ
 file_bytes2 layout schema rows = bytes_of_version 2 layout schema.name schema.columns.items rows
 
--- at most 2^24 rows, which the columns admit
+-- the rows are at most 2^24, and the columns admit them
 pub record AreRows (columns : List Column) (rows : List (List Value)) : Type 0 where
   pub few : length rows ≤ most_rows
   pub admitted : list_all (admits_values columns) rows ≡ true
 
--- the bytes are those, of either version, of the table of these rows under this schema
+-- the bytes are those of the table of these rows under this schema, in version 1 or 2
 pub record IsFileBytes (bytes : List ℕ) (layout : Layout) (schema : Schema)
     (rows : List (List Value)) : Type 0 where
   pub under : IsSchema (schema_shape schema)

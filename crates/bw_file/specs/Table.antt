@@ -1,4 +1,4 @@
--- A table in memory, as what was found in a file.
+-- A table in memory, as it was found in a file.
 use Rattle.std.specs.Prelude.{map}
 use Rattle.bw_model.specs.Row.{values_of}
 use Rattle.bw_model.specs.SchemaText.{schema_shape}

@@ -1,4 +1,4 @@
--- What a reader of a table file knows, and what the bytes that came so far say.
+-- The state of a reader of a table file, and the meaning of the bytes that it has read.
 use Rattle.std.specs.Prelude.{◌≡◌, ℕ, ◌-◌, true, false, List, [], ◌∷◌, ◌++◌, ◌+◌, ◌<◌, ◌⊎◌, length, take, min, Option, Some, None, IfSome, Result, Ok, Err}
 use Rattle.std.specs.Io.KnownBytes.{IsAtEnd}
 use Rattle.bw_model.specs.FaultTable.{TRUNCATED, BYTES_AFTER_END}
@@ -21,14 +21,14 @@ use Rattle.bw_file.specs.TableReading.{HeaderShape, header, body, segment, group
 abbrev pub schema_in : TableReader → Schema
 schema_in reader = reader.placement.value.schema
 
--- the version that the header tells
+-- the version that the header states
 abbrev pub version_in : TableReader → ℕ
 version_in reader = reader.version
 
 abbrev pub layout_in : TableReader → Layout
 layout_in reader = reader.layout
 
--- how many rows the header tells of, how many were given, and how many bytes were taken
+-- the number of rows that the header states, of rows returned, and of bytes read
 abbrev pub rows_stated : TableReader → ℕ
 rows_stated reader = reader.rows
 
@@ -38,8 +38,8 @@ rows_given reader = reader.given
 abbrev pub bytes_taken : TableReader → ℕ
 bytes_taken reader = reader.offset
 
--- what the reader answers from now on without reading: nothing yet, that there is no more, or a
--- fault
+-- what the reader returns from now on without reading: nothing yet, that nothing follows, or an
+-- error
 abbrev pub settled_by : Phase → Option (Result (Unit {0}) Fault)
 settled_by Reading = None
 settled_by Ended = Some (Ok tt)
@@ -58,8 +58,8 @@ header_stated version reader =
       schema = schema_shape reader.placement.value.schema;
     }
 
--- A source, since the start of its file, gave the header that the reader tells of, and then these
--- groups of rows; reading goes on with those that are left, whatever stands there.
+-- From the start of the file, the source yielded the header that the reader states, and then these
+-- groups of rows. Reading continues with the other groups, whatever follows.
 pub record SoFar (start now : State) (reader : TableReader)
     (groups : List (List (List Value))) : Type 0 where
   pub after : State
@@ -71,7 +71,7 @@ pub record SoFar (start now : State) (reader : TableReader)
       (body reader.layout reader.placement.value.schema.columns.items
       (group_sizes (reader.rows - reader.given)) groups) now
 
--- the reader tells of the same table
+-- the reader states the same table
 pub record SameTable (old new : TableReader) : Type 0 where
   pub version : new.version ≡ old.version
   pub layout : new.layout ≡ old.layout
@@ -83,12 +83,13 @@ abbrev pub found_so_far : TableReader → List (List (List Value)) → Found
 found_so_far reader groups =
     found_as reader.layout (schema_shape reader.placement.value.schema) (together groups)
 
--- Each proper front of the bytes ends too early: a file of so many of them, the first ones, is refused by 305, at its
--- own end. So none of them could be spared.
+-- Each proper prefix of the bytes ends too early: a file of only these bytes is rejected by 305, at
+-- its own end. So reading depends on each byte.
 abbrev pub FrontsEndEarly : List ℕ → Type 0
 FrontsEndEarly bytes = (n : ℕ) → n < length bytes → IsReadAs (take n bytes) (Err (at_byte TRUNCATED n))
 
--- all bytes were taken, none of which could be spared, with no failed read, and they are read as this
+-- all bytes were read, each of which reading depends on, with no failed read, and they spell this
+-- table
 pub record ReadWhole (start now : State) (found : Found) : Type 0 where
   pub bytes : List ℕ
   pub took : Took start now bytes
@@ -97,32 +98,33 @@ pub record ReadWhole (start now : State) (found : Found) : Type 0 where
   pub ended : IsAtEnd now.known
   pub read : IsReadAs bytes (Ok found)
 
--- so many of the bytes, the first ones, don't have this fault: they end too early; or they are a
--- table's, and it is a byte after them
+-- the first n bytes don't have this error: they end too early; or they spell a table, and the error
+-- is a byte after them
 abbrev pub LacksFault : List ℕ → ℕ → Fault → Type 0
 LacksFault bytes n fault =
     IsReadAs (take n bytes) (Err (at_byte TRUNCATED n))
     ⊎ ((found : Found) × IsReadAs (take n bytes) (Ok found) × (fault ≡ at_byte BYTES_AFTER_END n))
 
--- none of the bytes could be spared: fewer of them lack this fault
+-- reading depends on each of the bytes: fewer of them lack this error
 abbrev pub NoneToSpare : List ℕ → Fault → Type 0
 NoneToSpare bytes fault = (n : ℕ) → n < length bytes → LacksFault bytes n fault
 
--- bytes, and some after them, which are those to come where they are known, are read as this fault
+-- these bytes, and others after them, which are the unread ones if those are known, are read as
+-- this error
 pub record HasFirstFault (now : State) (bytes : List ℕ) (fault : Fault) : Type 0 where
   pub rest : List ℕ
   pub coming : IfSome now.known (λ known. known ≡ rest)
   pub read : IsReadAs (bytes ++ rest) (Err fault)
 
--- bytes that don't settle whether a file has a fault: they end too early; or they are a table's,
--- and a byte after them would be one
+-- the bytes don't settle whether a file has an error: they end too early; or they spell a table,
+-- and a byte after them would be an error
 abbrev pub AreUnfinished : List ℕ → Type 0
 AreUnfinished bytes =
     IsReadAs bytes (Err (at_byte TRUNCATED (length bytes))) ⊎ ((found : Found) × IsReadAs bytes (Ok found))
 
--- Since the start of the file bytes were taken, none of which could be spared, and a fault was
--- answered: that of a failed read, where another byte or the end was to be seen; out of memory; or
--- the file's first fault.
+-- Since the start of the file, bytes were read, each of which reading depends on, and an error was
+-- returned: that of a failed read, if another byte or the end was needed; out of memory; or the
+-- file's first error.
 pub record AnswersFault (start old now : State) (fault : Fault) : Type 0 where
   pub bytes : List ℕ
   pub took : Took start now bytes
@@ -131,86 +133,87 @@ pub record AnswersFault (start old now : State) (fault : Fault) : Type 0 where
   pub failures : now.failures ≡ old.failures + failed_reads fault
   pub first : is_input_fault fault ≡ false → HasFirstFault now bytes fault
 
--- these bytes, from a place on, aren't all that a reader wants next: there is none, or there are too
--- few for a segment of the 512 rows that come next, or of the rows that are left
+-- these bytes, read at this place, don't suffice: there is none, or they are too few for a segment
+-- of the next 512 rows, or of the remaining rows
 abbrev pub WantsMore : TableReader → ℕ → List ℕ → Type 0
 WantsMore reader at bytes =
     (bytes ≡ []) ⊎ NeedsMore (segment (layout_in reader) (schema_in reader).columns.items
     (min group_size (rows_stated reader - rows_given reader))) at bytes
 
--- a segment of the reader's table, in the file's layout, of the 512 rows that come next, or of the rows
--- that are left
+-- a segment of the reader's table, in the file's layout, of the next 512 rows or of the remaining
+-- ones
 pub record IsSegmentOf (reader : TableReader) (segment : AnySegment) : Type 0 where
   pub layout : any_layout segment ≡ reader.layout
   pub name : (any_meaning segment).name ≡ reader.placement.value.schema.name
   pub columns : (any_meaning segment).columns ≡ reader.placement.value.schema.columns.items
   pub count : length (any_meaning segment).rows ≡ min group_size (reader.rows - reader.given)
 
--- A call gave the next segment.
+-- A call returned the next segment.
 pub record GaveSegment (old now : State) (reader next : TableReader) (segment : AnySegment) : Type 0 where
-  -- it is one of the reader's table, of the rows that come next
+  -- it is a segment of the reader's table, of the next rows
   pub of_table : IsSegmentOf reader segment
-  -- its rows come after the groups so far
+  -- its rows follow the groups so far
   pub after : (start : State) (groups : List (List (List Value))) → SoFar start old reader groups
       → SoFar start now next (groups ++ (any_meaning segment).rows ∷ [])
-  -- they are counted
+  -- its rows are counted
   pub counted : rows_given next ≡ rows_given reader + length (any_meaning segment).rows
-  -- these bytes were taken, and no read failed
+  -- these bytes were read, and no read failed
   pub bytes : List ℕ
   pub took : Took old now bytes
   pub failures : now.failures ≡ old.failures
-  -- the reader goes on
+  -- the reader continues
   pub goes_on : settled next ≡ None
-  -- it tells of the same table
+  -- it states the same table
   pub same : SameTable reader next
 
--- A call saw that the file ends after the groups so far.
+-- A call found that the file ends after the groups so far.
 pub record EndedWhole (old now : State) (reader next : TableReader) : Type 0 where
-  -- the file was read whole, and is a table's of the rows of these groups
+  -- the file was read completely, and spells a table of the rows of these groups
   pub whole : (start : State) (groups : List (List (List Value))) → SoFar start old reader groups
       → ReadWhole start now (found_so_far reader groups)
-  -- they are the groups of all rows
+  -- these are the groups of all rows
   pub groups : (start : State) (groups : List (List (List Value))) → SoFar start old reader groups
       → groups ≡ groups_of (together groups)
   -- no row was counted
   pub counted : rows_given next ≡ rows_given reader
-  -- no byte was taken, and no read failed
+  -- no byte was read, and no read failed
   pub took : Took old now []
   pub failures : now.failures ≡ old.failures
-  -- the reader answers from now on that there is no more
+  -- the reader returns from now on that nothing follows
   pub settles : settled next ≡ Some (Ok tt)
-  -- it tells of the same table
+  -- it states the same table
   pub same : SameTable reader next
 
--- A call refused by this fault.
+-- A call failed by this error.
 pub record Refused (old now : State) (reader next : TableReader) (fault : Fault) : Type 0 where
-  -- it is the file's first fault, a failed read or out of memory, and no byte was taken that isn't needed to tell
+  -- it is the file's first error, a failed read or out of memory, and reading depends on each byte
+  -- that was read
   pub answers : (start : State) (groups : List (List (List Value))) → SoFar start old reader groups
       → AnswersFault start old now fault
-  -- it is one of those by which a table file is refused
+  -- it is an error of table files
   pub own : IsTableFault fault
   -- no row was counted
   pub counted : rows_given next ≡ rows_given reader
-  -- these bytes were taken, and the fault is that of a failed read exactly where one failed
+  -- these bytes were read, and the error is that of a failed read exactly if one failed
   pub bytes : List ℕ
   pub took : Took old now bytes
   pub failures : now.failures ≡ old.failures + failed_reads fault
-  -- where a read failed, more was wanted than these bytes
+  -- if a read failed, more than these bytes was needed
   pub unfinished : is_read_fault fault ≡ true → WantsMore reader old.offset bytes
-  -- the reader answers this fault from now on
+  -- the reader returns this error from now on
   pub settles : settled next ≡ Some (Err fault)
-  -- it tells of the same table
+  -- it states the same table
   pub same : SameTable reader next
 
--- a call answered what was settled
+-- a call returned what was settled
 abbrev pub Repeats : Result (Option AnySegment) Fault → Result (Unit {0}) Fault → Type 0
 Repeats result (Ok x) = result ≡ Ok None
 Repeats result (Err fault) = (result ≡ Err fault) × IsTableFault fault
 
--- A call repeated what an earlier one had answered, and changed nothing.
+-- A call repeated the result of an earlier one, and changed nothing.
 pub record Repeated {S : Type 0} (source next_source : S) (reader next : TableReader)
     (result : Result (Option AnySegment) Fault) : Type 0 where
-  -- that there is no more, or a fault, which was settled
+  -- the settled result: that nothing follows, or an error
   pub answer : Result (Unit {0}) Fault
   pub was_settled : settled reader ≡ Some answer
   pub again : Repeats result answer
@@ -218,8 +221,9 @@ pub record Repeated {S : Type 0} (source next_source : S) (reader next : TableRe
   pub same_reader : next ≡ reader
   pub same_source : next_source ≡ source
 
--- What a call did that is to give the next segment, and how it left the reader and the source. It gave the segment; or
--- it saw the end, with the file whole; or it refused by the first fault; or it repeated what an earlier call answered.
+-- What a call for the next segment did, and how it left the reader and the source. It returned the
+-- segment; it found the end of a complete file; it failed by the first error; or it repeated the
+-- result of an earlier call.
 pub data GivesNext {S : Type 0} (source next_source : S) (old now : State) (reader next : TableReader) :
     Result (Option AnySegment) Fault → Type 0 where
   gives : {segment : AnySegment} → settled reader ≡ None → GaveSegment old now reader next segment →
@@ -231,8 +235,8 @@ pub data GivesNext {S : Type 0} (source next_source : S) (old now : State) (read
   repeats : {result : Result (Option AnySegment) Fault} → Repeated source next_source reader next result →
       GivesNext source next_source old now reader next result
 
--- The reader tells of a table of this layout, schema and number of rows, and these groups are the
--- first ones of its rows.
+-- The reader states this layout, schema and number of rows, and these groups are the first ones of
+-- the rows.
 pub record GaveFirst (reader : TableReader) (groups : List (List (List Value))) (kept : Layout)
     (under : Schema) (rows : List (List Value)) : Type 0 where
   pub layout : layout_in reader ≡ kept

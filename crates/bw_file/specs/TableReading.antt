@@ -1,4 +1,4 @@
--- What the bytes of a table file say, or the first fault in them: field by field, and then block by
+-- The table that the bytes of a file spell, or their first error: field by field, then block by
 -- block.
 use Rattle.std.specs.Prelude.{◌≡◌, ℕ, ℤ, zero, suc, ◌+◌, ◌-◌, ◌*◌, ◌%◌, min, Bool, true, false, ◌&&◌, ◌||◌, not, List, [], ◌∷◌, ◌++◌, length, take, drop, slice_index, Option, Some, None, Result, Ok, Err, if◌then◌else◌, ◌==◌, nat_lt, nat_le, IsTrue}
 use Rattle.std.specs.Int.{w16, w32, w64, bit_at, from_le_bytes, cast_signed}
@@ -24,34 +24,34 @@ use Rattle.bw_file.specs.Blocks.{block_size, block_fault, rows_spelled}
 use Rattle.bw_file.specs.FileBytes.{magic, are_bounds}
 use Rattle.bw_file.specs.Reading.{Tail, tail, Reading, ◌>>=◌, give, field, said_at, judged}
 
--- the magic: another is 301
+-- the magic; any other is 301
 unfoldable pub magic_says : List ℕ → Result (Unit {0}) ℕ
 magic_says bytes = if bytes_eq bytes magic then Ok tt else Err MAGIC
 
--- the version, which is 1 or 2: another is 302
+-- the version, which is 1 or 2; any other is 302
 unfoldable pub version_says : List ℕ → Result ℕ ℕ
 version_says bytes =
     let version = slice_index bytes 0 in
     if (version == 1) || (version == 2) then Ok version else Err VERSION
 
--- the layout: an unknown one is 303
+-- the layout; an unknown one is 303
 unfoldable pub layout_says : List ℕ → Result Layout ℕ
 layout_says bytes =
     if slice_index bytes 0 == 0 then Ok Planes
     else (if slice_index bytes 0 == 1 then Ok Slices else Err LAYOUT)
 
--- the number of columns: none, or more than 64, is 304
+-- the number of columns; none, or more than 64, is 304
 unfoldable pub count_says : List ℕ → Result ℕ ℕ
 count_says bytes =
     let count = from_le_bytes w16 bytes in
     if (count == 0) || nat_lt most_columns count then Err HEADER else Ok count
 
--- the number of rows: more than 2^24 is 310
+-- the number of rows; more than 2^24 is 310
 unfoldable pub rows_say : List ℕ → Result ℕ ℕ
 rows_say bytes =
     let rows = from_le_bytes w32 bytes in if nat_lt most_rows rows then Err ROW_COUNT else Ok rows
 
--- the bounds of a column in a file of a version: others than those are 304
+-- the bounds of a column, in a file of this version; if they are out of order or too far apart, 304
 abbrev pub bound_in : List ℕ → ℤ
 bound_in bytes = cast_signed w64 (from_le_bytes w64 bytes)
 
@@ -61,25 +61,25 @@ bounds_say version bytes =
     let hi = bound_in (take 8 (drop 8 bytes)) in
     if are_bounds version lo hi then Ok (record { lo = lo; hi = hi }) else Err HEADER
 
--- whether a column takes null: another byte than 0 and 1 is 304
+-- whether a column is nullable; a byte other than 0 and 1 is 304
 unfoldable pub nullable_says : List ℕ → Result Bool ℕ
 nullable_says bytes =
     if slice_index bytes 0 == 0 then Ok false
     else (if slice_index bytes 0 == 1 then Ok true else Err HEADER)
 
--- a name after others: what isn't one, or one of the others, ignoring case, is 304
+-- a name that follows these; an invalid one, or one of these, ignoring case, is 304
 unfoldable pub name_says : List (List ℕ) → List ℕ → Result (List ℕ) ℕ
 name_says before text =
     if not (is_name text) || list_any (λ name. same_text name text) before then Err HEADER else Ok text
 
--- a name, after a byte for its length, at which its fault stands once all its bytes are there
+-- a name, preceded by a byte for its length, at which its error is once all its bytes are there
 unfoldable pub name : List (List ℕ) → Reading (List ℕ)
 name before t =
     (field 1 >>= λ size.
     field (slice_index size 0) >>= λ text.
     said_at t.at (name_says before text)) t
 
--- a column after others of these names: its name, its bounds, and whether it takes null
+-- a column that follows others of these names: its name, its bounds, and whether it is nullable
 unfoldable pub column : ℕ → List (List ℕ) → Reading ColumnShape
 column version before =
     name before >>= λ text.
@@ -87,7 +87,7 @@ column version before =
     judged 1 nullable_says >>= λ nullable.
     give (shape text bounds.lo bounds.hi nullable)
 
--- so many columns more
+-- `count` columns more
 unfoldable pub columns : ℕ → List ColumnShape → ℕ → Reading (List ColumnShape)
 columns version before zero = give before
 columns version before (suc count) =
@@ -113,7 +113,7 @@ front =
     judged 4 rows_say >>= λ rows.
     give (front_of version layout count rows)
 
--- what a header says
+-- the fields of a header
 pub record HeaderShape : Type 0 where
   pub version : ℕ
   pub layout : Layout
@@ -136,14 +136,14 @@ header =
     columns first.version [] first.columns >>= λ found.
     give (header_of first text found)
 
--- In the byte of a plane at this place a bit of a row from this one on is 1: the byte has the bits of
--- eight rows, the first one's in its least bit.
+-- In the byte at this place of a plane, a bit of row `rows` or a later one is 1. The byte has the
+-- bits of eight rows, that of the first one in its least bit.
 unfoldable pub plane_has_padding : ℕ → ℕ → ℕ → Bool
 plane_has_padding rows place byte =
     list_any (λ bit. nat_le rows (8 * place + bit) && (bit_at byte bit == 1)) (range_with_len 0 8)
 
--- So it is in the byte of a block at this place, counted from the block's start: planes have 64
--- bytes each, and slices, after the null plane, 512 each, one a row.
+-- The byte at this place of a block, counted from the block's start, has such a bit. Planes have 64
+-- bytes each. Slices, after the null plane, have 512 each, one for each row.
 unfoldable pub has_padding : Layout → List Column → ℕ → ℕ → ℕ → ℕ → Bool
 has_padding Planes schema rows number place byte = plane_has_padding rows (place % 64) byte
 has_padding Slices schema rows number place byte =
@@ -151,32 +151,33 @@ has_padding Slices schema rows number place byte =
     if nat_lt place nulls then plane_has_padding rows place byte
     else nat_le rows ((place - nulls) % 512) && not (byte == 0)
 
--- the first such byte among these, the first of which is at this place
+-- the place of the first such byte among these, the first of which is at this place; their end if
+-- there is none
 unfoldable pub padding_from : Layout → List Column → ℕ → ℕ → List ℕ → ℕ → ℕ
 padding_from layout schema rows number [] at = at
 padding_from layout schema rows number (byte ∷ bytes) at =
     if has_padding layout schema rows number at byte then at
     else padding_from layout schema rows number bytes (at + 1)
 
--- where the fault of a block stands in it: 308 at the first byte with a bit of a padding row,
--- another at the first byte
+-- the place of a block's error, from the block's start: for 308 the first byte with a bit of a
+-- padding row, for any other error 0
 unfoldable pub fault_place : Layout → List Column → ℕ → ℕ → List ℕ → ℕ → ℕ
 fault_place layout schema rows number block code =
     if code == PADDING then padding_from layout schema rows number block 0 else 0
 
--- a block, unless it has a fault
+-- a block, or its error
 abbrev pub sound_at : ℕ → Layout → List Column → ℕ → ℕ → List ℕ → Option ℕ → Reading (List ℕ)
 sound_at at layout schema rows number block None t = Ok (block, t)
 sound_at at layout schema rows number block (Some code) t =
     Err (at_byte code (at + fault_place layout schema rows number block code))
 
--- the block of a column of this number, in a segment of so many rows
+-- the block of the column of this number, in a segment of `rows` rows
 unfoldable pub one_block : Layout → List Column → ℕ → ℕ → Reading (List ℕ)
 one_block layout schema rows number t =
     (field (block_size layout schema number) >>= λ bytes.
     sound_at t.at layout schema rows number bytes (block_fault layout schema number rows bytes)) t
 
--- the blocks of so many columns from this number on, in a segment of so many rows, after bytes
+-- the blocks of this many columns from this number on, in a segment of `rows` rows, after the bytes
 -- that were read before
 unfoldable pub blocks : Layout → List Column → ℕ → ℕ → ℕ → List ℕ → Reading (List ℕ)
 blocks layout schema rows number zero before = give before
@@ -184,13 +185,13 @@ blocks layout schema rows number (suc more) before =
     one_block layout schema rows number >>= λ bytes.
     blocks layout schema rows (suc number) more (before ++ bytes)
 
--- the rows of a segment of so many
+-- the rows of a segment of `rows` rows
 unfoldable pub segment : Layout → List Column → ℕ → Reading (List (List Value))
 segment layout schema rows =
     blocks layout schema rows 0 (length schema) [] >>= λ bytes.
     give (rows_spelled layout schema rows bytes)
 
--- the sizes of the groups of so many rows, at most so many groups
+-- the sizes of the groups of `rows` rows, at most `most` of them
 abbrev pub sizes_within : ℕ → ℕ → List ℕ
 sizes_within zero rows = []
 sizes_within (suc most) zero = []
@@ -200,7 +201,7 @@ sizes_within (suc most) (suc rows) =
 unfoldable pub group_sizes : ℕ → List ℕ
 group_sizes rows = sizes_within rows rows
 
--- the end of the file: a byte more is 309
+-- the end of the file; another byte is 309
 abbrev pub has_bytes : List ℕ → Bool
 has_bytes [] = false
 has_bytes (byte ∷ bytes) = true
@@ -208,8 +209,7 @@ has_bytes (byte ∷ bytes) = true
 unfoldable pub end : Reading (Unit {0})
 end t = refused_if (has_bytes t.bytes) (at_byte BYTES_AFTER_END t.at) (Ok (tt, t))
 
--- what stands after the header, or is left of it after groups that were read before: groups of
--- these sizes, and the end
+-- what follows the groups that were read before: groups of these sizes, and the end
 unfoldable pub body : Layout → List Column → List ℕ → List (List (List Value))
     → Reading (List (List (List Value)))
 body layout schema [] before = end >>= λ _. give before
@@ -222,7 +222,7 @@ pub record Found : Type 0 where
   pub schema : SchemaShape
   pub rows : List (List Value)
 
--- the table of a layout, a schema and rows, and the one that is put together from groups
+-- the table of a layout, a schema and rows; and that of groups one after the other
 abbrev pub found_as : Layout → SchemaShape → List (List Value) → Found
 found_as layout schema rows = record { layout = layout; schema = schema; rows = rows }
 
@@ -231,8 +231,8 @@ abbrev pub found_in : Layout → SchemaShape → Result (List (List (List Value)
 found_in layout schema (Ok x) = Ok (found_as layout schema (together x.0))
 found_in layout schema (Err fault) = Err fault
 
--- What bytes are read as: a table, or the first fault in them. The header comes first; what stands
--- after it is read under columns that are those of the header.
+-- What bytes are read as: a table, or their first error. The header comes first. What follows is
+-- read with columns that are those of the header.
 abbrev pub IsReadAfter : Result (HeaderShape × Tail) Fault → Result Found Fault → Type 0
 IsReadAfter (Ok x) read =
     (schema : Schema) × (schema_shape schema ≡ x.0.schema)
@@ -243,7 +243,7 @@ IsReadAfter (Err fault) read = read ≡ Err fault
 abbrev pub IsReadAs : List ℕ → Result Found Fault → Type 0
 IsReadAs bytes read = IsReadAfter (header (tail 0 bytes)) read
 
--- what a call that reads a table file refuses by: 301 to 310, a failed read or out of memory
+-- the errors of calls that read a table file: 301 to 310, a failed read, or out of memory
 abbrev pub is_table_fault : Fault → Bool
 is_table_fault fault = (nat_le MAGIC fault.code && nat_le fault.code ROW_COUNT) || is_input_fault fault
 

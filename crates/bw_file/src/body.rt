@@ -1,4 +1,4 @@
-//! What stands after a table file's header, read from a source: segments, block by block, and the
+//! The part of a table file after its header, read from a source: segments, block by block, and the
 //! end.
 ghost use Rattle.std.specs.Prelude.{◌≡◌, ◌+◌, ◌-◌, ◌^◌, ◌<◌, ◌≤◌, [], length, take, None, OnOk, IfOk, IfErr};
 ghost use Rattle.std.specs.Io.KnownBytes.{IsAtEnd};
@@ -20,9 +20,11 @@ use bw_segment::Placement;
 use std::alloc::Global;
 use std::rc::Rc;
 
-/// Reads a segment of so many rows, in the source's memory where it keeps the whole segment: a block at a time, each of
-/// which is judged before the next is taken. Faults: 308 at the first byte with a bit of a padding
-/// row; 307, 306 at the first byte of a block; and 305 at the end of the file.
+/// Reads a segment of `rows` rows, block by block; each block is validated before the next is read.
+/// If the source keeps the whole segment in memory, that memory is shared, not copied.
+///
+/// Errors: 308 at the first byte with a bit of a padding row; 307 and 306 at the first byte of a
+/// block; 305 at the end of the file; 701 if a read fails; 801 if memory is refused.
 pub(crate) fn read_segment<S: Source>(
     alloc: Global,
     source: &mut S,
@@ -54,7 +56,7 @@ pub(crate) fn read_segment<S: Source>(
     Ok(AnySegment::of_blocks(layout, same, rows, shared))
 }
 
-/// Takes a segment's bytes, block by block.
+/// Reads a segment's bytes, block by block.
 fn read_blocks<S: Source>(
     source: &mut S,
     offset: &mut u64,
@@ -92,7 +94,7 @@ fn block_is_within(layout: Layout, placement: &Placement, col: usize)
         ≤ segment_size layout placement.now.schema.columns.items }
 {}
 
-/// Takes a column's block, which is to begin at `start` among the bytes, and judges it.
+/// Reads a column's block, which begins at `start` among the bytes, and validates it.
 fn read_block<S: Source>(
     source: &mut S,
     offset: &mut u64,
@@ -135,8 +137,8 @@ fn read_block<S: Source>(
     }
 }
 
-/// Where the fault of a block stands in it: 308 at the first byte with a bit of a padding row, and
-/// another at the block's first byte.
+/// Returns the place of a block's error, from the block's start: for 308 the first byte with a bit
+/// of a padding row, for any other error 0.
 #[tactic(auto, unfolding(crate::specs::TableReading::fault_place))]
 fn fault_place(
     layout: Layout,
@@ -159,7 +161,8 @@ fn fault_place(
     }
 }
 
-/// The first byte of a block with a bit of a padding row.
+/// Returns the place of the first byte of a block with a bit of a padding row, or the block's
+/// length if there is none.
 fn padding_place(
     layout: Layout,
     placement: &Placement,
@@ -181,7 +184,7 @@ fn padding_place(
     block.len()
 }
 
-/// Whether the byte of a block at this place has a bit of a padding row.
+/// Returns whether the byte at this place of a block has a bit of a padding row.
 #[tactic(auto, unfolding(crate::specs::TableReading::has_padding))]
 fn has_padding(
     layout: Layout,
@@ -207,7 +210,7 @@ fn has_padding(
     }
 }
 
-/// Whether the byte of a plane at this place has a bit of a padding row.
+/// Returns whether the byte at this place of a plane has a bit of a padding row.
 fn plane_has_padding(rows: u32, at: usize, byte: u8) -> bool
     requires { at < 64 }
     ensures { result ≡ plane_has_padding rows at byte }
@@ -220,7 +223,8 @@ fn plane_has_padding(rows: u32, at: usize, byte: u8) -> bool
     false
 }
 
-/// Asks for one byte more, after the last block: a byte that comes is 309.
+/// Checks that the source ends after the last block. Errors: 309 if another byte follows, 701 if a
+/// read fails.
 pub(crate) fn read_end<S: Source>(source: &mut S, offset: &mut u64) -> Result<(), Fault>
     requires countable { S.failures source.old < 2 ^ 64 - 1 }
     requires room { offset.old < 2 ^ 63 }

@@ -18,18 +18,18 @@ use bw_segment::{ColumnCodes, Placement, clear_rows, keep_row, no_rows};
 use byteorder::{ByteOrder, LittleEndian};
 use std::alloc::Global;
 
-/// Where the number of rows stands in a file.
+/// The offset of the number of rows in a file.
 const ROW_COUNT_AT: usize = 12;
 
-/// A table file that is written row by row. Of the rows it keeps no more than one segment, by
-/// columns, and after it the bytes of the segments before.
+/// A table file that is written row by row. It stores whole segments as their bytes, and by columns
+/// only the rows of the last one.
 #[derive(Drop)]
 pub struct Encoder {
     alloc: Global,
     layout: Layout,
     placement: Placement,
     bytes: Vec<u8>,
-    /// The rows that aren't in the bytes yet, `filled` many.
+    /// The `filled` rows that aren't in `bytes` yet.
     kept: Vec<ColumnCodes>,
     filled: usize,
     rows: u32,
@@ -43,8 +43,8 @@ pub struct Encoder {
 impl Encoder {
     ghost use Rattle.bw_file.specs.Encoder.{Holds, IsAsBefore, IsBytesOf, encoder_schema, encoder_layout, rows_in};
 
-    /// An encoder of a table of this schema, to which no row was added. It keeps a copy of the
-    /// schema.
+    /// Returns an encoder of an empty table of this schema, which it copies. Errors: 801 if memory
+    /// is refused.
     pub fn new(alloc: Global, layout: Layout, schema: &Schema) -> Result<Self, Fault>
         ensures layout { IfOk result (λ encoder. encoder_layout encoder ≡ layout) }
         ensures name { IfOk result (λ encoder. (encoder_schema encoder).name ≡ schema.now.name) }
@@ -69,8 +69,9 @@ impl Encoder {
         })
     }
 
-    /// Adds a row, which the schema admits, where there are less than 2^24. Where memory is refused
-    /// it holds the rows that it held, and the row may be added again.
+    /// Adds a row, which the schema must admit; the table must have less than 2^24 rows. Errors:
+    /// 801 if memory is refused. The encoder then has the rows that it had, and the row can be
+    /// added again.
     pub fn add(&mut self, row: &Row) -> Result<(), Fault>
         requires admitted { admits_values (encoder_schema self.old).columns.items
             (values_of row.now) ≡ true }
@@ -91,7 +92,7 @@ impl Encoder {
         Ok(())
     }
 
-    /// Keeps a row after those that aren't in the bytes yet.
+    /// Stores a row after those that aren't in the bytes yet.
     fn keep(&mut self, row: &Row)
         requires admitted { admits_values (encoder_schema self.old).columns.items
             (values_of row.now) ≡ true }
@@ -108,7 +109,8 @@ impl Encoder {
         self.rows += 1;
     }
 
-    /// Puts the rows that aren't in the bytes yet there. Where memory is refused it is as it was.
+    /// Writes the rows that aren't in the bytes yet. Errors: 801 if memory is refused; the encoder
+    /// is then as it was.
     fn flush(&mut self) -> Result<(), Fault>
         requires { 0 < self.old.filled }
         ensures bytes { OnOk result ((rows : List (List Value)) → Holds self.old rows
@@ -135,8 +137,8 @@ impl Encoder {
         Ok(())
     }
 
-    /// The table file of the rows that were added: its bytes, of version 1 where that has room for
-    /// every column.
+    /// Returns the table file of the rows that were added: version 1 if every column fits it, else
+    /// version 2. Errors: 801 if memory is refused.
     pub fn finish(mut self) -> Result<Vec<u8>, Fault>
         ensures bytes { IfOk result
             (λ bytes. (rows : List (List Value)) → Holds self rows
@@ -166,7 +168,7 @@ impl RowTaker for Encoder {
     }
 }
 
-/// Puts the number of rows where it stands in a header.
+/// Writes the number of rows into a header.
 fn set_row_count(bytes: &mut Vec<u8>, rows: u32)
     requires { 16 ≤ length bytes.old.items }
     ensures { bytes.new.items
@@ -175,7 +177,7 @@ fn set_row_count(bytes: &mut Vec<u8>, rows: u32)
     LittleEndian::write_u32(&mut bytes[ROW_COUNT_AT..], rows);
 }
 
-/// Adds the header of a table of no rows.
+/// Adds the header of an empty table.
 fn push_header(bytes: &mut Vec<u8>, layout: Layout, schema: &Schema) -> Result<(), Fault>
     ensures header { OnOk result (bytes.new.items ≡ bytes.old.items
         ++ header_bytes (version_for schema.now.columns.items) layout
@@ -192,14 +194,14 @@ fn push_header(bytes: &mut Vec<u8>, layout: Layout, schema: &Schema) -> Result<(
     push_columns(bytes, &schema.columns)
 }
 
-/// The version of a table's file: 1 where it has room for every column, and else 2.
+/// Returns the version of a table's file: 1 if every column fits it, else 2.
 fn version_of(columns: &[Column]) -> u8
     ensures { result ≡ version_for columns.now }
 {
     if are_narrow(columns) { 1 } else { 2 }
 }
 
-/// Whether version 1 has room for every column.
+/// Returns whether every column fits version 1.
 fn are_narrow(columns: &[Column]) -> bool
     ensures { result ≡ list_all (λ column. are_bounds 1 column.lo column.hi) columns.now }
 {
@@ -208,7 +210,7 @@ fn are_narrow(columns: &[Column]) -> bool
         .all(|column| are_bounds(1, column.lo, column.hi))
 }
 
-/// Adds the first sixteen bytes of a table of no rows.
+/// Adds the first sixteen bytes of an empty table.
 #[tactic(auto, unfolding(crate::specs::FileBytes::front_bytes, crate::specs::FileBytes::magic))]
 fn push_front(bytes: &mut Vec<u8>, version: u8, layout: Layout, columns: u16) -> Result<(), Fault>
     ensures front { OnOk result (bytes.new.items ≡ bytes.old.items
@@ -225,7 +227,7 @@ fn push_front(bytes: &mut Vec<u8>, version: u8, layout: Layout, columns: u16) ->
     Ok(())
 }
 
-/// The byte that tells a layout.
+/// Returns the byte of a layout.
 fn byte_of(layout: Layout) -> u8
     ensures { result ≡ layout_byte layout }
 {
@@ -235,7 +237,7 @@ fn byte_of(layout: Layout) -> u8
     }
 }
 
-/// Adds a name, after a byte for its length.
+/// Adds a name, preceded by a byte for its length.
 #[tactic(auto, using(crate::proofs::EncoderLemmas::short_name))]
 fn push_name(bytes: &mut Vec<u8>, name: &Name) -> Result<(), Fault>
     ensures name { OnOk result (bytes.new.items ≡ bytes.old.items ++ name_bytes name.now) }
@@ -274,14 +276,14 @@ fn push_column(bytes: &mut Vec<u8>, column: &Column) -> Result<(), Fault>
     Ok(())
 }
 
-/// 1 where a column takes null, and else 0.
+/// Returns 1 for a nullable column, else 0.
 fn flag_of(nullable: bool) -> u8
     ensures { result ≡ flag_byte nullable }
 {
     if nullable { 1 } else { 0 }
 }
 
-/// Adds a bound, as two's complement.
+/// Adds a bound, in two's complement.
 fn push_bound(bytes: &mut Vec<u8>, bound: i64) -> Result<(), Fault>
     ensures bound { OnOk result (bytes.new.items ≡ bytes.old.items ++ bound_bytes bound) }
     ensures only_memory { IsOkUnless result no_memory }

@@ -1,4 +1,4 @@
-//! The fields of a table file's header: what their bytes say, and their faults.
+//! The fields of a table file's header: their values and errors.
 ghost use Rattle.std.specs.Prelude.{◌≡◌, ◌≤◌, ◌^◌, ◌≤ℤ◌, ◌<ℤ◌, ◌-ℤ◌, pos, length, IfOk, IsTrue};
 ghost use Rattle.bw_model.specs.Limits.{most_rows};
 ghost use Rattle.bw_file.specs.FileBytes.{are_bounds};
@@ -11,7 +11,7 @@ use bw_model::{Column, Fault, MAX_ROWS, code, is_name};
 /// The bytes that a table file begins with.
 pub(crate) const MAGIC: &[u8; 8] = b"BWCOLUMN";
 
-/// What bytes say, or their fault, which stands at a place.
+/// Returns the value of a field, or its error at this byte.
 pub(crate) fn placed<T>(at: u64, said: Result<T, u16>) -> Result<T, Fault>
     ensures { result ≡ placed at said }
 {
@@ -21,7 +21,7 @@ pub(crate) fn placed<T>(at: u64, said: Result<T, u16>) -> Result<T, Fault>
     }
 }
 
-/// The magic: another is 301.
+/// Checks the magic. Errors: 301.
 #[tactic(auto, unfolding(crate::specs::TableReading::magic_says, crate::specs::FileBytes::magic))]
 pub(crate) fn magic_says(bytes: &[u8; 8]) -> Result<(), u16>
     ensures { result ≡ magic_says bytes.now }
@@ -33,7 +33,7 @@ pub(crate) fn magic_says(bytes: &[u8; 8]) -> Result<(), u16>
     }
 }
 
-/// The version, 1 or 2: another is 302.
+/// Returns the version, 1 or 2. Errors: 302.
 #[tactic(auto, unfolding(crate::specs::TableReading::version_says))]
 pub(crate) fn version_says(bytes: &[u8; 1]) -> Result<u8, u16>
     ensures { result ≡ version_says bytes.now }
@@ -46,7 +46,7 @@ pub(crate) fn version_says(bytes: &[u8; 1]) -> Result<u8, u16>
     }
 }
 
-/// The layout: an unknown one is 303.
+/// Returns the layout. Errors: 303.
 #[tactic(auto, unfolding(crate::specs::TableReading::layout_says))]
 pub(crate) fn layout_says(bytes: &[u8; 1]) -> Result<Layout, u16>
     ensures { result ≡ layout_says bytes.now }
@@ -58,7 +58,7 @@ pub(crate) fn layout_says(bytes: &[u8; 1]) -> Result<Layout, u16>
     }
 }
 
-/// The number of columns, 1 to 64: another is 304.
+/// Returns the number of columns, 1 to 64. Errors: 304.
 #[tactic(auto, unfolding(crate::specs::TableReading::count_says))]
 pub(crate) fn count_says(bytes: [u8; 2]) -> Result<u16, u16>
     ensures count { result ≡ count_says bytes }
@@ -72,7 +72,7 @@ pub(crate) fn count_says(bytes: [u8; 2]) -> Result<u16, u16>
     }
 }
 
-/// The number of rows, at most 2^24: more are 310.
+/// Returns the number of rows, at most 2^24. Errors: 310.
 #[tactic(auto, unfolding(crate::specs::TableReading::rows_say))]
 pub(crate) fn rows_say(bytes: [u8; 4]) -> Result<u32, u16>
     ensures rows { result ≡ rows_say bytes }
@@ -86,14 +86,15 @@ pub(crate) fn rows_say(bytes: [u8; 4]) -> Result<u32, u16>
     }
 }
 
-/// The least and the greatest number that a column takes.
+/// A column's minimum and maximum.
 #[derive(Clone, Copy, PartialEq, Eq)]
 pub(crate) struct Bounds {
     pub(crate) lo: i64,
     pub(crate) hi: i64,
 }
 
-/// The bounds of a column in a file of a version: bounds out of order, or too far apart, are 304.
+/// Returns the bounds of a column, in a file of this version. Errors: 304 if they are out of order
+/// or too far apart.
 #[tactic(auto, unfolding(crate::specs::TableReading::bounds_say))]
 pub(crate) fn bounds_say(version: u8, bytes: &[u8; 16]) -> Result<Bounds, u16>
     ensures bounds { result ≡ bounds_say version bytes.now }
@@ -109,7 +110,7 @@ pub(crate) fn bounds_say(version: u8, bytes: &[u8; 16]) -> Result<Bounds, u16>
     }
 }
 
-/// A number of eight bytes, in two's complement, the least byte first.
+/// Returns the number of eight bytes, little-endian, in two's complement.
 fn bound_in(bytes: &[u8]) -> i64
     requires { length bytes.now ≡ 8 }
     ensures { result ≡ bound_in bytes.now }
@@ -119,7 +120,8 @@ fn bound_in(bytes: &[u8]) -> i64
     ])
 }
 
-/// Whether bounds are in order, and less than 2^32 apart in version 1, less than 2^63 in another.
+/// Returns whether the bounds are in order, and less than 2^32 apart in version 1 or 2^63 in
+/// another.
 #[tactic(auto, unfolding(crate::specs::FileBytes::are_bounds))]
 pub(crate) fn are_bounds(version: u8, lo: i64, hi: i64) -> bool
     ensures test { result ≡ are_bounds version lo hi }
@@ -137,7 +139,7 @@ pub(crate) fn are_bounds(version: u8, lo: i64, hi: i64) -> bool
     }
 }
 
-/// Whether a column takes null, 0 or 1: another byte is 304.
+/// Returns whether a column is nullable, from a byte that is 0 or 1. Errors: 304.
 #[tactic(auto, unfolding(crate::specs::TableReading::nullable_says))]
 pub(crate) fn nullable_says(bytes: &[u8; 1]) -> Result<bool, u16>
     ensures { result ≡ nullable_says bytes.now }

@@ -21,7 +21,7 @@ use bw_device::Source;
 use bw_model::{Column, Fault, Name, Schema, code, is_name};
 use std::alloc::Global;
 
-/// The magic.
+/// Reads the magic.
 fn read_magic<S: Source>(source: &mut S, offset: &mut u64) -> Result<(), Fault>
     requires countable { S.failures source.old < 2 ^ 64 - 1 }
     requires room { offset.old < 2 ^ 63 }
@@ -36,7 +36,7 @@ fn read_magic<S: Source>(source: &mut S, offset: &mut u64) -> Result<(), Fault>
     placed(at, magic_says(&bytes))
 }
 
-/// The version.
+/// Reads the version.
 fn read_version<S: Source>(source: &mut S, offset: &mut u64) -> Result<u8, Fault>
     requires countable { S.failures source.old < 2 ^ 64 - 1 }
     requires room { offset.old < 2 ^ 63 }
@@ -51,7 +51,7 @@ fn read_version<S: Source>(source: &mut S, offset: &mut u64) -> Result<u8, Fault
     placed(at, version_says(&bytes))
 }
 
-/// The layout.
+/// Reads the layout.
 fn read_layout<S: Source>(source: &mut S, offset: &mut u64) -> Result<Layout, Fault>
     requires countable { S.failures source.old < 2 ^ 64 - 1 }
     requires room { offset.old < 2 ^ 63 }
@@ -66,7 +66,7 @@ fn read_layout<S: Source>(source: &mut S, offset: &mut u64) -> Result<Layout, Fa
     placed(at, layout_says(&bytes))
 }
 
-/// The number of columns.
+/// Reads the number of columns.
 fn read_count<S: Source>(source: &mut S, offset: &mut u64) -> Result<u16, Fault>
     requires countable { S.failures source.old < 2 ^ 64 - 1 }
     requires room { offset.old < 2 ^ 63 }
@@ -82,7 +82,7 @@ fn read_count<S: Source>(source: &mut S, offset: &mut u64) -> Result<u16, Fault>
     placed(at, count_says(bytes))
 }
 
-/// The number of rows.
+/// Reads the number of rows.
 fn read_rows<S: Source>(source: &mut S, offset: &mut u64) -> Result<u32, Fault>
     requires countable { S.failures source.old < 2 ^ 64 - 1 }
     requires room { offset.old < 2 ^ 63 }
@@ -98,7 +98,7 @@ fn read_rows<S: Source>(source: &mut S, offset: &mut u64) -> Result<u32, Fault>
     placed(at, rows_say(bytes))
 }
 
-/// The bounds of a column.
+/// Reads the bounds of a column.
 fn read_bounds<S: Source>(version: u8, source: &mut S, offset: &mut u64) -> Result<Bounds, Fault>
     requires countable { S.failures source.old < 2 ^ 64 - 1 }
     requires room { offset.old < 2 ^ 63 }
@@ -115,7 +115,7 @@ fn read_bounds<S: Source>(version: u8, source: &mut S, offset: &mut u64) -> Resu
     placed(at, bounds_say(version, &bytes))
 }
 
-/// Whether a column takes null.
+/// Reads whether a column is nullable.
 fn read_nullable<S: Source>(source: &mut S, offset: &mut u64) -> Result<bool, Fault>
     requires countable { S.failures source.old < 2 ^ 64 - 1 }
     requires room { offset.old < 2 ^ 63 }
@@ -130,8 +130,8 @@ fn read_nullable<S: Source>(source: &mut S, offset: &mut u64) -> Result<bool, Fa
     placed(at, nullable_says(&bytes))
 }
 
-/// A name, after a byte for its length. What isn't a name, or is one of these columns' names,
-/// ignoring case, is 304 at that byte.
+/// Reads a name, which follows a byte for its length. Errors: 304 at that byte, if the text isn't a
+/// valid name or is the name of an earlier column, ignoring case.
 #[tactic(auto, unfolding(crate::specs::TableReading::name_says))]
 fn read_name<S: Source>(
     alloc: Global,
@@ -160,7 +160,7 @@ fn read_name<S: Source>(
     Ok(Name::new(alloc, text)?)
 }
 
-/// Whether a text is a name, and none of these columns has it, ignoring case.
+/// Returns whether the text is a valid name, and no column has it, ignoring case.
 #[tactic(auto, using(crate::proofs::HeaderLemmas::list_any_names), unfolding(crate::specs::TableReading::name_says))]
 fn is_new_name(before: &[Column], text: &[u8]) -> bool
     ensures name { IsTrue result → is_name text.now ≡ true }
@@ -172,14 +172,14 @@ fn is_new_name(before: &[Column], text: &[u8]) -> bool
     is_name(text) && !has_name(before, text)
 }
 
-/// Whether a column has this name, ignoring case.
+/// Returns whether a column has this name, ignoring case.
 fn has_name(columns: &[Column], name: &[u8]) -> bool
     ensures { result ≡ list_any (λ column. same_text column.name name.now) columns.now }
 {
     columns.iter().any(|column| column.name.is(name))
 }
 
-/// A column after these.
+/// Reads a column that follows these.
 #[tactic(auto, unfolding(crate::specs::TableReading::column))]
 fn read_column<S: Source>(
     alloc: Global,
@@ -207,7 +207,7 @@ fn read_column<S: Source>(
         nullable,
     })
 }
-/// So many columns.
+/// Reads `count` columns.
 fn read_columns<S: Source>(
     alloc: Global,
     version: u8,
@@ -265,7 +265,7 @@ fn read_front<S: Source>(source: &mut S, offset: &mut u64) -> Result<Front, Faul
     })
 }
 
-/// What a header says.
+/// The fields of a header.
 #[derive(Drop)]
 pub(crate) struct Header {
     pub(crate) version: u8,
@@ -274,8 +274,9 @@ pub(crate) struct Header {
     pub(crate) schema: Schema,
 }
 
-/// The header of a table file, from its first byte on. Faults, each at the first byte of its field:
-/// 301 to 304, 310, and 305 at the end of the file.
+/// Reads the header of a table file from its first byte. Errors, each at the first byte of its
+/// field: 301 to 304 and 310. 305 is at the end of the file; 701 if a read fails, 801 if memory is
+/// refused.
 pub(crate) fn read_header<S: Source>(
     alloc: Global,
     source: &mut S,

@@ -1,4 +1,4 @@
-//! Laws of table files: what is read is spelled so, and what is spelled is read so.
+//! Laws of table files: bytes are read as a table exactly if they spell it.
 ghost use Rattle.std.specs.Prelude.{◌≡◌, ◌<◌, ℕ, List, Result, Ok, slice_index};
 ghost use Rattle.bw_model.specs.declared.fault.Fault.{Fault};
 ghost use Rattle.bw_model.specs.Row.{Value};
@@ -9,7 +9,7 @@ ghost use Rattle.bw_file.specs.TableReading.{Found, found_as, IsReadAs};
 
 use bw_model::Schema;
 
-/// A law: bytes that are read as a table are that table's, of either version.
+/// A law: bytes that are read as a table spell that table, in version 1 or 2.
 pub fn what_is_read_is_a_file()
     ensures { (bytes : List ℕ) (found : Found) → ((i : ℕ) → slice_index bytes i < 256)
         → IsReadAs bytes (Ok found)
@@ -17,21 +17,20 @@ pub fn what_is_read_is_a_file()
         × IsFileBytes bytes found.layout schema found.rows }
 {}
 
-/// A law: bytes that are a table's, of either version, are read as that table.
+/// A law: bytes that spell a table, in version 1 or 2, are read as that table.
 pub fn what_is_spelled_is_read()
     ensures { (bytes : List ℕ) (layout : Layout) (schema : Schema) (rows : List (List Value))
         → IsFileBytes bytes layout schema rows
         → IsReadAs bytes (Ok (found_as layout (schema_shape schema) rows)) }
 {}
 
-/// A law: bytes are read in one way.
+/// A law: bytes are read as one result only.
 pub fn bytes_are_read_in_one_way()
     ensures { (bytes : List ℕ) (one other : Result Found Fault) → IsReadAs bytes one
         → IsReadAs bytes other → one ≡ other }
 {}
 
-/// A law: bytes are those of at most one table, by its layout, its schema's name and columns,
-/// and its rows.
+/// A law: bytes spell at most one table: its layout, its schema's name and columns, and its rows.
 pub fn a_file_is_of_one_table()
     ensures { (bytes : List ℕ) (layout other_layout : Layout) (schema other_schema : Schema)
         (rows other_rows : List (List Value))

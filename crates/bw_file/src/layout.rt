@@ -1,4 +1,4 @@
-//! How the segments of a table are kept.
+//! The layouts of a table's segments.
 
 /// The layout of a table's segments, in memory and in its file.
 #[derive(Clone, Copy, Debug, PartialEq, Eq)]

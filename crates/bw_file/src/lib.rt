@@ -1,16 +1,16 @@
-//! Table files: tables as bytes, and bytes as tables.
+//! Table files: tables to bytes, and bytes to tables.
 //!
-//! The contracts that the crates above use: [`Encoder`] and [`encode`] give the bytes of a table;
-//! [`TableReader`] and [`decode`] read bytes to the table that they spell or to their first fault,
-//! field by field and block by block. The laws say that what is read is spelled so and what is
-//! spelled is read so, and that bytes are of one table.
+//! The contracts that the crates above use: [`Encoder`] and [`encode`] return the bytes of a table.
+//! [`TableReader`] and [`decode`] read bytes, field by field and block by block, and return the
+//! table that they spell or their first error. The laws state that bytes are read as a table
+//! exactly if they spell it, and that they spell one table only.
 //!
 //! Read `specs/FileBytes.antt` for what is written, `specs/TableReading.antt` for how bytes are
 //! read, and `table_reader.rt` with `specs/TableReader.antt` for reading a file one segment at a
 //! time.
 //!
-//! `bw` itself writes row by row and reads segment by segment. [`encode`] and [`decode`] are the library's public face,
-//! for whole tables in memory:
+//! `bw` itself writes row by row and reads segment by segment. [`encode`] and [`decode`] are the
+//! library's calls for whole tables in memory:
 //!
 //! ```
 //! let bytes = encode(rt.alloc(), Layout::Planes, &schema, &rows)?;

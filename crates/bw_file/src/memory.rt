@@ -3,7 +3,7 @@ ghost use Rattle.std.specs.Prelude.{Some, []};
 
 use bw_device::{Failed, SharedBytes, Source};
 
-/// Bytes that are still to come.
+/// The bytes that are still unread.
 #[derive(Drop)]
 pub(crate) struct Memory<'a> {
     pub(crate) rest: &'a [u8],

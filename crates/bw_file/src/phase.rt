@@ -1,13 +1,13 @@
-//! Whether a reader goes on reading.
+//! Whether a reader continues.
 use bw_model::Fault;
 
-/// Whether a reader goes on, and what it answers where it doesn't.
+/// Whether a reader continues, and what it returns if it doesn't.
 #[derive(Clone, Copy, PartialEq, Eq)]
 pub(crate) enum Phase {
-    /// It reads.
+    /// It continues.
     Reading,
-    /// It answers that there is no more.
+    /// It returns that nothing follows.
     Ended,
-    /// It answers this fault.
+    /// It returns this error.
     Failed(Fault),
 }

@@ -12,17 +12,17 @@ ghost use Rattle.bw_file.specs.TableReading.{Found, found_as};
 ghost use Rattle.bw_file.specs.declared.layout.Layout.{Layout};
 ghost use Rattle.bw_file.specs.declared.table_reader.TableReader.{TableReader};
 
-/// A law: what a reader has read so far are bytes that were taken of the source, with no failed read,
-/// and a file of fewer of them ends too early.
+/// A law: the bytes that a reader has read were consumed from the source, with no failed read. A
+/// file of fewer of them ends too early.
 pub fn bytes_were_taken()
     ensures { (start now : State) (reader : TableReader) (groups : List (List (List Value)))
         → SoFar start now reader groups
         → ((bytes : List ℕ) × Took start now bytes × FrontsEndEarly bytes) × (now.failures ≡ start.failures) }
 {}
 
-/// A law: where the bytes to come are a table's, a reader tells of that table and gives its
-/// groups, one after the other; what was read whole is the table; and no fault is answered but a
-/// failed read and out of memory.
+/// A law: if the unread bytes spell a table, a reader returns that table's header and its groups,
+/// one after the other. What is read completely is that table, and the only errors are a failed
+/// read and out of memory.
 pub fn a_file_is_read_whole()
     ensures groups { (bytes : List ℕ) (layout : Layout) (schema : Schema) (rows : List (List Value))
         → IsFileBytes bytes layout schema rows

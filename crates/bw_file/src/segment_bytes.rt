@@ -1,4 +1,4 @@
-//! The bytes of a segment while it is read.
+//! The bytes of a segment that is being read.
 ghost use Rattle.std.specs.Prelude.{◌≡◌, ◌+◌, ◌-◌, ◌^◌, ◌<◌, ◌≤◌, IfOk, IsOkUnless, OnOk, length, slice_range, take};
 ghost use Rattle.bw_model.specs.Fault.{no_memory};
 ghost use Rattle.bw_device.specs.Shared.{bytes_in};
@@ -10,8 +10,8 @@ use bw_device::{SharedBytes, Source};
 use bw_model::Fault;
 use std::alloc::Global;
 
-/// The bytes of a segment of which some, the first ones, were taken from a source: bytes that the source keeps and
-/// shares, or memory of the segment's own, into which they are copied.
+/// The bytes of a segment, of which the first ones have been read: either bytes that the source
+/// keeps and shares, or memory of the segment's own, into which they are copied.
 #[derive(Drop)]
 pub(crate) enum SegmentBytes {
     Shared(SharedBytes),
@@ -19,7 +19,8 @@ pub(crate) enum SegmentBytes {
 }
 
 impl SegmentBytes {
-    /// So many bytes, of which none was taken: shared, where the source keeps as many.
+    /// Returns `size` bytes of which none has been read. They are shared if the source keeps as
+    /// many.
     pub(crate) fn of<S: Source>(alloc: Global, source: &S, size: usize) -> Result<Self, Fault>
         ensures size { IfOk result (λ bytes. length (bytes_held bytes) ≡ size) }
         ensures next { IfOk result (λ bytes. AreNext bytes 0 (S.kept source.now)) }
@@ -33,8 +34,8 @@ impl SegmentBytes {
         Ok(SegmentBytes::Own(own))
     }
 
-    /// Takes the next ones of these bytes, so many from `start` on, and counts them. A source that ends before is 305
-    /// at the number of its bytes, and a failed read 701.
+    /// Reads the next `size` of these bytes, from `start` on, and adds them to the offset. Errors:
+    /// 305 at the number of the source's bytes, if it ends before; 701 if a read fails.
     pub(crate) fn take<S: Source>(
         &mut self,
         source: &mut S,
@@ -68,7 +69,7 @@ impl SegmentBytes {
         }
     }
 
-    /// The bytes.
+    /// Returns the bytes.
     #[inline(always)]
     pub(crate) fn as_slice(&self) -> &[u8]
         ensures { result.now ≡ bytes_held self.now }
@@ -79,7 +80,7 @@ impl SegmentBytes {
         }
     }
 
-    /// The bytes, once all were taken.
+    /// Returns the bytes, all of which have been read.
     pub(crate) fn into_shared(self, alloc: Global) -> Result<SharedBytes, Fault>
         ensures bytes { IfOk result (λ shared. bytes_in shared ≡ bytes_held self) }
         ensures only_memory { IsOkUnless result no_memory }

@@ -125,7 +125,7 @@ impl Segment for AnySegment {
 impl AnySegment {
     ghost use Rattle.bw_file.specs.AnySegment.{any_layout, any_meaning};
 
-    /// The segment of bytes that have no fault, in a layout.
+    /// Returns the segment of bytes that are valid blocks of this layout.
     #[tactic(auto, unfolding(crate::specs::AnySegment::any_meaning, crate::specs::Blocks::form_of))]
     pub(crate) fn of_blocks(
         layout: Layout,
@@ -150,7 +150,7 @@ impl AnySegment {
     }
 }
 
-/// The placement of a table whose schema is an equal one, in a layout.
+/// Returns the placement of blocks in this layout, with a copy of the schema.
 #[tactic(auto, unfolding(crate::specs::Blocks::form_of))]
 pub(crate) fn placement_of(
     alloc: Global,
@@ -169,7 +169,7 @@ pub(crate) fn placement_of(
     }
 }
 
-/// Adds the bytes of a segment of the rows that are kept in columns.
+/// Adds the bytes of a segment of the rows that are stored by columns.
 #[tactic(auto, unfolding(crate::specs::Blocks::form_of))]
 pub(crate) fn append(
     alloc: Global,
@@ -194,7 +194,7 @@ pub(crate) fn append(
     }
 }
 
-/// How many bytes a column's block takes.
+/// Returns how many bytes a column's block has.
 #[tactic(auto, unfolding(crate::specs::Blocks::form_of))]
 pub(crate) fn block_size(layout: Layout, placement: &Placement, col: usize) -> usize
     requires { col < length placement.now.schema.columns.items }
@@ -207,7 +207,7 @@ pub(crate) fn block_size(layout: Layout, placement: &Placement, col: usize) -> u
     }
 }
 
-/// How many bytes a segment takes.
+/// Returns how many bytes a segment has.
 #[tactic(auto, unfolding(crate::specs::Blocks::form_of))]
 pub(crate) fn segment_size(layout: Layout, placement: &Placement) -> usize
     requires { IsPlaced layout placement.now }
@@ -220,7 +220,7 @@ pub(crate) fn segment_size(layout: Layout, placement: &Placement) -> usize
     }
 }
 
-/// The first fault of a column's block of a segment of so many rows, by its number.
+/// Returns the number of the first error of a column's block, in a segment of `rows` rows.
 #[tactic(auto, unfolding(crate::specs::Blocks::form_of))]
 pub(crate) fn judge(
     layout: Layout,

@@ -1,4 +1,4 @@
-//! Whole tables in memory, as the bytes of a table file and back.
+//! Whole tables in memory, to the bytes of a table file and back.
 ghost use Rattle.std.specs.Prelude.{◌≡◌, ◌-◌, ◌^◌, ◌<◌, ◌++◌, ◌∷◌, [], List, map, false, length, slice_index_or, Ok, Err, OnOk, IfOk, IfErr, IsOkUnless};
 ghost use Rattle.bw_model.specs.Fault.{no_memory, is_memory, Gives};
 ghost use Rattle.bw_model.specs.Row.{Value, values_of};
@@ -25,8 +25,8 @@ pub struct Table {
     pub rows: Vec<Row>,
 }
 
-/// The table file of rows that the schema admits, at most 2^24: of version 1 where that has room
-/// for every column, and else of version 2.
+/// Returns the table file of at most 2^24 rows, which the schema must admit: version 1 if every
+/// column fits it, else version 2. Errors: 801 if memory is refused.
 pub fn encode(
     alloc: Global,
     layout: Layout,
@@ -48,8 +48,8 @@ pub fn encode(
     encoder.finish()
 }
 
-/// The table of a table file, of either version, such as [`encode`] makes. Refuses other bytes by
-/// the first fault in the order of the format: 301 to 304, 310, 305 to 309.
+/// Returns the table of a table file, of either version. Errors: the first in the order of the
+/// format, 301 to 304, 310, and 305 to 309; 801 if memory is refused.
 pub fn decode(alloc: Global, bytes: &[u8]) -> Result<Table, Fault>
     ensures table { IfOk result
         (λ table. IsFileBytes bytes.now table.layout table.schema (map values_of table.rows.items)) }
@@ -86,7 +86,7 @@ fn push_rows(alloc: Global, segment: &AnySegment, rows: &mut Vec<Row>) -> Result
     Ok(())
 }
 
-/// A row of a segment.
+/// Returns a row of a segment.
 fn row_of(alloc: Global, segment: &AnySegment, i: usize) -> Result<Row, Fault>
     requires { i < length (any_meaning segment.now).rows }
     ensures row { IfOk result

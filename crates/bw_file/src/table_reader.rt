@@ -18,9 +18,9 @@ use bw_segment::{Placement, Segment};
 use std::alloc::Global;
 use std::rc::Rc;
 
-/// Reads a table file from a source, one segment at a time. It keeps the header, how many bytes it
-/// took and how many rows it gave, and what it repeats: that there is no more, or a fault. It
-/// doesn't keep the source.
+/// Reads a table file from a source, one segment at a time. It stores the header, how many bytes it
+/// has read and how many rows it has returned, and the result that it repeats once it is done: that
+/// nothing follows, or an error. It doesn't own the source.
 #[derive(Drop)]
 pub struct TableReader {
     alloc: Global,
@@ -44,9 +44,11 @@ impl TableReader {
     ghost use Rattle.bw_file.specs.TableReading.{header};
     ghost use Rattle.bw_file.specs.TableReader.{schema_in, version_in, layout_in, header_stated, rows_stated, rows_given, bytes_taken, settled, SoFar, AnswersFault, GivesNext};
 
-    /// Reads the header of a table file, and no byte past it: 301 to 304 and 310, each at the first
-    /// byte of its field, 305 at the end of a file that ends before, or 701 where a read fails
-    /// before. That the source's count of failures can rise is the caller's condition.
+    /// Reads the header of a table file, and no byte after it. The source's count of failures must
+    /// be less than 2^64 - 1.
+    ///
+    /// Errors: 301 to 304 and 310, each at the first byte of its field; 305 at the end of a file
+    /// that ends before; 701 if a read fails; 801 if memory is refused.
     pub fn begin<S: Source>(alloc: Global, source: &mut S) -> Result<Self, Fault>
         requires { S.failures source.old < 2 ^ 64 - 1 }
         ensures began { IfOk result (λ reader. SoFar
@@ -87,12 +89,16 @@ impl TableReader {
         })
     }
 
-    /// The next segment, in the file's layout, of 512 rows or, the last one, of fewer; or None after
-    /// the last one, where the source has ended. Takes a block at a time, and judges it before the
-    /// next: 308 at the first byte with a bit of a padding row, 307, 306 at the block's first byte,
-    /// 305 at the end of a file that ends before, 309 at a byte after the last block, or 701; and no
-    /// byte that isn't needed to tell. From None on it answers None, and from a fault on, out of
-    /// memory too, that fault, and takes nothing.
+    /// Returns the next segment, in the file's layout: 512 rows, or fewer in the last one. Returns
+    /// None after the last segment, if the source has ended.
+    ///
+    /// Reads block by block, and validates each before it reads the next. It never reads a byte
+    /// that the result doesn't depend on.
+    ///
+    /// Errors: 308 at the first byte with a bit of a padding row; 307 and 306 at the block's first
+    /// byte; 305 at the end of a file that ends before; 309 at a byte after the last block; 701 if
+    /// a read fails; 801 if memory is refused. After None or an error, each call returns the same
+    /// again and reads nothing.
     pub fn next_segment<S: Source>(&mut self, source: &mut S) -> Result<Option<AnySegment>, Fault>
         requires { S.failures source.old < 2 ^ 64 - 1 }
         ensures { GivesNext source.old source.new
@@ -108,7 +114,7 @@ impl TableReader {
         }
     }
 
-    /// Sees that the source has ended.
+    /// Checks that the source has ended.
     fn see_end<S: Source>(&mut self, source: &mut S) -> Result<Option<AnySegment>, Fault>
         requires countable { S.failures source.old < 2 ^ 64 - 1 }
         requires open { self.old.phase ≡ Reading }
@@ -133,7 +139,7 @@ impl TableReader {
         }
     }
 
-    /// Reads a segment of the rows that are left.
+    /// Reads a segment of the remaining rows.
     fn give_segment<S: Source>(&mut self, source: &mut S) -> Result<Option<AnySegment>, Fault>
         requires countable { S.failures source.old < 2 ^ 64 - 1 }
         requires open { self.old.phase ≡ Reading }
@@ -166,35 +172,35 @@ impl TableReader {
         }
     }
 
-    /// The table's schema.
+    /// Returns the table's schema.
     pub fn schema(&self) -> &Schema
         ensures { result.now ≡ schema_in self.now }
     {
         &self.placement.schema
     }
 
-    /// How many rows the header tells of.
+    /// Returns the number of rows that the header states.
     pub fn rows(&self) -> u32
         ensures { result ≡ rows_stated self.now }
     {
         self.rows
     }
 
-    /// The version of the file, 1 or 2.
+    /// Returns the version of the file, 1 or 2.
     pub fn version(&self) -> u8
         ensures { result ≡ version_in self.now }
     {
         self.version
     }
 
-    /// How the file keeps its segments.
+    /// Returns the layout of the file's segments.
     pub fn layout(&self) -> Layout
         ensures { result ≡ layout_in self.now }
     {
         self.layout
     }
 
-    /// How many bytes a segment takes.
+    /// Returns how many bytes a segment has.
     pub fn segment_size(&self) -> usize
         ensures size { result ≡ segment_size (layout_in self.now) (schema_in self.now).columns.items }
         ensures small { result ≤ 266240 }
@@ -202,14 +208,14 @@ impl TableReader {
         segment_size(self.layout, &self.placement)
     }
 
-    /// How many bytes it took.
+    /// Returns how many bytes have been read.
     pub fn offset(&self) -> u64
         ensures { result ≡ bytes_taken self.now }
     {
         self.offset
     }
 
-    /// How many rows it gave.
+    /// Returns how many rows have been returned.
     pub fn given(&self) -> u32
         ensures { result ≡ rows_given self.now }
     {

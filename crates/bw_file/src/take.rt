@@ -1,12 +1,12 @@
-//! Bytes taken whole from a source.
+//! Reads that fill a buffer.
 ghost use Rattle.std.specs.Prelude.{◌≡◌, ◌-◌, ◌+◌, ◌^◌, ◌<◌, length, OnOk};
 ghost use Rattle.bw_file.specs.Reading.{AreBytes, Reads, state, field};
 
 use bw_device::{Failed, Source};
 use bw_model::{Fault, code};
 
-/// Takes as many bytes as the buffer has room for, and counts them. A source that ends before is
-/// 305 at the number of its bytes, and a failed read 701. No byte more is taken.
+/// Fills the buffer from the source, reads no byte more, and adds its length to the offset. Errors:
+/// 305 at the number of the source's bytes, if it ends before; 701 if a read fails.
 pub(crate) fn take<S: Source>(
     source: &mut S,
     offset: &mut u64,
@@ -38,7 +38,7 @@ pub(crate) fn take<S: Source>(
     Ok(())
 }
 
-/// A law: what a buffer holds are bytes.
+/// A law: the items of a buffer are bytes.
 pub(crate) fn are_bytes(buffer: &[u8])
     ensures { AreBytes buffer.now }
 {}

@@ -1,4 +1,5 @@
--- Some rows, a byte each, the bytes of a slice in these rows, and what is chosen among bytes, in one order or in another.
+-- Some rows, a byte each, the bytes of a slice in these rows, and what is chosen among bytes, in
+-- one order or in another.
 use Rattle.std.proofs.Common.{◌≡◌, ◌∙◌, refl, sym, ap, ap₂, ℕ, ◌+◌, ◌*◌, ◌<◌, min, max, cond, ltb, List, [], ◌∷◌, ◌++◌, map, length, take, drop, take_all, arith, w8, zero, suc, ◌-◌, ◌/◌, ◌%◌, ◌^◌, ◌≤◌, Bool, true, false, eqb, ◌==◌, ◌&&◌, get_or, replicate, append-nil, sum, Fits, bit_and, bit_or, fold, pow-suc}
 use Rattle.std.specs.List.{range_with_len}
 use Rattle.std.proofs.lemmas.Bool.Decides.{nat_tests}

@@ -1,4 +1,5 @@
--- The lanes of words, of words that are joined and of those whose first lanes are 1, and the parts of 64 rows, one a word.
+-- The lanes of words, of words that are joined and of those whose first lanes are 1, and the parts
+-- of 64 rows, one a word.
 use Rattle.std.proofs.Common.{get_or, ◌≡◌, ◌∙◌, refl, sym, ap, ap₂, ℕ, zero, suc, ◌+◌, ◌-◌, ◌*◌, ◌/◌, ◌%◌, ◌^◌, ◌<◌, ◌≤◌, Bool, true, false, not, cond, ◌==◌, ◌&&◌, ◌||◌, List, [], ◌∷◌, ◌++◌, map, flat_map, replicate, length, take, set, length-set, count_by, Fits, arith, w64, max, length-append, append_assoc, append-nil, min, add-zero, zero-add, drop, take_all, bit_or, count_ones, bit_xor, bit_and, eq-eqb, ltb, eqb}
 use Rattle.std.proofs.Math.Nat.{two-pow-succ}
 use Rattle.std.proofs.Math.Bool.{and-true, and_assoc}

@@ -1,4 +1,4 @@
--- Some of 512 rows, a byte each, and the bytes of a slice in these rows.
+-- Selected rows of 512, as one byte each, and the bytes of a slice in these rows.
 use Rattle.std.specs.Prelude.{ℕ, Bool, List, if◌then◌else◌}
 use lib.Lanes.{zip2}
 
@@ -6,6 +6,6 @@ use lib.Lanes.{zip2}
 abbrev pub as_byte : Bool → ℕ
 as_byte lane = if lane then 255 else 0
 
--- a byte of each lane: the one that stands there where the lane is 1, and else another one
+-- for each lane, its byte if the lane is 1, else another byte
 abbrev pub bytes_picked : ℕ → List Bool → List ℕ → List ℕ
 bytes_picked other lanes bytes = zip2 (λ lane byte. if lane then byte else other) lanes bytes

@@ -1,4 +1,4 @@
-//! One byte of each of 512 rows, compared with a byte, or one bit of it taken, by vectors of 64 bytes.
+//! Comparisons and bits of one byte of each of 512 rows, by vectors of 64 bytes.
 ghost use Rattle.std.specs.Prelude.{◌≡◌, ◌==◌, ◌&&◌, ◌+◌, ◌*◌, ◌<◌, ◌≤◌, length, map, nat_lt, not};
 ghost use Rattle.std.specs.List.{list_any, range_with_len};
 ghost use Rattle.std.specs.Int.{bit_at};
@@ -9,7 +9,7 @@ use crate::lanes::LANES;
 use crate::plane::Plane;
 use std::simd::prelude::*;
 
-/// The rows whose byte is below c. Byte i is row i's.
+/// Returns the rows whose byte is less than `c`. Byte i is row i's.
 #[tactic(auto, using(crate::proofs::WordLemmas::words_made))]
 #[inline(always)]
 pub fn bytes_lt(bytes: &[u8; LANES], c: u8) -> Plane
@@ -22,7 +22,7 @@ pub fn bytes_lt(bytes: &[u8; LANES], c: u8) -> Plane
     words
 }
 
-/// The rows whose byte is c. Byte i is row i's.
+/// Returns the rows whose byte is `c`. Byte i is row i's.
 #[tactic(auto, using(crate::proofs::WordLemmas::words_made))]
 #[inline(always)]
 pub fn bytes_eq(bytes: &[u8; LANES], c: u8) -> Plane
@@ -35,7 +35,7 @@ pub fn bytes_eq(bytes: &[u8; LANES], c: u8) -> Plane
     words
 }
 
-/// The rows in whose byte a bit is 1, of which bit 0 is the least. Byte i is row i's.
+/// Returns the rows in whose byte a bit is 1; bit 0 is the least. Byte i is row i's.
 #[tactic(auto, using(crate::proofs::WordLemmas::words_made))]
 pub fn bytes_bit(bytes: &[u8; LANES], bit: u32) -> Plane
     requires { bit < 8 }
@@ -48,7 +48,8 @@ pub fn bytes_bit(bytes: &[u8; LANES], bit: u32) -> Plane
     words
 }
 
-/// The rows whose bytes in so many slices, one after the other, are all 0. Byte i of a slice is row i's.
+/// Returns the rows whose bytes are 0 in each of `count` slices, one after the other. Byte i of a
+/// slice is row i's.
 #[tactic(auto, using(crate::proofs::WordLemmas::words_made))]
 pub fn bytes_none(slices: &[u8], count: usize) -> Plane
     requires { 512 * count ≤ length slices.now }
@@ -62,8 +63,8 @@ pub fn bytes_none(slices: &[u8], count: usize) -> Plane
     words
 }
 
-/// Whether a row among some has a byte that isn't 0 in so many slices, one after the other. Byte i of a slice is row
-/// i's. Of 64 rows of which none is among them no byte is read.
+/// Returns whether one of `rows` has a byte that isn't 0 in one of `count` slices, one after the
+/// other. Byte i of a slice is row i's. If none of 64 rows is selected, their bytes aren't read.
 #[tactic(auto, using(crate::proofs::AnyLemmas::any_steps))]
 #[inline(always)]
 pub fn bytes_any(slices: &[u8], count: usize, rows: &Plane) -> bool
@@ -78,7 +79,7 @@ pub fn bytes_any(slices: &[u8], count: usize, rows: &Plane) -> bool
     any
 }
 
-/// The same of 64 rows, from one on, and the word that says which are among them.
+/// Returns the same for 64 rows, from `first` on; `rows` is their word of the plane.
 #[inline(always)]
 fn any_of_word(slices: &[u8], count: usize, first: usize, rows: u64) -> bool
     requires slices { 512 * count ≤ length slices.now }
@@ -89,7 +90,7 @@ fn any_of_word(slices: &[u8], count: usize, first: usize, rows: u64) -> bool
     rows != 0 && rows & !eq(joined(slices, count, first), 0) != 0
 }
 
-/// The bytes of 64 rows, from one on, in so many slices, joined by or.
+/// Returns the bytes of 64 rows, from `first` on, in `count` slices, combined by OR.
 #[tactic(auto, using(crate::proofs::ByteLemmas::joined_so_far))]
 #[inline(always)]
 fn joined(slices: &[u8], count: usize, first: usize) -> u8x64
@@ -105,14 +106,14 @@ fn joined(slices: &[u8], count: usize, first: usize) -> u8x64
     bytes
 }
 
-/// A bit a byte: whether it is below c.
+/// Returns one bit for each byte: whether it is less than `c`.
 fn lt(bytes: u8x64, c: u8) -> u64
     ensures { bits_from_least 64 result ≡ map (λ byte. nat_lt byte c) bytes }
 {
     bytes.simd_lt(u8x64::splat(c)).to_bitmask()
 }
 
-/// A bit a byte: whether it is c.
+/// Returns one bit for each byte: whether it is `c`.
 #[inline(always)]
 fn eq(bytes: u8x64, c: u8) -> u64
     ensures { bits_from_least 64 result ≡ map (λ byte. byte == c) bytes }
@@ -120,7 +121,7 @@ fn eq(bytes: u8x64, c: u8) -> u64
     bytes.simd_eq(u8x64::splat(c)).to_bitmask()
 }
 
-/// A bit of each byte.
+/// Returns one bit of each byte.
 fn bit_of(bytes: u8x64, bit: u32) -> u64
     requires { bit < 8 }
     ensures { bits_from_least 64 result ≡ map (λ byte. bit_at byte bit == 1) bytes }

@@ -1,4 +1,4 @@
-//! One code of each of 512 rows, compared with another, by vectors of 64 codes.
+//! Comparisons of one code of each of 512 rows with another, by vectors of 64 codes.
 ghost use Rattle.std.specs.Prelude.{◌≡◌, ◌==◌, nat_lt};
 ghost use lib.Lanes.{zip2};
 ghost use Rattle.bw_lanes.specs.Lanes.{bits_from_least, lanes_of_words};
@@ -7,7 +7,7 @@ use crate::lanes::LANES;
 use crate::plane::Plane;
 use std::simd::prelude::*;
 
-/// The rows whose code among the first ones is below that among the others. Code i is row i's.
+/// Returns the rows whose code in `xs` is less than that in `ys`. Code i is row i's.
 #[tactic(auto, using(crate::proofs::WordLemmas::zips_made))]
 pub fn codes_lt(xs: &[u64; LANES], ys: &[u64; LANES]) -> Plane
     ensures { lanes_of_words result ≡ zip2 nat_lt xs.now ys.now }
@@ -22,7 +22,7 @@ pub fn codes_lt(xs: &[u64; LANES], ys: &[u64; LANES]) -> Plane
     words
 }
 
-/// The rows whose code among the first ones is that among the others. Code i is row i's.
+/// Returns the rows whose codes in `xs` and `ys` are equal. Code i is row i's.
 #[tactic(auto, using(crate::proofs::WordLemmas::zips_made))]
 pub fn codes_eq(xs: &[u64; LANES], ys: &[u64; LANES]) -> Plane
     ensures { lanes_of_words result ≡ zip2 (λ x y. x == y) xs.now ys.now }
@@ -37,14 +37,14 @@ pub fn codes_eq(xs: &[u64; LANES], ys: &[u64; LANES]) -> Plane
     words
 }
 
-/// A bit a code: whether it is below the other one.
+/// Returns one bit for each code: whether it is less than the other one.
 fn lt(xs: u64x64, ys: u64x64) -> u64
     ensures { bits_from_least 64 result ≡ zip2 nat_lt xs ys }
 {
     xs.simd_lt(ys).to_bitmask()
 }
 
-/// A bit a code: whether it is the other one.
+/// Returns one bit for each code: whether it equals the other one.
 fn eq(xs: u64x64, ys: u64x64) -> u64
     ensures { bits_from_least 64 result ≡ zip2 (λ x y. x == y) xs ys }
 {

@@ -1,11 +1,12 @@
-//! The last lane of some that is 1.
+//! The last lane of a range that is 1.
 ghost use Rattle.std.specs.Prelude.{◌≡◌, ◌-◌, ◌<◌, ◌≤◌, ◌+◌, ◌*◌, ◌/◌, ◌%◌, ℕ, true, false, slice_index_or, None, IfSome};
 ghost use Rattle.bw_lanes.specs.Lanes.{lanes_of_words};
 ghost use Rattle.bw_lanes.specs.Last.{AreClear, IsLast};
 
 use crate::plane::Plane;
 
-/// The last lane from `first` up to `end`, and not `end` itself, that is 1; none where each of these is 0.
+/// Returns the last lane that is 1 from `first` up to `end`, without `end` itself, or None if each
+/// of these is 0.
 pub fn last_between(plane: &Plane, first: usize, end: usize) -> Option<usize>
     requires { (first ≤ end) × (end ≤ 512) }
     ensures last { IfSome result (λ lane. IsLast (lanes_of_words plane.now) first end lane) }
@@ -24,8 +25,8 @@ pub fn last_between(plane: &Plane, first: usize, end: usize) -> Option<usize>
     None
 }
 
-/// How many lanes are 0, from one of a word down to the next below it that is 1; more than are left in the word where
-/// none is.
+/// Returns how many lanes of a word are 0, from lane `top` down to the next one that is 1; more
+/// than are left in the word if none is.
 #[tactic(auto, using(crate::proofs::LastLemmas::lanes_below))]
 fn clear_below(plane: &Plane, top: usize) -> usize
     requires { top < 512 }

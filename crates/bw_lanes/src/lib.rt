@@ -1,10 +1,11 @@
-//! Kernels over 512 lanes, one a row: planes of bits and their words, and the bytes of 512 codes.
+//! Kernels over 512 lanes, one for each row: planes of bits and their words, and the bytes of 512
+//! codes.
 //!
-//! The contract that the crates above use: each kernel is its plain definition in every lane, and counts are
-//! numbers of lanes that are 1. None takes memory, and none refuses.
+//! The contract that the crates above use: each kernel is its plain definition in every lane, and
+//! counts are numbers of lanes that are 1. None allocates memory, and none fails.
 //!
-//! The layout is BitWeaving's vertical one (Li and Patel), whose words here are 64 bits, and ByteSlice's (Feng,
-//! Lo, Kao and Xu) for bytes. Read `plane.rt` first, then `bytes.rt`, `picked.rt` and
+//! The layout is BitWeaving's vertical one (Li and Patel), with words of 64 bits, and ByteSlice's
+//! (Feng, Lo, Kao and Xu) for bytes. Read `plane.rt` first, then `bytes.rt`, `picked.rt` and
 //! `shifted.rt`.
 #![tactic(auto)]
 

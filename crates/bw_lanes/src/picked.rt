@@ -1,4 +1,5 @@
-//! Some of 512 rows, a byte each, and what stands in a slice in these rows, by vectors of 64 bytes.
+//! Selected rows of 512, as one byte each, and the bytes of a slice in these rows, by vectors of 64
+//! bytes.
 ghost use Rattle.std.specs.Prelude.{◌≡◌, ◌==◌, ◌&&◌, ◌<◌, ◌≤◌, ◌*◌, ℕ, List, Bool, length, min, max, sum, map, if◌then◌else◌};
 ghost use Rattle.std.specs.List.{fold};
 ghost use lib.Lanes.{zip2, sum_l, put_chunk};
@@ -9,22 +10,22 @@ use crate::lanes::LANES;
 use crate::plane::Plane;
 use std::simd::prelude::*;
 
-/// Which byte of a word has the bit of each of 64 rows.
+/// The byte of a word that has the bit of each of 64 rows.
 const BYTE_OF_ROW: [usize; 64] = [
     0, 0, 0, 0, 0, 0, 0, 0, 1, 1, 1, 1, 1, 1, 1, 1, 2, 2, 2, 2, 2, 2, 2, 2, 3, 3, 3, 3, 3, 3, 3, 3,
     4, 4, 4, 4, 4, 4, 4, 4, 5, 5, 5, 5, 5, 5, 5, 5, 6, 6, 6, 6, 6, 6, 6, 6, 7, 7, 7, 7, 7, 7, 7, 7,
 ];
 
-/// Which bit of that byte it is.
+/// The value of that bit in the byte.
 const BIT_OF_ROW: [u8; 64] = [
     1, 2, 4, 8, 16, 32, 64, 128, 1, 2, 4, 8, 16, 32, 64, 128, 1, 2, 4, 8, 16, 32, 64, 128, 1, 2, 4,
     8, 16, 32, 64, 128, 1, 2, 4, 8, 16, 32, 64, 128, 1, 2, 4, 8, 16, 32, 64, 128, 1, 2, 4, 8, 16,
     32, 64, 128, 1, 2, 4, 8, 16, 32, 64, 128,
 ];
 
-// Inline, after a loop that makes the plane, it was compiled to take each byte by itself: a sum took seven times as
-// long.
-/// A byte a row: 255 where its lane is 1, and else 0.
+// If this was inlined after a loop that makes the plane, it was compiled to handle each byte by
+// itself: a sum took seven times as long.
+/// Returns one byte for each row: 255 if its lane is 1, else 0.
 #[tactic(auto, using(crate::proofs::WordLemmas::put_bytes))]
 #[inline(never)]
 pub fn bytes_of_plane(plane: &Plane) -> [u8; LANES]
@@ -37,7 +38,7 @@ pub fn bytes_of_plane(plane: &Plane) -> [u8; LANES]
     bytes
 }
 
-/// Puts the bytes of the 64 rows of a word in their place.
+/// Sets the bytes of the 64 rows of a word.
 #[tactic(auto, using(crate::proofs::PickedLemmas::put_is))]
 pub(crate) fn put(bytes: &mut [u8; LANES], word: usize, some: u8x64)
     requires { word < 8 }
@@ -46,7 +47,7 @@ pub(crate) fn put(bytes: &mut [u8; LANES], word: usize, some: u8x64)
     some.copy_to_slice(&mut bytes[64 * word..]);
 }
 
-/// The same of one word.
+/// Returns one byte for each of the 64 rows of a word: 255 if its lane is 1, else 0.
 #[tactic(auto, using(crate::proofs::PickedLemmas::bytes_computed))]
 pub(crate) fn bytes_of_word(word: u64) -> u8x64
     ensures { result ≡ map as_byte (bits_from_least 64 word) }
@@ -58,8 +59,8 @@ pub(crate) fn bytes_of_word(word: u64) -> u8x64
         .select(u8x64::splat(255), u8x64::splat(0))
 }
 
-/// The sum of the bytes of some rows, which are given as [`bytes_of_plane`] spreads a plane: 255 for a row that counts,
-/// 0 for another.
+/// Returns the sum of the bytes of selected rows. `rows` has 255 for a selected row and 0 for any
+/// other, as [`bytes_of_plane`] returns.
 #[tactic(auto, using(std::proofs::lemmas::Simd::adds_fit, std::proofs::lemmas::Simd::sum_fits))]
 pub fn sum_in(bytes: &[u8; LANES], rows: &[u8; LANES]) -> u32
     ensures sum { (lanes : List Bool) → rows.now ≡ map as_byte lanes
@@ -74,7 +75,7 @@ pub fn sum_in(bytes: &[u8; LANES], rows: &[u8; LANES]) -> u32
     sums.strict_reduce_sum()
 }
 
-/// The sums of four bytes each.
+/// Returns the sums of four bytes each.
 #[tactic(auto, using(crate::proofs::PickedLemmas::sums_of_fours))]
 fn fours(bytes: u8x64) -> u32x16
     ensures sum { sum_l result ≡ sum_l bytes }
@@ -83,7 +84,7 @@ fn fours(bytes: u8x64) -> u32x16
     bytes.dot4(u8x64::splat(1))
 }
 
-/// The least of the bytes of some rows; 255 where there are none.
+/// Returns the minimum of the bytes of selected rows, or 255 if none is selected.
 pub fn least_in(bytes: &[u8; LANES], rows: &[u8; LANES]) -> u8
     ensures { (lanes : List Bool) → rows.now ≡ map as_byte lanes
         → result ≡ fold min 255 (bytes_picked 255 lanes bytes.now) }
@@ -96,7 +97,7 @@ pub fn least_in(bytes: &[u8; LANES], rows: &[u8; LANES]) -> u8
     least_of(least)
 }
 
-/// The greatest of the bytes of some rows; 0 where there are none.
+/// Returns the maximum of the bytes of selected rows, or 0 if none is selected.
 pub fn greatest_in(bytes: &[u8; LANES], rows: &[u8; LANES]) -> u8
     ensures { (lanes : List Bool) → rows.now ≡ map as_byte lanes
         → result ≡ fold max 0 (bytes_picked 0 lanes bytes.now) }
@@ -109,7 +110,7 @@ pub fn greatest_in(bytes: &[u8; LANES], rows: &[u8; LANES]) -> u8
     greatest_of(greatest)
 }
 
-/// Of some rows those whose byte is c.
+/// Removes from the selected rows those whose byte isn't `c`.
 #[tactic(auto, using(crate::proofs::WordLemmas::parts_written))]
 pub fn keep_in(rows: &mut [u8; LANES], bytes: &[u8; LANES], c: u8)
     ensures { (lanes : List Bool) → rows.old ≡ map as_byte lanes
@@ -122,14 +123,14 @@ pub fn keep_in(rows: &mut [u8; LANES], bytes: &[u8; LANES], c: u8)
     }
 }
 
-/// The rows where their byte is c, and else 0.
+/// Returns the bytes of `rows` in the lanes whose byte is `c`, and 0 in the others.
 fn kept(rows: u8x64, bytes: u8x64, c: u8) -> u8x64
     ensures { result ≡ zip2 (λ row byte. if byte == c then row else 0) rows bytes }
 {
     bytes.simd_eq(u8x64::splat(c)).select(rows, u8x64::splat(0))
 }
 
-/// The lesser byte in each lane.
+/// Returns the lesser byte in each lane.
 #[tactic(auto, using(crate::proofs::PickedLemmas::lesser_is))]
 fn lesser<const N: usize>(a: Simd<u8, N>, b: Simd<u8, N>) -> Simd<u8, N>
     ensures { result ≡ zip2 min a.entry b.entry }
@@ -137,7 +138,7 @@ fn lesser<const N: usize>(a: Simd<u8, N>, b: Simd<u8, N>) -> Simd<u8, N>
     a.simd_min(b)
 }
 
-/// The greater byte in each lane.
+/// Returns the greater byte in each lane.
 #[tactic(auto, using(crate::proofs::PickedLemmas::greater_is))]
 fn greater<const N: usize>(a: Simd<u8, N>, b: Simd<u8, N>) -> Simd<u8, N>
     ensures { result ≡ zip2 max a.entry b.entry }
@@ -145,7 +146,7 @@ fn greater<const N: usize>(a: Simd<u8, N>, b: Simd<u8, N>) -> Simd<u8, N>
     a.simd_max(b)
 }
 
-/// The least of 64 bytes, by halves.
+/// Returns the minimum of 64 bytes, by halves.
 fn least_of(bytes: u8x64) -> u8
     ensures { min 255 result ≡ fold min 255 bytes }
 {
@@ -158,7 +159,7 @@ fn least_of(bytes: u8x64) -> u8
     b.to_array()[0]
 }
 
-/// The greatest of 64 bytes, by halves.
+/// Returns the maximum of 64 bytes, by halves.
 fn greatest_of(bytes: u8x64) -> u8
     ensures { max 0 result ≡ fold max 0 bytes }
 {

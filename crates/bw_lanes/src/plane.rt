@@ -9,10 +9,10 @@ use std::simd::prelude::*;
 /// One bit of each of 512 rows: row i's is bit i mod 64, the least first, of word i / 64.
 pub type Plane = [u64; 8];
 
-/// Which rows of a segment are picked: a plane that has a 1 in the lane of each, and no other 1.
+/// Selected rows of a segment: a plane with a 1 in the lane of each, and no other 1.
 pub type Selection = Plane;
 
-/// The lanes that are 1 in both.
+/// Returns the lanes that are 1 in both.
 #[tactic(auto, using(crate::proofs::WordLemmas::lanes_of_and))]
 pub fn and(a: &Plane, b: &Plane) -> Plane
     ensures { lanes_of_words result
@@ -21,7 +21,7 @@ pub fn and(a: &Plane, b: &Plane) -> Plane
     (u64x8::from_array(*a) & u64x8::from_array(*b)).to_array()
 }
 
-/// The lanes that are 1 in either.
+/// Returns the lanes that are 1 in either.
 #[tactic(auto, using(crate::proofs::WordLemmas::lanes_of_or))]
 pub fn or(a: &Plane, b: &Plane) -> Plane
     ensures { lanes_of_words result
@@ -30,7 +30,7 @@ pub fn or(a: &Plane, b: &Plane) -> Plane
     (u64x8::from_array(*a) | u64x8::from_array(*b)).to_array()
 }
 
-/// The lanes that differ.
+/// Returns the lanes that differ.
 #[tactic(auto, using(crate::proofs::WordLemmas::lanes_of_xor))]
 pub fn xor(a: &Plane, b: &Plane) -> Plane
     ensures { lanes_of_words result ≡ zip2 differ (lanes_of_words a.now) (lanes_of_words b.now) }
@@ -38,21 +38,21 @@ pub fn xor(a: &Plane, b: &Plane) -> Plane
     (u64x8::from_array(*a) ^ u64x8::from_array(*b)).to_array()
 }
 
-/// The lanes that are 0.
+/// Returns the lanes that are 0.
 pub fn not(plane: &Plane) -> Plane
     ensures { lanes_of_words result ≡ map not (lanes_of_words plane.now) }
 {
     inverted(u64x8::from_array(*plane)).to_array()
 }
 
-/// Whether all 512 lanes are 0.
+/// Returns whether all 512 lanes are 0.
 pub fn is_zero(plane: &Plane) -> bool
     ensures { result ≡ list_all not (lanes_of_words plane.now) }
 {
     has_no_one(u64x8::from_array(*plane))
 }
 
-/// The lane of a row, from 0.
+/// Returns the lane of a row, from 0.
 #[tactic(auto, using(crate::proofs::WordLemmas::lane_of_words))]
 pub fn lane(plane: &Plane, row: usize) -> bool
     requires { row < 512 }
@@ -61,7 +61,7 @@ pub fn lane(plane: &Plane, row: usize) -> bool
     plane[row / 64] >> (row % 64) & 1 == 1
 }
 
-/// How many lanes are 1.
+/// Returns how many lanes are 1.
 pub fn count(plane: &Plane) -> u32
     ensures ones { result ≡ count_by (λ lane. lane) (lanes_of_words plane.now) }
     ensures bound { result ≤ 512 }
@@ -69,7 +69,7 @@ pub fn count(plane: &Plane) -> u32
     ones_in(u64x8::from_array(*plane))
 }
 
-/// How many lanes are 1 in both.
+/// Returns how many lanes are 1 in both.
 #[tactic(auto, using(crate::proofs::WordLemmas::lanes_of_and))]
 pub fn count_and(a: &Plane, b: &Plane) -> u32
     ensures ones { result ≡ count_by (λ lane. lane)
@@ -79,7 +79,7 @@ pub fn count_and(a: &Plane, b: &Plane) -> u32
     ones_in(u64x8::from_array(*a) & u64x8::from_array(*b))
 }
 
-/// The plane in which the first rows, so many, are 1, and the others 0.
+/// Returns the plane in which the first `rows` lanes are 1, and the others 0.
 #[tactic(auto, using(crate::proofs::WordLemmas::masked))]
 pub fn mask(rows: u32) -> Plane
     requires { rows ≤ 512 }
@@ -88,7 +88,7 @@ pub fn mask(rows: u32) -> Plane
     ones_and_last(u64::from(rows / 64), (1 << (rows % 64)) - 1).to_array()
 }
 
-/// How many lanes are 1.
+/// Returns how many lanes are 1.
 fn ones_in(words: u64x8) -> u32
     ensures ones { result ≡ count_by (λ lane. lane) (lanes_of_words words) }
     ensures bound { result ≤ 512 }
@@ -99,7 +99,8 @@ fn ones_in(words: u64x8) -> u32
 /// The numbers of a plane's words.
 const NUMBERS: [u64; 8] = [0, 1, 2, 3, 4, 5, 6, 7];
 
-/// A plane whose first words, so many, are 1 in all lanes; the next one is given, and those after it are 0.
+/// Returns a plane whose first `whole` words are 1 in all lanes, the next one is `last`, and those
+/// after it are 0.
 fn ones_and_last(whole: u64, last: u64) -> u64x8
     ensures { result ≡ map (λ word. if nat_lt word whole then 2 ^ 64 - 1 else if word == whole then last else 0)
         (range_with_len 0 8) }
@@ -112,7 +113,7 @@ fn ones_and_last(whole: u64, last: u64) -> u64x8
     numbers.simd_lt(whole).select(u64x8::splat(u64::MAX), rest)
 }
 
-/// The lanes that are 0.
+/// Returns the lanes that are 0.
 #[tactic(auto, using(crate::proofs::WordLemmas::lanes_of_not))]
 fn inverted(words: u64x8) -> u64x8
     ensures { lanes_of_words result ≡ map not (lanes_of_words words) }
@@ -120,7 +121,7 @@ fn inverted(words: u64x8) -> u64x8
     !words
 }
 
-/// Whether no lane is 1.
+/// Returns whether no lane is 1.
 #[tactic(auto, using(crate::proofs::WordLemmas::no_word))]
 fn has_no_one(words: u64x8) -> bool
     ensures { result ≡ list_all not (lanes_of_words words) }

@@ -1,4 +1,4 @@
-//! A bit of each of 512 rows, shifted into a byte of each, by vectors of 64 bytes.
+//! A bit of each of 512 rows, shifted into a byte of each row, by vectors of 64 bytes.
 ghost use Rattle.std.specs.Prelude.{◌≡◌};
 ghost use lib.Lanes.{zip2};
 ghost use Rattle.bw_lanes.specs.Lanes.{bits_from_least, lanes_of_words};
@@ -9,9 +9,11 @@ use crate::picked::{bytes_of_word, put};
 use crate::plane::Plane;
 use std::simd::prelude::*;
 
-/// Shifts one more bit into a byte of each lane: each byte becomes its double, and 1 more where the plane's lane is 1,
-/// modulo 256. Byte i is row i's. So the planes of numbers' bits, as BitWeaving's vertical layout has them, become
-/// bytes of the numbers, from the most significant bit down.
+/// Shifts one more bit into a byte of each lane: each byte becomes its double, plus 1 if the
+/// plane's lane is 1, modulo 256. Byte i is row i's.
+///
+/// So the planes of codes, in BitWeaving's vertical layout, become bytes of the codes, from the
+/// most significant bit down.
 #[tactic(auto, using(crate::proofs::WordLemmas::parts_written))]
 pub fn push_bit(bytes: &mut [u8; LANES], plane: &Plane)
     ensures { bytes.new ≡ zip2 with_bit bytes.old (lanes_of_words plane.now) }
@@ -22,7 +24,7 @@ pub fn push_bit(bytes: &mut [u8; LANES], plane: &Plane)
     }
 }
 
-/// The same of the bytes of 64 rows and their word.
+/// Returns the same for the bytes of 64 rows and their word.
 #[tactic(auto, using(crate::proofs::PickedLemmas::shifted_computed))]
 fn with_bits(bytes: u8x64, word: u64) -> u8x64
     ensures { result ≡ zip2 with_bit bytes (bits_from_least 64 word) }

@@ -1,4 +1,5 @@
--- Names are plain words, so they are read as they are written; and a column that a word names is there.
+-- Names are plain words, so they are read as they are written; and a column that a word names is
+-- there.
 use Rattle.std.proofs.Common.{◌≡◌, refl, ℕ, Bool, true, false, cond, not, ◌&&◌, List, length, Some, None, nat_le, nat_lt}
 use Rattle.std.specs.List.{position_or_len}
 use Rattle.std.proofs.lemmas.Bool.{and_parts}

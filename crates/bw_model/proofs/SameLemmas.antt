@@ -1,4 +1,5 @@
--- Conditions with the same tree have the same meaning, name the same columns, and are whole both or neither.
+-- Conditions with the same tree have the same meaning, name the same columns, and are whole both or
+-- neither.
 use Rattle.std.proofs.Common.{◌≡◌, ◌∙◌, refl, sym, ap, ap₂, subst, ℕ, suc, Bool, ◌&&◌, nat_le, List, [], ◌∷◌, map, length}
 use Rattle.std.specs.List.{list_all}
 use Rattle.bw_model.specs.declared.cond.Truth.{Truth}
@@ -9,8 +10,8 @@ use Rattle.bw_model.specs.Truth.{truth_from, all_of, any_of, negation, is_truth}
 use Rattle.bw_model.specs.Cond.{truth_of, truth_step, names_within, within_step, is_whole, whole_step}
 use Rattle.bw_model.specs.CondTree.{CondTree, tree_of, tree_step, trees_of, tree_truth, tree_truths, tree_within, trees_within, is_whole_tree, are_whole_trees, count_of}
 
--- What a fold says of conditions, and what is said of their trees, is one where it is one for each layer whose parts are
--- such conditions.
+-- What a fold says of conditions, and what is said of their trees, is one where it is one for each
+-- layer whose parts are such conditions.
 module _ (A : Type 0) (step : Cond-F A → A) (value : CondTree → A) where
   -- a condition of which both say one thing
   abbrev pub Known : Type 0

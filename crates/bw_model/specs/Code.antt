@@ -1,15 +1,15 @@
--- Codes: a value's distance from its column's least, and how many binary digits it takes.
+-- Codes: a value's distance from its column's minimum, and how many binary digits it has.
 use Rattle.std.specs.Prelude.{ℕ, ℤ, Bool, pos, ◌==◌, unwrap_or, ◌+◌, ◌/◌, ◌+ℤ◌, ◌-ℤ◌, max, ◌&&◌, List, map, length, slice_index, slice_index_or, Option, Some, None, if◌then◌else◌, int_le, unsigned_abs}
 use Rattle.std.specs.Int.{bit_at}
 use Rattle.std.specs.Int.Digits.{digits_of}
 use Rattle.bw_model.specs.declared.column.Column.{Column}
 use Rattle.bw_model.specs.Row.{Value}
 
--- the greatest code of a column, which is that of its greatest value
+-- the maximum code of a column is the code of its maximum
 abbrev pub span_of : Column → ℕ
 span_of column = unsigned_abs (column.hi -ℤ column.lo)
 
--- the number of binary digits of the greatest code, at least 1
+-- the number of binary digits of the maximum code, at least 1
 unfoldable pub width_of : Column → ℕ
 width_of column = max 1 (length (digits_of 2 (span_of column)))
 
@@ -31,14 +31,14 @@ stored_code column value = unwrap_or (code_of column value) 0
 abbrev pub has_bit : ℕ → ℕ → Bool
 has_bit n bit = bit_at n bit == 1
 
--- the same of the column of this number, from 0
+-- the maximum code of the column of this number, from 0, and its width
 abbrev pub span_at : List Column → ℕ → ℕ
 span_at columns column = slice_index (map span_of columns) column
 
 abbrev pub width_at : List Column → ℕ → ℕ
 width_at columns column = slice_index (map width_of columns) column
 
--- the number of bytes that hold a code
+-- the number of bytes of a column's codes
 abbrev pub slices_at : List Column → ℕ → ℕ
 slices_at columns column = (width_at columns column + 7) / 8
 

@@ -12,12 +12,12 @@ names_of columns = map (λ column. column.name) columns
 unfoldable pub column_named : List Column → List ℕ → Option ℕ
 column_named columns text = position (λ column. same_text column.name text) columns
 
--- a column admits null where it is nullable, and the numbers from lo to hi
+-- a nullable column admits null, and every column the numbers from lo to hi
 abbrev pub admits_value : Column → Value → Bool
 admits_value column None = column.nullable
 admits_value column (Some n) = int_le column.lo n && int_le n column.hi
 
--- columns admit a row of as many values, each of which its column admits
+-- columns admit a row if it has one value for each, and each column admits its value
 abbrev pub admits_values : List Column → List Value → Bool
 admits_values [] [] = true
 admits_values [] (value ∷ values) = false

@@ -16,7 +16,7 @@ operand_value row (Col column) = value_in row column
 operand_value row (Lit n) = Some n
 operand_value row Null = None
 
--- the truth of a condition on a row, from that of its parts
+-- the truth of a condition on a row, from the truths of its parts
 abbrev pub truth_step : List Value → Cond-F Truth → Truth
 truth_step row Always = Yes
 truth_step row (Cmp op x y) = compared op (operand_value row x) (operand_value row y)
@@ -32,17 +32,17 @@ truth_step row (Test part t) = truth_from (is_truth part.value t)
 unfoldable pub truth_of : List Value → Cond → Truth
 truth_of row cond = fold-Cond Truth (truth_step row) cond
 
--- a row is kept where the condition is TRUE: neither FALSE nor UNKNOWN will do
+-- a row matches a condition if it is TRUE: neither FALSE nor UNKNOWN will do
 abbrev pub is_kept : Cond → List Value → Bool
 is_kept cond row = is_truth (truth_of row cond) Yes
 
--- the operand is a literal, NULL or one of so many columns
+-- the operand is a literal, NULL or one of the first `columns` columns
 abbrev pub is_within : ℕ → Operand → Bool
 is_within columns (Col column) = nat_lt column columns
 is_within columns (Lit n) = true
 is_within columns Null = true
 
--- so does the condition name columns
+-- each column of a condition is one of the first `columns`, given whether this is so of its parts
 abbrev pub within_step : ℕ → Cond-F Bool → Bool
 within_step columns Always = true
 within_step columns (Cmp op x y) = is_within columns x && is_within columns y
@@ -54,11 +54,11 @@ within_step columns (Or parts) = list_all (λ part. part) parts.items
 within_step columns (Not part) = part.value
 within_step columns (Test part t) = part.value
 
--- each column that the condition names is one of the first so many
+-- each column that the condition names is one of the first `columns`
 unfoldable pub names_within : ℕ → Cond → Bool
 names_within columns cond = fold-Cond Bool (within_step columns) cond
 
--- And and Or hold two or more parts, and Among one item or more
+-- And and Or have two or more parts, and Among one or more items
 abbrev pub whole_step : Cond-F Bool → Bool
 whole_step Always = true
 whole_step (Cmp op x y) = true

@@ -1,5 +1,5 @@
--- A condition as plain data: its tree, without where its parts lie in memory. Two conditions are equal where their
--- trees are.
+-- A condition as plain data: its tree, without the addresses of its parts. Two conditions are equal
+-- if their trees are.
 use Rattle.std.specs.Prelude.{ℕ, suc, zero, Bool, true, List, [], ◌∷◌, map, length, ◌&&◌, nat_le}
 use Rattle.std.specs.List.{list_all}
 use Rattle.bw_model.specs.declared.cond.Truth.{Truth}
@@ -32,7 +32,7 @@ abbrev pub trees_of : List CondTree → CondTrees
 trees_of [] = none
 trees_of (t ∷ ts) = more t (trees_of ts)
 
--- one layer of a condition, with the tree of each part in its place
+-- one layer of a condition, each part replaced by its tree
 abbrev pub tree_step : Cond-F CondTree → CondTree
 tree_step layer.Always = Always
 tree_step (layer.Cmp op x y) = Cmp op x y
@@ -47,7 +47,7 @@ tree_step (layer.Test part t) = Test part.value t
 unfoldable pub tree_of : Cond → CondTree
 tree_of cond = fold-Cond CondTree tree_step cond
 
--- the truth of a tree on a row, as that of the condition
+-- the truth of a tree on a row, by the same rules as that of a condition
 abbrev mutual
   pub tree_truth : List Value → CondTree → Truth
   tree_truth row Always = Yes
@@ -64,7 +64,7 @@ abbrev mutual
   tree_truths row none = []
   tree_truths row (more part parts) = tree_truth row part ∷ tree_truths row parts
 
--- each column that a tree names is one of the first so many, as in the condition
+-- each column that a tree names is one of the first `columns`, by the same rules as for a condition
 abbrev mutual
   pub tree_within : ℕ → CondTree → Bool
   tree_within columns Always = true
@@ -81,12 +81,13 @@ abbrev mutual
   trees_within columns none = true
   trees_within columns (more part parts) = tree_within columns part && trees_within columns parts
 
--- how many trees there are
+-- the number of trees
 abbrev pub count_of : CondTrees → ℕ
 count_of none = zero
 count_of (more part parts) = suc (count_of parts)
 
--- And and Or hold two or more parts, and Among one item or more, as in the condition
+-- And and Or have two or more parts, and Among one or more items, by the same rules as for a
+-- condition
 abbrev mutual
   pub is_whole_tree : CondTree → Bool
   is_whole_tree Always = true

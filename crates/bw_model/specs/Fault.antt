@@ -1,4 +1,4 @@
--- Refusals: a fault, and what a call that may run out of memory gives.
+-- Errors, and the results of calls that can run out of memory.
 use Rattle.std.specs.Prelude.{◌≡◌, ℕ, Bool, ◌==◌, ◌&&◌, true, false, List, [], ◌++◌, codes, Result, Ok, Err}
 use Rattle.std.specs.Fmt.{decimal}
 use Rattle.bw_model.specs.declared.fault.Fault.{Fault}
@@ -6,7 +6,7 @@ use Rattle.bw_model.specs.declared.fault.Place.{Place}
 use Rattle.bw_model.specs.declared.fault.Place.TheVariants.{Nowhere, Byte, Line, Rec}
 use Rattle.bw_model.specs.FaultTable.{OUT_OF_MEMORY, words_of}
 
--- a fault that stands nowhere, at a byte, at a line or at a record
+-- an error without a place, at a byte, at a line or at a record
 abbrev pub nowhere : ℕ → Fault
 nowhere c = record { code = c; place = Nowhere }
 
@@ -19,14 +19,15 @@ at_line c at = record { code = c; place = Line at }
 abbrev pub at_record : ℕ → ℕ → Fault
 at_record c at = record { code = c; place = Rec at }
 
--- how a place is shown, after what it is the place of
+-- how a place is printed, after the error's words
 abbrev pub place_text : Place → List ℕ
 place_text Nowhere = []
 place_text (Byte at) = codes " at byte " ++ decimal at
 place_text (Line at) = codes " at line " ++ decimal at
 place_text (Rec at) = codes " at record " ++ decimal at
 
--- the line of a fault, as `bw: 404 unknown column at byte 7`, with its end: its number, its words and its place
+-- the line of an error, with its line end: its number, its words and its place, as
+-- `bw: 404 unknown column at byte 7`
 abbrev pub fault_line : Fault → List ℕ
 fault_line fault =
     ((((codes "bw: " ++ decimal fault.code) ++ codes " ") ++ words_of fault.code) ++ place_text fault.place)
@@ -36,29 +37,29 @@ fault_line fault =
 abbrev pub no_memory : Fault
 no_memory = nowhere OUT_OF_MEMORY
 
--- the fault stands nowhere
+-- the place is none
 abbrev pub stands_nowhere : Place → Bool
 stands_nowhere Nowhere = true
 stands_nowhere (Byte at) = false
 stands_nowhere (Line at) = false
 stands_nowhere (Rec at) = false
 
--- the fault is out of memory, which no rule of a format foresees
+-- the error is out of memory, which no rule of a format foresees
 abbrev pub is_memory : Fault → Bool
 is_memory fault = (fault.code == OUT_OF_MEMORY) && stands_nowhere fault.place
 
--- an answer or the first fault, and then what follows from the answer
+-- what follows from a result, or its error
 infixl 10 ◌>>=◌
 abbrev pub ◌>>=◌ : {A B : Type 0} → Result A Fault → (A → Result B Fault) → Result B Fault
 (Ok x) >>= f = f x
 (Err fault) >>= f = Err fault
 
--- the fault where the test is true, and else what follows
+-- the error if the test is true, else what follows
 abbrev pub refused_if : {A : Type 0} → Bool → Fault → Result A Fault → Result A Fault
 refused_if true fault next = Err fault
 refused_if false fault next = next
 
--- What a call answered, seen by view, is what is expected, out of memory aside.
+-- What a call returned, seen by view, is what is expected, unless it ran out of memory.
 abbrev pub Gives : {A B : Type 0} → (A → B) → Result A Fault → Result B Fault → Type 0
 Gives view (Ok x) expected = expected ≡ Ok (view x)
 Gives view (Err fault) expected = is_memory fault ≡ false → expected ≡ Err fault

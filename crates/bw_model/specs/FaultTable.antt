@@ -1,6 +1,7 @@
--- The faults, in one table: of each its name, its number, its words, and what it stands at. The hundreds tell the part:
--- 1 the schema, 2 the CSV, 3 the table file, 4 the statement, 5 the program, 6 its certificate, 7 a device, 8 memory.
--- The numbers and the words are this project's own.
+-- The errors, in one table: each with its name, its number, its words, and the kind of its place.
+-- The hundreds name the part: 1 the schema, 2 the CSV, 3 the table file, 4 the statement, 5 the
+-- program, 6 its certificate, 7 an I/O device, 8 memory. The numbers and the words are this
+-- project's own.
 use Rattle.std.specs.Prelude.{ℕ, List, [], ◌∷◌, ◌==◌, if◌then◌else◌, codes}
 
 -- of a schema text
@@ -131,7 +132,7 @@ NO_NULLS = 507
 abbrev pub PROGRAM_FILE_TOO_LONG : ℕ
 PROGRAM_FILE_TOO_LONG = 508
 
--- of a certificate, and 651 the planner's
+-- of a certificate; 651 is the planner's
 abbrev pub NODE : ℕ
 NODE = 601
 
@@ -165,7 +166,7 @@ END = 610
 abbrev pub NO_PROGRAM : ℕ
 NO_PROGRAM = 651
 
--- of a device
+-- of an I/O device
 abbrev pub READ_FAILED : ℕ
 READ_FAILED = 701
 
@@ -176,7 +177,7 @@ WRITE_FAILED = 702
 abbrev pub OUT_OF_MEMORY : ℕ
 OUT_OF_MEMORY = 801
 
--- what a fault of a whole call stands at: nothing, or a byte, a line or a record of what was read
+-- the kind of place of an error of a whole call: none, or a byte, a line or a record of its input
 pub data Standing : Type 0 where
   Unplaced : Standing
   InBytes : Standing
@@ -192,7 +193,7 @@ pub record Listed : Type 0 where
 abbrev pub listed : ℕ → List ℕ → Standing → Listed
 listed number words standing = record { number = number; words = words; standing = standing }
 
--- every fault there is
+-- all errors
 abbrev pub faults : List Listed
 faults =
     listed SCHEMA_FORM (codes "line form") InLines
@@ -252,20 +253,20 @@ faults =
     ∷ listed OUT_OF_MEMORY (codes "out of memory") Unplaced
     ∷ []
 
--- the words of a number in some rows; of one that isn't listed `fault`
+-- the words of a number in the first row that has it, or `fault` if there is none
 abbrev pub words_among : List Listed → ℕ → List ℕ
 words_among [] number = codes "fault"
 words_among (row ∷ rows) number = if number == row.number then row.words else words_among rows number
 
--- what a fault of a number is called
+-- the words of an error, by its number
 unfoldable pub words_of : ℕ → List ℕ
 words_of number = words_among faults number
 
--- what a number in some rows stands at
+-- the kind of place of a number in the first row that has it, or none
 abbrev pub standing_among : List Listed → ℕ → Standing
 standing_among [] number = Unplaced
 standing_among (row ∷ rows) number = if number == row.number then row.standing else standing_among rows number
 
--- what a fault of a number stands at
+-- the kind of place of an error, by its number
 unfoldable pub standing_of : ℕ → Standing
 standing_of number = standing_among faults number

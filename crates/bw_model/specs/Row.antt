@@ -6,10 +6,10 @@ use Rattle.bw_model.specs.declared.row.Row.{Row}
 abbrev pub Value : Type 0
 Value = Option ℤ
 
--- the values of a row, one a column
+-- the values of a row, one for each column
 abbrev pub values_of : Row → List Value
 values_of row = row.values.items
 
--- the value in a column
+-- the value of a row in a column
 abbrev pub value_in : List Value → ℕ → Value
 value_in values column = slice_index_or values column None

@@ -1,4 +1,4 @@
--- Schema texts: what a text says, or the first fault in it.
+-- Schema texts: the schema of a text, or its first error.
 use Rattle.std.specs.Prelude.{◌≡◌, ◌≤◌, IsTrue, ℕ, ℤ, pos, ◌-ℤ◌, ◌^◌, Bool, true, false, List, [], ◌∷◌, ◌++◌, map, drop, length, Option, Some, None, Result, Ok, Err, codes, not, ◌&&◌, ◌||◌, ◌==◌, if◌then◌else◌, int_le, int_lt, nat_le, nat_lt, slice_index}
 use Rattle.std.specs.List.{list_any, AllZip}
 use Rattle.bw_model.specs.FaultTable.{SCHEMA_FORM, SCHEMA_NAME, SCHEMA_RANGE, NAME_TWICE, COLUMN_COUNT, SCHEMA_TOO_LONG}
@@ -33,7 +33,7 @@ column_shape column = shape column.name column.lo column.hi column.nullable
 abbrev pub schema_shape : Schema → SchemaShape
 schema_shape schema = record { name = schema.name; columns = map column_shape schema.columns.items }
 
--- what the words of a column's line say
+-- the column that the words of its line spell
 abbrev pub words_shape : Words → ColumnShape
 words_shape words = shape words.name.now words.lo words.hi words.nullable
 
@@ -56,7 +56,8 @@ with_bounds name (Some lo) (Some hi) nullable = Some (shape name lo hi nullable)
 abbrev pub are_not_null : List ℕ → List ℕ → Bool
 are_not_null negates null = same_text negates (codes "NOT") && same_text null (codes "NULL")
 
--- what the words COLUMN name lo hi, or COLUMN name lo hi NOT NULL, say; none where the words are others
+-- the words of COLUMN name lo hi, or of COLUMN name lo hi NOT NULL; none if the words have another
+-- form
 unfoldable pub column_words : List (List ℕ) → Option ColumnShape
 column_words (keyword ∷ name ∷ lo ∷ hi ∷ []) =
     if not (same_text keyword (codes "COLUMN")) then None else with_bounds name (bound_of lo) (bound_of hi) true
@@ -70,14 +71,14 @@ column_words (a ∷ b ∷ c ∷ []) = None
 column_words (a ∷ b ∷ c ∷ d ∷ e ∷ []) = None
 column_words (a ∷ b ∷ c ∷ d ∷ e ∷ f ∷ g ∷ more) = None
 
--- what the words TABLE name say
+-- the name in the words TABLE name; none if they have another form
 unfoldable pub table_words : List (List ℕ) → Option (List ℕ)
 table_words (keyword ∷ name ∷ []) = if same_text keyword (codes "TABLE") then Some name else None
 table_words [] = None
 table_words (a ∷ []) = None
 table_words (a ∷ b ∷ c ∷ more) = None
 
--- the table's name on its line, or the first fault there: the form, and then the name
+-- the table's name on its line, or the line's first error: its form comes before its name
 abbrev pub named_table : ℕ → Option (List ℕ) → Result (List ℕ) Fault
 named_table line None = Err (at_line SCHEMA_FORM line)
 named_table line (Some name) = refused_if (not (is_name name)) (at_line SCHEMA_NAME line) (Ok name)
@@ -85,7 +86,8 @@ named_table line (Some name) = refused_if (not (is_name name)) (at_line SCHEMA_N
 abbrev pub table_on : NumberedWords → Result (List ℕ) Fault
 table_on line = named_table line.number (table_words line.words)
 
--- a column that there is room for, or the first fault: the name, a name that comes twice, and the range
+-- a column within the limit, or its first error: an invalid name, a duplicate name, and then the
+-- range
 abbrev pub after_room : List (List ℕ) → ℕ → ColumnShape → Result ColumnShape Fault
 after_room before line column =
     refused_if (not (is_name column.name)) (at_line SCHEMA_NAME line)
@@ -93,8 +95,8 @@ after_room before line column =
     (refused_if (not (is_range column.lo column.hi)) (at_line SCHEMA_RANGE line)
     (Ok column)))
 
--- the column on a line, after columns of these names, or the first fault there: the form, the 65th column, and then
--- the column's own
+-- the column on a line that follows columns of these names, or its first error: the form, the 65th
+-- column, and then the column's own errors
 abbrev pub next_column : List (List ℕ) → ℕ → Option ColumnShape → Result ColumnShape Fault
 next_column before line None = Err (at_line SCHEMA_FORM line)
 next_column before line (Some column) =
@@ -106,13 +108,14 @@ column_on before line = next_column before line.number (column_words line.words)
 abbrev pub shape_names : List ColumnShape → List (List ℕ)
 shape_names columns = map (λ column. column.name) columns
 
--- the columns on lines, after columns that came before
+-- the columns so far and those on these lines, or the first error
 unfoldable pub columns_on : List ColumnShape → List NumberedWords → Result (List ColumnShape) Fault
 columns_on before [] = Ok before
 columns_on before (line ∷ lines) = column_on (shape_names before) line
     >>= λ column. columns_on (before ++ column ∷ []) lines
 
--- the schema on lines whose end is numbered so
+-- the schema of a table name and columns, which are at least one; the number is that of the text's
+-- end
 abbrev pub with_columns : List ℕ → ℕ → List ColumnShape → Result SchemaShape Fault
 with_columns name end columns = refused_if (is_empty columns) (at_line COLUMN_COUNT end)
     (Ok (record { name = name; columns = columns }))
@@ -122,7 +125,7 @@ schema_on [] end = Err (at_line SCHEMA_FORM end)
 schema_on (line ∷ lines) end = table_on line >>= λ name. columns_on [] lines
     >>= λ columns. with_columns name end columns
 
--- what a schema text says, or the first fault in it: its length, and then its lines
+-- the schema of a text, or its first error: its length, and then its lines
 unfoldable pub schema_of : List ℕ → Result SchemaShape Fault
 schema_of text = refused_if (nat_lt longest_schema (length text)) (nowhere SCHEMA_TOO_LONG)
     (schema_on (lines_in (whole text)) (end_in (whole text)))
@@ -132,8 +135,8 @@ abbrev pub SpellsColumn : NumberedWords → ColumnShape → Type 0
 SpellsColumn line column = (column_words line.words ≡ Some column) × IsTrue (is_name column.name)
     × IsTrue (is_range column.lo column.hi)
 
--- Lines spell a schema: the first its table, and each other one its next column. It has at least one column and at most
--- 64, and no two of them have one name, ignoring case.
+-- Lines spell a schema if the first is its table's and each other one its next column's. There are
+-- 1 to 64 columns, and no two have the same name, ignoring case.
 abbrev pub SpellsSchema : List NumberedWords → SchemaShape → Type 0
 SpellsSchema [] schema = ⊥
 SpellsSchema (line ∷ lines) schema =
@@ -148,7 +151,7 @@ SpellsSchema (line ∷ lines) schema =
 abbrev pub IsSchemaText : List ℕ → SchemaShape → Type 0
 IsSchemaText text schema = (length text ≤ longest_schema) × SpellsSchema (lines_in (whole text)) schema
 
--- one of 101 to 106, or out of memory
+-- the error is one of 101 to 106, or out of memory
 abbrev pub is_schema_fault : Fault → Bool
 is_schema_fault fault = (nat_le SCHEMA_FORM fault.code && nat_le fault.code SCHEMA_TOO_LONG) || is_memory fault
 

@@ -1,10 +1,10 @@
--- Which rows a condition selects, and the items of a list whose bit is 1.
+-- The rows that a condition selects, and the items of a list whose bit is 1.
 use Rattle.std.specs.Prelude.{ℕ, suc, Bool, true, false, List, [], ◌∷◌, map, filter}
 use Rattle.bw_model.specs.declared.cond.Cond.{Cond}
 use Rattle.bw_model.specs.Row.{Value}
 use Rattle.bw_model.specs.Cond.{is_kept}
 
--- the positions of the bits that are 1, ascending, where the first bit has this position
+-- the positions of the bits that are 1, ascending, if the first bit is at position `start`
 abbrev pub positions_from : ℕ → List Bool → List ℕ
 positions_from position [] = []
 positions_from position (true ∷ bits) = position ∷ positions_from (suc position) bits

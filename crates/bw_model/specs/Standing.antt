@@ -1,22 +1,22 @@
--- That a fault stands at what the table of faults lists for its number.
+-- That an error's place is of the kind that the table of errors lists for its number.
 use Rattle.std.specs.Prelude.{◌≡◌, Result, Ok, Err}
 use Rattle.bw_model.specs.declared.fault.Fault.{Fault}
 use Rattle.bw_model.specs.declared.fault.Place.{Place}
 use Rattle.bw_model.specs.declared.fault.Place.TheVariants.{Nowhere, Byte, Line, Rec}
 use Rattle.bw_model.specs.FaultTable.{Standing, Unplaced, InBytes, InLines, InRecords, standing_of}
 
--- what a place is of
+-- the kind of a place
 abbrev pub standing_at : Place → Standing
 standing_at Nowhere = Unplaced
 standing_at (Byte at) = InBytes
 standing_at (Line at) = InLines
 standing_at (Rec at) = InRecords
 
--- a fault stands as it is listed: nowhere, or at a byte, a line or a record
+-- an error's place is of the kind that is listed for it: none, a byte, a line or a record
 abbrev pub StandsAsListed : Fault → Type 0
 StandsAsListed fault = standing_at fault.place ≡ standing_of fault.code
 
--- the fault of an answer does, where the answer is one
+-- if a call fails, its error's place is of the kind that is listed for it
 abbrev pub FaultAsListed : {A : Type 0} → Result A Fault → Type 0
 FaultAsListed (Ok x) = Unit {0}
 FaultAsListed (Err fault) = StandsAsListed fault

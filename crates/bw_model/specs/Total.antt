@@ -1,5 +1,5 @@
--- What an aggregate of rows is, after SQL-92: nulls are dropped first, and over nothing COUNT is 0 and the others are
--- null.
+-- Aggregates of rows, after SQL-92: nulls are dropped first. Over nothing, COUNT is 0 and the
+-- others are null.
 use Rattle.std.specs.Prelude.{ℕ, ℤ, pos, ◌+ℤ◌, List, length, Option, Some, None, Bool, true, false, nat_lt}
 use Rattle.std.specs.List.{filter_map, reduce}
 use Rattle.std.specs.Int.{int_min, int_max}
@@ -11,7 +11,7 @@ use Rattle.bw_model.specs.Row.{Value, value_in}
 abbrev pub present : ℕ → List (List Value) → List ℤ
 present column rows = filter_map (λ row. value_in row column) rows
 
--- the total that an aggregate asks for; a plain column asks for none
+-- the aggregate of the rows; a plain column has none
 abbrev pub total : Item → List (List Value) → Option ℤ
 total (Plain column) rows = None
 total CountAll rows = Some (pos (length rows))
@@ -20,7 +20,7 @@ total (Sum column) rows = reduce (λ a b. a +ℤ b) (present column rows)
 total (Min column) rows = reduce int_min (present column rows)
 total (Max column) rows = reduce int_max (present column rows)
 
--- what an aggregate makes of two totals that are there
+-- the aggregate of two lists of rows, from the aggregates of both, neither of them null
 abbrev pub of_both : Item → ℤ → ℤ → ℤ
 of_both (Plain column) a b = a +ℤ b
 of_both CountAll a b = a +ℤ b
@@ -29,7 +29,8 @@ of_both (Sum column) a b = a +ℤ b
 of_both (Min column) a b = int_min a b
 of_both (Max column) a b = int_max a b
 
--- the total of some rows and others, from the totals of both: null, which stands for no value, adds nothing
+-- the aggregate of two lists of rows, from the aggregates of both; null, the aggregate of no
+-- values, adds nothing
 abbrev pub joined : Item → Option ℤ → Option ℤ → Option ℤ
 joined item None others = others
 joined item (Some a) None = Some a
@@ -44,7 +45,7 @@ is_aggregate (Sum column) = true
 is_aggregate (Min column) = true
 is_aggregate (Max column) = true
 
--- the item names no column, or one of the first so many
+-- the item names no column, or one of the first `columns`
 abbrev pub item_within : ℕ → Item → Bool
 item_within columns (Plain column) = nat_lt column columns
 item_within columns CountAll = true

@@ -1,4 +1,4 @@
--- Truth in three values, after SQL-92: FALSE is below UNKNOWN, and UNKNOWN below TRUE.
+-- Truth in three values, after SQL-92: FALSE is less than UNKNOWN, and UNKNOWN less than TRUE.
 use Rattle.std.specs.Prelude.{ℤ, Bool, true, false, List, [], ◌∷◌, Some, None, map, not, int_lt, int_le}
 use Rattle.std.specs.Ordering.{int_eq}
 use Rattle.bw_model.specs.declared.cond.Truth.{Truth}
@@ -12,7 +12,7 @@ abbrev pub truth_from : Bool → Truth
 truth_from true = Yes
 truth_from false = No
 
--- AND of two truth values is the least of them
+-- AND of two truth values is their minimum
 abbrev pub least : Truth → Truth → Truth
 least No t = No
 least Unknown No = No
@@ -20,7 +20,7 @@ least Unknown Unknown = Unknown
 least Unknown Yes = Unknown
 least Yes t = t
 
--- OR of two is the greatest
+-- OR of two truth values is their maximum
 abbrev pub greatest : Truth → Truth → Truth
 greatest Yes t = Yes
 greatest Unknown Yes = Yes
@@ -37,7 +37,7 @@ abbrev pub any_of : List Truth → Truth
 any_of [] = No
 any_of (t ∷ ts) = greatest t (any_of ts)
 
--- NOT swaps TRUE and FALSE, and keeps UNKNOWN
+-- NOT exchanges TRUE and FALSE, and leaves UNKNOWN
 abbrev pub negation : Truth → Truth
 negation No = Yes
 negation Unknown = Unknown
@@ -55,7 +55,7 @@ is_truth Unknown Yes = false
 is_truth Yes No = false
 is_truth Yes Unknown = false
 
--- the comparison holds of two whole numbers
+-- the comparison is true of two whole numbers
 abbrev pub holds : Op → ℤ → ℤ → Bool
 holds Eq x y = int_eq x y
 holds Ne x y = not (int_eq x y)
@@ -64,7 +64,7 @@ holds Gt x y = int_lt y x
 holds Le x y = int_le x y
 holds Ge x y = int_le y x
 
--- the comparison that holds where this one holds of the operands the other way round
+-- the comparison that is true of y and x exactly if this one is true of x and y
 abbrev pub turned : Op → Op
 turned Eq = Eq
 turned Ne = Ne
@@ -73,7 +73,7 @@ turned Gt = Lt
 turned Le = Ge
 turned Ge = Le
 
--- a comparison is UNKNOWN where an operand is null
+-- a comparison is UNKNOWN if an operand is null
 abbrev pub compared : Op → Value → Value → Truth
 compared op None y = Unknown
 compared op (Some m) None = Unknown

@@ -1,4 +1,4 @@
-//! What a schema says of values: which it admits, and their codes.
+//! The values that a schema admits, and their codes.
 ghost use Rattle.std.specs.Prelude.{◌≡◌, ℕ, ℤ, Some, ◌+◌, ◌<◌, ◌≤◌, ◌^◌, length, max, IfSome};
 ghost use Rattle.std.specs.Int.Digits.{digits_of};
 ghost use Rattle.bw_model.specs.Row.{values_of};
@@ -10,8 +10,8 @@ use crate::row::{Row, Value};
 use crate::schema::Schema;
 
 impl Schema {
-    /// Whether a row has a value for each column, null only where the column is nullable, and numbers within
-    /// its bounds.
+    /// Returns whether the row has one value for each column. Nulls need a nullable column, and
+    /// numbers must be within the column's bounds, both included.
     pub fn admits(&self, row: &Row) -> bool
         ensures { result ≡ admits_values self.now.columns.items (values_of row.now) }
     {
@@ -28,8 +28,8 @@ impl Schema {
         rest.is_empty()
     }
 
-    /// The number of the column of a name, from 0, ignoring the case of ASCII letters; none where no column
-    /// has it.
+    /// Returns the number, from 0, of the column of this name, or None if there is none. The case
+    /// of ASCII letters is ignored.
     #[tactic(auto, unfolding(crate::specs::Column::column_named))]
     pub fn column_named(&self, name: &[u8]) -> Option<usize>
         ensures named { result ≡ column_named self.now.columns.items name.now }
@@ -38,7 +38,7 @@ impl Schema {
         self.columns.iter().position(|column| column.name.is(name))
     }
 
-    /// How many binary digits a column's codes have: those of the greatest code, 1 to 63.
+    /// Returns how many binary digits the column's maximum code has: 1 to 63.
     pub fn width(&self, col: usize) -> u32
         requires { col < length self.now.columns.items }
         ensures width { result ≡ width_at self.now.columns.items col }
@@ -47,7 +47,7 @@ impl Schema {
         self.columns[col].width()
     }
 
-    /// How many bytes a column's codes have, 1 to 8.
+    /// Returns how many bytes the column's codes have: 1 to 8.
     pub fn slices(&self, col: usize) -> usize
         requires { col < length self.now.columns.items }
         ensures slices { result ≡ slices_at self.now.columns.items col }
@@ -56,8 +56,8 @@ impl Schema {
         (self.width(col) as usize + 7) / 8
     }
 
-    /// The code of a value in a column: its distance from the least value. Null and numbers out of the
-    /// column's bounds have none.
+    /// Returns the code of a value: its distance from the column's minimum. Null, and numbers out
+    /// of the column's bounds, have none.
     pub fn code(&self, col: usize, value: Value) -> Option<u64>
         requires { col < length self.now.columns.items }
         ensures code { result ≡ code_at self.now.columns.items col value }
@@ -67,7 +67,7 @@ impl Schema {
         self.columns[col].code(value)
     }
 
-    /// The value of a code in a column.
+    /// Returns the value of a code: the column's minimum plus the code.
     pub fn value(&self, col: usize, code: u64) -> i64
         requires column { col < length self.now.columns.items }
         requires code { code ≤ span_at self.now.columns.items col }
@@ -78,7 +78,7 @@ impl Schema {
 }
 
 impl Column {
-    /// Whether the column takes a value.
+    /// Returns whether the column admits the value.
     pub(crate) fn admits(&self, value: Value) -> bool
         ensures { result ≡ admits_value self.now value }
     {
@@ -88,14 +88,14 @@ impl Column {
         }
     }
 
-    /// The greatest code of the column.
+    /// Returns the column's maximum code.
     pub(crate) fn span(&self) -> u64
         ensures { result ≡ span_of self.now }
     {
         self.hi.abs_diff(self.lo)
     }
 
-    /// How many binary digits the column's codes have.
+    /// Returns how many binary digits the column's maximum code has.
     #[tactic(auto, unfolding(crate::specs::Code::width_of))]
     pub(crate) fn width(&self) -> u32
         ensures width { result ≡ width_of self.now }
@@ -104,7 +104,7 @@ impl Column {
         digits(self.span())
     }
 
-    /// The code of a value.
+    /// Returns the code of the value, or None if it has none.
     #[tactic(auto, using(crate::proofs::DigitLemmas::below_width))]
     pub(crate) fn code(&self, value: Value) -> Option<u64>
         ensures code { result ≡ code_of self.now value }
@@ -117,7 +117,7 @@ impl Column {
         }
     }
 
-    /// A law: codes and values undo each other.
+    /// A law: a code's value has that code, and a value's code has that value.
     pub fn codes_spell_values(&self)
         ensures of_code { (code : ℕ) → code ≤ span_of self.now
             → code_of self.now (Some (value_of_code self.now code)) ≡ Some code }
@@ -125,7 +125,7 @@ impl Column {
             → value_of_code self.now code ≡ n }
     {}
 
-    /// The value of a code.
+    /// Returns the value of the code.
     pub(crate) fn value(&self, code: u64) -> i64
         requires { code ≤ span_of self.now }
         ensures { result ≡ value_of_code self.now code }
@@ -135,7 +135,7 @@ impl Column {
     }
 }
 
-/// How many binary digits a number has, at least 1.
+/// Returns how many binary digits the number has, at least 1.
 #[tactic(auto, using(crate::proofs::DigitLemmas::length_digits_between))]
 fn digits(n: u64) -> u32
     requires { n < 2 ^ 63 }

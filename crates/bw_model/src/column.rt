@@ -3,7 +3,7 @@ ghost use Rattle.std.specs.Prelude.{◌<ℤ◌, ◌≤ℤ◌, ◌-ℤ◌, ◌^�
 
 use crate::name::Name;
 
-/// A column: its name, the least and the greatest number that it takes, and whether it takes null.
+/// A column: its name, its minimum and maximum, and whether it is nullable.
 #[derive(Drop)]
 pub struct Column {
     pub name: Name,
@@ -11,6 +11,6 @@ pub struct Column {
     pub hi: i64,
     pub nullable: bool,
     pub ghost ordered: { lo ≤ℤ hi },
-    /// A code, the distance of a value from `lo`, takes at most 63 bits.
+    /// A code, the distance of a value from `lo`, has at most 63 bits.
     pub ghost narrow: { (hi -ℤ lo) <ℤ pos (2 ^ 63) },
 }

@@ -1,4 +1,4 @@
-//! Conditions of rows: comparisons of columns and constants, joined by NOT, AND and OR.
+//! Conditions on rows: comparisons of columns and constants, combined by NOT, AND and OR.
 ghost use Rattle.std.specs.Prelude.{◌≡◌};
 ghost use Rattle.bw_model.specs.Truth.{holds, truth_from, turned};
 
@@ -11,7 +11,7 @@ pub enum Truth {
 }
 
 impl Truth {
-    /// TRUE or FALSE.
+    /// Returns TRUE if `holds`, else FALSE.
     pub const fn of(holds: bool) -> Self
         ensures { result ≡ truth_from holds }
     {
@@ -31,7 +31,7 @@ pub enum Op {
 }
 
 impl Op {
-    /// Whether the comparison holds of two numbers.
+    /// Returns whether the comparison is true of two numbers.
     pub fn holds(self, x: i64, y: i64) -> bool
         ensures { result ≡ holds self x y }
     {
@@ -45,7 +45,8 @@ impl Op {
         }
     }
 
-    /// The comparison that holds where this one holds of the operands the other way round.
+    /// Returns the comparison that is true of `y` and `x` exactly if this one is true of `x` and
+    /// `y`.
     pub const fn turned(self) -> Self
         ensures { result ≡ turned self }
     {
@@ -60,7 +61,7 @@ impl Op {
     }
 }
 
-/// What is compared: a column by its number from 0, a literal, or NULL.
+/// An operand of a comparison: a column by its number from 0, a literal, or NULL.
 #[derive(Clone, Copy, Debug, PartialEq, Eq)]
 pub enum Operand {
     Col(usize),
@@ -68,15 +69,16 @@ pub enum Operand {
     Null,
 }
 
-/// A search condition of SQL-92. `And` and `Or` hold two or more parts, and `Among` one item or more.
+/// A search condition of SQL-92. `And` and `Or` have two or more parts, and `Among` one or more
+/// items.
 #[derive(Drop)]
 pub enum Cond {
-    /// No condition: every row is kept.
+    /// No condition: it is TRUE on every row.
     Always,
     Cmp(Op, Operand, Operand),
-    /// The first operand lies between the second and the third.
+    /// The first operand is at least the second and at most the third.
     Between(Operand, Operand, Operand),
-    /// The operand is one of the items, as `IN` says.
+    /// The operand equals one of the items, as `IN` has it.
     Among(Operand, Vec<Operand>),
     IsNull(Operand),
     And(Vec<Cond>),

@@ -1,4 +1,4 @@
-//! Copies: equal values in memory of their own.
+//! Copies: equal values in memory of their own. Each call fails only if memory is refused.
 ghost use Rattle.std.specs.Prelude.{◌≡◌, ℕ, IfOk, IsOkUnless, List, map};
 ghost use Rattle.bw_model.specs.Cond.{truth_of, names_within, is_whole};
 ghost use Rattle.bw_model.specs.CondTree.{tree_of};
@@ -13,7 +13,7 @@ use crate::schema::Schema;
 use std::alloc::Global;
 
 impl Name {
-    /// An equal name.
+    /// Returns an equal name.
     pub(crate) fn copy(&self, alloc: Global) -> Result<Self, Fault>
         ensures equal { IfOk result (λ name. name ≡ self.now) }
         ensures only_memory { IsOkUnless result no_memory }
@@ -23,7 +23,7 @@ impl Name {
 }
 
 impl Column {
-    /// An equal column.
+    /// Returns an equal column.
     pub(crate) fn copy(&self, alloc: Global) -> Result<Self, Fault>
         ensures equal { IfOk result (λ column. column ≡ self.now) }
         ensures only_memory { IsOkUnless result no_memory }
@@ -38,7 +38,7 @@ impl Column {
 }
 
 impl Schema {
-    /// An equal schema.
+    /// Returns an equal schema. Errors: 801 if memory is refused.
     pub fn copy(&self, alloc: Global) -> Result<Self, Fault>
         ensures name { IfOk result (λ schema. schema.name ≡ self.now.name) }
         ensures columns { IfOk result (λ schema. schema.columns.items ≡ self.now.columns.items) }
@@ -56,8 +56,8 @@ impl Schema {
 }
 
 impl Cond {
-    /// A law: conditions with the same tree have the same truth on every row, name the same columns, and
-    /// are whole both or neither.
+    /// A law: conditions with the same tree have the same truth on every row and name the same
+    /// columns. If one is whole, so is the other.
     pub fn same_meaning(&self, other: &Cond)
         requires { tree_of self.now ≡ tree_of other.now }
         ensures truth { (row : List Value) → truth_of row self.now ≡ truth_of row other.now }
@@ -65,7 +65,7 @@ impl Cond {
         ensures whole { is_whole self.now ≡ is_whole other.now }
     {}
 
-    /// An equal condition.
+    /// Returns an equal condition. Errors: 801 if memory is refused.
     #[cycle(copy)]
     #[tactic(auto, using(crate::proofs::TreeLemmas::trees))]
     pub fn copy(&self, alloc: Global) -> Result<Self, Fault>
@@ -89,7 +89,7 @@ impl Cond {
     }
 }
 
-/// Copies of conditions, in their order.
+/// Returns copies of the conditions, in their order.
 #[cycle(copy)]
 fn copies(alloc: Global, conds: &[Cond]) -> Result<Vec<Cond>, Fault>
     ensures equal { IfOk result (λ copies. map tree_of copies.items ≡ map tree_of conds.now) }

@@ -1,4 +1,4 @@
-//! Faults: what is wrong, by its number, and where.
+//! Errors: their numbers, their words and their places.
 ghost use Rattle.std.specs.Prelude.{◌≡◌, ◌≤◌, Some, length};
 ghost use Rattle.bw_model.specs.Fault.{no_memory, nowhere, at_byte, at_line, at_record, place_text};
 ghost use Rattle.bw_model.specs.FaultTable.{words_of, SCHEMA_FORM, SCHEMA_NAME, SCHEMA_RANGE, NAME_TWICE, COLUMN_COUNT, SCHEMA_TOO_LONG, NO_HEADING, HEADING, RECORD_LENGTH, NOT_A_NUMBER, OUT_OF_RANGE, NULL_NOT_ALLOWED, TOO_MANY_ROWS, CSV_TOO_LONG, CSV_FAULT, MAGIC, VERSION, LAYOUT, HEADER, TRUNCATED, CODE_TOO_LARGE, NULL_WITH_CODE, PADDING, BYTES_AFTER_END, ROW_COUNT, CHARACTER, SYNTAX, UNKNOWN_TABLE, UNKNOWN_COLUMN, LITERAL, MIXED_ITEMS, STATEMENT_TOO_LONG, NESTING, PROGRAM_FORM, REGISTER, COLUMN_OR_BIT, SKIP_TARGET, PROGRAM_TOO_LONG, NO_RESULT, NO_NULLS, PROGRAM_FILE_TOO_LONG, NODE, PRODUCT_ROW, CHAIN_ROW, LIMIT, CERTIFICATE_FORM, CONDITION_LINE, INSTRUCTION_LINE, JOIN, REGISTER_UNKNOWN, END, NO_PROGRAM, READ_FAILED, WRITE_FAILED, OUT_OF_MEMORY};
@@ -8,8 +8,8 @@ use std::alloc::{AllocError, AllocFailed};
 use std::fmt;
 use thiserror::Error;
 
-/// The numbers of the faults. The hundreds tell the part: 1 the schema, 2 the CSV, 3 the table file, 4 the statement,
-/// 5 the program, 6 its certificate, 7 a device, 8 memory.
+/// The numbers of the errors. The hundreds name the part: 1 the schema, 2 the CSV, 3 the table
+/// file, 4 the statement, 5 the program, 6 its certificate, 7 an I/O device, 8 memory.
 pub mod code {
     pub const SCHEMA_FORM: u16 = 101;
 
@@ -122,7 +122,7 @@ pub mod code {
     pub const OUT_OF_MEMORY: u16 = 801;
 }
 
-/// Where a fault stands.
+/// The place of an error.
 #[derive(Clone, Copy, Debug, PartialEq, Eq)]
 pub enum Place {
     Nowhere,
@@ -147,7 +147,7 @@ impl fmt::Display for Place {
     }
 }
 
-/// Why a call refused, and where: shown as `404 unknown column at byte 7`.
+/// Why a call failed, and where. It is shown as `404 unknown column at byte 7`.
 #[derive(Clone, Copy, Debug, PartialEq, Eq, Error)]
 #[error("{code} {}{place}", words_of(*.code))]
 pub struct Fault {
@@ -156,7 +156,7 @@ pub struct Fault {
 }
 
 impl Fault {
-    /// A fault that stands nowhere.
+    /// Returns an error without a place.
     pub const fn new(code: u16) -> Self
         ensures { result ≡ nowhere code }
     {
@@ -166,7 +166,7 @@ impl Fault {
         }
     }
 
-    /// A fault that stands at a byte, from 0.
+    /// Returns an error at a byte, from 0.
     pub const fn at_byte(code: u16, at: u64) -> Self
         ensures { result ≡ at_byte code at }
     {
@@ -176,7 +176,7 @@ impl Fault {
         }
     }
 
-    /// A fault that stands at a line, from 1.
+    /// Returns an error at a line, from 1.
     pub const fn at_line(code: u16, line: u64) -> Self
         ensures { result ≡ at_line code line }
     {
@@ -186,7 +186,7 @@ impl Fault {
         }
     }
 
-    /// A fault that stands at a record, of which the heading is record 0.
+    /// Returns an error at a record, of which the heading is record 0.
     pub const fn at_record(code: u16, record: u32) -> Self
         ensures { result ≡ at_record code «record» }
     {
@@ -213,7 +213,7 @@ impl<T: Drop> From<AllocFailed<T>> for Fault {
     }
 }
 
-/// What a fault of a number is called: `fault` if the number isn't in the table of faults.
+/// Returns the words of an error's number, or `fault` if the number isn't in the table of errors.
 #[tactic(auto, unfolding(crate::specs::FaultTable::words_of))]
 pub const fn words_of(code: u16) -> &'static str
     ensures words { result.now ≡ words_of code }
@@ -279,7 +279,7 @@ pub const fn words_of(code: u16) -> &'static str
     }
 }
 
-/// A law: each constant of [`code`] is the number that the table of faults lists under its name.
+/// A law: each constant of [`code`] is the number that the table of errors lists under its name.
 pub fn constants_are_listed()
     ensures schema { (constant.SCHEMA_FORM ≡ SCHEMA_FORM) × (constant.SCHEMA_NAME ≡ SCHEMA_NAME)
         × (constant.SCHEMA_RANGE ≡ SCHEMA_RANGE) × (constant.NAME_TWICE ≡ NAME_TWICE)

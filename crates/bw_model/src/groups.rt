@@ -9,8 +9,8 @@ ghost use Rattle.bw_model.specs.Selection.{positions_from, positions_of, picked,
 ghost use Rattle.bw_model.specs.Stored.{no_bits};
 ghost use Rattle.bw_model.specs.Variable.{assignment_of, bits_of};
 
-/// A law: a table is its first 512 rows and then the groups of the rows after them, and groups put together
-/// are the table.
+/// A law: a table is its first 512 rows, followed by the groups of the other rows, and its groups
+/// together are the table.
 pub fn groups_make_the_table()
     ensures size { group_size ≡ 512 }
     ensures nothing { let none : List (List Value) = [] in groups_of none ≡ [] }
@@ -22,7 +22,7 @@ pub fn groups_make_the_table()
         (groups_of rows) }
 {}
 
-/// A law: a group has 512 lanes, which are the assignments of its rows and then zeros.
+/// A law: a group has 512 lanes: the assignments of its rows, and then zeros.
 pub fn lanes_are_rows_and_zeros()
     ensures count { (columns : List Column) (rows : List (List Value)) → length rows ≤ group_size
         → length (lanes_of columns rows) ≡ group_size }
@@ -33,8 +33,8 @@ pub fn lanes_are_rows_and_zeros()
         → slice_index_or (lanes_of columns rows) lane no_bits ≡ no_bits }
 {}
 
-/// A law: the rows that a condition keeps are those whose bit is 1, and those that stand at the positions that
-/// it selects; and selections are put together as groups are.
+/// A law: a condition's matching rows are those whose bit is 1, and those at its matching
+/// positions. The selections of groups together are the selection of the table.
 pub fn kept_rows_are_selected()
     ensures bits { (cond : Cond) (rows : List (List Value)) → kept cond rows ≡ picked (selection cond rows) rows }
     ensures positions { (cond : Cond) (rows : List (List Value))
@@ -48,7 +48,7 @@ pub fn kept_rows_are_selected()
         → picked (front ++ back) (rows ++ others) ≡ picked front rows ++ picked back others }
 {}
 
-/// A law: a row that columns admit has a value for each of them.
+/// A law: a row that the columns admit has a value for each of them.
 pub fn admitted_rows_have_each_value()
     ensures { (columns : List Column) (row : List Value) → IsTrue (admits_values columns row) → length row
         ≡ length columns }

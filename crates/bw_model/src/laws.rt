@@ -1,4 +1,4 @@
-//! What every schema has by its type, and where the faults of a schema text stand, as laws.
+//! Laws of schemas: what every schema has by its type, and the places of errors in schema texts.
 ghost use Rattle.std.specs.Prelude.{◌≡◌, ℕ, Err, IsTrue, List};
 ghost use Rattle.std.specs.List.{list_all};
 ghost use Rattle.bw_model.specs.Column.{names_of};
@@ -11,16 +11,16 @@ ghost use Rattle.bw_model.specs.declared.fault.Fault.{Fault};
 use crate::column::Column;
 use crate::schema::Schema;
 
-/// A law: the fault of a schema text stands as the table of faults lists it: at a line, or nowhere if the text is too
-/// long.
+/// A law: an error of a schema text is where the table of errors lists it: at a line, or nowhere if
+/// the text is too long.
 #[tactic(auto, using(crate::proofs::StandingLemmas::schema_of_listed))]
 pub fn schema_faults_stand_as_listed()
     ensures { (text : List ℕ) (fault : Fault) → schema_of text ≡ Err fault → StandsAsListed fault }
 {}
 
 impl Schema {
-    /// A law: the names of a schema, its table's and its columns', are names, 64 bits hold each column's bounds, and
-    /// these are in order and less than 2^63 apart. It looks at each column.
+    /// A law: the names of the schema's table and columns are valid names. Each column's bounds fit
+    /// 64 bits, are in order, and are less than 2^63 apart. Calling it visits each column.
     pub fn has_names_and_bounds(&self)
         ensures schema { IsSchema (schema_shape self.now) }
         ensures names { IsTrue (list_all is_name (names_of self.now.columns.items)) }
@@ -34,7 +34,7 @@ impl Schema {
 }
 
 impl Column {
-    /// A law: a column's name is one, and 64 bits hold its bounds.
+    /// A law: the column's name is valid, and its bounds fit 64 bits.
     fn has_name_and_bounds(&self)
         ensures { IsColumn (column_shape self.now) }
     {

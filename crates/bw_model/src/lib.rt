@@ -1,12 +1,13 @@
-//! What a table is: names, columns and schemas, values and rows, conditions and queries, and the faults
-//! that every crate answers.
+//! The model of a table: names, columns and schemas, values and rows, conditions and queries, and
+//! the errors that all crates return.
 //!
-//! The contract that the crates above use: [`Schema::parse`] accepts schema texts, and a [`Schema`], once
-//! made, has at least one and at most 64 columns with names that differ, ignoring case, and bounds in order.
-//! What conditions and queries mean stands in `specs/`: three-valued truth, after SQL-92, in `Truth`, the
-//! truth of a condition in `Cond`, and what is totalled in `Total`.
+//! The contract that the crates above use: [`Schema::parse`] accepts schema texts. Every [`Schema`]
+//! has 1 to 64 columns; their names differ, ignoring case, and their bounds are in order.
 //!
-//! Read `schema.rt` first, and then `specs/Cond.antt`.
+//! `specs/` defines conditions and queries: three-valued truth, after SQL-92, in `Truth`, the truth
+//! of a condition in `Cond`, and aggregates in `Total`.
+//!
+//! Read `schema.rt` first, then `specs/Cond.antt`.
 #![tactic(auto)]
 
 mod coding;

@@ -7,8 +7,8 @@ use bw_text::{Keyword, is_same_text, is_word};
 use std::alloc::{AllocError, Global};
 use std::marker::Model;
 
-/// The name of a table or a column, in its own spelling: a letter or `_`, followed by letters, digits and
-/// `_`, at most 63 bytes, and no reserved word of the query language.
+/// The name of a table or a column, as it was spelled: a letter or `_`, followed by letters, digits
+/// and `_`, at most 63 bytes. It is no reserved word of the query language.
 #[derive(Drop)]
 pub struct Name {
     bytes: Vec<u8>,
@@ -26,7 +26,7 @@ impl Model for Name {
 }
 
 impl Name {
-    /// The name of this spelling.
+    /// Returns the name spelled so. Fails only if memory is refused.
     pub fn new(alloc: Global, bytes: &[u8]) -> Result<Self, AllocError>
         requires { IsTrue (is_name bytes.now) }
         ensures { IfOk result (λ name. name ≡ bytes.now) }
@@ -36,7 +36,8 @@ impl Name {
         })
     }
 
-    /// The name of a spelling, which it keeps; gives the spelling back where it is no name. No memory is taken.
+    /// Returns the name spelled so, in the same memory, or the bytes themselves if they aren't a
+    /// valid name. Allocates no memory.
     pub fn from_bytes(bytes: Vec<u8>) -> Result<Self, Vec<u8>>
         ensures name { IfOk result (λ name. (name ≡ bytes.items) × IsTrue (is_name bytes.items)) }
         ensures no_name { IfErr result (λ back. (back.items ≡ bytes.items) × (is_name bytes.items ≡ false)) }
@@ -48,7 +49,7 @@ impl Name {
         }
     }
 
-    /// Its spelling, in the memory that it was kept in.
+    /// Returns its spelling, in the same memory.
     pub fn into_bytes(self) -> Vec<u8>
         ensures spelling { result.items ≡ self }
         ensures name { IsTrue (is_name result.items) }
@@ -56,7 +57,7 @@ impl Name {
         self.bytes
     }
 
-    /// Its spelling.
+    /// Returns its spelling.
     pub fn as_bytes(&self) -> &[u8]
         ensures spelling { result.now ≡ self.now }
         ensures name { IsTrue (is_name result.now) }
@@ -64,7 +65,7 @@ impl Name {
         self.bytes.as_slice()
     }
 
-    /// Whether a text is this name, ignoring the case of ASCII letters.
+    /// Returns whether the text is this name, ignoring the case of ASCII letters.
     pub fn is(&self, text: &[u8]) -> bool
         ensures { result ≡ same_text self.now text.now }
     {
@@ -72,7 +73,7 @@ impl Name {
     }
 }
 
-/// Whether a text is a name: a word of at most 63 bytes that isn't reserved.
+/// Returns whether the text is a valid name: a word of at most 63 bytes that isn't reserved.
 #[tactic(auto, unfolding(crate::specs::Name::is_name))]
 pub fn is_name(text: &[u8]) -> bool
     ensures { result ≡ is_name text.now }

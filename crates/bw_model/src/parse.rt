@@ -1,5 +1,6 @@
-//! Schema texts: first `TABLE name`, then a line `COLUMN name lo hi` or `COLUMN name lo hi NOT NULL` for each
-//! column, by the rules of `lines.rt`. Keywords are read ignoring case.
+//! Schema texts: a line `TABLE name`, then for each column a line `COLUMN name lo hi` or
+//! `COLUMN name lo hi NOT NULL`. `lines.rt` of `bw_text` has the rules of lines. The case of
+//! keywords is ignored.
 ghost use Rattle.std.specs.Prelude.{◌≡◌, ◌<◌, Ok, false, map, length, option_map, pos, ◌≤ℤ◌, ◌<ℤ◌, ◌-ℤ◌, ◌^◌, IfOk, IfErr, IsTrue};
 ghost use Rattle.std.specs.List.{list_any};
 ghost use Rattle.bw_model.specs.Column.{names_of};
@@ -19,18 +20,25 @@ use std::alloc::Global;
 impl Schema {
     /// Reads a schema text.
     ///
-    /// Refused are a text of more than 65,536 bytes (106), and then the first line that is wrong, and on one
-    /// line the first of: another form than those above, or a bound that isn't an optional `-` and digits
-    /// within 64 bits (101); the 65th column (105); a name that isn't one (102); a name that an earlier column
-    /// has (104); bounds out of order, or 2^63 or more apart (103). At the end of the text, one line after
-    /// the last, a table that is missing is 101, and a table without columns 105.
+    /// Errors: 106 if the text has more than 65,536 bytes. Otherwise the first wrong line is
+    /// reported, with the first of these that applies:
+    ///
+    /// - 101: another form than those above, or a bound that isn't an optional `-` and digits
+    ///   within 64 bits
+    /// - 105: the 65th column
+    /// - 102: an invalid name
+    /// - 104: the name of an earlier column
+    /// - 103: bounds out of order, or 2^63 or more apart
+    ///
+    /// At the end of the text, one line after the last, a missing table is 101, and a table without
+    /// columns 105. 801 if memory is refused.
     pub fn parse(alloc: Global, text: &[u8]) -> Result<Schema, Fault>
-        // What is read is spelled so, and what is spelled so is read.
+        // A text that is read spells the schema, and every text that spells one is read.
         ensures spelled { IfOk result (λ schema. IsSchemaText text.now (schema_shape schema)) }
         ensures accepted { (schema : SchemaShape) → IsSchemaText text.now schema
             → Gives schema_shape result (Ok schema) }
 
-        // Which fault it is.
+        // A failed call returns the first error of the text.
         ensures fault { Gives schema_shape result (schema_of text.now) }
         ensures code { IfErr result IsSchemaFault }
     {
@@ -62,7 +70,7 @@ fn read_schema(alloc: Global, text: &[u8]) -> Result<Schema, Fault>
     Ok(Schema { name, columns })
 }
 
-/// The table's name, of the line `TABLE name`.
+/// Returns the table's name from the line `TABLE name`.
 #[tactic(auto, unfolding(crate::specs::SchemaText::table_words))]
 fn table_of(alloc: Global, line: &Line) -> Result<Name, Fault>
     ensures { Gives (λ name. name) result (table_on (line_of line.now)) }
@@ -88,7 +96,7 @@ struct Words<'a> {
     nullable: bool,
 }
 
-/// A line of a column's form; none for a line of another one.
+/// Returns the words of a line of a column's form, or None for another line.
 #[tactic(auto, unfolding(crate::specs::SchemaText::column_words))]
 fn words_of_column<'a>(words: &[&'a [u8]]) -> Option<Words<'a>>
     ensures { option_map words_shape result ≡ column_words (map (λ word. word.now) words.now) }
@@ -135,7 +143,7 @@ fn with_bounds<'a>(
     })
 }
 
-/// A bound: an optional `-` and digits, within 64 bits.
+/// Returns a bound: an optional `-` and digits, within 64 bits.
 #[tactic(auto, unfolding(crate::specs::SchemaText::bound_of))]
 fn bound_of(text: &[u8]) -> Option<i64>
     ensures { result ≡ bound_of text.now }
@@ -152,14 +160,14 @@ fn signed_digits(is_negative: bool, digits: &[u8]) -> Option<i64>
     number_in(is_negative, digits)?
 }
 
-/// Whether a column has this name, ignoring case.
+/// Returns whether a column has this name, ignoring case.
 fn has_name(columns: &[Column], name: &[u8]) -> bool
     ensures { result ≡ list_any (λ column. same_text column.name name.now) columns.now }
 {
     columns.iter().any(|column| column.name.is(name))
 }
 
-/// Whether bounds are in order, and less than 2^63 apart.
+/// Returns whether the bounds are in order, and less than 2^63 apart.
 #[tactic(auto, unfolding(crate::specs::SchemaText::is_range))]
 fn is_range(lo: i64, hi: i64) -> bool
     ensures test { result ≡ is_range lo hi }
@@ -169,7 +177,7 @@ fn is_range(lo: i64, hi: i64) -> bool
     lo <= hi && hi.checked_sub(lo).is_some()
 }
 
-/// The column of a line, after the columns before it.
+/// Returns the column of a line that follows these columns, or the line's first error.
 #[tactic(auto, using(crate::proofs::SchemaLemmas::list_any_names))]
 fn column_of(alloc: Global, line: &Line, before: &[Column]) -> Result<Column, Fault>
     ensures column { Gives column_shape result (column_on (names_of before.now) (line_of line.now)) }

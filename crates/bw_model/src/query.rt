@@ -1,7 +1,7 @@
-//! Queries: what is asked for, and of which rows.
+//! Queries: their items, and the condition on their rows.
 use crate::cond::Cond;
 
-/// What a query asks for: a column by its number from 0, or an aggregate.
+/// An item of a query: a column by its number from 0, or an aggregate.
 #[derive(Clone, Copy, Debug, PartialEq, Eq)]
 pub enum Item {
     Plain(usize),
@@ -14,7 +14,7 @@ pub enum Item {
     Max(usize),
 }
 
-/// A query over one table: its items, all columns or all aggregates, and which rows are kept.
+/// A query over one table: its items, which are all columns or all aggregates, and its condition.
 #[derive(Drop)]
 pub struct Query {
     pub items: Vec<Item>,

@@ -5,7 +5,7 @@ use std::alloc::Global;
 /// A value of a table: null, or a whole number.
 pub type Value = Option<i64>;
 
-/// The values of one row, one a column, in the order of the schema's columns.
+/// The values of one row, one for each column, in the schema's order.
 #[derive(Drop)]
 pub struct Row {
     pub values: Vec<Value>,
@@ -16,7 +16,7 @@ impl Row {
     ghost use Rattle.bw_model.specs.Fault.{no_memory};
     ghost use Rattle.bw_model.specs.Row.{values_of};
 
-    /// An equal row.
+    /// Returns an equal row. Fails only if memory is refused.
     pub fn copy(&self, alloc: Global) -> Result<Self, Fault>
         ensures equal { IfOk result (λ row. values_of row ≡ values_of self.now) }
         ensures only_memory { IsOkUnless result no_memory }

@@ -1,4 +1,4 @@
-//! Who takes rows that come one after another: of a CSV text, or out of a table file.
+//! Consumers of rows, which get the rows of a CSV text or a table file one after another.
 ghost use Rattle.std.specs.Prelude.{◌≡◌, ◌+◌, ◌<◌, ℕ, List, [], ◌∷◌, ◌++◌, Bool, OnOk, IfErr, IsTrue};
 ghost use Rattle.bw_model.specs.Fault.{no_memory};
 ghost use Rattle.bw_model.specs.Limits.{most_rows};
@@ -7,18 +7,18 @@ ghost use Rattle.bw_model.specs.Row.{Value, values_of};
 use crate::fault::Fault;
 use crate::row::{Row, Value};
 
-/// Who is handed the rows of a text, one after another.
+/// A consumer of rows, one after another.
 pub trait RowTaker {
-    /// Whether it can take a row of these values.
+    /// Whether it accepts a row of these values.
     ghost takes: { Self → List Value → Bool };
 
-    /// How many rows it has been handed.
+    /// How many rows it has accepted.
     ghost rows: { Self → ℕ };
 
-    /// The first taker, handed these rows, becomes the second.
+    /// The first consumer, given these rows, becomes the second.
     ghost led: { Self → List (List Value) → Self → Type 0 };
 
-    /// Takes the next row. An `Err`, which is out of memory, ends the reading.
+    /// Accepts the next row. Errors: only 801, out of memory, after which no row follows.
     fn take(&mut self, row: &Row) -> Result<(), Fault>
         requires fits { IsTrue (takes self.old (values_of row.now)) }
         requires room { rows self.old < most_rows }

@@ -7,7 +7,8 @@ ghost use Rattle.bw_model.specs.Limits.{most_columns};
 use crate::column::Column;
 use crate::name::Name;
 
-/// A table's name and its columns: at least one and at most 64, with names that differ, ignoring case.
+/// A table's name and its columns: at least one and at most 64, with names that differ, ignoring
+/// case.
 #[derive(Drop)]
 pub struct Schema {
     pub name: Name,

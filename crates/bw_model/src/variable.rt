@@ -11,7 +11,7 @@ use crate::column::Column;
 use crate::schema::Schema;
 
 impl Schema {
-    /// How many variables the schema has, at most 4,096.
+    /// Returns how many variables the schema has, at most 4,096.
     pub fn var_count(&self) -> u32
         ensures count { result ≡ variables_of self.now.columns.items }
         ensures bound { result ≤ 4096 }
@@ -19,7 +19,8 @@ impl Schema {
         count(&self.columns)
     }
 
-    /// The null variable of a column, which comes before its bits.
+    /// Returns the null variable of a column, which precedes its bits, or None if the column isn't
+    /// nullable.
     pub fn var_null(&self, col: usize) -> Option<u32>
         requires { col < length self.now.columns.items }
         ensures variable { result ≡ null_variable self.now.columns.items col }
@@ -29,8 +30,8 @@ impl Schema {
         self.columns[col].nullable.then_some(first)
     }
 
-    /// The variable of a column's bit, which is below the column's width. Bit 0 is the least, and the top one comes
-    /// first.
+    /// Returns the variable of a column's bit, which must be less than the column's width. Bit 0 is
+    /// the least; the highest bit has the first variable.
     pub fn var_bit(&self, col: usize, bit: u32) -> u32
         requires column { col < length self.now.columns.items }
         requires bit { bit < width_at self.now.columns.items col }
@@ -40,13 +41,13 @@ impl Schema {
         count(&self.columns[..=col]) - 1 - bit
     }
 
-    /// A law: the row that the bits of an admitted row spell is that row.
+    /// A law: the bits of an admitted row spell that row.
     pub fn bits_spell_row(&self)
         ensures { (values : List Value) → IsTrue (admits_values self.now.columns.items values)
             → row_of self.now.columns.items (assignment_of (bits_of self.now.columns.items values)) ≡ values }
     {}
 
-    /// A law: where the bits of an admitted row stand.
+    /// A law: each bit of an admitted row is at its variable.
     pub fn bits_stand_at_variables(&self, col: usize)
         requires { col < length self.now.columns.items }
         ensures count { (values : List Value) → IsTrue (admits_values self.now.columns.items values)
@@ -60,7 +61,8 @@ impl Schema {
             ≡ has_bit (stored_at self.now.columns.items col (value_in values col)) bit }
     {}
 
-    /// A law: the numbers that the bits of an admitted row spell, and the bytes of its stored codes among them.
+    /// A law: the numbers that the bits of an admitted row spell, among them the bytes of its
+    /// stored codes.
     pub fn bits_spell_stored_codes(&self, col: usize)
         requires { col < length self.now.columns.items }
         ensures below { (values : List Value) → IsTrue (admits_values self.now.columns.items values)
@@ -76,12 +78,12 @@ impl Schema {
             ≡ byte_of slice (stored_at self.now.columns.items col (value_in values col)) }
     {}
 
-    /// A law: an assignment of zeros spells the number 0 everywhere.
+    /// A law: an assignment of zeros spells only zeros.
     pub fn no_bits_spell_zero(&self)
         ensures { (col start count : ℕ) → number_spelled self.now.columns.items col start count no_bits ≡ 0 }
     {}
 
-    /// A law: the value that the row of an assignment has in a column.
+    /// A law: the value that an assignment's row has in a column.
     pub fn row_of_assignment(&self, col: usize)
         requires { col < length self.now.columns.items }
         ensures { (bits : Assignment) → value_in (row_of self.now.columns.items bits) col
@@ -89,7 +91,7 @@ impl Schema {
     {}
 }
 
-/// How many variables some columns have.
+/// Returns how many variables the columns have.
 fn count(columns: &[Column]) -> u32
     requires { length columns.now ≤ 64 }
     ensures count { result ≡ variables_of columns.now }

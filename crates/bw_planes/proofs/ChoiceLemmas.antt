@@ -1,4 +1,5 @@
--- The greatest or the least of the codes in some lanes, found from the top bit down among the lanes that are left.
+-- The greatest or the least of the codes in some lanes, found from the top bit down among the lanes
+-- that are left.
 use Rattle.std.proofs.Common.{◌≡◌, ◌∙◌, refl, sym, ap, ℕ, suc, ◌+◌, ◌-◌, ◌*◌, ◌^◌, ◌<◌, Bool, true, false, not, cond, ◌&&◌, List, None, filter, map, length, arith}
 use Rattle.std.specs.List.{list_all, reduce}
 use lib.Lanes.{zip2}
@@ -27,7 +28,8 @@ module _ (g : Bool) (width : ℕ) (bytes lanes : List ℕ) where
   no_codes : (words : List ℕ) → length words ≡ 8 → is_none (codes_in words) ≡ list_all not (lanes_of_words words)
   no_codes words eight = sym (none_picked (lanes_of_words words) (planes_codes width bytes) (omega (arith, codes_long width bytes, length-lanes_of_words words)))
 
-  -- the codes in the lanes that are left after so many places have the same top bits, and what is chosen of all is one of them
+  -- the codes in the lanes that are left after so many places have the same top bits, and what is
+  -- chosen of all is one of them
   abbrev pub IsLeft : List ℕ → ℕ → ℕ → Type 0
   IsLeft left place code = IsDescended g (codes_in lanes) (codes_in left) (width - place) place code
 
@@ -39,7 +41,8 @@ module _ (g : Bool) (width : ℕ) (bytes lanes : List ℕ) where
       let small = all_picked (λ code. code < 2 ^ width) (lanes_of_words lanes) (planes_codes width bytes) (codes_small width bytes) in
       descended_as g _ _ _ width _ 0 0 0 refl (omega arith) refl (descent_begins g (codes_in lanes) width small (no_codes lanes eight ∙ some))
 
-  -- one bit further down: the lanes with the bit that is sought, or all where there are none of these
+  -- one bit further down: the lanes with the bit that is sought, or all where there are none of
+  -- these
   pub next_left : (some : Bool) (left found other : List ℕ) (plane : List Bool) (place code head : ℕ) → place < width → length found ≡ 8
       → lanes_of_words found ≡ zip2 (λ l p. l && cond g p (not p)) (lanes_of_words left) plane
       → plane ≡ map (λ n. has_bit n (width - 1 - place)) (planes_codes width bytes) → list_all not (lanes_of_words found) ≡ not some

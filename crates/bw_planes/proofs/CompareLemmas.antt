@@ -1,4 +1,5 @@
--- Some bits of codes, compared bit by bit with a constant: from the top bit down, or from the least one up.
+-- Some bits of codes, compared bit by bit with a constant: from the top bit down, or from the least
+-- one up.
 use Rattle.std.proofs.Common.{◌≡◌, ◌∙◌, refl, sym, ap, ap₂, subst, ℕ, ◌+◌, ◌-◌, ◌*◌, ◌/◌, ◌%◌, ◌^◌, ◌<◌, Bool, true, false, not, cond, ltb, eqb, ◌==◌, ◌&&◌, ◌||◌, List, map, length, bit_and, replicate, min, inl, inr, arith, pow_mono, shr_lt, div-add-mod', shr-shr, pow_pos}
 use Rattle.std.proofs.Math.Nat.{div-eq_of_lt, mod-eq_of_lt, mod-lt}
 use Rattle.std.proofs.lemmas.Bool.{cases_lt}

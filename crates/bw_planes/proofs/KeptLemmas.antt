@@ -1,4 +1,5 @@
--- Planes keep codes: the planes of codes spell these, and numbers that planes spell have these planes.
+-- Planes keep codes: the planes of codes spell these, and numbers that planes spell have these
+-- planes.
 use Rattle.std.proofs.Common.{◌≡◌, ◌∙◌, refl, sym, ap, ap₂, ℕ, zero, suc, ◌+◌, ◌-◌, ◌*◌, ◌/◌, ◌%◌, ◌^◌, ◌<◌, ◌≤◌, Bool, true, false, cond, ◌==◌, List, ◌++◌, map, length, take, drop, get_or, length-append, add-one, arith}
 use Rattle.std.specs.Int.{bit_at}
 use Rattle.std.specs.List.{range_with_len, All}

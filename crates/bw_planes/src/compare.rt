@@ -1,5 +1,6 @@
-//! Comparisons of some bits of the codes with a constant, from the lowest bit up, by one operation a plane and with no
-//! early end: to ask after each plane whether a lane is left takes longer than the planes of a byte.
+//! Comparisons of some bits of the codes with a constant, from the lowest bit up, by one operation
+//! for each plane. There is no early end: to ask after each plane whether a lane is left takes
+//! longer than the planes of a byte.
 ghost use Rattle.std.specs.Prelude.{◌≡◌, ◌==◌, ◌&&◌, ◌||◌, if◌then◌else◌, ◌+◌, ◌*◌, ◌/◌, ◌%◌, ◌^◌, ◌≤◌, length, map, nat_lt, not};
 ghost use lib.Lanes.{zip2};
 ghost use Rattle.bw_lanes.specs.Lanes.{lanes_of_words};
@@ -8,10 +9,11 @@ ghost use Rattle.bw_planes.specs.Planes.{planes_codes};
 use crate::planes::plane_of;
 use bw_lanes::{Plane, and, not, or};
 
-/// The plane of ones.
+/// All lanes 1.
 const ONES: Plane = [u64::MAX; 8];
 
-/// The lanes in which the number that so many bits of the code are, from `low` upwards, isn't below c.
+/// Returns the lanes in which the number that `count` bits of the code spell, from `low` upwards,
+/// is at least `c`.
 #[inline(always)]
 pub(crate) fn at_least(width: u32, bytes: &[u8], low: u32, count: u32, c: u64) -> Plane
     requires width { (1 ≤ width) × (width ≤ 63) }
@@ -30,8 +32,8 @@ pub(crate) fn at_least(width: u32, bytes: &[u8], low: u32, count: u32, c: u64) -
     }
 }
 
-/// The same with a constant that has no higher bit. It's compiled into its callers, so that the loop over the planes of
-/// a whole byte, which most are, is written out.
+/// Returns the same, with a constant that has no higher bit. It is compiled into its callers, so
+/// that the loop over the planes of a whole byte, the usual case, is unrolled.
 #[tactic(auto, using(crate::proofs::CompareLemmas::comparison))]
 #[inline(always)]
 fn low_at_least(width: u32, bytes: &[u8], low: u32, count: u32, c: u64) -> Plane
@@ -50,7 +52,8 @@ fn low_at_least(width: u32, bytes: &[u8], low: u32, count: u32, c: u64) -> Plane
     at_least
 }
 
-/// The lanes in which that number is c.
+/// Returns the lanes in which the number that `count` bits of the code spell, from `low` upwards,
+/// is `c`.
 #[inline(always)]
 pub(crate) fn eq(width: u32, bytes: &[u8], low: u32, count: u32, c: u8) -> Plane
     requires width { (1 ≤ width) × (width ≤ 63) }
@@ -70,7 +73,7 @@ pub(crate) fn eq(width: u32, bytes: &[u8], low: u32, count: u32, c: u8) -> Plane
     }
 }
 
-/// The same with a constant that has no higher bit.
+/// Returns the same, with a constant that has no higher bit.
 #[tactic(auto, using(crate::proofs::CompareLemmas::comparison))]
 #[inline(always)]
 fn low_eq(width: u32, bytes: &[u8], low: u32, count: u32, c: u8) -> Plane
@@ -90,8 +93,9 @@ fn low_eq(width: u32, bytes: &[u8], low: u32, count: u32, c: u8) -> Plane
     equal
 }
 
-/// The lanes that aren't below the constant in one bit more, its highest so far: where it has a 1, those that have one
-/// too and weren't below so far; where it has a 0, those that have a 1 or weren't below.
+/// Returns the lanes that are at least the constant with one bit more, its highest so far. If that
+/// is 1, they are those that have it too and were at least the constant so far; if it is 0, those
+/// that have a 1 or were.
 fn risen(at_least: &Plane, plane: &Plane, one: bool) -> Plane
     ensures { lanes_of_words result ≡ zip2 (λ a p. if one then a && p else (a || p))
         (lanes_of_words at_least.now) (lanes_of_words plane.now) }
@@ -103,7 +107,7 @@ fn risen(at_least: &Plane, plane: &Plane, one: bool) -> Plane
     }
 }
 
-/// Of some lanes those that have this bit in a plane.
+/// Returns those lanes that have this bit in a plane.
 #[tactic(auto, using(crate::proofs::CompareLemmas::zip2_map_right))]
 pub(crate) fn narrowed(lanes: &Plane, plane: &Plane, one: bool) -> Plane
     ensures { lanes_of_words result ≡ zip2 (λ l p. l && (if one then p else not p))

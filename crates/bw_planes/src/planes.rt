@@ -1,4 +1,4 @@
-//! Codes kept as planes, and what they answer.
+//! Codes stored as planes, and the results of their kernels.
 ghost use Rattle.std.specs.Prelude.{◌≡◌, ◌*◌, ◌^◌, ◌<◌, ◌≤◌, IfSome, false, if◌then◌else◌, length, map, max, min, nat_lt, true};
 ghost use Rattle.std.specs.List.{list_any, reduce};
 ghost use Rattle.bw_lanes.specs.Lanes.{lanes_of_words};
@@ -15,8 +15,8 @@ use bw_lanes::{
 use bw_model::Fault;
 use bw_segment::{CodeLayout, push_byte, put_byte, slices_of};
 
-/// Codes kept as planes, one for each bit, from the top bit down, 64 bytes a plane: bit i mod 8, the least first, of
-/// byte i / 8 is row i's.
+/// Codes stored as planes, one for each bit, from the top bit down, 64 bytes each: bit i mod 8, the
+/// least first, of byte i / 8 is row i's.
 pub struct Planes;
 
 impl CodeLayout for Planes {
@@ -64,8 +64,8 @@ impl CodeLayout for Planes {
         plane_of(width, bytes, bit as usize)
     }
 
-    // Compiled into the loop of a run, as `byte_eq` is: a plane that a call leaves in memory would be cleared for each
-    // step.
+    // Compiled into the loop of a run, as `byte_eq` is: a plane that a call leaves in memory would
+    // be cleared for each step.
     #[inline(always)]
     fn byte_lt(width: u32, bytes: &[u8], slice: usize, c: u8) -> Plane {
         let low = 8 * slice as u32;
@@ -119,8 +119,9 @@ impl CodeLayout for Planes {
     fn keeps_codes() {}
 }
 
-/// The greatest of the codes in some lanes, or the least; none where there are no lanes. From the top bit down the
-/// lanes that remain are those in which the bit is 1, or for the least 0, or all of them where there are none of these.
+/// Returns the maximum or the minimum of the codes in the lanes, or None if there are no lanes.
+/// From the top bit down, the lanes that remain are those in which the bit is 1, or 0 for the
+/// minimum, or all of them if there are none of these.
 #[inline(always)]
 fn chosen_code(width: u32, bytes: &[u8], lanes: &Selection, greatest: bool) -> Option<u64>
     requires width { (1 ≤ width) × (width ≤ 63) }
@@ -148,11 +149,13 @@ fn chosen_code(width: u32, bytes: &[u8], lanes: &Selection, greatest: bool) -> O
     Some(code)
 }
 
-/// So many of the highest digits tell in nearly all segments that no code is above a number: of 512 codes that are
-/// spread over as many as there may be, one in sixteen times one has the same such digits as the greatest.
+/// In nearly all segments, this many of the highest digits suffice to show that no code is above a
+/// number. If 512 codes are spread over all possible values, one of them has the same such digits
+/// as the maximum in one of sixteen cases.
 const HIGHEST: u32 = 14;
 
-/// Whether the codes' highest digits show that none is above a number. Where few digits tell in any case, they don't.
+/// Returns whether the codes' highest digits show that none is above a number. They don't if a few
+/// digits suffice anyway.
 #[inline(always)]
 fn none_is_near(width: u32, bytes: &[u8], most: u64) -> bool
     requires width { (1 ≤ width) × (width ≤ 63) }
@@ -166,7 +169,8 @@ fn none_is_near(width: u32, bytes: &[u8], most: u64) -> bool
     is_zero(&at_least(width, bytes, low, HIGHEST, most >> low))
 }
 
-/// The plane of a bit, whose place is reckoned in whole words, so that a loop over bits moves from plane to plane.
+/// Returns the plane of a bit. Its place is computed in whole words, so that a loop over bits moves
+/// from plane to plane.
 #[tactic(auto, using(crate::proofs::CodeLemmas::plane_loaded))]
 #[inline(always)]
 pub(crate) fn plane_of(width: u32, bytes: &[u8], bit: usize) -> Plane
@@ -179,8 +183,8 @@ pub(crate) fn plane_of(width: u32, bytes: &[u8], bit: usize) -> Plane
     load(&bytes[64 * (width as usize - 1 - bit)..])
 }
 
-/// A byte of each code, of which byte 0 is the least: the planes of its bits are shifted into a byte of each lane, from
-/// the top one down.
+/// Returns a byte of each code; byte 0 is the least. The planes of its bits are shifted into a byte
+/// of each lane, from the top one down.
 #[tactic(auto, using(crate::proofs::TransposeLemmas::byte_steps))]
 fn byte_at(width: u32, bytes: &[u8], slice: usize) -> [u8; LANES]
     requires width { (1 ≤ width) × (width ≤ 63) }

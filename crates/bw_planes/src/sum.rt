@@ -1,5 +1,5 @@
-//! Sums of codes, 64 rows at a time. The bits of these rows stand in one word of each plane, and of rows of which none
-//! counts nothing is read.
+//! Sums of codes, 64 rows at a time. The bits of these rows are in one word of each plane. If none
+//! of the rows is selected, nothing is read.
 ghost use Rattle.std.specs.Prelude.{◌≡◌, ◌+◌, ◌-◌, ◌*◌, ◌/◌, ◌%◌, ◌^◌, ◌<◌, ◌≤◌, ◌&&◌, length, take, map, sum, sum_by, count_by};
 ghost use lib.Lanes.{zip2};
 ghost use Rattle.bw_lanes.specs.Lanes.{bits_from_least, lanes_of_bytes};
@@ -9,7 +9,7 @@ ghost use Rattle.bw_planes.specs.Planes.{planes_codes, codes_in_word};
 
 use std::simd::prelude::*;
 
-/// The sum of the codes of some of the 64 rows of a word.
+/// Returns the sum of the codes of selected rows among the 64 of a word.
 pub(crate) fn sum_in_word(width: u32, bytes: &[u8], word: usize, rows: u64) -> u128
     requires width { (1 ≤ width) × (width ≤ 63) }
     requires size { length bytes.now ≡ 64 * width }
@@ -24,8 +24,8 @@ pub(crate) fn sum_in_word(width: u32, bytes: &[u8], word: usize, rows: u64) -> u
     u128::from(lower) + (u128::from(upper) << few)
 }
 
-/// The sum of the numbers that so many bits of these codes are, from `low` upwards: by the number of ones in each
-/// plane, from the highest down.
+/// Returns the sum of the numbers that `count` bits of these codes spell, from `low` upwards: by
+/// the number of ones in each plane, from the highest down.
 #[inline(always)]
 fn sum_of_bits(width: u32, bytes: &[u8], word: usize, rows: u64, low: u32, count: u32) -> u64
     requires width { width ≤ 63 }
@@ -45,8 +45,8 @@ fn sum_of_bits(width: u32, bytes: &[u8], word: usize, rows: u64, low: u32, count
     sum
 }
 
-/// A word of a plane, of which plane 0 is that of the highest bit. It's reckoned in whole words, so that a loop over
-/// planes moves from one to the next.
+/// Returns a word of a plane; plane 0 is that of the highest bit. Its place is computed in whole
+/// words, so that a loop over planes moves from one to the next.
 #[inline(always)]
 fn word_of(width: u32, bytes: &[u8], word: usize, plane: usize) -> u64
     requires width { width ≤ 63 }
@@ -59,7 +59,7 @@ fn word_of(width: u32, bytes: &[u8], word: usize, plane: usize) -> u64
     first_word(&bytes[64 * plane + 8 * word..])
 }
 
-/// The word of the first 8 bytes.
+/// Returns the word of the first 8 bytes.
 #[inline(always)]
 fn first_word(bytes: &[u8]) -> u64
     requires { 8 ≤ length bytes.now }
@@ -68,7 +68,7 @@ fn first_word(bytes: &[u8]) -> u64
     u64x1::from_le_bytes(u8x8::from_slice(bytes)).to_array()[0]
 }
 
-/// How many bits are 1 in two words.
+/// Returns how many bits are 1 in two words.
 fn ones_in(a: u64, b: u64) -> u32
     ensures ones { result ≡ count_by (λ lane. lane)
         (zip2 (λ x y. x && y) (bits_from_least 64 a) (bits_from_least 64 b)) }

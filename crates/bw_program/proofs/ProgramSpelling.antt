@@ -1,4 +1,5 @@
--- What is read of a program text is spelled by it, and what is spelled is read; what is spelled is a program that fits.
+-- What is read of a program text is spelled by it, and what is spelled is read; what is spelled is
+-- a program that fits.
 use Rattle.std.proofs.Common.{◌≡◌, ◌∙◌, refl, sym, ap, subst, ℕ, suc, ◌+◌, ◌<◌, ◌≤◌, Bool, true, false, ◌&&◌, cond, List, [], ◌∷◌, ◌++◌, length, drop, Option, Some, None, Result, Ok, Err, nat_le, arith, append_assoc, length-append, add-one}
 use Rattle.std.specs.List.{list_all}
 use Rattle.std.specs.Prelude.{IfOk, IsTrue}

@@ -1,5 +1,5 @@
--- The canonical text of a program: capital keywords, single blanks, names in the schema's spelling, numbers without
--- leading zeros, and one line feed after each line.
+-- The canonical text of a program: capital keywords, single blanks, names in the schema's spelling,
+-- numbers without leading zeros, and one line feed after each line.
 use Rattle.std.specs.Prelude.{ℕ, Bool, List, [], ◌∷◌, ◌++◌, if◌then◌else◌, slice_index_or}
 use Rattle.std.specs.Fmt.{decimal}
 use Rattle.bw_model.specs.declared.column.Column.{Column}
@@ -35,11 +35,11 @@ instr_words columns (ByteEq r column slice k) =
     opcode_spelling op.ByteEq ∷ register_text r ∷ column_text columns column ∷ decimal slice ∷ decimal k ∷ []
 instr_words columns (Skip x target) = opcode_spelling op.Skip ∷ register_text x ∷ decimal target ∷ []
 
--- and of the result's
+-- the words of the result's line
 abbrev pub result_words : ℕ → List (List ℕ)
 result_words result = opcode_spelling op.Result ∷ register_text result ∷ []
 
--- the lines of instructions, and then that of the result
+-- the lines of instructions, then that of the result
 unfoldable pub lines_text : List Column → List Instr → ℕ → List ℕ
 lines_text columns [] result = line_text (result_words result)
 lines_text columns (instr ∷ instrs) result = line_text (instr_words columns instr) ++ lines_text columns instrs result

@@ -1,4 +1,4 @@
--- Program texts: what a text says under a schema's columns, or the first fault in it.
+-- Program texts: the program that a text spells under a schema's columns, or its first error.
 use Rattle.std.specs.Prelude.{◌≡◌, ◌<◌, ◌≤◌, ℕ, suc, ◌||◌, ◌&&◌, ◌==◌, Bool, true, false, not, IsTrue, List, [], ◌∷◌, ◌++◌, drop, length, map, Option, Some, None, Result, Ok, Err, if◌then◌else◌, nat_le, nat_lt}
 use Rattle.bw_model.specs.FaultTable.{PROGRAM_FORM, REGISTER, COLUMN_OR_BIT, SKIP_TARGET, PROGRAM_TOO_LONG, NO_RESULT, NO_NULLS}
 use Rattle.bw_model.specs.declared.column.Column.{Column}
@@ -18,7 +18,7 @@ use Rattle.bw_text.specs.Opcode.{opcode_of}
 use Rattle.bw_text.specs.Register.{register_of}
 use Rattle.bw_program.specs.Program.{ProgramShape, most_instructions}
 
--- what was found, or a fault of the line of this number
+-- what was found, or an error on the line of this number
 abbrev pub found_on : {A : Type 0} → ℕ → ℕ → Option A → Result A Fault
 found_on code line None = Err (at_line code line)
 found_on code line (Some x) = Ok x
@@ -33,8 +33,9 @@ register_on line word = found_on REGISTER line (register_of word)
 abbrev pub column_on : List Column → ℕ → List ℕ → Result ℕ Fault
 column_on columns line word = found_on COLUMN_OR_BIT line (column_named columns word)
 
--- what the words after an opcode say, or the first fault of the line: the number of words and the numbers among them,
--- the registers, the column with its bit, slice or null plane, and a skip's target, which lies after the instruction
+-- the instruction that the words after an opcode spell, or the line's first error: the number of
+-- words and the numbers among them, the registers, the column with its bit, slice or null plane,
+-- and a skip's target, which must follow the instruction
 abbrev pub load_on : List Column → ℕ → List (List ℕ) → Result Instr Fault
 load_on columns line (r ∷ c ∷ b ∷ []) =
     natural_on line b >>= λ bit. register_on line r >>= λ register. column_on columns line c >>= λ column.
@@ -93,16 +94,16 @@ instr_after columns number line (Some op.ByteEq) words = byte_on columns line wo
 instr_after columns number line (Some op.Skip) words = skip_on number line words
 instr_after columns number line (Some op.Result) words = Err (at_line PROGRAM_FORM line)
 
--- a line's opcode, and the words after it
+-- the opcode of a line
 abbrev pub opcode_in : List (List ℕ) → Option Opcode
 opcode_in [] = None
 opcode_in (word ∷ words) = opcode_of word
 
--- the instruction of this number that a line says, or the first fault there
+-- the instruction of this number that a line spells, or the line's first error
 unfoldable pub instr_on : List Column → ℕ → NumberedWords → Result Instr Fault
 instr_on columns number line = instr_after columns number line.number (opcode_in line.words) (drop 1 line.words)
 
--- the line names the result
+-- the line is that of the result
 abbrev pub names_result : Option Opcode → Bool
 names_result (Some op.Result) = true
 names_result (Some other) = false
@@ -111,7 +112,7 @@ names_result None = false
 abbrev pub is_result_line : NumberedWords → Bool
 is_result_line line = names_result (opcode_in line.words)
 
--- the result register of such a line
+-- the register that the line of the result names
 abbrev pub result_after : ℕ → List (List ℕ) → Result ℕ Fault
 result_after line (r ∷ []) = register_on line r
 result_after line words = Err (at_line PROGRAM_FORM line)
@@ -124,7 +125,8 @@ abbrev pub last_line : {A : Type 0} → List NumberedWords → A → Result A Fa
 last_line [] x = Ok x
 last_line (line ∷ lines) x = Err (at_line PROGRAM_FORM line.number)
 
--- no skip goes past the end, where that is so many instructions on; else the first one that does is the fault
+-- no skip goes past the end, which is the number of instructions; else the first one that does is
+-- the error
 abbrev pub goes_past : ℕ → Instr → Bool
 goes_past end (Load r column bit) = false
 goes_past end (Nulls r column) = false
@@ -145,11 +147,12 @@ within_end end (p ∷ placed) x =
 abbrev pub ended : List Placed → ℕ → Result ProgramShape Fault
 ended placed result = within_end (length placed) placed (record { instrs = instrs_of placed; result = result })
 
--- the program of instructions and a result register whose line these lines follow
+-- the program of these instructions and a result register, whose line these lines follow
 abbrev pub finished : List Placed → List NumberedWords → ℕ → Result ProgramShape Fault
 finished placed lines result = last_line lines result >>= λ register. ended placed register
 
--- the program on lines, after instructions that came before; the lines end with this number
+-- the program on these lines, after instructions that came before; `end` is the number of the
+-- text's end
 unfoldable pub program_on : List Column → List Placed → List NumberedWords → ℕ → Result ProgramShape Fault
 program_on columns before [] end = Err (at_line NO_RESULT end)
 program_on columns before (line ∷ lines) end =
@@ -160,12 +163,13 @@ program_on columns before (line ∷ lines) end =
     (instr_on columns (length before) line >>= λ instr.
     program_on columns (before ++ record { line = line.number; instr = instr } ∷ []) lines end))
 
--- what a program text says, or the first fault in it
+-- the program that a text spells, or its first error
 abbrev pub program_of : List Column → List ℕ → Result ProgramShape Fault
 program_of columns text = program_on columns [] (lines_in (whole text)) (end_in (whole text))
 
--- The words of a line spell the instruction of this number in a program of so many: an opcode, and then registers,
--- columns and numbers in its order; a skip goes forward, and no further than the end.
+-- The words of a line spell the instruction of this number in a program of `end` instructions: an
+-- opcode, then its registers, columns and numbers in order. A skip goes forward, no further than
+-- the end.
 pub data SpellsInstr (columns : List Column) (end number : ℕ) : List (List ℕ) → Instr → Type 0 where
   load : {word r c b : List ℕ} {register column bit : ℕ} → opcode_of word ≡ Some op.Load → register_of r
       ≡ Some register →
@@ -202,8 +206,8 @@ pub data SpellsInstr (columns : List Column) (end number : ℕ) : List (List ℕ
       ≡ Some target →
       number < target → target ≤ end → SpellsInstr columns end number (word ∷ a ∷ l ∷ []) (Skip x target)
 
--- Lines spell the instructions from this number on and the result register: each line its instruction, and the last one
--- the result.
+-- Lines spell the instructions from this number on and the result register: each line its
+-- instruction, the last one the result.
 pub data SpellsLines (columns : List Column) (end : ℕ) : ℕ → List NumberedWords → List Instr → ℕ → Type 0 where
   result_line : {number line result : ℕ} {word r : List ℕ} → opcode_of word ≡ Some op.Result → register_of r
       ≡ Some result →
@@ -219,7 +223,7 @@ IsProgramText columns text program =
     (length program.instrs ≤ most_instructions)
     × SpellsLines columns (length program.instrs) 0 (lines_in (whole text)) program.instrs program.result
 
--- one of 501 to 507, or out of memory
+-- the error is one of 501 to 507, or out of memory
 abbrev pub is_program_fault : Fault → Bool
 is_program_fault fault = (nat_le PROGRAM_FORM fault.code && nat_le fault.code NO_NULLS) || is_memory fault
 

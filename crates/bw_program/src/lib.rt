@@ -1,12 +1,13 @@
-//! Scan programs: short lists of instructions over registers of 512 lanes, which compute for each row of a
-//! segment whether it is selected.
+//! Scan programs: short lists of instructions over registers of 512 lanes, which compute for each
+//! row of a segment whether it is selected.
 //!
-//! The contract that the crates above use: a [`Program`] is valid by its type, and what it does with the lanes of
-//! a segment is `specs/Machine.antt`, which speaks of assignments alone. A skip goes on at its target exactly
-//! where its register is 0 in every lane, as BitWeaving (Li and Patel) stops a comparison early.
+//! The contract that the crates above use: a [`Program`] is valid by its type. `specs/Machine.antt`
+//! defines what it does with the lanes of a segment, and mentions only assignments. A skip is taken
+//! if and only if its register is 0 in every lane, as BitWeaving (Li and Patel) stops a comparison
+//! early.
 //!
-//! Read `instr.rt` first, and then `specs/Machine.antt`; `step.rt` has the steps in which a run takes the instructions,
-//! one or two at a time.
+//! Read `instr.rt` first, then `specs/Machine.antt`. `step.rt` has the steps in which a run
+//! executes the instructions, one or two at a time.
 #![tactic(auto)]
 
 mod instr;

@@ -1,4 +1,4 @@
-//! The instruction that a line of a program text says.
+//! The instruction that a line of a program text spells.
 ghost use Rattle.std.specs.Prelude.{◌≡◌, ◌<◌, List, Some, ℕ, map, drop, length, IfSome, IfOk, IfErr};
 ghost use Rattle.bw_text.specs.Lines.{line_of};
 ghost use Rattle.bw_program.specs.ProgramText.{natural_on, register_on, column_on, load_on, nulls_on, fill_on, three_on, not_on, byte_on, skip_on, instr_after, instr_on, is_result_line, result_after, IsProgramFault};
@@ -7,8 +7,9 @@ use crate::instr::{ColumnIndex, Instr, Register, SliceIndex};
 use bw_model::{Fault, Schema, code};
 use bw_text::{Line, Opcode, natural_number, register_of};
 
-/// The instruction of this number that a line says, or the first fault there: its form (501), a register (502), a
-/// column, bit or slice (503), a column without nulls (507), a skip that doesn't go forward (504).
+/// Returns the instruction of this number that a line spells, or the line's first error: its form
+/// (501), a register (502), a column, bit or slice (503), a column without nulls (507), a skip that
+/// doesn't go forward (504).
 #[tactic(auto, unfolding(crate::specs::ProgramText::instr_on))]
 pub(crate) fn instr_of(schema: &Schema, number: usize, line: &Line) -> Result<Instr, Fault>
     ensures said { result ≡ instr_on schema.now.columns.items number (line_of line.now) }
@@ -25,7 +26,7 @@ pub(crate) fn instr_of(schema: &Schema, number: usize, line: &Line) -> Result<In
     instr_after(schema, number, line, opcode, rest)
 }
 
-/// The instruction of this number that the words after an opcode say.
+/// Returns the instruction of this number that the words after an opcode spell.
 fn instr_after(
     schema: &Schema,
     number: usize,
@@ -83,7 +84,7 @@ fn load_of(schema: &Schema, line: u64, words: &[&[u8]]) -> Result<Instr, Fault>
     Ok(Instr::Load(to, column as u8, bit as u8))
 }
 
-/// A number without sign, or 501.
+/// Returns an unsigned number, or 501.
 fn natural_on(line: u64, word: &[u8]) -> Result<u64, Fault>
     ensures said { result ≡ natural_on line word.now }
     ensures fault { IfErr result IsProgramFault }
@@ -91,7 +92,7 @@ fn natural_on(line: u64, word: &[u8]) -> Result<u64, Fault>
     natural_number(word).ok_or(Fault::at_line(code::PROGRAM_FORM, line))
 }
 
-/// A register, or 502.
+/// Returns a register, or 502.
 fn register_on(line: u64, word: &[u8]) -> Result<Register, Fault>
     ensures register { result ≡ register_on line word.now }
     ensures below { IfOk result (λ register. register < 64) }
@@ -100,7 +101,7 @@ fn register_on(line: u64, word: &[u8]) -> Result<Register, Fault>
     register_of(word).ok_or(Fault::at_line(code::REGISTER, line))
 }
 
-/// A column, or 503.
+/// Returns a column's number, or 503.
 fn column_on(schema: &Schema, line: u64, word: &[u8]) -> Result<usize, Fault>
     ensures column { result ≡ column_on schema.now.columns.items line word.now }
     ensures there { IfOk result (λ column. column < length schema.now.columns.items) }
@@ -141,7 +142,7 @@ fn fill_of(line: u64, words: &[&[u8]]) -> Result<Instr, Fault>
     Ok(Instr::Fill(to, bit == 1))
 }
 
-/// Three registers.
+/// Returns three registers.
 fn three_of(line: u64, words: &[&[u8]]) -> Result<(Register, Register, Register), Fault>
     ensures said { result ≡ three_on line (map (λ word. word.now) words.now) }
     ensures fault { IfErr result IsProgramFault }
@@ -167,7 +168,7 @@ fn not_of(line: u64, words: &[&[u8]]) -> Result<Instr, Fault>
     Ok(Instr::Not(to, from))
 }
 
-/// A register, a column, a slice of its codes and a byte.
+/// Returns a register, a column, a slice of its codes, and a byte.
 fn byte_of(
     schema: &Schema,
     line: u64,
@@ -207,7 +208,7 @@ fn skip_of(number: usize, line: u64, words: &[&[u8]]) -> Result<Instr, Fault>
     Ok(Instr::Skip(register, target as usize))
 }
 
-/// Whether a line names the result.
+/// Returns whether a line is that of the result.
 pub(crate) fn is_result_line(line: &Line) -> bool
     ensures { result ≡ is_result_line (line_of line.now) }
 {
@@ -217,7 +218,7 @@ pub(crate) fn is_result_line(line: &Line) -> bool
     }
 }
 
-/// The result register that such a line names.
+/// Returns the register that the line of the result names.
 pub(crate) fn result_of(line: &Line) -> Result<Register, Fault>
     ensures register { result ≡ result_after line.now.number (drop 1 (line_of line.now).words) }
     ensures below { IfOk result (λ register. register < 64) }

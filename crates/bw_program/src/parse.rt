@@ -1,4 +1,4 @@
-//! Program texts, read line by line: instructions, and then `RESULT x`.
+//! Program texts, read line by line: instructions, then `RESULT x`.
 ghost use Rattle.std.specs.Prelude.{◌≡◌, ◌<◌, ◌≤◌, ℕ, Ok, Err, [], false, length, option_map, IfOk, IfErr, OnOk, IsTrue};
 ghost use Rattle.bw_model.specs.Fault.{Gives, is_memory};
 ghost use Rattle.bw_text.specs.Lines.{lines_in, end_in};
@@ -13,24 +13,31 @@ use bw_model::{Fault, Schema, code};
 use bw_text::{Line, Lines};
 use std::alloc::{AllocError, Global};
 
-/// A program has at most this many instructions.
+/// The most instructions of a program.
 const MAX_INSTRUCTIONS: usize = 4096;
 
 impl Program {
-    /// Reads a program text under a schema, whose columns, bits, null planes and slices it names.
+    /// Reads a program text under a schema, which must have the columns, bits, null planes and
+    /// slices that it names.
     ///
-    /// Refused is the first line that is wrong, and on one line the first of: an instruction past 4,096 (505); another
-    /// form, a number that isn't one, or anything after the result (501); a register that isn't r0 to r63 (502); a
-    /// column, bit or slice that the schema lacks (503); a null plane of a column that has none (507); a skip that
-    /// doesn't go forward (504). At the end of the text, one line after the last, a result that is missing is 506; and
-    /// where all else is right, the first skip that goes past the end is 504.
+    /// Errors: the first wrong line, with the first of these that applies:
+    ///
+    /// - 505: an instruction after the 4,096th
+    /// - 501: another form, an invalid number, or a line after the result
+    /// - 502: a register that isn't r0 to r63
+    /// - 503: a column, bit or slice that the schema doesn't have
+    /// - 507: a null plane of a column that has none
+    /// - 504: a skip that doesn't go forward
+    ///
+    /// At the end of the text, one line after the last, a missing result is 506. If all else is
+    /// right, the first skip past the end is 504. 801 if memory is refused.
     pub fn parse(alloc: Global, schema: &Schema, text: &[u8]) -> Result<Program, Fault>
-        // What is read is spelled so, and what is spelled so is read.
+        // A text that is read spells the program, and every text that spells one is read.
         ensures spelled { IfOk result (λ program. IsProgramText schema.now.columns.items text.now program) }
         ensures accepted { (program : ProgramShape) → IsProgramText schema.now.columns.items text.now program
             → Gives (λ program. program) result (Ok program) }
 
-        // Which fault it is.
+        // A failed call returns the first error of the text.
         ensures fault { Gives (λ program. program) result (program_of schema.now.columns.items text.now) }
         ensures code { IfErr result IsProgramFault }
         ensures fits { IfOk result (λ program. IsTrue (fits schema.now.columns.items program)) }
@@ -67,7 +74,7 @@ fn read_program(alloc: Global, schema: &Schema, text: &[u8]) -> Result<Program, 
     })
 }
 
-/// Reads the lines up to that of the result, and gives the result register.
+/// Reads the lines up to that of the result, and returns the result register.
 fn read_lines(
     alloc: Global,
     schema: &Schema,
@@ -100,7 +107,7 @@ fn read_lines(
     Err(Fault::at_line(code::NO_RESULT, lines.number()))
 }
 
-/// Refuses a line after that of the result.
+/// Fails if a line follows that of the result.
 fn refuse_more(alloc: Global, mut lines: Lines<'_>) -> Result<(), Fault>
     ensures none { OnOk result ((x : ℕ) → last_line (lines_in lines.entry) x ≡ Ok x) }
     ensures some { IfErr result (λ fault. is_memory fault ≡ false → (x : ℕ) → last_line (lines_in lines.entry) x
@@ -114,21 +121,21 @@ fn refuse_more(alloc: Global, mut lines: Lines<'_>) -> Result<(), Fault>
     }
 }
 
-/// The number of a line, where there is one.
+/// Returns the number of a line, if there is one.
 fn number_of(line: &Option<Line<'_>>) -> Option<u64>
     ensures { result ≡ option_map (λ line. line.number) line.now }
 {
     line.as_ref().map(|line| line.number)
 }
 
-/// The instructions without the numbers of their lines.
+/// Returns the instructions, without the numbers of their lines.
 fn instrs_of(alloc: Global, placed: &[Placed]) -> Result<Vec<Instr>, AllocError>
     ensures { IfOk result (λ instrs. instrs.items ≡ instrs_of placed.now) }
 {
     placed.iter().map(|each| each.instr).collect(alloc)
 }
 
-/// Refuses the first skip that goes past the end of the instructions.
+/// Fails by the first skip past the end of the instructions.
 fn check_targets(placed: &[Placed]) -> Result<(), Fault>
     ensures within { OnOk result ((x : ProgramShape) → within_end (length placed.now) placed.now x ≡ Ok x) }
     ensures past { IfErr result (λ fault. (x : ProgramShape) → within_end (length placed.now) placed.now x
@@ -143,7 +150,7 @@ fn check_targets(placed: &[Placed]) -> Result<(), Fault>
     Ok(())
 }
 
-/// Whether an instruction is a skip past the end, which is so many instructions on.
+/// Returns whether an instruction is a skip past `end`, the number of instructions.
 fn goes_past(end: usize, instr: Instr) -> bool
     ensures { result ≡ goes_past end instr }
 {

@@ -1,4 +1,4 @@
-//! Program texts, written in their canonical form.
+//! Program texts in their canonical form.
 ghost use Rattle.std.specs.Prelude.{◌≡◌, ◌++◌, ◌∷◌, [], ◌<◌, List, IfOk, OnOk, IsOkUnless, IsTrue, length};
 ghost use Rattle.std.specs.Fmt.{decimal};
 ghost use Rattle.std.specs.List.{list_all};
@@ -20,10 +20,10 @@ use bw_text::{Opcode, Piece, push_line};
 use std::alloc::{AllocError, Global};
 
 impl Program {
-    /// The program's canonical text under a schema that has all that it names: capital keywords,
-    /// single blanks, names in the schema's spelling, numbers without leading zeros, and one line
-    /// feed after each line, of which the last is that of the result. It spells the program. Refused
-    /// is out of memory alone (801).
+    /// Returns the program's canonical text under a schema, which must have all that it names:
+    /// capital keywords, single blanks, names in the schema's spelling, numbers without leading
+    /// zeros, and one line feed after each line, of which the last is that of the result. The text
+    /// spells the program. Errors: 801 if memory is refused.
     pub fn print(&self, alloc: Global, schema: &Schema) -> Result<Vec<u8>, Fault>
         requires { IsTrue (fits schema.now.columns.items self.now) }
         ensures text { IfOk result
@@ -42,8 +42,8 @@ impl Program {
     }
 }
 
-/// A law: the canonical text of a program spells it, under columns whose names are apart and that
-/// have all that the program names. So a program that is printed is read back as it was.
+/// A law: the canonical text of a program spells it, if columns have different names and all that
+/// the program names. So a printed program is read back as it was.
 pub fn canonical_texts_spell_programs()
     ensures { (columns : List Column) (program : ProgramShape)
         → IsTrue (are_apart (names_of columns)) → IsTrue (list_all is_name (names_of columns))
@@ -142,14 +142,14 @@ fn put_result(alloc: Global, register: Register, text: &mut Vec<u8>) -> Result<(
     push_line(alloc, &pieces, text)
 }
 
-/// An opcode, as the first piece of a line.
+/// Returns an opcode as the first piece of a line.
 fn word(opcode: Opcode) -> Piece<'static>
     ensures { piece_text result ≡ opcode_spelling opcode }
 {
     Piece::Word(opcode.spelling())
 }
 
-/// The name of the column of a number.
+/// Returns the name of the column of a number.
 fn name_of(schema: &Schema, column: ColumnIndex) -> &[u8]
     requires { column < length schema.now.columns.items }
     ensures { result.now ≡ column_text schema.now.columns.items column }

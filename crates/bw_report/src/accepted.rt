@@ -1,7 +1,7 @@
-//! What is reported of an accepted program file.
+//! The report on an accepted program file.
 
-/// The numbers of a program and of its certificate: of instructions, skips among them, and of the NODE, CHAIN and ROW
-/// lines.
+/// The numbers of a program and of its certificate: its instructions, the skips among them, and the
+/// NODE, CHAIN and ROW lines.
 #[derive(Clone, Copy, Debug, PartialEq, Eq)]
 pub struct Accepted {
     pub instructions: usize,

@@ -1,7 +1,8 @@
-//! What is reported of a call beside its result: the line of a fault with its exit status ([`report`]), how a query was
-//! served ([`Served`], [`stats_line`]), and the numbers of an accepted program file ([`Accepted`], [`accepted_line`]).
+//! The reports of a call beside its result: the line of an error with its exit status ([`report`]),
+//! scan statistics ([`Served`], [`stats_line`]), and the numbers of an accepted program file
+//! ([`Accepted`], [`accepted_line`]).
 //!
-//! Read `specs/Lines.antt` first: the texts of the lines.
+//! Read `specs/Lines.antt` first, which has the texts of the lines.
 #![tactic(auto)]
 
 mod accepted;

@@ -1,4 +1,4 @@
-//! Lines that a call prints beside its result, put together without memory.
+//! The lines that a call prints beside its result, made without allocating memory.
 ghost use Rattle.std.specs.Prelude.{◌≡◌, ◌+◌, ◌-◌, ◌^◌, ◌<◌, ◌≤◌, ◌++◌, length};
 ghost use Rattle.std.specs.Fmt.InlineText.{inline_text};
 ghost use Rattle.bw_model.specs.Fault.{fault_line, place_text};
@@ -12,14 +12,15 @@ use bw_model::{Fault, Place, words_of};
 use itoa::Buffer;
 use std::fmt::InlineText;
 
-/// How many bytes a line has room for.
+/// The most bytes of a line.
 const LINE: usize = 128;
 
-/// How many bytes the line of an accepted file has room for.
+/// The most bytes of the line of an accepted file.
 const LONG_LINE: usize = 192;
 
-/// Gives the exit status of a fault: 3 for one of the schema, the CSV, the table file, the statement or the
-/// program text, 4 for one of the certificate, 5 for one of a device, 6 for out of memory.
+/// Returns the exit status of an error: 3 for one of the schema, the CSV, the table file, the
+/// statement or the program text, 4 for one of the certificate, 5 for one of an I/O device, 6 for
+/// out of memory.
 fn status_of(fault: &Fault) -> u8
     ensures { result ≡ status_of fault.now }
 {
@@ -31,7 +32,7 @@ fn status_of(fault: &Fault) -> u8
     }
 }
 
-/// Gives the line of a fault, as `bw: 404 unknown column at byte 7`, with its end.
+/// Returns the line of an error, as `bw: 404 unknown column at byte 7`, with its line end.
 fn line_of(fault: &Fault) -> InlineText<LINE>
     ensures { inline_text result ≡ fault_line fault.now }
 {
@@ -42,8 +43,8 @@ fn line_of(fault: &Fault) -> InlineText<LINE>
     and_words(line, "\n")
 }
 
-/// A line with a place more, as ` at byte 7`, which takes 31 bytes at most. That there is room for it is the caller's
-/// condition.
+/// Returns the line with a place appended, as ` at byte 7`, of at most 31 bytes, for which it must
+/// have space.
 fn and_place<const N: usize>(line: InlineText<N>, place: Place) -> InlineText<N>
     requires { length (inline_text line) + 31 < N }
     ensures text { inline_text result ≡ inline_text line.entry ++ place_text place }
@@ -57,9 +58,10 @@ fn and_place<const N: usize>(line: InlineText<N>, place: Place) -> InlineText<N>
     }
 }
 
-/// Writes the line of a fault, as `bw: 404 unknown column at byte 7`: its number, its words and its place, as the table
-/// of faults in `bw_model` has them. Gives the exit status, which a failed write doesn't change; the sink has then
-/// taken the beginning of the line. That the sink's count of failures can rise is the caller's condition.
+/// Writes the line of an error, as `bw: 404 unknown column at byte 7`: its number, its words and
+/// its place, by the table of errors in `bw_model`. Returns the exit status. A failed write doesn't
+/// change it; the sink has then consumed the beginning of the line. The sink's count of failures
+/// must be less than 2^64 - 1.
 pub fn report<K: Sink>(fault: &Fault, sink: &mut K) -> u8
     requires { K.failures sink.old < 2 ^ 64 - 1 }
     ensures status { result ≡ status_of fault.now }
@@ -71,7 +73,7 @@ pub fn report<K: Sink>(fault: &Fault, sink: &mut K) -> u8
     status_of(fault)
 }
 
-/// A line with words more. That there is room for them is the caller's condition.
+/// Returns the line with words appended, for which it must have space.
 fn and_words<const N: usize>(line: InlineText<N>, words: &str) -> InlineText<N>
     requires { length (inline_text line) + length words.now < N }
     ensures { inline_text result ≡ inline_text line.entry ++ words.now }
@@ -79,8 +81,8 @@ fn and_words<const N: usize>(line: InlineText<N>, words: &str) -> InlineText<N>
     line.and_str(words, words.len())
 }
 
-/// A line with words and then a number more, in decimal, which takes 20 bytes at most. That there is room for them is
-/// the caller's condition.
+/// Returns the line with words and then a number appended, in decimal, of at most 20 bytes, for
+/// which it must have space.
 fn and_count<const N: usize>(line: InlineText<N>, words: &str, count: u64) -> InlineText<N>
     requires { length (inline_text line) + length words.now + 20 < N }
     ensures text { inline_text result ≡ inline_text line.entry ++ with_count words.now count }
@@ -90,7 +92,8 @@ fn and_count<const N: usize>(line: InlineText<N>, words: &str, count: u64) -> In
     and_words(line, Buffer::new().format(count))
 }
 
-/// Gives the line of how a query was served, as `served rows segments 1 loads 0 skips 0`, with its end.
+/// Returns the line of scan statistics, as `served rows segments 1 loads 0 skips 0`, with its line
+/// end.
 fn line_of_served(served: &Served) -> InlineText<LINE>
     ensures { inline_text result ≡ stats_line served.now }
 {
@@ -102,7 +105,7 @@ fn line_of_served(served: &Served) -> InlineText<LINE>
     and_words(line, "\n")
 }
 
-/// Who served a query, in a word.
+/// Returns the word for who selected a query's rows.
 fn by_text(by: By) -> &'static str
     ensures words { result.now ≡ by_text by }
     ensures short { length result.now ≤ 7 }
@@ -113,8 +116,8 @@ fn by_text(by: By) -> &'static str
     }
 }
 
-/// Writes the line of how a query was served, as `served rows segments 1 loads 0 skips 0`. Refuses as 702 alone. That
-/// the sink's count of failures can rise is the caller's condition.
+/// Writes the line of scan statistics, as `served rows segments 1 loads 0 skips 0`. The sink's
+/// count of failures must be less than 2^64 - 1. Errors: 702 if a write fails.
 pub fn stats_line<K: Sink>(served: &Served, sink: &mut K) -> Result<(), Fault>
     requires { K.failures sink.old < 2 ^ 64 - 1 }
     ensures { GoesOut (K.taken sink.old) (K.taken sink.new) (K.failures sink.old) (K.failures sink.new)
@@ -124,8 +127,8 @@ pub fn stats_line<K: Sink>(served: &Served, sink: &mut K) -> Result<(), Fault>
     write_whole(sink, line.as_str().as_bytes())
 }
 
-/// Gives the line of an accepted program file, as `accepted: 4 instructions, 1 skips, 6 nodes, 9 chains, 17 rows`, with
-/// its end.
+/// Returns the line of an accepted program file, as `accepted: 4 instructions, 1 skips, 6 nodes, 9
+/// chains, 17 rows`, with its line end.
 fn line_of_accepted(accepted: &Accepted) -> InlineText<LONG_LINE>
     ensures { inline_text result ≡ accepted_line accepted.now }
 {
@@ -141,8 +144,9 @@ fn line_of_accepted(accepted: &Accepted) -> InlineText<LONG_LINE>
     and_words(line, " rows\n")
 }
 
-/// Writes the line of an accepted program file, as `accepted: 4 instructions, 1 skips, 6 nodes, 9 chains, 17 rows`.
-/// Refuses as 702 alone. That the sink's count of failures can rise is the caller's condition.
+/// Writes the line of an accepted program file, as `accepted: 4 instructions, 1 skips, 6 nodes, 9
+/// chains, 17 rows`. The sink's count of failures must be less than 2^64 - 1. Errors: 702 if a
+/// write fails.
 pub fn accepted_line<K: Sink>(accepted: &Accepted, sink: &mut K) -> Result<(), Fault>
     requires { K.failures sink.old < 2 ^ 64 - 1 }
     ensures { GoesOut (K.taken sink.old) (K.taken sink.new) (K.failures sink.old) (K.failures sink.new)

@@ -1,16 +1,16 @@
-//! How a query was served.
+//! Scan statistics of a query.
 
-/// Who found the rows that a query keeps.
+/// Who selected a query's rows.
 #[derive(Clone, Copy, Debug, PartialEq, Eq)]
 pub enum By {
     /// A scan program.
     Program,
-    /// The condition, row by row.
+    /// The condition, in the row-by-row fallback.
     Rows,
 }
 
-/// How a query over a table file was served: by whom, over how many segments, with how many loads of planes or bytes
-/// and how many skips that were taken.
+/// Scan statistics of a query over a table file: who selected the rows, over how many segments,
+/// with how many loads of planes or bytes and how many skips taken.
 #[derive(Clone, Copy, Debug, PartialEq, Eq)]
 pub struct Served {
     pub by: By,

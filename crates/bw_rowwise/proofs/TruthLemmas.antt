@@ -70,7 +70,8 @@ pub from_maybe : (b : Bool) → b ≡ not (is_truth (truth_from b) No)
 from_maybe true = refl
 from_maybe false = refl
 
--- a comparison is TRUE where it holds and no value is null, and isn't FALSE where it holds or a value is null
+-- a comparison is TRUE where it holds and no value is null, and isn't FALSE where it holds or a
+-- value is null
 pub compared_yes : (op : Op) (p q : Bool) (m n : ℤ) → (holds op m n && not (p || q)) ≡ is_truth (compared op (cond p None (Some m)) (cond q None (Some n))) Yes
 compared_yes op true q m n = off (holds op m n)
   where

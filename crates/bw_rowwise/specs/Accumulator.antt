@@ -1,4 +1,4 @@
--- What an accumulator has to show of the rows that it was given.
+-- The result of an accumulator, by the rows that were added.
 use Rattle.std.specs.Prelude.{ℕ, ◌+◌, ℤ, pos, ◌*◌, ◌^◌, ◌≤ℤ◌, neg_ℤ, List, Option, Some, None, length}
 use Rattle.std.specs.Option.{ForSome, option_map}
 use Rattle.bw_model.specs.declared.query.Item.{Item}
@@ -16,7 +16,7 @@ pub record Tally : Type 0 where
 abbrev pub tally_of : Item → List (List Value) → Tally
 tally_of item rows = record { item = item; count = length rows; answer = total item rows }
 
--- a total and one more value, which counts where it isn't null
+-- a total with one value more, unless it is null
 abbrev pub including : (ℤ → ℤ → ℤ) → Option ℤ → Value → Option ℤ
 including f answer None = answer
 including f None (Some n) = Some n
@@ -31,11 +31,11 @@ added_by (Sum column) row = value_in row column
 added_by (Min column) row = value_in row column
 added_by (Max column) row = value_in row column
 
--- the total of an aggregate over some rows and one more, from the total over the rows
+-- the total of an aggregate with one row more
 abbrev pub answer_with : Item → Option ℤ → List Value → Option ℤ
 answer_with item answer row = including (of_both item) answer (added_by item row)
 
--- a tally and one more row
+-- a tally with one row more
 abbrev pub tally_with : Tally → List Value → Tally
 tally_with tally row = record {
   item = tally.item;
@@ -43,11 +43,11 @@ tally_with tally row = record {
   answer = answer_with tally.item tally.answer row;
 }
 
--- a tally of rows that are counted alone, and so many more
+-- a tally of rows that are only counted, with this many more
 abbrev pub counted : Tally → ℕ → Tally
 counted tally more = record { item = tally.item; count = tally.count + more; answer = Some (pos (tally.count + more)) }
 
--- a tally and the total of so many more rows
+-- a tally with this many rows more, whose total is known
 abbrev pub tally_joined : Tally → ℕ → Option ℤ → Tally
 tally_joined tally more others = record {
   item = tally.item;
@@ -55,8 +55,8 @@ tally_joined tally more others = record {
   answer = joined tally.item tally.answer others;
 }
 
--- A total of so many rows is at most as many times 2^73 in size. A value is at most 2^63, and the total of a segment's
--- rows, of which there are at most 512 and one at least, is within 2^73.
+-- A total of this many rows is at most as many times 2^73 in size. A value is at most 2^63, and the
+-- total of a segment's rows, which are 1 to 512, is within 2^73.
 abbrev pub IsTotalOfRows : ℕ → Option ℤ → Type 0
 IsTotalOfRows count answer =
     ForSome answer (λ n. (neg_ℤ (pos (count * 2 ^ 73)) ≤ℤ n) × (n ≤ℤ pos (count * 2 ^ 73)))

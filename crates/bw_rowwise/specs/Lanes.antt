@@ -1,4 +1,4 @@
--- Truth values and values in 512 lanes, one a row.
+-- Truth values and values in 512 lanes, one for each row.
 use Rattle.std.specs.Prelude.{◌≡◌, ◌<◌, ℕ, All, List, false, not, slice_index_or}
 use Rattle.bw_lanes.specs.Lanes.{lanes_of_words}
 use Rattle.bw_model.specs.declared.cond.Truth.{Truth}
@@ -14,7 +14,7 @@ use Rattle.bw_rowwise.specs.declared.unpacked.Unpacked.{Unpacked}
 use Rattle.bw_rowwise.specs.declared.unpacked.UnpackedColumn.{UnpackedColumn}
 use Rattle.bw_rowwise.specs.Prepared.{row_at}
 
--- Two planes tell a truth value in each lane: where it is TRUE, and where it isn't FALSE.
+-- Two planes state a truth value in each lane: whether it is TRUE, and whether it isn't FALSE.
 pub record AreTruths (truths : Truths) (truth : ℕ → Truth) : Type 0 where
   pub yes : (lane : ℕ) → lane < 512 → slice_index_or (lanes_of_words truths.yes) lane false ≡ is_truth (truth lane) Yes
   pub maybe : (lane : ℕ) → lane < 512
@@ -24,11 +24,11 @@ pub record AreTruths (truths : Truths) (truth : ℕ → Truth) : Type 0 where
 abbrev pub value_at : ColumnLanes → ℕ → Value
 value_at lanes lane = value_in_lane (lanes_of_words lanes.none) lanes.keys lane
 
--- lanes have the values of a column in some rows, and past the last row none
+-- the lanes have the values of a column in these rows, and past the last row none
 abbrev pub HasColumn : List (List Value) → ℕ → ColumnLanes → Type 0
 HasColumn rows column lanes = (lane : ℕ) → lane < 512 → value_at lanes lane ≡ value_in (row_at rows lane) column
 
--- each of the columns that were unpacked has its values in these rows
+-- each unpacked column has its values in these rows
 abbrev pub AreUnpacked : List (List Value) → Unpacked → Type 0
 AreUnpacked rows unpacked =
     All (λ (column : UnpackedColumn). HasColumn rows column.number column.lanes) unpacked.columns.items

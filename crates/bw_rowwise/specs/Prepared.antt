@@ -1,4 +1,5 @@
--- Conditions whose lists are sorted, and what they mean on a row: what the conditions mean that they were made from.
+-- Conditions whose lists are sorted, and their meaning on a row, which is that of the original
+-- conditions.
 use Rattle.std.specs.Prelude.{◌≡◌, ℕ, List, [], map, slice_index_or}
 use Rattle.bw_model.specs.declared.cond.Cond.{Cond}
 use Rattle.bw_model.specs.declared.cond.Truth.{Truth}
@@ -32,11 +33,11 @@ prepared_truth row cond = fold-Prepared Truth (prepared_step row) cond
 abbrev pub IsPreparedFrom : Cond → Prepared → Type 0
 IsPreparedFrom cond prepared = (row : List Value) → prepared_truth row prepared ≡ truth_of row cond
 
--- AND of some truths is AND of others, and so is OR
+-- AND of these truths is AND of those, and so is OR
 pub record JoinAlike (these those : List Truth) : Type 0 where
   pub all : all_of these ≡ all_of those
   pub any : any_of these ≡ any_of those
 
--- the row in a lane, which past the last row has no values
+-- the row in a lane; past the last row it has no values
 abbrev pub row_at : List (List Value) → ℕ → List Value
 row_at rows lane = slice_index_or rows lane []

@@ -10,7 +10,7 @@ use crate::total::{answer_with, joined};
 use bw_model::{Item, Row, totals_join};
 use std::marker::Model;
 
-/// The total of an aggregate over the rows that it has been given so far, of which there are at most 2^24.
+/// The total of an aggregate over the rows that were added so far, which are at most 2^24.
 #[derive(Clone, Copy)]
 pub struct Accumulator {
     item: Item,
@@ -33,7 +33,7 @@ impl Model for Accumulator {
 }
 
 impl Accumulator {
-    /// The total of an aggregate over no rows.
+    /// Returns the total of an aggregate over no rows.
     pub fn new(item: Item) -> Self
         requires { IsTrue (is_aggregate item) }
         ensures { result ≡ tally_of item [] }
@@ -49,14 +49,14 @@ impl Accumulator {
         }
     }
 
-    /// The aggregate.
+    /// Returns the aggregate.
     pub fn item(&self) -> Item
         ensures { result ≡ self.now.item }
     {
         self.item
     }
 
-    /// Adds a row to those so far. It has the aggregate's column.
+    /// Adds a row, which must have the aggregate's column.
     pub fn add(&mut self, row: &Row)
         requires room { self.old.count < most_rows }
         requires column { IsTrue (item_within (length (values_of row.now)) self.old.item) }
@@ -71,7 +71,8 @@ impl Accumulator {
         };
     }
 
-    /// Adds so many rows, whichever they are, to a count of rows. Of other totals it makes such a count.
+    /// Adds `count` rows, whatever their values, to a count of rows. Makes any other total such a
+    /// count.
     pub fn add_count(&mut self, count: u32)
         requires { self.old.count + count ≤ most_rows }
         ensures total { (rows more : List (List Value)) → length more ≡ count → self.old ≡ tally_of CountAll rows
@@ -86,8 +87,8 @@ impl Accumulator {
         };
     }
 
-    /// Adds so many rows, of which the total is known, to those so far. There are at most 2^24 in all, and the total is
-    /// no larger than 2^73 a row.
+    /// Adds `count` rows, whose total is known. There must be at most 2^24 rows in all, and the
+    /// total must be no larger than 2^73 for each row.
     #[tactic(auto, using(crate::proofs::TotalLemmas::small_below))]
     pub fn add_total(&mut self, count: u32, others: Option<i128>)
         requires room { self.old.count + count ≤ most_rows }
@@ -104,7 +105,7 @@ impl Accumulator {
         };
     }
 
-    /// The total of the rows so far.
+    /// Returns the total of the rows so far.
     pub fn finish(&self) -> Option<i128>
         ensures { result ≡ self.now.answer }
     {
@@ -112,7 +113,7 @@ impl Accumulator {
     }
 }
 
-/// A total over a list of rows. Each row has the aggregate's column.
+/// Returns the total of a list of rows, each of which must have the aggregate's column.
 pub fn aggregate(item: &Item, rows: &[Row]) -> Option<i128>
     requires aggregate { IsTrue (is_aggregate item.now) }
     requires columns { All (λ row. IsTrue (item_within (length (values_of row)) item.now)) rows.now }

@@ -1,4 +1,5 @@
-//! The values of a column or of another operand in 512 lanes, one a row, and comparisons of them.
+//! The values of a column or of another operand in 512 lanes, one for each row, and comparisons of
+//! them.
 ghost use Rattle.std.specs.Prelude.{◌≡◌, ◌<◌, ℕ, Bool, Some, false, slice_index, slice_index_or};
 ghost use Rattle.bw_lanes.specs.Lanes.{lanes_of_words};
 ghost use Rattle.bw_model.specs.Row.{Value};
@@ -14,7 +15,7 @@ use bw_lanes::{LANES, Plane, bytes_eq, codes_eq, codes_lt, lane};
 use bw_model::{Op, Truth, Value};
 use bw_segment::{key, number};
 
-/// A value in each lane: the lanes that have none, and the keys of the values in the others.
+/// A value in each lane: the lanes without one, and the keys of the values in the others.
 #[derive(Drop)]
 pub struct ColumnLanes {
     pub none: Plane,
@@ -22,7 +23,7 @@ pub struct ColumnLanes {
 }
 
 impl ColumnLanes {
-    /// The same value in each lane.
+    /// Returns the same value in each lane.
     pub fn all(value: Value) -> Self
         ensures { (lane : ℕ) → lane < 512 → value_at result lane ≡ value }
     {
@@ -38,7 +39,7 @@ impl ColumnLanes {
         }
     }
 
-    /// The truth of a comparison with other values in each lane.
+    /// Returns the truth of a comparison with other values in each lane.
     pub fn compared(&self, op: Op, other: &ColumnLanes) -> Truths
         ensures { AreTruths result (λ lane. compared op (value_at self.now lane) (value_at other.now lane)) }
     {
@@ -50,7 +51,7 @@ impl ColumnLanes {
         }
     }
 
-    /// The truth of a comparison with a number in each lane.
+    /// Returns the truth of a comparison with a number in each lane.
     pub fn compared_with(&self, op: Op, n: i64) -> Truths
         ensures { AreTruths result (λ lane. compared op (value_at self.now lane) (Some n)) }
     {
@@ -62,7 +63,7 @@ impl ColumnLanes {
         }
     }
 
-    /// Whether the value in each lane is one of some numbers, as `IN` says.
+    /// Returns in each lane whether the value is one of these numbers, as `IN` has it.
     pub fn among(&self, numbers: &Numbers) -> Truths
         ensures { AreTruths result (λ lane. among_numbers (value_at self.now lane) numbers.now.sorted.items) }
     {
@@ -79,14 +80,14 @@ impl ColumnLanes {
         }
     }
 
-    /// Whether the value in each lane is null.
+    /// Returns in each lane whether the value is null.
     pub fn nulls(&self) -> Truths
         ensures { AreTruths result (λ lane. truth_from (is_null (value_at self.now lane))) }
     {
         Truths::of(self.none)
     }
 
-    /// The value in a lane.
+    /// Returns the value in a lane.
     fn value(&self, at: usize) -> Value
         requires { at < 512 }
         ensures { result ≡ value_at self.now at }
@@ -99,7 +100,7 @@ impl ColumnLanes {
     }
 }
 
-/// The lanes in which a comparison holds of the numbers of two keys.
+/// Returns the lanes in which a comparison is true of the numbers of two keys.
 fn holding(op: Op, xs: &[u64; LANES], ys: &[u64; LANES]) -> Plane
     ensures { (lane : ℕ) → lane < 512 → slice_index_or (lanes_of_words result) lane false
         ≡ holds op (number_of_key (slice_index xs.now lane)) (number_of_key (slice_index ys.now lane)) }
@@ -114,7 +115,7 @@ fn holding(op: Op, xs: &[u64; LANES], ys: &[u64; LANES]) -> Plane
     }
 }
 
-/// The same key in each lane.
+/// Returns the same key in each lane.
 fn same_in_lanes(key: u64) -> [u64; LANES]
     ensures { (lane : ℕ) → lane < 512 → slice_index result lane ≡ key }
 {

@@ -1,4 +1,4 @@
-//! The truth of a condition on a row, and the rows that it keeps.
+//! The truth of a condition on a row, and the rows that match.
 ghost use Rattle.std.specs.Prelude.{◌≡◌, List, true, length, map, All, IsTrue, IfOk, IsOkUnless};
 ghost use Rattle.std.specs.List.{list_all};
 ghost use Rattle.bw_model.specs.Truth.{among, all_of, any_of};
@@ -11,7 +11,8 @@ use crate::logic::{between, both, compared, either, opposite};
 use bw_model::{Cond, Fault, Op, Operand, Row, Truth, Value};
 use std::alloc::Global;
 
-/// The truth of a condition on a row. The row has every column that the condition names.
+/// Returns the truth of a condition on a row, which must have every column that the condition
+/// names.
 #[tactic(auto, using(bw_model::proofs::CondLemmas::truths, bw_model::proofs::CondLemmas::names))]
 #[cycle(truth)]
 pub fn truth(cond: &Cond, row: &Row) -> Truth
@@ -33,7 +34,7 @@ pub fn truth(cond: &Cond, row: &Row) -> Truth
     }
 }
 
-/// Whether a condition is the one that keeps every row.
+/// Returns whether a condition is the one that matches every row.
 #[tactic(auto, using(bw_model::proofs::CondLemmas::truths))]
 pub fn keeps_all(cond: &Cond) -> bool
     ensures { result ≡ true → (values : List Value) → IsTrue (is_kept cond.now values) }
@@ -41,8 +42,8 @@ pub fn keeps_all(cond: &Cond) -> bool
     matches!(cond, Cond::Always)
 }
 
-/// Copies of the rows on which a condition is TRUE, in their order. Each row has every column that the
-/// condition names.
+/// Returns copies of the rows on which a condition is TRUE, in their order. Each row must have
+/// every column that the condition names. Errors: 801 if memory is refused.
 pub fn select(alloc: Global, cond: &Cond, rows: &[Row]) -> Result<Vec<Row>, Fault>
     requires { All (λ row. IsTrue (names_within (length (values_of row)) cond.now)) rows.now }
     ensures kept { IfOk result (λ copies. map values_of copies.items ≡ kept cond.now (map values_of rows.now)) }
@@ -57,7 +58,7 @@ pub fn select(alloc: Global, cond: &Cond, rows: &[Row]) -> Result<Vec<Row>, Faul
     Ok(kept)
 }
 
-/// AND of the parts.
+/// Returns AND of the parts.
 #[tactic(auto, using(crate::proofs::LogicLemmas::least_assoc))]
 #[cycle(truth)]
 fn all_of(parts: &[Cond], row: &Row) -> Truth
@@ -74,7 +75,7 @@ fn all_of(parts: &[Cond], row: &Row) -> Truth
     least
 }
 
-/// OR of the parts.
+/// Returns OR of the parts.
 #[tactic(auto, using(crate::proofs::LogicLemmas::greatest_assoc))]
 #[cycle(truth)]
 fn any_of(parts: &[Cond], row: &Row) -> Truth
@@ -91,7 +92,7 @@ fn any_of(parts: &[Cond], row: &Row) -> Truth
     greatest
 }
 
-/// The value that an operand has in a row.
+/// Returns the value that an operand has in a row.
 fn value_of(operand: Operand, row: &Row) -> Value
     requires { IsTrue (is_within (length row.now.values.items) operand) }
     ensures { result ≡ operand_value row.now.values.items operand }
@@ -103,7 +104,7 @@ fn value_of(operand: Operand, row: &Row) -> Value
     }
 }
 
-/// Whether a value is one of the items, as `IN` says.
+/// Returns whether a value is one of the items, as `IN` has it.
 #[tactic(auto, using(crate::proofs::LogicLemmas::greatest_assoc))]
 fn among(x: Value, items: &[Operand], row: &Row) -> Truth
     requires { IsTrue (list_all (is_within (length row.now.values.items)) items.now) }

@@ -1,4 +1,4 @@
-//! A condition that the rows of segments are filtered by.
+//! A condition that filters the rows of segments.
 ghost use Rattle.std.specs.Prelude.{◌≡◌, ◌-◌, ◌++◌, false, length, map, replicate, IfOk, IsOkUnless};
 ghost use Rattle.bw_lanes.specs.Lanes.{lanes_of_words};
 ghost use Rattle.bw_model.specs.Fault.{no_memory};
@@ -15,7 +15,7 @@ use bw_segment::Segment;
 use std::alloc::Global;
 use std::marker::Model;
 
-/// A condition, made ready, and room for the columns that it names.
+/// A prepared condition, and space for the columns that it names.
 #[derive(Drop)]
 pub struct Filter {
     cond: Prepared,
@@ -35,7 +35,7 @@ impl Model for Filter {
 }
 
 impl Filter {
-    /// A condition, made ready. Refuses as 801 alone.
+    /// Prepares a condition. Errors: 801 if memory is refused.
     pub fn new(alloc: Global, cond: &Cond) -> Result<Self, Fault>
         ensures prepared { IfOk result (IsPreparedFrom cond.now) }
         ensures only_memory { IsOkUnless result no_memory }
@@ -45,15 +45,16 @@ impl Filter {
         Ok(Filter { cond, unpacked })
     }
 
-    /// The condition, in the form that rows are tested by.
+    /// Returns the prepared condition, which tests rows.
     pub fn cond(&self) -> &Prepared
         ensures { result.now ≡ self.now }
     {
         &self.cond
     }
 
-    /// The rows of a segment on which the condition is TRUE: neither FALSE nor UNKNOWN will do. Lane i is row i's, and
-    /// 0 past the last row. Each column that the condition names is unpacked once.
+    /// Returns the rows of a segment on which the condition is TRUE: neither FALSE nor UNKNOWN will
+    /// do. Lane i is row i's, and 0 past the last row. Each column that the condition names is
+    /// unpacked once.
     pub fn rows_kept<S: Segment>(&mut self, segment: &S) -> Selection
         ensures kept { lanes_of_words result
             ≡ map (λ row. is_truth (prepared_truth row self.old) Yes) (S.meaning segment.now).rows

@@ -1,4 +1,4 @@
-//! The truth of a prepared condition on the rows of a segment, a lane a row.
+//! The truth of a prepared condition on the rows of a segment, in one lane for each row.
 ghost use Rattle.std.specs.Prelude.{◌≡◌, ◌<◌, ◌-◌, ◌++◌, ℕ, Some, false, length, map, replicate};
 ghost use Rattle.bw_lanes.specs.Lanes.{lanes_of_words};
 ghost use Rattle.bw_model.specs.Cond.{operand_value};
@@ -20,8 +20,9 @@ use bw_model::{Op, Operand, Truth};
 use bw_segment::Segment;
 
 impl Prepared {
-    /// The rows of a segment on which the condition is TRUE: neither FALSE nor UNKNOWN will do. Lane i is row i's, and
-    /// 0 past the last row. The columns of which there is room in `unpacked` are unpacked once.
+    /// Returns the rows of a segment on which the condition is TRUE: neither FALSE nor UNKNOWN will
+    /// do. Lane i is row i's, and 0 past the last row. The columns for which `unpacked` has space
+    /// are unpacked once.
     pub(crate) fn rows_kept<S: Segment>(&self, segment: &S, unpacked: &mut Unpacked) -> Selection
         ensures { lanes_of_words result
             ≡ map (λ row. is_truth (prepared_truth row self.now) Yes) (S.meaning segment.now).rows
@@ -32,7 +33,7 @@ impl Prepared {
     }
 }
 
-/// The truth of a condition in each lane, past the last row that on a row of nulls.
+/// Returns the truth of a condition in each lane; past the last row it is that on a row of nulls.
 #[tactic(auto, using(crate::proofs::PreparedLemmas::truths))]
 #[cycle(truths)]
 fn truths<S: Segment>(cond: &Prepared, segment: &S, unpacked: &Unpacked) -> Truths
@@ -52,7 +53,7 @@ fn truths<S: Segment>(cond: &Prepared, segment: &S, unpacked: &Unpacked) -> Trut
     }
 }
 
-/// AND of the parts in each lane. Once every lane is FALSE no other part is looked at.
+/// Returns AND of the parts in each lane. Once every lane is FALSE, no other part is evaluated.
 #[cycle(truths)]
 fn all_of<S: Segment>(parts: &[Prepared], segment: &S, unpacked: &Unpacked) -> Truths
     requires { AreUnpacked (S.meaning segment.now).rows unpacked.now }
@@ -69,7 +70,7 @@ fn all_of<S: Segment>(parts: &[Prepared], segment: &S, unpacked: &Unpacked) -> T
     least
 }
 
-/// OR of the parts in each lane. Once every lane is TRUE no other part is looked at.
+/// Returns OR of the parts in each lane. Once every lane is TRUE, no other part is evaluated.
 #[cycle(truths)]
 fn any_of<S: Segment>(parts: &[Prepared], segment: &S, unpacked: &Unpacked) -> Truths
     requires { AreUnpacked (S.meaning segment.now).rows unpacked.now }
@@ -86,7 +87,7 @@ fn any_of<S: Segment>(parts: &[Prepared], segment: &S, unpacked: &Unpacked) -> T
     greatest
 }
 
-/// Whether an operand is null in each lane.
+/// Returns in each lane whether an operand is null.
 fn null_tested<S: Segment>(x: Operand, segment: &S, unpacked: &Unpacked) -> Truths
     requires { AreUnpacked (S.meaning segment.now).rows unpacked.now }
     ensures { AreTruths result
@@ -100,7 +101,7 @@ fn null_tested<S: Segment>(x: Operand, segment: &S, unpacked: &Unpacked) -> Trut
     side_of(x, segment, unpacked).lanes().nulls()
 }
 
-/// The truth of a comparison in each lane.
+/// Returns the truth of a comparison in each lane.
 fn compared<S: Segment>(op: Op, x: Operand, y: Operand, segment: &S, unpacked: &Unpacked) -> Truths
     requires { AreUnpacked (S.meaning segment.now).rows unpacked.now }
     ensures { AreTruths result (λ lane. compared op (operand_value (row_at (S.meaning segment.now).rows lane) x)
@@ -117,7 +118,7 @@ fn compared<S: Segment>(op: Op, x: Operand, y: Operand, segment: &S, unpacked: &
     }
 }
 
-/// The truth of a comparison of two columns in each lane.
+/// Returns the truth of a comparison of two columns in each lane.
 fn columns_compared<S: Segment>(
     op: Op,
     left: usize,
@@ -135,7 +136,7 @@ fn columns_compared<S: Segment>(
     }
 }
 
-/// The truth of a comparison of any operands in each lane.
+/// Returns the truth of a comparison of any operands in each lane.
 fn sides_compared<S: Segment>(
     op: Op,
     x: Operand,
@@ -152,7 +153,7 @@ fn sides_compared<S: Segment>(
     left.lanes().compared(op, right.lanes())
 }
 
-/// The truth of a comparison of a column with a number in each lane.
+/// Returns the truth of a comparison of a column with a number in each lane.
 fn column_compared<S: Segment>(
     op: Op,
     column: usize,
@@ -170,7 +171,7 @@ fn column_compared<S: Segment>(
     }
 }
 
-/// The truth of `x BETWEEN y AND z` in each lane.
+/// Returns the truth of `x BETWEEN y AND z` in each lane.
 fn between<S: Segment>(
     x: Operand,
     y: Operand,
@@ -187,7 +188,8 @@ fn between<S: Segment>(
     least.both(&compared(Op::Le, x, z, segment, unpacked))
 }
 
-/// Whether an operand is one of some numbers or of other operands, as `IN` says, in each lane.
+/// Returns in each lane whether an operand is one of these numbers or of these other operands, as
+/// `IN` has it.
 fn among<S: Segment>(
     x: Operand,
     numbers: &Numbers,
@@ -205,7 +207,7 @@ fn among<S: Segment>(
     found.either(&among_others(x, others, segment, unpacked))
 }
 
-/// Whether an operand is one of others, as `IN` says, in each lane.
+/// Returns in each lane whether an operand is one of these others, as `IN` has it.
 fn among_others<S: Segment>(
     x: Operand,
     others: &[Operand],
@@ -223,7 +225,7 @@ fn among_others<S: Segment>(
     greatest
 }
 
-/// One side of a comparison: the values of a column that is unpacked, or others.
+/// One side of a comparison: the values of an unpacked column, or others.
 #[derive(Drop)]
 enum Side<'a> {
     Held(&'a ColumnLanes),
@@ -241,7 +243,7 @@ impl Side<'_> {
     }
 }
 
-/// The value of an operand in each lane. Past the last row every column is null.
+/// Returns the value of an operand in each lane. Past the last row every column is null.
 fn side_of<'a, S: Segment>(operand: Operand, segment: &S, unpacked: &'a Unpacked) -> Side<'a>
     requires { AreUnpacked (S.meaning segment.now).rows unpacked.now }
     ensures { (lane : ℕ) → lane < 512 → value_at (lanes_in result) lane

@@ -1,14 +1,15 @@
-//! What a query asks of rows: conditions and aggregates, row by row, straight from their meaning.
+//! Conditions and aggregates of a query, evaluated row by row, straight from their meaning.
 //!
-//! The contracts that the crates above use: a [`Prepared`] condition is TRUE on the rows that it keeps, a [`Filter`] finds these in a segment, and an
-//! [`Accumulator`] totals rows that come one at a time. `bw_aggregate` adds to it those of a segment that a selection
-//! picks, without looking at one row.
+//! The contracts that the crates above use: a [`Prepared`] condition is TRUE on the rows that
+//! match, a [`Filter`] finds these in a segment, and an [`Accumulator`] totals rows that come one
+//! at a time. `bw_aggregate` adds to it the selected rows of a segment without reading them one by
+//! one.
 //!
-//! The source of the rules is SQL-92: its predicates, search conditions and set functions, whose meaning
-//! stands in the `specs/` of `bw_model`. Read `condition.rt` first, and then `accumulator.rt`.
+//! The source of the rules is SQL-92: its predicates, search conditions and set functions, which
+//! the `specs/` of `bw_model` define. Read `condition.rt` first, then `accumulator.rt`.
 //!
-//! [`truth`], [`select`] and [`aggregate`], for rows that are in memory, are the library's public face, and what tests
-//! compare the faster ways with:
+//! [`truth`], [`select`] and [`aggregate`] are the library's calls for rows in memory, and what
+//! tests compare the faster ways with:
 //!
 //! ```
 //! let kept = select(rt.alloc(), &query.cond, &rows)?;

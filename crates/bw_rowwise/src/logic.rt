@@ -4,7 +4,7 @@ ghost use Rattle.bw_model.specs.Truth.{least, greatest, negation, compared, betw
 
 use bw_model::{Op, Truth, Value};
 
-/// AND of two truth values, the least of them.
+/// Returns AND of two truth values, their minimum.
 pub fn both(a: Truth, b: Truth) -> Truth
     ensures { result ≡ least a b }
 {
@@ -15,7 +15,7 @@ pub fn both(a: Truth, b: Truth) -> Truth
     }
 }
 
-/// OR of two truth values, the greatest of them.
+/// Returns OR of two truth values, their maximum.
 pub fn either(a: Truth, b: Truth) -> Truth
     ensures { result ≡ greatest a b }
 {
@@ -26,7 +26,7 @@ pub fn either(a: Truth, b: Truth) -> Truth
     }
 }
 
-/// NOT of a truth value.
+/// Returns NOT of a truth value.
 pub fn opposite(a: Truth) -> Truth
     ensures { result ≡ negation a }
 {
@@ -37,7 +37,7 @@ pub fn opposite(a: Truth) -> Truth
     }
 }
 
-/// The truth of a comparison: UNKNOWN where a value is null.
+/// Returns the truth of a comparison: UNKNOWN if a value is null.
 pub fn compared(op: Op, x: Value, y: Value) -> Truth
     ensures { result ≡ compared op x y }
 {
@@ -47,7 +47,7 @@ pub fn compared(op: Op, x: Value, y: Value) -> Truth
     }
 }
 
-/// The truth of `x BETWEEN y AND z`.
+/// Returns the truth of `x BETWEEN y AND z`.
 pub fn between(x: Value, y: Value, z: Value) -> Truth
     ensures { result ≡ between x y z }
 {

@@ -1,4 +1,4 @@
-//! Numbers that a value is looked up among.
+//! Lists of numbers in which a value is looked up.
 ghost use Rattle.std.specs.Prelude.{◌≡◌, ◌<◌, ℤ, false, IfOk};
 ghost use Rattle.std.specs.List.{list_any};
 ghost use Rattle.std.specs.List.Sorted.{IsSorted};
@@ -9,11 +9,11 @@ ghost use Rattle.bw_rowwise.specs.Numbers.{ArePlaced, among_numbers, place_of};
 use bw_model::{Truth, Value};
 use std::alloc::{AllocError, Global};
 
-/// So many places tell most numbers that are none of a list's, and fit a processor's first cache.
+/// This many places rule out most numbers that aren't in a list, and fit a processor's first cache.
 const PLACES: u64 = 16_381;
 
-/// Whole numbers, ascending, in which a number is found by halving; but first by its place, which none of them has if it
-/// isn't taken.
+/// Whole numbers, ascending, in which a number is found by halving. Its place is tested first: if
+/// it isn't taken, the number isn't in the list.
 #[derive(Drop)]
 pub struct Numbers {
     sorted: Vec<i64>,
@@ -23,7 +23,7 @@ pub struct Numbers {
 }
 
 impl Numbers {
-    /// These numbers, sorted. Refuses as out of memory alone.
+    /// Returns these numbers, sorted. Fails only if memory is refused.
     pub fn new(alloc: Global, mut numbers: Vec<i64>) -> Result<Self, AllocError>
         ensures { IfOk result (λ made. (x : Value) → among_numbers x made.sorted.items
             ≡ among_numbers x numbers.items) }
@@ -36,7 +36,8 @@ impl Numbers {
         })
     }
 
-    /// Whether a value is one of the numbers, as `IN` says: UNKNOWN where it is null, and FALSE where there are none.
+    /// Returns whether a value is one of the numbers, as `IN` has it: UNKNOWN if it is null, and
+    /// FALSE if there are none.
     #[tactic(auto, using(crate::proofs::NumberLemmas::number_among))]
     pub fn among(&self, x: Value) -> Truth
         ensures { result ≡ among_numbers x self.now.sorted.items }
@@ -48,14 +49,14 @@ impl Numbers {
         }
     }
 
-    /// Whether a number's place is taken: if it isn't, the number is none of them.
+    /// Returns whether a number's place is taken; if it isn't, the number is none of them.
     fn may_have(&self, n: i64) -> bool
         ensures { result ≡ false → list_any (int_eq n) self.now.sorted.items ≡ false }
     {
         self.places.get(place(n)).copied().unwrap_or(true)
     }
 
-    /// Whether a number is one of them.
+    /// Returns whether a number is one of them.
     fn have(&self, n: i64) -> bool
         ensures { result ≡ list_any (int_eq n) self.now.sorted.items }
     {
@@ -63,7 +64,7 @@ impl Numbers {
     }
 }
 
-/// The place of a number.
+/// Returns the place of a number.
 fn place(n: i64) -> usize
     ensures is { result ≡ place_of n }
     ensures within { result < 16381 }
@@ -71,7 +72,7 @@ fn place(n: i64) -> usize
     (n.unsigned_abs() % PLACES) as usize
 }
 
-/// For each place whether it's that of a number.
+/// Returns for each place whether it is that of a number.
 fn places_of(alloc: Global, numbers: &[i64]) -> Result<Vec<bool>, AllocError>
     ensures { IfOk result (λ places. ArePlaced places.items numbers.now) }
 {

@@ -4,7 +4,7 @@ ghost use Rattle.bw_lanes.specs.Lanes.{lanes_of_words};
 
 use bw_lanes::{LANES, Plane, and, mask, not, or};
 
-/// The lanes that are 1 in both planes.
+/// Returns the lanes that are 1 in both planes.
 #[tactic(auto, using(crate::proofs::PlaneLemmas::at_both, crate::proofs::PlaneLemmas::long_both))]
 pub fn both_lanes(a: &Plane, b: &Plane) -> Plane
     ensures long { length (lanes_of_words result) ≡ 512 }
@@ -14,7 +14,7 @@ pub fn both_lanes(a: &Plane, b: &Plane) -> Plane
     and(a, b)
 }
 
-/// The lanes that are 1 in one plane at least.
+/// Returns the lanes that are 1 in at least one plane.
 #[tactic(auto, using(crate::proofs::PlaneLemmas::at_either))]
 pub fn either_lanes(a: &Plane, b: &Plane) -> Plane
     ensures { (lane : ℕ) → lane < 512 → slice_index_or (lanes_of_words result) lane false
@@ -23,7 +23,7 @@ pub fn either_lanes(a: &Plane, b: &Plane) -> Plane
     or(a, b)
 }
 
-/// The lanes that are 0.
+/// Returns the lanes that are 0.
 #[tactic(auto, using(crate::proofs::PlaneLemmas::at_other))]
 pub fn other_lanes(a: &Plane) -> Plane
     ensures { (lane : ℕ) → lane < 512 → slice_index_or (lanes_of_words result) lane false
@@ -32,7 +32,7 @@ pub fn other_lanes(a: &Plane) -> Plane
     not(a)
 }
 
-/// A plane whose lanes are all 1, or all 0.
+/// Returns a plane whose lanes are all 1, or all 0.
 pub fn every_lane(is_one: bool) -> Plane
     ensures { (lane : ℕ) → lane < 512 → slice_index_or (lanes_of_words result) lane false ≡ is_one }
 {

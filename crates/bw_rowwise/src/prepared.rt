@@ -1,4 +1,4 @@
-//! Conditions made ready for many rows: the numbers of each list are sorted.
+//! Conditions prepared for many rows: the numbers of each list are sorted.
 ghost use Rattle.std.specs.Prelude.{◌≡◌, List, map, IfOk, IsOkUnless, IsSomeAnd, IsTrue};
 ghost use Rattle.bw_model.specs.Cond.{operand_value, truth_of};
 ghost use Rattle.bw_model.specs.Fault.{no_memory};
@@ -11,14 +11,14 @@ use crate::numbers::Numbers;
 use bw_model::{Cond, Fault, Op, Operand, Truth};
 use std::alloc::Global;
 
-/// A condition in the form that rows are tested by. It has the truth of the condition that it was made from on every
+/// A condition in the form that tests rows. It has the truth of the original condition on every
 /// row.
 #[derive(Drop)]
 pub enum Prepared {
     Always,
     Cmp(Op, Operand, Operand),
     Between(Operand, Operand, Operand),
-    /// The operand is one of the numbers or of the other operands, as `IN` says.
+    /// The operand is one of the numbers or of the other operands, as `IN` has it.
     Among(Operand, Numbers, Vec<Operand>),
     IsNull(Operand),
     And(Vec<Prepared>),
@@ -27,7 +27,7 @@ pub enum Prepared {
     Test(Box<Prepared>, Truth),
 }
 
-/// The items of a list: its numbers, and what else stands in it.
+/// The items of a list: its numbers, and its other items.
 #[derive(Drop)]
 struct Items {
     numbers: Numbers,
@@ -35,7 +35,7 @@ struct Items {
 }
 
 impl Prepared {
-    /// A condition, made ready. Refuses as 801 alone.
+    /// Prepares a condition. Errors: 801 if memory is refused.
     #[cycle(new)]
     #[tactic(auto, using(bw_model::proofs::CondLemmas::truths, crate::proofs::PreparedLemmas::truths))]
     pub fn new(alloc: Global, cond: &Cond) -> Result<Self, Fault>
@@ -62,8 +62,8 @@ impl Prepared {
     }
 }
 
-/// Conditions, made ready, in their order: of equal comparisons that follow one another the first one alone. AND and OR
-/// of them all have the truths that they have of the conditions.
+/// Prepares conditions, in their order. Of equal comparisons that follow one another, only the
+/// first is kept. AND and OR of the results have the same truths as those of the conditions.
 #[cycle(new)]
 fn all_of(alloc: Global, conds: &[Cond]) -> Result<Vec<Prepared>, Fault>
     ensures prepared { IfOk result (λ prepared. (row : List Value)
@@ -81,7 +81,7 @@ fn all_of(alloc: Global, conds: &[Cond]) -> Result<Vec<Prepared>, Fault>
     Ok(prepared)
 }
 
-/// Whether a condition is the same comparison as the one before it.
+/// Returns whether a condition is the same comparison as the one before it.
 #[tactic(auto, using(bw_model::proofs::CondLemmas::truths))]
 fn repeats(last: Option<&Cond>, cond: &Cond) -> bool
     ensures { IsTrue result → IsSomeAnd last.entry (λ last. (row : List Value)
@@ -95,21 +95,21 @@ fn repeats(last: Option<&Cond>, cond: &Cond) -> bool
     }
 }
 
-/// Whether two comparisons are of one kind.
+/// Returns whether two comparisons are of the same kind.
 fn is_same(op: Op, other: Op) -> bool
     ensures { IsTrue result → op ≡ other }
 {
     op == other
 }
 
-/// Whether two operands are one.
+/// Returns whether two operands are the same.
 fn is_operand(x: Operand, y: Operand) -> bool
     ensures { IsTrue result → x ≡ y }
 {
     x == y
 }
 
-/// The numbers among the items of a list, sorted, and the other items.
+/// Returns the numbers among the items of a list, sorted, and the other items.
 fn items_of(alloc: Global, items: &[Operand]) -> Result<Items, Fault>
     ensures items { IfOk result (λ found. (row : List Value) (x : Value)
         → greatest (among_numbers x found.numbers.sorted.items)

@@ -10,7 +10,7 @@ use crate::prepared::Prepared;
 use bw_model::{Op, Operand, Row, Truth, Value};
 
 impl Prepared {
-    /// The truth of the condition on a row. A column that the row hasn't is null.
+    /// Returns the truth of the condition on a row. A column that the row doesn't have is null.
     #[tactic(auto, using(crate::proofs::PreparedLemmas::truths))]
     #[cycle(truth)]
     pub fn truth(&self, row: &Row) -> Truth
@@ -35,7 +35,7 @@ impl Prepared {
     }
 }
 
-/// AND of the parts.
+/// Returns AND of the parts.
 #[tactic(auto, using(crate::proofs::LogicLemmas::least_assoc))]
 #[cycle(truth)]
 fn all_of(parts: &[Prepared], row: &Row) -> Truth
@@ -51,7 +51,7 @@ fn all_of(parts: &[Prepared], row: &Row) -> Truth
     least
 }
 
-/// OR of the parts.
+/// Returns OR of the parts.
 #[tactic(auto, using(crate::proofs::LogicLemmas::greatest_assoc))]
 #[cycle(truth)]
 fn any_of(parts: &[Prepared], row: &Row) -> Truth
@@ -67,7 +67,7 @@ fn any_of(parts: &[Prepared], row: &Row) -> Truth
     greatest
 }
 
-/// The value that an operand has in a row; null for a column that the row hasn't.
+/// Returns the value that an operand has in a row; null for a column that the row doesn't have.
 fn value_of(operand: Operand, row: &Row) -> Value
     ensures { result ≡ operand_value (values_of row.now) operand }
 {
@@ -78,7 +78,7 @@ fn value_of(operand: Operand, row: &Row) -> Value
     }
 }
 
-/// Whether a value is one of the items, as `IN` says.
+/// Returns whether a value is one of the items, as `IN` has it.
 #[tactic(auto, using(crate::proofs::LogicLemmas::greatest_assoc))]
 fn among(x: Value, items: &[Operand], row: &Row) -> Truth
     ensures { result ≡ among x (map (operand_value (values_of row.now)) items.now) }

@@ -1,4 +1,4 @@
-//! A total, and what one more row makes of it. A null counts for nothing.
+//! The total of an aggregate, with one row more or with another total. A null counts for nothing.
 ghost use Rattle.std.specs.Prelude.{◌≡◌, ◌+◌, ◌<◌, ◌+ℤ◌, ℕ, pos, Some, FitsSigned, IsTrue, length};
 ghost use Rattle.std.specs.Int.{w64};
 ghost use Rattle.bw_model.specs.Limits.{most_rows};
@@ -8,8 +8,7 @@ ghost use Rattle.bw_rowwise.specs.Accumulator.{answer_with, added_by, IsTotalOfR
 
 use bw_model::{Item, Row, Value};
 
-/// The total of an aggregate over some rows and one more, from the total over the rows. The row has the
-/// aggregate's column.
+/// Returns the total of an aggregate with one row more, which must have the aggregate's column.
 #[tactic(auto, using(crate::proofs::TotalLemmas::small_one, crate::proofs::TotalLemmas::small_more))]
 pub fn answer_with(item: Item, answer: Option<i128>, row: &Row) -> Option<i128>
     requires few { IsTotalOfRows most_rows answer }
@@ -24,7 +23,7 @@ pub fn answer_with(item: Item, answer: Option<i128>, row: &Row) -> Option<i128>
     }
 }
 
-/// What a row adds to an aggregate.
+/// Returns what a row adds to an aggregate.
 fn added_by(item: Item, row: &Row) -> Value
     requires { IsTrue (item_within (length (values_of row.now)) item) }
     ensures { result ≡ added_by item (values_of row.now) }
@@ -37,7 +36,7 @@ fn added_by(item: Item, row: &Row) -> Value
     }
 }
 
-/// What an aggregate makes of its total and one more number.
+/// Returns an aggregate's total with one number more.
 fn of_both(item: Item, total: i128, n: i64) -> i128
     requires { IsTotalOfRows most_rows (Some total) }
     ensures value { result ≡ of_both item total n }
@@ -52,7 +51,7 @@ fn of_both(item: Item, total: i128, n: i64) -> i128
     }
 }
 
-/// The sum of two numbers.
+/// Returns the sum of two numbers.
 fn plus(sum: i128, n: i64) -> i128
     requires { IsTotalOfRows most_rows (Some sum) }
     ensures sum { result ≡ sum +ℤ n }
@@ -61,7 +60,7 @@ fn plus(sum: i128, n: i64) -> i128
     sum + i128::from(n)
 }
 
-/// The same number.
+/// Returns the same number.
 fn widened(n: i64) -> i128
     ensures same { result ≡ n }
     ensures fits { FitsSigned w64 n }
@@ -69,7 +68,7 @@ fn widened(n: i64) -> i128
     i128::from(n)
 }
 
-/// The total of some rows and others, from the totals of both.
+/// Returns the total of two lists of rows, from the totals of both.
 #[tactic(auto, using(crate::proofs::TotalLemmas::small_left, crate::proofs::TotalLemmas::small_right))]
 pub fn joined(item: Item, answer: Option<i128>, others: Option<i128>) -> Option<i128>
     requires few { IsTotalOfRows most_rows answer }
@@ -85,7 +84,7 @@ pub fn joined(item: Item, answer: Option<i128>, others: Option<i128>) -> Option<
     }
 }
 
-/// What an aggregate makes of two totals that are there.
+/// Returns the total of two lists of rows, from the totals of both, neither of them null.
 fn total_of_both(item: Item, a: i128, b: i128) -> i128
     requires few { IsTotalOfRows most_rows (Some a) }
     requires others { IsTotalOfRows most_rows (Some b) }
@@ -100,7 +99,7 @@ fn total_of_both(item: Item, a: i128, b: i128) -> i128
     }
 }
 
-/// The sum of two totals.
+/// Returns the sum of two totals.
 fn sum_of_both(a: i128, b: i128) -> i128
     requires few { IsTotalOfRows most_rows (Some a) }
     requires others { IsTotalOfRows most_rows (Some b) }

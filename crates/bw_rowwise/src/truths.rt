@@ -1,4 +1,4 @@
-//! The truth of a condition in 512 lanes, one a row, as two planes.
+//! The truth of a condition in 512 lanes, one for each row, as two planes.
 ghost use Rattle.std.specs.Prelude.{◌≡◌, ◌≤◌, ◌<◌, ◌-◌, ◌++◌, ℕ, List, Bool, [], false, true, length, map, replicate, slice_index_or};
 ghost use Rattle.bw_lanes.specs.Lanes.{lanes_of_words};
 ghost use Rattle.bw_model.specs.Groups.{group_size};
@@ -12,7 +12,7 @@ use crate::planes::{both_lanes, either_lanes, every_lane, other_lanes};
 use bw_lanes::{Plane, Selection, is_zero, mask};
 use bw_model::Truth;
 
-/// A truth value in each lane, told by two planes.
+/// A truth value in each lane, as two planes.
 #[derive(Clone, Copy)]
 pub struct Truths {
     /// The lanes in which it is TRUE.
@@ -22,7 +22,7 @@ pub struct Truths {
 }
 
 impl Truths {
-    /// The same truth value in each lane.
+    /// Returns the same truth value in each lane.
     pub fn all(truth: Truth) -> Self
         ensures { AreTruths result (λ _. truth) }
     {
@@ -32,7 +32,7 @@ impl Truths {
         }
     }
 
-    /// TRUE in some lanes, and FALSE in the others.
+    /// Returns TRUE in these lanes, and FALSE in the others.
     pub fn of(those: Plane) -> Self
         ensures { AreTruths result (λ lane. truth_from (slice_index_or (lanes_of_words those) lane false)) }
     {
@@ -42,7 +42,7 @@ impl Truths {
         }
     }
 
-    /// AND in each lane.
+    /// Returns AND in each lane.
     pub fn both(&self, other: &Truths) -> Truths
         ensures { (f g : ℕ → Truth) → AreTruths self.now f → AreTruths other.now g
             → AreTruths result (λ lane. least (f lane) (g lane)) }
@@ -53,7 +53,7 @@ impl Truths {
         }
     }
 
-    /// OR in each lane.
+    /// Returns OR in each lane.
     pub fn either(&self, other: &Truths) -> Truths
         ensures { (f g : ℕ → Truth) → AreTruths self.now f → AreTruths other.now g
             → AreTruths result (λ lane. greatest (f lane) (g lane)) }
@@ -64,7 +64,7 @@ impl Truths {
         }
     }
 
-    /// NOT in each lane.
+    /// Returns NOT in each lane.
     pub fn opposite(&self) -> Truths
         ensures { (f : ℕ → Truth) → AreTruths self.now f → AreTruths result (λ lane. negation (f lane)) }
     {
@@ -74,7 +74,7 @@ impl Truths {
         }
     }
 
-    /// Whether each lane has a truth value.
+    /// Returns whether each lane has a truth value.
     pub fn tested(&self, wanted: Truth) -> Truths
         ensures { (f : ℕ → Truth) → AreTruths self.now f
             → AreTruths result (λ lane. truth_from (is_truth (f lane) wanted)) }
@@ -86,7 +86,7 @@ impl Truths {
         }
     }
 
-    /// Whether every lane is FALSE.
+    /// Returns whether every lane is FALSE.
     pub fn are_false(&self) -> bool
         ensures { result ≡ true → (f : ℕ → Truth) → AreTruths self.now f
             → (lane : ℕ) → lane < 512 → f lane ≡ No }
@@ -94,7 +94,7 @@ impl Truths {
         is_zero(&self.maybe)
     }
 
-    /// Whether every lane is TRUE.
+    /// Returns whether every lane is TRUE.
     pub fn are_true(&self) -> bool
         ensures { result ≡ true → (f : ℕ → Truth) → AreTruths self.now f
             → (lane : ℕ) → lane < 512 → f lane ≡ Yes }
@@ -102,7 +102,7 @@ impl Truths {
         is_zero(&other_lanes(&self.yes))
     }
 
-    /// The lanes of the first rows, so many, that are TRUE.
+    /// Returns those of the first `rows` lanes that are TRUE.
     pub fn true_rows(&self, rows: u32) -> Selection
         requires { rows ≤ 512 }
         ensures { (f : ℕ → Truth) (those : List (List Value)) (keeps : List Value → Bool) → AreTruths self.now f

@@ -22,14 +22,14 @@ struct UnpackedColumn {
     lanes: ColumnLanes,
 }
 
-/// Room for the values in a segment's rows of each column that a condition names.
+/// Space for the values in a segment's rows of each column that a condition names.
 #[derive(Drop)]
 pub struct Unpacked {
     columns: Vec<UnpackedColumn>,
 }
 
 impl Unpacked {
-    /// Room for the columns that a condition names. Refuses as 801 alone.
+    /// Returns space for the columns that a condition names. Errors: 801 if memory is refused.
     pub fn new(alloc: Global, cond: &Prepared) -> Result<Self, Fault>
         ensures { IsOkUnless result no_memory }
     {
@@ -47,7 +47,7 @@ impl Unpacked {
         unpack_all(&mut self.columns, segment);
     }
 
-    /// The values of a column, if there is room for it.
+    /// Returns the values of a column, if there is space for it.
     pub(crate) fn find(&self, number: usize) -> Option<&ColumnLanes>
         ensures { (rows : List (List Value)) → AreUnpacked rows self.now
             → IfSome result (λ lanes. HasColumn rows number lanes.now) }
@@ -60,7 +60,7 @@ impl Unpacked {
         None
     }
 
-    /// Adds room for the column that an operand is.
+    /// Adds space for the column that an operand is.
     fn add(&mut self, operand: Operand) -> Result<(), Fault>
         ensures { IsOkUnless result no_memory }
     {
@@ -77,7 +77,7 @@ impl Unpacked {
     }
 }
 
-/// Adds room for the columns that a condition names.
+/// Adds space for the columns that a condition names.
 #[cycle(add_named)]
 fn add_named(unpacked: &mut Unpacked, cond: &Prepared) -> Result<(), Fault>
     ensures { IsOkUnless result no_memory }
@@ -98,7 +98,7 @@ fn add_named(unpacked: &mut Unpacked, cond: &Prepared) -> Result<(), Fault>
     }
 }
 
-/// The same of the parts of a condition.
+/// Adds space for the columns that the parts of a condition name.
 #[cycle(add_named)]
 fn add_parts(unpacked: &mut Unpacked, parts: &[Prepared]) -> Result<(), Fault>
     ensures { IsOkUnless result no_memory }
@@ -109,7 +109,7 @@ fn add_parts(unpacked: &mut Unpacked, parts: &[Prepared]) -> Result<(), Fault>
     Ok(())
 }
 
-/// Adds room for the columns that operands are.
+/// Adds space for the columns that the operands are.
 fn add_all(unpacked: &mut Unpacked, operands: &[Operand]) -> Result<(), Fault>
     ensures { IsOkUnless result no_memory }
 {
@@ -128,7 +128,8 @@ fn unpack_all<S: Segment>(columns: &mut [UnpackedColumn], segment: &S)
     }
 }
 
-/// The values of a column in a segment's rows: none, of a column that the segment hasn't.
+/// Returns the values of a column in a segment's rows, or none for a column that the segment
+/// doesn't have.
 pub(crate) fn column_lanes<S: Segment>(number: usize, segment: &S) -> ColumnLanes
     ensures { HasColumn (S.meaning segment.now).rows number result }
 {
@@ -137,14 +138,15 @@ pub(crate) fn column_lanes<S: Segment>(number: usize, segment: &S) -> ColumnLane
     lanes
 }
 
-/// Puts the values of a column in a segment's rows into lanes.
+/// Writes the values of a column in a segment's rows into lanes.
 fn put_column<S: Segment>(number: usize, segment: &S, lanes: &mut ColumnLanes)
     ensures { HasColumn (S.meaning segment.now).rows number lanes.new }
 {
     lanes.none = put_keys(number, segment, &mut lanes.keys);
 }
 
-/// Puts the keys of a column's values in a segment's rows into lanes, and gives the lanes that have none.
+/// Writes the keys of a column's values in a segment's rows into lanes. Returns the lanes without a
+/// value.
 fn put_keys<S: Segment>(number: usize, segment: &S, keys: &mut [u64; LANES]) -> Plane
     ensures { (lane : ℕ) → lane < 512 → value_in_lane (lanes_of_words result) keys.new lane
         ≡ value_in (row_at (S.meaning segment.now).rows lane) number }

@@ -1,4 +1,5 @@
-//! Laws of the segment machine: where a run goes, and what its registers hold at the places that it reaches.
+//! Laws of the segment machine: where a run goes, and the bits of its registers at the places that
+//! it reaches.
 ghost use Rattle.std.specs.Prelude.{◌≡◌, ◌<◌, ◌≤◌, false, ℕ, IsTrue, List, Some, length, replicate, slice_get};
 ghost use Rattle.bw_model.specs.declared.column.Column.{Column};
 ghost use Rattle.bw_model.specs.Variable.{Assignment};
@@ -7,8 +8,8 @@ ghost use Rattle.bw_program.specs.Program.{ProgramShape, is_program};
 ghost use Rattle.bw_program.specs.declared.instr.Instr.{Instr};
 ghost use Rattle.bw_run.specs.Registers.{bits_written, written_by};
 
-/// A law: each instruction of a program raises the place, and no further than after the last instruction, and every
-/// run, over any lanes and whichever skips it takes, ends there.
+/// A law: each instruction of a program raises the place, at most to the end after the last
+/// instruction. Every run ends there, over any lanes and whichever skips it takes.
 pub fn runs_come_to_the_end()
     ensures raises { (columns : List Column) (lanes : List Assignment) (program : ProgramShape)
         (state : State) (instr : Instr)
@@ -20,7 +21,7 @@ pub fn runs_come_to_the_end()
         → (end_state columns lanes program).place ≡ length program.instrs }
 {}
 
-/// A law: a run begins at place 0, and at this place every register is 0 in every lane.
+/// A law: a run begins at place 0, where every register is 0 in every lane.
 pub fn runs_begin_with_zeros()
     ensures begins { (columns : List Column) (lanes : List Assignment) (program : ProgramShape)
         → Reaches columns lanes program 0 (start lanes) }
@@ -30,8 +31,9 @@ pub fn runs_begin_with_zeros()
         → state.registers register ≡ replicate (length lanes) false }
 {}
 
-/// A law: a run reaches the place that it falls through to. Of the instruction before this place, the register that it
-/// writes then holds the bits that it makes of what the registers held, and each other register holds what it held.
+/// A law: if a run reaches a place by falling through, the register that the instruction before it
+/// writes has the bits that the instruction makes of the registers, and each other register has
+/// what it had.
 pub fn instructions_write_their_registers()
     ensures reached { (columns : List Column) (lanes : List Assignment) (program : ProgramShape)
         (place : ℕ) (state : State)
@@ -46,8 +48,8 @@ pub fn instructions_write_their_registers()
         → state.registers register ≡ through.before.registers register }
 {}
 
-/// A law: a run reaches the place that it skips to. There each register holds what it held at the skip, and the one
-/// that the skip looks at is 0 in every lane.
+/// A law: if a run reaches a place by a skip, each register has what it had at the skip, and the
+/// one that the skip tests is 0 in every lane.
 pub fn skips_leave_registers()
     ensures reached { (columns : List Column) (lanes : List Assignment) (program : ProgramShape)
         (place : ℕ) (state : State)
@@ -60,7 +62,7 @@ pub fn skips_leave_registers()
         → state.registers skipped.register ≡ replicate (length lanes) false }
 {}
 
-/// A law: at each place that a run reaches, every register holds a bit for each of the run's lanes.
+/// A law: at each place that a run reaches, every register has a bit for each of the run's lanes.
 pub fn registers_hold_all_lanes()
     ensures { (columns : List Column) (lanes : List Assignment) (program : ProgramShape)
         (place : ℕ) (state : State) (register : ℕ)

@@ -1,9 +1,10 @@
-//! Runs scan programs on segments.
+//! Runs of scan programs on segments.
 //!
-//! The contract that the crates above use is that of [`run_segment`]: its plane and its counts are those of the
-//! segment machine of `bw_program` on the segment's lanes, whatever the segment's layout.
+//! The contract that the crates above use is that of [`run_segment`]: its plane and its counts are
+//! those of the segment machine of `bw_program` on the segment's lanes, whatever the segment's
+//! layout.
 //!
-//! Read `machine.rt` first, and then `specs/Run.antt`.
+//! Read `machine.rt` first, then `specs/Run.antt`.
 #![tactic(auto)]
 
 mod laws;

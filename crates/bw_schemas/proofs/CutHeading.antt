@@ -1,4 +1,5 @@
--- Of a heading of more than 64 fields the first 64, and that there is one more, say which fault it has.
+-- Of a heading of more than 64 fields the first 64, and that there is one more, say which fault it
+-- has.
 use Rattle.std.proofs.Common.{◌≡◌, ◌∙◌, sym, ap, subst, refl, ℕ, ◌+◌, ◌≤◌, Bool, true, false, not, List, [], ◌∷◌, ◌++◌, length, map, nat_le, Result, Ok, Err, arith, inl, inr, length-append}
 use Rattle.std.specs.Prelude.{IfErr}
 use Rattle.std.specs.List.{list_any}

@@ -1,4 +1,5 @@
--- Where a call that infers a schema ends: at the table's name, at the CSV, at the schema, or when the text goes out.
+-- Where a call that infers a schema ends: at the table's name, at the CSV, at the schema, or when
+-- the text goes out.
 use Rattle.std.proofs.Common.{◌≡◌, ℕ, List, not, true, false, Result, Ok, Err, refl, sym, subst}
 use Rattle.bw_model.specs.declared.fault.Fault.{Fault}
 use Rattle.bw_model.specs.Fault.{nowhere, refused_if}

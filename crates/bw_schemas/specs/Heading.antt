@@ -1,4 +1,4 @@
--- The names of the columns that a heading makes.
+-- The column names of a heading.
 use Rattle.std.specs.Prelude.{ℕ, List, [], ◌∷◌, ◌++◌, map, not, length, nat_le, Result, Ok}
 use Rattle.std.specs.List.{list_any}
 use Rattle.bw_model.specs.FaultTable.{SCHEMA_NAME, NAME_TWICE, COLUMN_COUNT}
@@ -10,8 +10,8 @@ use Rattle.bw_model.specs.Name.{is_name}
 use Rattle.bw_text.specs.Text.{same_text}
 use Rattle.bw_csv.specs.Rows.{without_blanks}
 
--- The names, after those before them, or the first fault from the left, which stands at the heading, record 0: the 65th
--- column, what isn't a name, and the name of an earlier column, ignoring case.
+-- The names that follow these, or the first error from the left, which is at the heading, record 0:
+-- the 65th column, an invalid name, or the name of an earlier column, ignoring case.
 unfoldable pub names_from : List (List ℕ) → List (List ℕ) → Result (List (List ℕ)) Fault
 names_from before [] = Ok before
 names_from before (name ∷ names) =
@@ -20,10 +20,10 @@ names_from before (name ∷ names) =
     (refused_if (list_any (λ other. same_text other name) before) (at_record NAME_TWICE 0)
     (names_from (before ++ name ∷ []) names)))
 
--- a heading has a name at least
+-- a heading has at least one name
 abbrev pub some_names : List (List ℕ) → Result (List (List ℕ)) Fault
 some_names names = refused_if (is_empty names) (at_record COLUMN_COUNT 0) (Ok names)
 
--- the names that the fields of a heading are, without the blanks at their ends
+-- the names in the fields of a heading, without the blanks at their ends
 unfoldable pub heading_names : List (List ℕ) → Result (List (List ℕ)) Fault
 heading_names fields = names_from [] (map without_blanks fields) >>= some_names

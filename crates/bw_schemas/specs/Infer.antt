@@ -1,4 +1,4 @@
--- What a call that infers a schema is to write, by what came of the CSV's source.
+-- The expected text of a call that infers a schema, by what the CSV's source yielded.
 use Rattle.std.specs.Prelude.{◌≡◌, ◌||◌, ◌&&◌, Bool, ℕ, List, length, nat_le, not, Option, Result, Ok}
 use Rattle.std.specs.Io.KnownBytes.{Appends}
 use Rattle.bw_model.specs.FaultTable.{SCHEMA_NAME, COLUMN_COUNT}
@@ -15,18 +15,18 @@ use Rattle.bw_schemas.specs.Printed.{schema_text}
 use Rattle.bw_schemas.specs.Heading.{heading_names}
 use Rattle.bw_schemas.specs.Inferred.{inferred, IsExact}
 
--- the text of the schema that is inferred from a CSV text, or the first fault in it
+-- the text of the schema that is inferred from a CSV text, or the CSV text's first error
 abbrev pub inferred_text : List ℕ → List ℕ → Result (List ℕ) Fault
 inferred_text table csv = inferred table csv >>= λ schema. Ok (schema_text schema)
 
--- What is written, or the first fault, by what came of the CSV's source. Where the table's name isn't one, the CSV
--- isn't reached.
+-- The text of the schema, or the first error, by what the CSV's source yielded. If the table's name
+-- is invalid, the CSV isn't reached.
 abbrev pub IsTextFrom : List ℕ → Arrival → Result (List ℕ) Fault → Type 0
 IsTextFrom table csv given =
     IsMadeAfter (refused_if (not (is_name table)) (nowhere SCHEMA_NAME) (Ok table)) inferred_text csv given
 
--- an error of the reader's own stands at the heading, or at a record after a heading of names and records that have
--- rows
+-- an error of the reader's own is at the heading, or at a record after a valid heading and records
+-- that have rows
 abbrev pub StopsInferring : List ℕ → Fault → Type 0
 StopsInferring csv =
     Stops (λ heading more fault. (names : List (List ℕ)) × (heading_names heading ≡ Ok names)
@@ -38,12 +38,12 @@ pub record SpellsExactly (text csv : List ℕ) : Type 0 where
   pub spelled : IsSchemaText text (schema_shape schema)
   pub exact : IsExact schema.columns.items csv
 
--- a sink took such a text for the bytes of a CSV
+-- a sink consumed such a text for the bytes of a CSV
 pub record InfersExactly (csv : List ℕ) (old new : Option (List ℕ)) : Type 0 where
   pub text : List ℕ
   pub took : Appends old new text
   pub exact : SpellsExactly text csv
 
--- a fault of a heading or of the bounds (102 to 105), or of a CSV text
+-- the error is one of a heading or of the bounds (102 to 105), or of a CSV text
 abbrev pub is_inferring_fault : Fault → Bool
 is_inferring_fault fault = (nat_le SCHEMA_NAME fault.code && nat_le fault.code COLUMN_COUNT) || is_rows_fault fault

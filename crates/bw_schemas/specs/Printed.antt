@@ -1,5 +1,5 @@
--- The text that a schema is written as: keywords in capitals, words one blank apart, names in the schema's spelling,
--- bounds in decimal without leading zeros, and one line feed after each line.
+-- The text of a schema: keywords in capitals, words one blank apart, names in the schema's
+-- spelling, bounds in decimal without leading zeros, and one line feed after each line.
 use Rattle.std.specs.Prelude.{◌≡◌, ℕ, Bool, true, false, List, [], ◌∷◌, ◌++◌, codes}
 use Rattle.std.specs.Fmt.{signed_decimal}
 use Rattle.bw_text.specs.Lines.{cut_lines, numbered_from}
@@ -25,10 +25,10 @@ columns_text (column ∷ columns) = line_text (column_line column) ++ columns_te
 unfoldable pub schema_text : SchemaShape → List ℕ
 schema_text schema = line_text (table_line schema.name) ++ columns_text schema.columns
 
--- a text of lines that say nothing, whatever the number of the first
+-- all lines of the text are skipped, whatever the number of the first
 abbrev pub AreComments : List ℕ → Type 0
 AreComments text = (number : ℕ) → numbered_from number (cut_lines text) ≡ []
 
--- so many bytes of comments have room after the text of every schema
+-- the most bytes of comments that are sure to fit after the text of any schema
 abbrev pub most_comments : ℕ
 most_comments = 4096

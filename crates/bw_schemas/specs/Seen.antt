@@ -1,4 +1,4 @@
--- What is seen of columns while their rows go by.
+-- Statistics of columns, updated row by row.
 use Rattle.std.specs.Prelude.{ℕ, ℤ, Bool, true, false, List, [], ◌∷◌, length, Option, Some, None, Result, Ok}
 use Rattle.std.specs.Int.{int_min, int_max}
 use Rattle.bw_model.specs.declared.fault.Fault.{Fault}
@@ -17,7 +17,7 @@ seen least greatest has_null = record { least = least; greatest = greatest; has_
 abbrev pub nothing : Seen
 nothing = seen None None false
 
--- what the rows have in a column: the least and the greatest number, and whether one is null
+-- the statistics of a column in the rows: its minimum and maximum, and whether a value is null
 abbrev pub seen_in : List (List Value) → ℕ → Seen
 seen_in rows column = seen (total (Min column) rows) (total (Max column) rows) (has_null column rows)
 
@@ -29,27 +29,28 @@ abbrev pub greater : Option ℤ → ℤ → ℤ
 greater None n = n
 greater (Some m) n = int_max m n
 
--- one value more
+-- the statistics with one value more
 abbrev pub with_value : Seen → Value → Seen
 with_value s None = seen s.least s.greatest true
 with_value s (Some n) = seen (Some (lesser s.least n)) (Some (greater s.greatest n)) s.has_null
 
--- a value more of each column, which is null where one is missing
+-- the statistics with one value more for each column; a missing one is null
 unfoldable pub with_values : List Seen → List Value → List Seen
 with_values [] values = []
 with_values (s ∷ columns) [] = with_value s None ∷ with_values columns []
 with_values (s ∷ columns) (value ∷ values) = with_value s value ∷ with_values columns values
 
--- rows more
+-- the statistics with these rows more
 unfoldable pub with_rows : List Seen → List (List Value) → List Seen
 with_rows columns [] = columns
 with_rows columns (row ∷ rows) = with_rows (with_values columns row) rows
 
--- and the rows of records, the first of which has this number, or their first fault
+-- the statistics with the rows of these records more, the first of which has this number, or the
+-- first error
 abbrev pub with_records : List Seen → ℕ → ℕ → List (List (List ℕ)) → Result (List Seen) Fault
 with_records columns width number records = bare_rows width number records >>= λ rows. Ok (with_rows columns rows)
 
--- the columns of names, by what was seen of them
+-- the column of a name and its statistics
 abbrev pub column_seen : List ℕ → Seen → ColumnShape
 column_seen name s = shape name (or_zero s.least) (or_zero s.greatest) s.has_null
 
@@ -58,7 +59,7 @@ columns_seen [] columns = []
 columns_seen (name ∷ names) [] = []
 columns_seen (name ∷ names) (s ∷ columns) = column_seen name s ∷ columns_seen names columns
 
--- the columns of these names over the rows of records, the first of which has number 1; or the first fault in them, and
--- then in the bounds
+-- the columns of these names over the rows of records, the first of which has number 1; or the
+-- first error, in the records and then in the bounds
 abbrev pub columns_after : List (List ℕ) → List (List (List ℕ)) → Result (List ColumnShape) Fault
 columns_after names more = bare_rows (length names) 1 more >>= λ rows. ranged (columns_over rows 0 names)

@@ -1,4 +1,4 @@
-//! The columns of a schema, by what was seen of them.
+//! The columns of a schema, from the statistics of their values.
 ghost use Rattle.std.specs.Prelude.{◌≡◌, ◌≤ℤ◌, ◌<ℤ◌, ◌-ℤ◌, ◌^◌, pos, length, map, true, false, IfOk, IfErr, IsTrue};
 ghost use Rattle.bw_model.specs.Column.{names_of};
 ghost use Rattle.bw_model.specs.SchemaText.{column_shape, is_range};
@@ -11,7 +11,8 @@ use crate::seen::Seen;
 use bw_model::{Column, Fault, Name, code};
 use std::alloc::Global;
 
-/// The columns of these names. Refuses bounds that are 2^63 or more apart (103, at record 0).
+/// Returns the columns of these names. Errors: 103, at record 0, if bounds are 2^63 or more apart;
+/// 801 if memory is refused.
 pub(crate) fn columns_seen(
     alloc: Global,
     names: &[Name],
@@ -32,7 +33,7 @@ pub(crate) fn columns_seen(
     Ok(columns)
 }
 
-/// The column of this name.
+/// Returns the column of this name.
 fn column_seen(alloc: Global, name: &Name, seen: &Seen) -> Result<Column, Fault>
     ensures column { GivesButAside column_shape result (ranged_column (column_seen name.now seen.now)) }
     ensures name { IfOk result (λ column. column.name ≡ name.now) }
@@ -52,7 +53,7 @@ fn column_seen(alloc: Global, name: &Name, seen: &Seen) -> Result<Column, Fault>
     })
 }
 
-/// A bound where there is a number, and else 0.
+/// Returns the bound if there is one, else 0.
 fn or_zero(bound: Option<i64>) -> i64
     ensures { result ≡ or_zero bound }
 {
@@ -62,7 +63,7 @@ fn or_zero(bound: Option<i64>) -> i64
     }
 }
 
-/// Whether bounds are in order, and less than 2^63 apart.
+/// Returns whether the bounds are in order, and less than 2^63 apart.
 #[tactic(auto, unfolding(bw_model::specs::SchemaText::is_range))]
 fn is_range(lo: i64, hi: i64) -> bool
     ensures test { result ≡ is_range lo hi }

@@ -1,4 +1,4 @@
-//! The names of the columns that a heading makes.
+//! The column names of a heading.
 ghost use Rattle.std.specs.Prelude.{◌≡◌, ◌≤◌, IfOk, IfErr, length, true, false};
 ghost use Rattle.std.specs.List.{list_any};
 ghost use Rattle.bw_model.specs.Limits.{most_columns};
@@ -13,9 +13,9 @@ use bw_csv::Records;
 use bw_model::{Fault, MAX_COLUMNS, Name, code, is_name};
 use std::alloc::Global;
 
-/// The names that the fields of the record that was read last are, without the spaces and tabs at their ends. Refuses
-/// at the first field from the left, each at record 0: the 65th column (105), what isn't a name (102), and the name of
-/// an earlier column, ignoring case (104).
+/// Returns the names in the fields of the last record, without the spaces and tabs at their ends.
+/// Errors, each at record 0 for the first field from the left: 105 for the 65th column, 102 for an
+/// invalid name, 104 for the name of an earlier column, ignoring case.
 #[tactic(auto, unfolding(crate::specs::Heading::heading_names))]
 pub(crate) fn heading_names(alloc: Global, records: &Records<'_>) -> Result<Vec<Name>, Fault>
     ensures names { GivesButAside (λ names. names.items) result (heading_names (fields_in records.now)) }
@@ -45,7 +45,7 @@ pub(crate) fn heading_names(alloc: Global, records: &Records<'_>) -> Result<Vec<
     Ok(names)
 }
 
-/// Whether one of these names is this one, ignoring case.
+/// Returns whether one of the names is this one, ignoring case.
 fn has_name(names: &[Name], name: &[u8]) -> bool
     ensures { result ≡ list_any (λ other. same_text other name.now) names.now }
 {

@@ -15,15 +15,24 @@ use bw_device::{Sink, Source, write_whole};
 use bw_model::{Fault, code, is_name};
 use std::alloc::Global;
 
-/// Writes a schema text for a CSV text: a table of this name, and a column for each heading, from the least to the
-/// greatest number that stands in it, with `NOT NULL` where no field is null. A column without a number has `0 0`.
+/// Writes the narrowest schema text for a CSV text: a table of this name, and a column for each
+/// heading, from its values' minimum to their maximum, with `NOT NULL` if no field is null. A
+/// column without a number has `0 0`.
 ///
-/// Refuses in this order: a table's name that isn't one (102, at no place, and the CSV's source isn't read), the CSV's
-/// source (701) and length (208), its first record that is wrong (201; a heading that makes no columns, 105, 102 and
-/// 104 at record 0; 203, 207, 204 and 205, and 209), a column whose values are 2^63 or more apart (103, at record 0),
-/// and the sink (702); out of memory (801) wherever it comes. Nothing is written before all else has succeeded. Beside
-/// the CSV text, which is read whole, up to 1 GiB, a row and three values a column are in memory. That each device's
-/// count of failures can rise is the caller's condition.
+/// Nothing is written before all else has succeeded. In memory are the CSV text, up to 1 GiB, a
+/// row, and three values for each column. Each device's count of failures must be less than 2^64 -
+/// 1.
+///
+/// Errors, in this order:
+///
+/// - 102, without a place: the table's name is invalid; the CSV's source isn't read then
+/// - 701, 208: the CSV's source and length
+/// - the CSV's first wrong record: 201; 105, 102 and 104, at record 0, for a heading; 203, 207,
+///   204, 205, and 209
+/// - 103, at record 0: a column's values are 2^63 or more apart
+/// - 702: the sink
+///
+/// 801 at any time, if memory is refused.
 pub fn infer<C: Source, K: Sink>(
     alloc: Global,
     table: &[u8],
@@ -33,8 +42,8 @@ pub fn infer<C: Source, K: Sink>(
     requires csv { C.failures csv_source.old < 2 ^ 64 - 1 }
     requires sink { K.failures sink.old < 2 ^ 64 - 1 }
 
-    // What went out is the text of the schema that is inferred from what came of the source, or nothing, where that is
-    // a fault. Where the table's name isn't one, the source wasn't reached.
+    // The bytes written are the text of the schema that is inferred from what the source yielded,
+    // or none if that is an error. If the table's name is invalid, the source wasn't reached.
     ensures schema { (csv : Arrival) × (given : Result (List ℕ) Fault)
         × Came longest_csv (C.to_come csv_source.old) (C.to_come csv_source.new)
         (C.failures csv_source.old) (C.failures csv_source.new) csv
@@ -42,22 +51,23 @@ pub fn infer<C: Source, K: Sink>(
         × Wrote is_aside (K.taken sink.old) (K.taken sink.new)
         (K.failures sink.old) (K.failures sink.new) given result }
 
-    // The text that went out spells a schema under which the CSV text that came has its rows without a fault, and no
-    // column of it could be narrower.
+    // The text that was written spells a schema under which the CSV text has its rows without an
+    // error, and no column could be narrower.
     ensures exact { OnOk result ((csv : List ℕ)
         × Came longest_csv (C.to_come csv_source.old) (C.to_come csv_source.new)
         (C.failures csv_source.old) (C.failures csv_source.new) (Whole csv)
         × InfersExactly csv (K.taken sink.old) (K.taken sink.new)) }
 
-    // Where the reader has an error of its own, the CSV came whole, and its place is the heading, or the record after
-    // those whose rows are good.
+    // If the reader has an error of its own, the CSV was read completely, and the error is at the
+    // heading, or at the record after those that have rows.
     ensures reader { IfErr result (λ fault. is_reader_fault fault ≡ true → (csv : List ℕ)
         × Came longest_csv (C.to_come csv_source.old) (C.to_come csv_source.new)
         (C.failures csv_source.old) (C.failures csv_source.new) (Whole csv)
         × StopsInferring csv fault) }
 
-    // Of the source no more is taken than one byte past its limit. The call refuses by a failed read exactly where the
-    // source's count of failures rose. Where the table's name isn't one, the source is as it was.
+    // Of the source at most one byte past its limit is read. The call fails by a failed read if and
+    // only if the source's count of failures rose. If the table's name is invalid, the source is as
+    // it was.
     ensures csv { LeavesSource (longest_csv + 1) (C.to_come csv_source.old) (C.to_come csv_source.new)
         (C.failures csv_source.old) (C.failures csv_source.new) result }
     ensures unneeded { is_name table.now ≡ false → csv_source.new ≡ csv_source.old }
@@ -70,7 +80,7 @@ pub fn infer<C: Source, K: Sink>(
     write_whole(sink, &text)
 }
 
-/// The text of the schema that is inferred from a CSV text.
+/// Returns the text of the schema that is inferred from a CSV text.
 fn inferred_text(alloc: Global, table: &[u8], csv: &[u8]) -> Result<Vec<u8>, Fault>
     requires { IsTrue (is_name table.now) }
     ensures text { GivesButAside (λ text. text.items) result (inferred_text table.now csv.now) }

@@ -17,13 +17,15 @@ use bw_file::{TableReader, a_file_is_read_whole};
 use bw_model::Fault;
 use std::alloc::Global;
 
-/// Writes what the header of a table file says: the schema text that spells the table's schema, and then the numbers of
-/// its rows and segments, its layout, its version and the length of the whole file, a comment line each. The header
-/// alone is read, and nothing after it.
+/// Writes the header of a table file as text: the schema text that spells the table's schema, then
+/// a comment line each for the numbers of its rows and segments, its layout, its version, and the
+/// length of the whole file. Reads only the header.
 ///
-/// Refuses in this order: the header (301 to 305, 310) and the sink (702); 701 where a read fails, and out of memory
-/// (801) wherever it comes. Nothing is written before the header was found good. That each device's count of failures
-/// can rise is the caller's condition.
+/// Nothing is written before the header is found valid. Each device's count of failures must be
+/// less than 2^64 - 1.
+///
+/// Errors, in this order: the header (301 to 305, 310) and the sink (702). 701 if a read fails, and
+/// 801 at any time if memory is refused.
 pub fn info<S: Source, K: Sink>(alloc: Global, table: &mut S, sink: &mut K) -> Result<(), Fault>
     requires table { S.failures table.old < 2 ^ 64 - 1 }
     requires sink { K.failures sink.old < 2 ^ 64 - 1 }
@@ -33,15 +35,15 @@ pub fn info<S: Source, K: Sink>(alloc: Global, table: &mut S, sink: &mut K) -> R
         × Wrote none_aside (K.taken sink.old) (K.taken sink.new) (K.failures sink.old) (K.failures sink.new) given
         result }
 
-    // Where the bytes to come are a table file's: its schema, its rows and its length are reported, and it's only a
-    // device or memory that can fail.
+    // If the unread bytes are a table file's, its schema, its rows and its length are reported, and
+    // only a device or memory can fail.
     ensures file { (bytes : List ℕ) (layout : Layout) (schema : Schema) (rows : List (List Value))
         → S.to_come table.old ≡ Some bytes → IsFileBytes bytes layout schema rows
         → OnOk result (TellsFile bytes layout schema rows (K.taken sink.old) (K.taken sink.new)) }
     ensures accepted { (bytes : List ℕ) (layout : Layout) (schema : Schema) (rows : List (List Value))
         → S.to_come table.old ≡ Some bytes → IsFileBytes bytes layout schema rows
         → IfErr result (λ fault. IsTrue (is_no_verdict fault)) }
-    // The call refuses by a failed read exactly where the table's count of failures rose.
+    // The call fails by a failed read if and only if the table's count of failures rose.
     ensures table { TellsFailure (S.failures table.old) (S.failures table.new) result }
 {
     a_file_is_read_whole();
@@ -50,7 +52,7 @@ pub fn info<S: Source, K: Sink>(alloc: Global, table: &mut S, sink: &mut K) -> R
     write_whole(sink, &text)
 }
 
-/// A law: the file of a table has the size that its header tells, and its rows as many groups.
+/// A law: the file of a table has the size that its header states, and its rows as many groups.
 pub fn tables_have_their_size()
     ensures size { (version : ℕ) (layout : Layout) (schema : Schema) (rows : List (List Value))
         → AreRows schema.columns.items rows

@@ -1,13 +1,15 @@
-//! Schema texts that are written: of a schema, of a CSV text's own heading and values, and of a table file's header.
+//! Schema texts that are written: of a schema, of a CSV text's heading and values, and of a table
+//! file's header.
 //!
-//! The contracts that the crates above use are three. [`print_schema`] gives the text of a schema, one line a column,
-//! which spells that schema, also with comment lines after it. [`infer`] writes a schema text under which a CSV text
-//! has its rows without a fault, and whose columns are as narrow as those rows. [`info`] reads a table file's header
-//! alone, and writes the schema text that spells the table's schema, and then its other numbers as comment lines, so
-//! that the whole is a schema text.
+//! The crates above use three contracts. [`print_schema`] returns the text of a schema, one line
+//! for each column, which spells that schema, also if comment lines follow. [`infer`] writes a
+//! schema text under which a CSV text has its rows without an error, and whose columns are as
+//! narrow as those rows. [`info`] reads only a table file's header. It writes the schema text that
+//! spells the table's schema, and then the header's other numbers as comment lines, so all of it is
+//! a schema text.
 //!
-//! Read `specs/Printed.antt`, `specs/Inferred.antt` and `specs/Info.antt` first, and then `print.rt`, `infer_call.rt`
-//! and `info_call.rt`.
+//! Read `specs/Printed.antt`, `specs/Inferred.antt` and `specs/Info.antt` first, then `print.rt`,
+//! `infer_call.rt` and `info_call.rt`.
 #![tactic(auto)]
 
 mod columns;

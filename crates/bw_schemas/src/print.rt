@@ -9,10 +9,10 @@ use bw_model::{Column, Fault, Name, Schema};
 use bw_text::{Piece, push_line};
 use std::alloc::{AllocError, Global};
 
-/// The text of a schema: `TABLE` and its name, and then for each column a line of `COLUMN`, its name and its bounds,
-/// with `NOT NULL` where it takes no null. Words stand one blank apart, names are spelled as in the schema, and each
-/// line ends with a line feed. The text spells the schema, and so does the text with comment lines after it. Refused is
-/// out of memory alone (801).
+/// Returns the text of a schema: `TABLE` and its name, then for each column a line of `COLUMN`, its
+/// name and its bounds, with `NOT NULL` if it isn't nullable. Words are one blank apart, names have
+/// the schema's spelling, and each line ends with a line feed. The text spells the schema, also if
+/// comment lines follow. Errors: 801 if memory is refused.
 pub fn print_schema(alloc: Global, schema: &Schema) -> Result<Vec<u8>, Fault>
     ensures text { IfOk result (λ text. text.items ≡ schema_text (schema_shape schema.now)) }
     ensures spelled { IfOk result (λ text. IsSchemaText text.items (schema_shape schema.now)) }

@@ -1,4 +1,4 @@
-//! The schema that a CSV text makes.
+//! The schema that is inferred from a CSV text.
 ghost use Rattle.std.specs.Prelude.{◌≡◌, ℕ, List, Ok, true, length, map, replicate, IfErr, IfOk, OnOk, IsTrue};
 ghost use Rattle.bw_model.specs.declared.schema.Schema.{Schema};
 ghost use Rattle.bw_model.specs.Limits.{most_rows};
@@ -20,14 +20,15 @@ use bw_csv::{Records, read_bare_row, without_more_fields};
 use bw_model::{Column, Fault, MAX_COLUMNS, Name, Row, Schema, code};
 use std::alloc::{AllocError, Global};
 
-/// The schema of this name that is inferred from a CSV text. That the table's name is a name is the caller's condition.
+/// Returns the schema that is inferred from a CSV text, with this table name, which must be valid.
 ///
-/// Refuses at the first record that is wrong: a text without one (201); a heading that makes no columns (105, 102,
-/// 104); then for each record its number of fields (203), a row past 2^24 (207), and its fields from the left: no whole
-/// number (204), or one that 64 bits don't hold (205); and at last a column whose values are 2^63 or more apart (103,
-/// at record 0). 209 is any other error of the reader.
+/// Errors: the first wrong record: a text without one (201); a heading that isn't valid names (105,
+/// 102, 104); then for each record its number of fields (203), a row past 2^24 (207), and its
+/// fields from the left: not a whole number (204), or one that doesn't fit 64 bits (205). At last,
+/// a column whose values are 2^63 or more apart (103, at record 0). 209 is any other error of the
+/// reader; 801 if memory is refused.
 ///
-/// Of a heading of more than 64 columns no more than the first 64 is read.
+/// Of a heading of more than 64 columns only the first 64 are read.
 pub(crate) fn infer_schema(alloc: Global, table: &[u8], text: &[u8]) -> Result<Schema, Fault>
     requires { IsTrue (is_name table.now) }
     ensures schema { GivesButAside schema_shape result (inferred table.now text.now) }
@@ -37,7 +38,7 @@ pub(crate) fn infer_schema(alloc: Global, table: &[u8], text: &[u8]) -> Result<S
     schema_of(alloc, table, without_more_fields(text, MAX_COLUMNS))
 }
 
-/// The same for a text whose heading is read whole.
+/// Returns the same for a text whose heading is read completely.
 #[tactic(auto, unfolding(crate::specs::Inferred::inferred_after))]
 fn schema_of(alloc: Global, table: &[u8], text: &[u8]) -> Result<Schema, Fault>
     requires { IsTrue (is_name table.now) }
@@ -57,7 +58,8 @@ fn schema_of(alloc: Global, table: &[u8], text: &[u8]) -> Result<Schema, Fault>
     })
 }
 
-/// The columns of these names, by the rows of the records to come, the first of which has number 1.
+/// Returns the columns of these names, from the rows of the unread records, the first of which has
+/// number 1.
 fn columns_after(
     alloc: Global,
     records: &mut Records<'_>,
@@ -75,7 +77,8 @@ fn columns_after(
     columns_seen(alloc, names, &seen)
 }
 
-/// What the rows of the records to come, the first of which has number 1, have in so many columns.
+/// Returns the statistics of `width` columns, over the rows of the unread records, the first of
+/// which has number 1.
 fn rows_seen(alloc: Global, records: &mut Records<'_>, width: usize) -> Result<Vec<Seen>, Fault>
     requires { IsOpen records.old }
     ensures seen { GivesButAside (λ columns. columns.items) result
@@ -93,7 +96,7 @@ fn rows_seen(alloc: Global, records: &mut Records<'_>, width: usize) -> Result<V
     Ok(seen)
 }
 
-/// So many columns of which nothing was seen yet.
+/// Returns `width` columns without a value yet.
 fn nothing_seen(alloc: Global, width: usize) -> Result<Vec<Seen>, AllocError>
     ensures { IfOk result (λ columns. columns.items ≡ replicate width nothing) }
 {
@@ -107,7 +110,7 @@ fn nothing_seen(alloc: Global, width: usize) -> Result<Vec<Seen>, AllocError>
     Ok(columns)
 }
 
-/// Takes the rows of the records to come, the first of which has number 1.
+/// Adds the rows of the unread records, the first of which has number 1.
 fn take_rows(records: &mut Records<'_>, row: &mut Row, columns: &mut Vec<Seen>) -> Result<(), Fault>
     requires { IsOpen records.old }
     ensures seen { GivesButAside (λ _. columns.new.items) result
@@ -126,8 +129,8 @@ fn take_rows(records: &mut Records<'_>, row: &mut Row, columns: &mut Vec<Seen>) 
     Ok(())
 }
 
-/// A law: the schema that is inferred from a CSV text is exact for it: the text has its rows under the schema, and no
-/// column could be narrower.
+/// A law: the schema that is inferred from a CSV text is exact for it: the text has its rows under
+/// the schema, and no column could be narrower.
 pub fn inferred_schemas_are_exact()
     ensures { (table text : List ℕ) (schema : Schema) → inferred table text ≡ Ok (schema_shape schema)
         → IsExact schema.columns.items text }

@@ -1,10 +1,10 @@
-//! What is seen of columns while their rows go by.
+//! Statistics of columns, updated row by row.
 ghost use Rattle.std.specs.Prelude.{◌≡◌, length};
 ghost use Rattle.bw_schemas.specs.Seen.{greater, lesser, with_value, with_values};
 
 use bw_model::Value;
 
-/// The least and the greatest number of a column so far, and whether it had a null.
+/// The minimum and the maximum of a column so far, and whether it had a null.
 #[derive(Clone, Copy)]
 pub(crate) struct Seen {
     pub(crate) least: Option<i64>,
@@ -12,7 +12,7 @@ pub(crate) struct Seen {
     pub(crate) has_null: bool,
 }
 
-/// A value more of each column.
+/// Adds one value to each column.
 pub(crate) fn take_values(columns: &mut Vec<Seen>, values: &[Value])
     requires { length columns.old.items ≡ length values.now }
     ensures { columns.new.items ≡ with_values columns.old.items values.now }
@@ -22,7 +22,7 @@ pub(crate) fn take_values(columns: &mut Vec<Seen>, values: &[Value])
     }
 }
 
-/// One value more.
+/// Returns the statistics with one value more.
 fn with_value(seen: Seen, value: Value) -> Seen
     ensures { result ≡ with_value seen value }
 {

@@ -1,4 +1,4 @@
-//! The text of what a header says.
+//! The text of a header.
 ghost use Rattle.std.specs.Prelude.{◌≡◌, ◌++◌, ◌≤◌, IfOk, IsOkUnless, OnOk, length};
 ghost use Rattle.bw_model.specs.Fault.{no_memory};
 ghost use Rattle.bw_model.specs.SchemaText.{IsSchemaText, schema_shape};
@@ -13,7 +13,8 @@ use bw_model::Fault;
 use bw_text::{Piece, push_line};
 use std::alloc::{AllocError, Global};
 
-/// The text of what a reader's header says. That it took the header's bytes, and no other, is the caller's condition.
+/// Returns the text of a reader's header. The reader must have read the header's bytes, and no
+/// other.
 pub(crate) fn info_text(alloc: Global, reader: &TableReader) -> Result<Vec<u8>, Fault>
     requires head { bytes_taken reader.now ≡ length (header_bytes (version_in reader.now) (layout_in reader.now)
         (schema_in reader.now).name (schema_in reader.now).columns.items (rows_stated reader.now)) }

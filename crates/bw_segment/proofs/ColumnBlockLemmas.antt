@@ -116,7 +116,8 @@ module _ (packing : Packing) (columns : List Column) (count : ℕ) (kept : List 
       and_from _ _ (and_from _ _ (lt-ltb _ _ there) (le-leb _ _ (room col lt)))
       ((bytes_eq-Decides _ _).1 (slice_is_block packing columns (segment_numbered kept number) col ∙ block_of_segment col lt))
 
--- Each of the first columns, so many, has a block more than before, and the others are as they were.
+-- Each of the first columns, so many, has a block more than before, and the others are as they
+-- were.
 pub record HaveMore (old new : List ColumnBlocks) (block : ℕ → List ℕ) (count : ℕ) : Type 0 where
   pub all : length new ≡ length old
   pub sizes : (col : ℕ) → size_kept new col ≡ size_kept old col

@@ -103,8 +103,8 @@ chooses false bit head a b pa pb ta tb =
     let lt = below a b (2 ^ bit) (pow_pos bit) (omega (arith, head_of false a bit head true pa ta, head_of false b bit head false pb tb)) in
     (omega arith, omega arith)
 
--- The numbers that are left have the same top bits, those from `bit` on, which spell `head` in so many places, and what is
--- chosen among them is what is chosen among all.
+-- The numbers that are left have the same top bits, those from `bit` on, which spell `head` in so
+-- many places, and what is chosen among them is what is chosen among all.
 pub record IsDescended (g : Bool) (all left : List ℕ) (bit places head : ℕ) : Type 0 where
   pub some : is_none left ≡ false
   pub heads : AllByRecursion (λ n. n / 2 ^ bit ≡ head) left
@@ -131,7 +131,8 @@ next_descended g all left bit places head false none so_far = record {
   small = next_small head places (not g) so_far.small;
 }
 
--- before the first bit nothing is known, and after the last one all that are left are the same number
+-- before the first bit nothing is known, and after the last one all that are left are the same
+-- number
 pub descent_begins : (g : Bool) (all : List ℕ) (width : ℕ) → AllByRecursion (λ n. n < 2 ^ width) all → is_none all ≡ false → IsDescended g all all width 0 0
 descent_begins g all width small some = record { some = some; heads = each all small; chosen = refl; small = omega arith }
   where

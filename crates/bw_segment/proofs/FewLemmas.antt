@@ -53,7 +53,8 @@ chosen_first greatest code (c ∷ codes) = ap Some (shift code c codes)
     shift a b [] = refl
     shift a b (c ∷ cs) = ap (λ k. fold (choice greatest) k cs) (grouped greatest a b c) ∙ shift a (choice greatest b c) cs
 
--- What is chosen of the codes in the lanes from an end on, the greatest or the least, and that it has at most 63 digits.
+-- What is chosen of the codes in the lanes from an end on, the greatest or the least, and that it
+-- has at most 63 digits.
 pub record IsChosen (greatest : Bool) (lanes : List Bool) (codes : List ℕ) (end : ℕ) (so_far : Option ℕ) : Type 0 where
   pub within : end ≤ 512
   pub chosen : so_far ≡ reduce (choice greatest) (picked (drop end lanes) (drop end codes))

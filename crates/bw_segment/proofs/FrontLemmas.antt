@@ -48,8 +48,7 @@ fronts_more size bytes block fronts are has long room = λ number there. elim (c
       let front : length (take 64 block) ≡ 64 = omega (arith, length-take 64 block, long, room) in
       let last : number ≡ has.0 = omega (arith, there, length-append fronts (take 64 block), front, has.1, not_before) in
       let place : length bytes ≡ number * size = has.2 ∙ ap (λ (n : ℕ). n * size) (sym last) in
-      let at : length fronts ≡ 64 * number = omega (arith, has.1, last) in
-      (
+      let at : length fronts ≡ 64 * number = omega (arith, has.1, last) in (
         omega (arith, place, long, length-append bytes block),
         piece_last 64 (64 * number) fronts (take 64 block) at front ∙ ap (take 64) (sym (piece_last size (number * size) bytes block place long)),
       )

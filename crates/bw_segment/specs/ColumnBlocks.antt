@@ -1,4 +1,4 @@
--- The blocks of a table's columns, of one segment after the other: each column's back to back.
+-- The blocks of a table, stored by columns: those of each column back to back.
 use Rattle.std.specs.Prelude.{◌≡◌, ℕ, ◌+◌, ◌*◌, ◌<◌, Bool, ◌&&◌, nat_le, nat_lt, List, [], length, map, slice_index, slice_index_or, slice_range}
 use Rattle.std.specs.List.{flat_map, range_with_len}
 use Rattle.std.specs.Str.{bytes_eq}
@@ -6,18 +6,19 @@ use Rattle.bw_model.specs.declared.column.Column.{Column}
 use Rattle.bw_segment.specs.declared.column_blocks.ColumnBlocks.{ColumnBlocks}
 use Rattle.bw_segment.specs.Packing.{Packing, block_size}
 
--- how many bytes each block of a column has, and the bytes of them all
+-- the number of bytes of each block of a column, and the bytes of all its blocks
 abbrev pub size_kept : List ColumnBlocks → ℕ → ℕ
 size_kept kept column = slice_index (map (λ blocks. blocks.size) kept) column
 
 abbrev pub bytes_kept : List ColumnBlocks → ℕ → List ℕ
 bytes_kept kept column = slice_index_or (map (λ blocks. blocks.bytes.items) kept) column []
 
--- where the block of a segment begins in its column
+-- the place at which the block of a segment begins in its column
 abbrev pub block_start : List ColumnBlocks → ℕ → ℕ → ℕ
 block_start kept number column = number * size_kept kept column
 
--- the block of a column in the segment of a number, and all blocks of that segment, in the order of the columns
+-- the block of a column in the segment of this number, and all blocks of that segment, in the order
+-- of the columns
 unfoldable pub block_numbered : List ColumnBlocks → ℕ → ℕ → List ℕ
 block_numbered kept number column =
     let start = block_start kept number column in
@@ -26,14 +27,14 @@ block_numbered kept number column =
 unfoldable pub segment_numbered : List ColumnBlocks → ℕ → List ℕ
 segment_numbered kept number = flat_map (block_numbered kept number) (range_with_len 0 (length kept))
 
--- whether the block of a column stands from one place of that segment's bytes up to another
+-- the block of a column is between these two places of that segment's bytes
 unfoldable pub stands_numbered : List ColumnBlocks → ℕ → ℕ → ℕ → ℕ → Bool
 stands_numbered kept number column start end =
     nat_lt column (length kept)
     && nat_le (block_start kept number column + size_kept kept column) (length (bytes_kept kept column))
     && bytes_eq (slice_range (segment_numbered kept number) start end) (block_numbered kept number column)
 
--- of each column there are the blocks of so many segments
+-- each column has the blocks of `count` segments
 pub record KeepBlocks (packing : Packing) (columns : List Column) (count : ℕ) (kept : List ColumnBlocks) : Type 0 where
   pub all : length kept ≡ length columns
   pub sizes : (column : ℕ) → column < length columns → size_kept kept column ≡ block_size packing columns column

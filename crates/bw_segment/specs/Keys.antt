@@ -6,7 +6,7 @@ use Rattle.bw_model.specs.Row.{Value}
 abbrev pub number_of_key : ℕ → ℤ
 number_of_key key = pos key -ℤ pos (2 ^ 63)
 
--- the value in a lane, by the lanes that have none and the keys of the others
+-- the value in a lane, from the lanes without a value and the keys of the others
 abbrev pub value_in_lane : List Bool → List ℕ → ℕ → Value
 value_in_lane none keys lane =
     if slice_index_or none lane false then None else Some (number_of_key (slice_index keys lane))

@@ -1,5 +1,5 @@
--- Segments as bytes: for each column one block, of its null plane, in 64 bytes, where it is nullable, and then its
--- codes, in one of two layouts.
+-- Segments as bytes: one block for each column. A block has the column's null plane, in 64 bytes,
+-- if it is nullable, and then its codes, in one of two layouts.
 use Rattle.std.specs.Prelude.{◌≡◌, ℕ, zero, suc, ◌+◌, ◌<◌, ◌^◌, Bool, false, List, [], ◌++◌, length, map, take, drop, replicate, slice_index, slice_index_or, Some, None, if◌then◌else◌, All}
 use Rattle.std.specs.List.{flat_map, range_with_len}
 use Rattle.bw_lanes.specs.Lanes.{bytes_of_lanes, lanes_of_bytes}
@@ -11,14 +11,14 @@ use Rattle.bw_model.specs.Groups.{group_size}
 use Rattle.bw_model.specs.Variable.{is_nullable}
 use Rattle.bw_segment.specs.Meaning.{Meaning, null_bits, stored_codes}
 
--- How the codes of 512 lanes are kept, by how many binary digits they have: how many bytes they take, the bytes of such
--- codes, and the codes that such bytes spell.
+-- How the codes of 512 lanes are packed, by the number of their binary digits: the number of their
+-- bytes, the bytes of codes, and the codes that bytes spell.
 pub record Packing : Type 0 where
   pub size : ℕ → ℕ
   pub bytes : ℕ → List ℕ → List ℕ
   pub codes : ℕ → List ℕ → List ℕ
 
--- The bytes of codes spell these, and codes that are spelled have these bytes.
+-- The bytes of codes spell these codes, and codes that bytes spell have these bytes.
 pub record IsPacking (packing : Packing) : Type 0 where
   pub bytes_length : (width : ℕ) (codes : List ℕ) → length codes ≡ group_size → length (packing.bytes width codes)
       ≡ packing.size width
@@ -29,11 +29,11 @@ pub record IsPacking (packing : Packing) : Type 0 where
   pub codes_spelled : (width : ℕ) (bytes : List ℕ) → length bytes ≡ packing.size width
       → All (λ byte. byte < 2 ^ 8) bytes → packing.bytes width (packing.codes width bytes) ≡ bytes
 
--- how many bytes a column's null plane takes
+-- the number of bytes of a column's null plane
 abbrev pub null_size : List Column → ℕ → ℕ
 null_size columns column = if is_nullable columns column then 64 else 0
 
--- how many bytes a column's block takes, and how many stand before it
+-- the number of bytes of a column's block, and of those before it
 abbrev pub block_size : Packing → List Column → ℕ → ℕ
 block_size packing columns column = null_size columns column + packing.size (width_at columns column)
 
@@ -41,17 +41,17 @@ abbrev pub bytes_before : Packing → List Column → ℕ → ℕ
 bytes_before packing columns zero = 0
 bytes_before packing columns (suc column) = bytes_before packing columns column + block_size packing columns column
 
--- how many bytes a segment takes
+-- the number of bytes of a segment
 abbrev pub segment_size : Packing → List Column → ℕ
 segment_size packing columns = bytes_before packing columns (length columns)
 
--- the block of a column of some rows, at most 512
+-- the block of a column of these rows, which are at most 512
 unfoldable pub block_bytes : Packing → List Column → ℕ → List (List Value) → List ℕ
 block_bytes packing columns column rows =
     (if is_nullable columns column then bytes_of_lanes (null_bits rows column) else [])
     ++ packing.bytes (width_at columns column) (stored_codes columns rows column)
 
--- the bytes of some rows, at most 512: the blocks of the columns, in order
+-- the bytes of these rows, which are at most 512: the blocks of the columns, in order
 unfoldable pub segment_bytes : Packing → List Column → List (List Value) → List ℕ
 segment_bytes packing columns rows = flat_map (λ column. block_bytes packing columns column rows)
     (range_with_len 0 (length columns))
@@ -70,7 +70,7 @@ unfoldable pub block_codes : Packing → List Column → ℕ → List ℕ → Li
 block_codes packing columns column block =
     packing.codes (width_at columns column) (drop (null_size columns column) block)
 
--- the value that a null bit and a code are
+-- the value of a null bit and a code
 abbrev pub value_held : List Column → ℕ → Bool → ℕ → Value
 value_held columns column null code = if null then None else Some (value_at columns column code)
 
@@ -80,13 +80,13 @@ value_in_block packing columns column block row =
     value_held columns column (slice_index_or (block_nulls columns column block) row false)
     (slice_index (block_codes packing columns column block) row)
 
--- so many rows, each of the values that the blocks among these bytes have in it
+-- this many rows, with the values that the blocks among these bytes spell
 unfoldable pub rows_spelled : Packing → List Column → ℕ → List ℕ → List (List Value)
 rows_spelled packing columns count bytes =
     map (λ row. map (λ column. value_in_block packing columns column (block_at packing columns column bytes) row)
     (range_with_len 0 (length columns))) (range_with_len 0 count)
 
--- what so many rows, spelled by bytes, mean
+-- the meaning of this many rows, spelled by bytes
 abbrev pub meaning_spelled : Packing → Schema → ℕ → List ℕ → Meaning
 meaning_spelled packing schema count bytes =
     record {

@@ -1,4 +1,4 @@
-//! The parts of a column's block, and the first fault of its lanes.
+//! The parts of a column's block, and the first error of its lanes.
 ghost use Rattle.std.specs.Prelude.{◌≡◌, ◌^◌, ◌≤◌, ◌<◌, ◌||◌, true, false, ℕ, List, length, map, drop, nat_lt, slice_index_or};
 ghost use Rattle.bw_lanes.specs.Lanes.{lanes_of_words};
 ghost use Rattle.bw_model.specs.Code.{span_at};
@@ -18,7 +18,7 @@ impl Placement {
     ghost use Rattle.bw_model.specs.Variable.{is_nullable};
     ghost use Rattle.bw_segment.specs.Meaning.{null_bits};
 
-    /// The greatest code of a column.
+    /// Returns the maximum code of a column.
     pub fn span(&self, col: usize) -> u64
         requires { col < length self.now.schema.columns.items }
         ensures span { result ≡ span_at self.now.schema.columns.items col }
@@ -28,7 +28,8 @@ impl Placement {
         column.hi.abs_diff(column.lo)
     }
 
-    /// How many bytes the null plane of a column's block takes: none where the column isn't nullable.
+    /// Returns how many bytes the null plane of a column's block has: 0 if the column isn't
+    /// nullable.
     pub fn null_size(&self, col: usize) -> usize
         requires { col < length self.now.schema.columns.items }
         ensures size { result ≡ null_size self.now.schema.columns.items col }
@@ -41,8 +42,8 @@ impl Placement {
         }
     }
 
-    /// Adds the null plane of a column to bytes, where it is nullable, from 1 or 0 for each lane. Where memory is
-    /// refused nothing was added.
+    /// Adds the null plane of a column to the bytes, if the column is nullable; `nulls` has 1 for
+    /// each null lane, else 0. Errors: 801 if memory is refused; nothing was added then.
     pub fn push_nulls(
         &self,
         bytes: &mut Vec<u8>,
@@ -66,7 +67,7 @@ impl Placement {
         Ok(())
     }
 
-    /// The null plane of a column's block; zeros where the column isn't nullable.
+    /// Returns the null plane of a column's block, or zeros if the column isn't nullable.
     #[tactic(auto, using(crate::proofs::PlacementLemmas::nullable_read), unfolding(crate::specs::Packing::block_nulls))]
     pub fn nulls_in(&self, col: usize, block: &[u8]) -> Plane
         requires column { col < length self.now.schema.columns.items }
@@ -81,7 +82,7 @@ impl Placement {
         }
     }
 
-    /// The bytes of a column's block after its null plane.
+    /// Returns the bytes of a column's block after its null plane.
     pub fn codes_in<'a>(&self, col: usize, block: &'a [u8]) -> &'a [u8]
         requires column { col < length self.now.schema.columns.items }
         requires size { null_size self.now.schema.columns.items col ≤ length block.now }
@@ -95,8 +96,9 @@ impl Placement {
     }
 }
 
-/// The first fault of a block of so many rows, by its number, from its null bits, from whether the codes of null
-/// and padding rows aren't 0, and from which codes are above the column's greatest.
+/// Returns the number of the first error of a block of `rows` rows, or None if it is valid. `nulls`
+/// are its null bits, and `above` the lanes whose code is above the column's maximum. `used` are
+/// the lanes whose code isn't 0; it need be right only in null and padding lanes.
 pub fn fault_of_lanes(rows: u32, nulls: &Plane, used: &Plane, above: &Plane) -> Option<u16>
     requires { rows ≤ 512 }
     ensures { (span : ℕ) (codes : List ℕ) → length codes ≡ group_size
@@ -122,7 +124,7 @@ pub fn fault_of_lanes(rows: u32, nulls: &Plane, used: &Plane, above: &Plane) -> 
     None
 }
 
-/// Whether the lanes past so many rows are 0 in two planes.
+/// Returns whether both planes are 0 in the lanes past the last row.
 fn is_padding_clear(rows: u32, nulls: &Plane, used: &Plane) -> bool
     requires { rows ≤ 512 }
     ensures clear { result ≡ true → (row : ℕ) → rows ≤ row → row < 512

@@ -1,30 +1,31 @@
-//! Where the bytes of a segment stand.
+//! The bytes of a segment, and the place of each column's block among them.
 ghost use Rattle.std.specs.Prelude.{◌≡◌, ◌&&◌, Bool, IfSome, IsTrue, ℕ, List, length, nat_le, slice_range, take};
 ghost use Rattle.bw_device.specs.Shared.{bytes_in};
 
 use bw_device::SharedBytes;
 
-/// The bytes of a segment, in which the block of each column stands in one piece.
+/// The bytes of a segment, in which each column's block is contiguous.
 pub trait Blocks {
     /// The bytes: the blocks of the columns, one after the other.
     ghost bytes: { Self → List ℕ };
 
-    /// Whether the block of a column stands from one place of these bytes up to another.
+    /// Whether the block of a column is between these two places of the bytes.
     ghost holds: { Self → ℕ → ℕ → ℕ → Bool };
 
-    /// The block of a column, from one place of the bytes up to another.
+    /// Returns the block of a column, which is between these two places of the bytes.
     fn block(&self, col: usize, start: usize, end: usize) -> &[u8]
         requires { IsTrue (holds self.now col start end) }
         ensures { result.now ≡ slice_range (bytes self.now) start end };
 
-    /// The first 64 bytes of the block of a column, from one place of the bytes up to another, if they stand apart too.
+    /// Returns the first 64 bytes of the block of a column, which is between these two places of the
+    /// bytes, if they are stored apart too.
     fn front(&self, col: usize, start: usize, end: usize) -> Option<&[u8]>
         requires { IsTrue (holds self.now col start end) }
         ensures front { IfSome result (λ front. front.now ≡ take 64 (slice_range (bytes self.now) start end)) }
         ensures size { IfSome result (λ front. length front.now ≡ 64) };
 }
 
-/// All blocks in one piece.
+/// All blocks in one contiguous piece.
 impl Blocks for SharedBytes {
     ghost bytes = { bytes_in };
 

@@ -1,4 +1,4 @@
-//! Segments built from rows, column by column, from the codes.
+//! Segments built from rows, column by column.
 ghost use Rattle.std.specs.Prelude.{◌≡◌, ◌++◌, List, length, take, IfOk, OnErr, OnOk, IsOkUnless};
 ghost use Rattle.bw_model.specs.Fault.{no_memory};
 ghost use Rattle.bw_model.specs.Row.{Value};
@@ -18,7 +18,8 @@ use std::alloc::Global;
 use std::rc::Rc;
 
 impl<L: CodeLayout> PackedSegment<L> {
-    /// A segment that means these rows, 1 to 512, which the schema admits. It keeps a copy of the schema.
+    /// Returns a segment of these rows, 1 to 512, which the schema must admit. It has a copy of the
+    /// schema. Errors: 801 if memory is refused.
     pub fn build(alloc: Global, schema: &Schema, rows: &[Row]) -> Result<Self, Fault>
         requires { IsGroup (meaning_of schema.now rows.now) }
         ensures means { IfOk result (λ segment.
@@ -29,7 +30,8 @@ impl<L: CodeLayout> PackedSegment<L> {
         PackedSegment::build_shared(alloc, &placement, rows)
     }
 
-    /// The same for a table whose segments share its placement.
+    /// Returns a segment of these rows, 1 to 512, for a table whose segments share the placement.
+    /// Errors: 801 if memory is refused.
     pub fn build_shared(
         alloc: Global,
         placement: &Rc<Placement>,
@@ -51,8 +53,8 @@ impl<L: CodeLayout> PackedSegment<L> {
         Ok(PackedSegment::of_blocks(placement, count, bytes))
     }
 
-    /// Adds the bytes of a segment of the rows, 1 to 512, that are kept in columns. Where memory is refused nothing
-    /// was added.
+    /// Adds the bytes of a segment of the rows, 1 to 512, that are stored by columns. Errors: 801
+    /// if memory is refused; nothing was added then.
     pub fn append(
         alloc: Global,
         bytes: &mut Vec<u8>,
@@ -75,7 +77,7 @@ impl<L: CodeLayout> PackedSegment<L> {
     }
 }
 
-/// The bytes of a segment of the rows that are kept in columns.
+/// Returns the bytes of a segment of the rows that are stored by columns.
 fn blocks_of<L: CodeLayout>(
     alloc: Global,
     placement: &Placement,

@@ -1,11 +1,11 @@
-//! The bytes of the codes of one column of a group, from which both layouts are built, and codes made of bytes.
+//! The bytes of one column's codes, from which both layouts are built, and codes made of bytes.
 ghost use Rattle.std.specs.Prelude.{◌≡◌, ◌<◌, ◌≤◌, ◌+◌, ◌*◌, ◌%◌, ◌^◌, ℕ, [], length, map, slice_index_or};
 ghost use lib.Lanes.{zip2};
 ghost use Rattle.bw_model.specs.Stored.{byte_of};
 
 use bw_lanes::LANES;
 
-/// A byte of each code, of which byte 0 is the least.
+/// Returns the byte `slice` of each code; byte 0 is the least.
 pub fn bytes_of(codes: &[u64; LANES], slice: usize) -> [u8; LANES]
     requires { slice < 8 }
     ensures { result ≡ map (byte_of slice) codes.now }
@@ -17,7 +17,8 @@ pub fn bytes_of(codes: &[u64; LANES], slice: usize) -> [u8; LANES]
     bytes
 }
 
-/// The lowest bytes of each code, so many: for each byte those of all codes, of which byte 0 is the least.
+/// Returns the `count` lowest bytes of each code: for each byte, from byte 0, the least, that of
+/// all codes.
 pub fn slices_of(codes: &[u64; LANES], count: usize) -> [[u8; LANES]; 8]
     requires { count ≤ 8 }
     ensures { (slice : ℕ) → slice < count
@@ -30,7 +31,7 @@ pub fn slices_of(codes: &[u64; LANES], count: usize) -> [[u8; LANES]; 8]
     slices
 }
 
-/// Makes each byte the code of its lane.
+/// Sets each lane's code to its byte.
 pub fn put_byte(codes: &mut [u64; LANES], bytes: &[u8; LANES])
     ensures { codes.new ≡ bytes.now }
 {
@@ -39,7 +40,7 @@ pub fn put_byte(codes: &mut [u64; LANES], bytes: &[u8; LANES])
     }
 }
 
-/// Shifts one more byte into each code: a code becomes 256 times itself plus the byte, modulo 2^64.
+/// Shifts one more byte into each code: 256 times the code plus the byte, modulo 2^64.
 pub fn push_byte(codes: &mut [u64; LANES], bytes: &[u8; LANES])
     ensures { codes.new ≡ zip2 (λ code byte. (256 * code + byte) % 2 ^ 64) codes.old bytes.now }
 {
@@ -48,7 +49,7 @@ pub fn push_byte(codes: &mut [u64; LANES], bytes: &[u8; LANES])
     }
 }
 
-/// A code becomes 256 times itself plus a byte, modulo 2^64.
+/// Returns 256 times the code plus the byte, modulo 2^64.
 #[tactic(auto, using(crate::proofs::ByteLemmas::byte_shifted))]
 fn with_byte(code: u64, byte: u8) -> u64
     ensures { result ≡ (256 * code + byte) % 2 ^ 64 }

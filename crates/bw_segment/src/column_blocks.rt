@@ -4,14 +4,14 @@ ghost use Rattle.bw_segment.specs.Fronts.{AreFronts};
 use bw_model::Fault;
 use std::alloc::Global;
 
-/// The blocks of one column of a table, of one segment after the other, back to back. Where they are long, the null
-/// planes stand once more, back to back: they are found without the codes between them.
+/// The blocks of one column, those of all segments back to back. If they are long, their null planes
+/// are stored a second time, back to back, to be read without the codes between them.
 #[derive(Drop)]
 pub struct ColumnBlocks {
     pub(crate) size: usize,
     pub(crate) bytes: Vec<u8>,
     pub(crate) fronts: Vec<u8>,
-    /// Whether the first 64 bytes of each block are put apart too.
+    /// Whether the first 64 bytes of each block are stored apart too.
     is_long: bool,
     ghost same: { AreFronts size bytes.items fronts.items },
 }
@@ -21,7 +21,7 @@ impl ColumnBlocks {
     ghost use Rattle.bw_model.specs.Fault.{no_memory};
     ghost use Rattle.bw_segment.specs.Fronts.{HasFronts};
 
-    /// A column without a block, whose blocks are to have so many bytes.
+    /// Returns a column without a block, whose blocks will have `size` bytes.
     pub(crate) fn new(alloc: Global, size: usize, is_long: bool) -> Self
         ensures size { result.size ≡ size }
         ensures bytes { result.bytes.items ≡ [] }
@@ -34,8 +34,9 @@ impl ColumnBlocks {
         }
     }
 
-    /// Adds a block, and its first 64 bytes apart, if those of all blocks before it stand apart. Memory grows by what is
-    /// added, or by a sixteenth of the bytes so far where that is more.
+    /// Adds a block, and its first 64 bytes apart, if those of all earlier blocks are stored apart.
+    /// Memory grows by the block, or by a sixteenth of the bytes so far if that is more. Errors: 801
+    /// if memory is refused.
     #[tactic(auto, using(crate::proofs::FrontLemmas::fronts_kept))]
     pub(crate) fn push(&mut self, block: &[u8]) -> Result<(), Fault>
         ensures size { self.new.size ≡ self.old.size }
@@ -50,7 +51,7 @@ impl ColumnBlocks {
         Ok(())
     }
 
-    /// Adds a block, and its first 64 bytes apart.
+    /// Adds a block, and its first 64 bytes apart. Errors: 801 if memory is refused.
     fn push_both(&mut self, block: &[u8]) -> Result<(), Fault>
         requires size { length block.now ≡ self.old.size }
         requires room { 64 ≤ self.old.size }
@@ -65,7 +66,7 @@ impl ColumnBlocks {
         Ok(())
     }
 
-    /// The first 64 bytes of the block of a number, if they stand apart.
+    /// Returns the first 64 bytes of the block of this number, if they are stored apart.
     #[inline(always)]
     pub(crate) fn front(&self, number: usize) -> Option<&[u8]>
         ensures front { IfSome result (λ front. front.now
@@ -81,7 +82,7 @@ impl ColumnBlocks {
         Some(&fronts[start..start + 64])
     }
 
-    /// Whether the first 64 bytes of each block stand apart.
+    /// Returns whether the first 64 bytes of every block are stored apart.
     fn has_all_fronts(&self) -> bool
         ensures { IsTrue result → HasFronts self.now.size self.now.bytes.items self.now.fronts.items }
     {
@@ -92,7 +93,8 @@ impl ColumnBlocks {
         }
     }
 
-    /// Makes room for so many bytes more, or for a sixteenth of the bytes so far where that is more.
+    /// Reserves memory for `count` bytes, or for a sixteenth of the bytes so far if that is more.
+    /// Errors: 801 if memory is refused.
     fn make_room(bytes: &mut Vec<u8>, count: usize) -> Result<(), Fault>
         ensures same { bytes.new.items ≡ bytes.old.items }
         ensures only_memory { IsOkUnless result no_memory }

@@ -1,4 +1,4 @@
-//! Rows of a group kept column by column, as they come.
+//! Rows of a group, stored by columns as they come.
 ghost use Rattle.std.specs.Prelude.{◌≡◌, ◌<◌, ◌++◌, ◌∷◌, [], ℕ, List, true, length, map, IfOk, IsOkUnless};
 ghost use Rattle.bw_model.specs.declared.column.Column.{Column};
 ghost use Rattle.bw_model.specs.Column.{admits_values};
@@ -11,7 +11,7 @@ use bw_lanes::LANES;
 use bw_model::{Fault, Row, Schema};
 use std::alloc::Global;
 
-/// The codes of a column in the 512 lanes of a group, as they are stored, and for each lane 1 where it is null, and
+/// The stored codes of a column in the 512 lanes of a group, and for each lane 1 if it is null,
 /// else 0.
 #[derive(Drop)]
 pub struct ColumnCodes {
@@ -22,7 +22,7 @@ pub struct ColumnCodes {
 impl ColumnCodes {
     ghost use Rattle.std.specs.Prelude.{◌≡◌, ◌<◌, replicate, slice_set, if◌then◌else◌};
 
-    /// A column of no rows.
+    /// Returns a column of no rows.
     fn empty() -> Self
         ensures codes { result.codes ≡ replicate 512 0 }
         ensures nulls { result.nulls ≡ replicate 512 0 }
@@ -33,7 +33,7 @@ impl ColumnCodes {
         }
     }
 
-    /// Puts a code, and whether it is null's, into a lane.
+    /// Sets the code of a lane, and whether it is null's.
     fn put(&mut self, lane: usize, code: u64, null: bool)
         requires { lane < 512 }
         ensures codes { self.new.codes ≡ slice_set self.old.codes lane code }
@@ -44,7 +44,7 @@ impl ColumnCodes {
     }
 }
 
-/// So many columns that keep no rows.
+/// Returns `count` columns of no rows. Errors: 801 if memory is refused.
 pub fn no_rows(alloc: Global, count: usize) -> Result<Vec<ColumnCodes>, Fault>
     ensures keeps { IfOk result (λ kept. (columns : List Column) → length columns ≡ count
         → KeepRows columns [] kept.items) }
@@ -57,7 +57,7 @@ pub fn no_rows(alloc: Global, count: usize) -> Result<Vec<ColumnCodes>, Fault>
     Ok(kept)
 }
 
-/// Keeps no rows any more.
+/// Removes all rows.
 pub fn clear_rows(kept: &mut [ColumnCodes])
     ensures { (columns : List Column) → length columns ≡ length kept.old
         → KeepRows columns [] kept.new }
@@ -67,7 +67,8 @@ pub fn clear_rows(kept: &mut [ColumnCodes])
     }
 }
 
-/// Keeps a row, which the schema admits, in the lane after those of the rows before it. It takes no memory.
+/// Stores a row, which the schema must admit, in the lane after those of earlier rows. Allocates no
+/// memory.
 pub fn keep_row(kept: &mut [ColumnCodes], schema: &Schema, lane: usize, row: &Row)
     requires all { length kept.old ≡ length schema.now.columns.items }
     requires lane { lane < 512 }
@@ -83,7 +84,7 @@ pub fn keep_row(kept: &mut [ColumnCodes], schema: &Schema, lane: usize, row: &Ro
     }
 }
 
-/// The rows of a group, column by column.
+/// Returns the rows of a group, stored by columns. Errors: 801 if memory is refused.
 pub fn columns_of(alloc: Global, schema: &Schema, rows: &[Row]) -> Result<Vec<ColumnCodes>, Fault>
     requires { IsGroup (meaning_of schema.now rows.now) }
     ensures keeps { IfOk result (λ kept.

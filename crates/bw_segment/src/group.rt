@@ -5,7 +5,7 @@ ghost use Rattle.bw_segment.specs.Meaning.{meaning_of, IsGroup};
 use bw_lanes::LANES;
 use bw_model::{Row, Schema};
 
-/// Whether rows are those of one group: 1 to 512, each of which the schema admits.
+/// Returns whether the rows are those of one group: 1 to 512, each of which the schema admits.
 pub fn is_group(schema: &Schema, rows: &[Row]) -> bool
     ensures group { result ≡ true → IsGroup (meaning_of schema.now rows.now) }
     ensures none { result ≡ false → ¬ (IsGroup (meaning_of schema.now rows.now)) }

@@ -1,4 +1,4 @@
-//! The judging of a column's block.
+//! The validation of a column's block.
 ghost use Rattle.std.specs.Prelude.{◌≡◌, ◌^◌, ◌<◌, ◌≤◌, None, length, true};
 ghost use Rattle.bw_lanes.specs.Lanes.{lanes_of_words};
 ghost use Rattle.bw_model.specs.Groups.{group_size};
@@ -12,9 +12,12 @@ use crate::placement::Placement;
 use bw_lanes::{LANES, Plane, is_zero};
 
 impl<L: CodeLayout> PackedSegment<L> {
-    /// The first fault of a column's block of a segment of so many rows, by its number: 308 where a bit of a
-    /// padding row is 1, else that of the first row which is null with a code that isn't 0 (307) or has a code
-    /// above the column's greatest (306). A code is what the layout reads of all bits of the bytes that keep it.
+    /// Returns the number of the first error of a column's block, in a segment of `rows` rows, or
+    /// None if it is valid.
+    ///
+    /// 308 if a bit of a padding row is 1. Otherwise the first wrong row decides: 307 if it is null
+    /// with a code that isn't 0, 306 if its code is above the column's maximum. A code is what the
+    /// layout reads from all bits of its bytes.
     #[tactic(auto, using(crate::proofs::PlacementLemmas::span_fits))]
     pub fn judge(placement: &Placement, col: usize, rows: u32, block: &[u8]) -> Option<u16>
         requires column { col < length placement.now.schema.columns.items }
@@ -38,7 +41,8 @@ impl<L: CodeLayout> PackedSegment<L> {
     }
 }
 
-/// Whether each of 512 rows is without fault: no code is above the greatest, and none of a null row isn't 0.
+/// Returns whether each of 512 rows is valid: no code is above the maximum, and each null row has
+/// code 0.
 #[inline(always)]
 fn are_good<L: CodeLayout>(nulls: &Plane, width: u32, codes: &[u8], span: u64) -> bool
     requires width { (1 ≤ width) × (width ≤ 63) }
@@ -51,7 +55,8 @@ fn are_good<L: CodeLayout>(nulls: &Plane, width: u32, codes: &[u8], span: u64) -
     (is_zero(nulls) || !L::any_used(width, codes, nulls)) && !L::any_above(width, codes, span)
 }
 
-/// The lanes whose code isn't 0, where there are padding or null ones in which that is asked.
+/// Returns the lanes whose code isn't 0. Without padding and null lanes, in which alone it need be
+/// right, it returns zeros.
 fn used<L: CodeLayout>(rows: u32, nulls: &Plane, width: u32, codes: &[u8]) -> Plane
     requires width { (1 ≤ width) × (width ≤ 63) }
     requires size { length codes.now ≡ L.packing.size width }

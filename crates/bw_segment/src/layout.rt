@@ -1,4 +1,4 @@
-//! How a layout keeps the codes of one column of a segment.
+//! How a layout packs the codes of one column of a segment.
 ghost use Rattle.std.specs.Prelude.{◌*◌, All, ◌≡◌, ◌==◌, ◌^◌, ◌<◌, ◌≤◌, ◌++◌, ℕ, length, map, max, min, nat_lt, not, slice_index, sum, IfSome, IsOkUnless, OnOk};
 ghost use Rattle.std.specs.List.{list_any, reduce};
 ghost use Rattle.bw_lanes.specs.Lanes.{lanes_of_words};
@@ -11,53 +11,55 @@ ghost use Rattle.bw_segment.specs.Packing.{Packing, IsPacking};
 use bw_lanes::{LANES, Plane, Selection};
 use bw_model::Fault;
 
-/// How the codes of 512 lanes are kept as bytes. Each method but `size` and `push_codes` is given the bytes of such
-/// codes, of so many binary digits each, 1 to 63, and answers from the codes that these spell alone. Lane i is row i's.
+/// A packing of the codes of 512 lanes into bytes. Each method but `size` and `push_codes` reads
+/// the bytes of codes of `width` binary digits, 1 to 63, and its result depends only on the codes
+/// that they spell. Lane i is row i's.
 pub trait CodeLayout {
     ghost packing: { Packing };
 
-    /// How many bytes the codes take.
+    /// Returns how many bytes the codes have.
     fn size(width: u32) -> usize
         requires { (1 ≤ width) × (width ≤ 63) }
         ensures size { result ≡ packing.size width }
         ensures bound { result ≤ 4096 };
 
-    /// Adds the bytes of codes. Where memory is refused a part may have been added.
+    /// Adds the bytes of the codes. Errors: 801 if memory is refused; a part may have been added
+    /// then.
     fn push_codes(bytes: &mut Vec<u8>, width: u32, codes: &[u64; LANES]) -> Result<(), Fault>
         requires { (1 ≤ width) × (width ≤ 63) }
         ensures added { OnOk result (bytes.new.items
             ≡ bytes.old.items ++ packing.bytes width codes.now) }
         ensures only_memory { IsOkUnless result no_memory };
 
-    /// The lanes whose code isn't 0.
+    /// Returns the lanes whose code isn't 0.
     fn used(width: u32, bytes: &[u8]) -> Plane
         requires width { (1 ≤ width) × (width ≤ 63) }
         requires size { length bytes.now ≡ packing.size width }
         ensures { lanes_of_words result
             ≡ map (λ code. not (code == 0)) (packing.codes width bytes.now) };
 
-    /// The lanes whose code is above a number of so many digits.
+    /// Returns the lanes whose code is above `most`, a number of `width` digits.
     fn above(width: u32, bytes: &[u8], most: u64) -> Plane
         requires width { (1 ≤ width) × (width ≤ 63) }
         requires size { length bytes.now ≡ packing.size width }
         requires most { most < 2 ^ width }
         ensures { lanes_of_words result ≡ map (nat_lt most) (packing.codes width bytes.now) };
 
-    /// Whether a code in some lanes isn't 0.
+    /// Returns whether a code in these lanes isn't 0.
     fn any_used(width: u32, bytes: &[u8], lanes: &Plane) -> bool
         requires width { (1 ≤ width) × (width ≤ 63) }
         requires size { length bytes.now ≡ packing.size width }
         ensures { result ≡ list_any (λ code. not (code == 0))
             (picked (lanes_of_words lanes.now) (packing.codes width bytes.now)) };
 
-    /// Whether a code is above a number of so many digits.
+    /// Returns whether a code is above `most`, a number of `width` digits.
     fn any_above(width: u32, bytes: &[u8], most: u64) -> bool
         requires width { (1 ≤ width) × (width ≤ 63) }
         requires size { length bytes.now ≡ packing.size width }
         requires most { most < 2 ^ width }
         ensures { result ≡ list_any (nat_lt most) (packing.codes width bytes.now) };
 
-    /// The lanes in which a bit of the code is 1. Bit 0 is the least.
+    /// Returns the lanes in which a bit of the code is 1. Bit 0 is the least.
     fn bit(width: u32, bytes: &[u8], bit: u32) -> Plane
         requires width { (1 ≤ width) × (width ≤ 63) }
         requires size { length bytes.now ≡ packing.size width }
@@ -65,7 +67,7 @@ pub trait CodeLayout {
         ensures { lanes_of_words result
             ≡ map (λ code. has_bit code bit) (packing.codes width bytes.now) };
 
-    /// The lanes in which a byte of the code is below c. Byte 0 is the least.
+    /// Returns the lanes in which a byte of the code is less than `c`. Byte 0 is the least.
     fn byte_lt(width: u32, bytes: &[u8], slice: usize, c: u8) -> Plane
         requires width { (1 ≤ width) × (width ≤ 63) }
         requires size { length bytes.now ≡ packing.size width }
@@ -73,7 +75,7 @@ pub trait CodeLayout {
         ensures { lanes_of_words result
             ≡ map (λ code. nat_lt (byte_of slice code) c) (packing.codes width bytes.now) };
 
-    /// The lanes in which such a byte is c.
+    /// Returns the lanes in which a byte of the code is `c`. Byte 0 is the least.
     fn byte_eq(width: u32, bytes: &[u8], slice: usize, c: u8) -> Plane
         requires width { (1 ≤ width) × (width ≤ 63) }
         requires size { length bytes.now ≡ packing.size width }
@@ -81,7 +83,7 @@ pub trait CodeLayout {
         ensures { lanes_of_words result
             ≡ map (λ code. byte_of slice code == c) (packing.codes width bytes.now) };
 
-    /// The sum of the codes in some lanes.
+    /// Returns the sum of the codes in these lanes.
     fn sum(width: u32, bytes: &[u8], lanes: &Selection) -> u128
         requires width { (1 ≤ width) × (width ≤ 63) }
         requires size { length bytes.now ≡ packing.size width }
@@ -90,7 +92,7 @@ pub trait CodeLayout {
             ≡ sum (picked (lanes_of_words lanes.now) (packing.codes width bytes.now)) }
         ensures bound { result ≤ 2 ^ 72 };
 
-    /// The least of the codes in some lanes; none where there are no lanes.
+    /// Returns the minimum of the codes in these lanes, or None if there are no lanes.
     fn least(width: u32, bytes: &[u8], lanes: &Selection) -> Option<u64>
         requires width { (1 ≤ width) × (width ≤ 63) }
         requires size { length bytes.now ≡ packing.size width }
@@ -99,7 +101,7 @@ pub trait CodeLayout {
             ≡ reduce min (picked (lanes_of_words lanes.now) (packing.codes width bytes.now)) }
         ensures bound { IfSome result (λ code. code < 2 ^ 63) };
 
-    /// The greatest of these codes.
+    /// Returns the maximum of the codes in these lanes, or None if there are no lanes.
     fn greatest(width: u32, bytes: &[u8], lanes: &Selection) -> Option<u64>
         requires width { (1 ≤ width) × (width ≤ 63) }
         requires size { length bytes.now ≡ packing.size width }
@@ -108,20 +110,20 @@ pub trait CodeLayout {
             ≡ reduce max (picked (lanes_of_words lanes.now) (packing.codes width bytes.now)) }
         ensures bound { IfSome result (λ code. code < 2 ^ 63) };
 
-    /// The code in a lane.
+    /// Returns the code in a lane.
     fn code(width: u32, bytes: &[u8], lane: usize) -> u64
         requires width { (1 ≤ width) × (width ≤ 63) }
         requires size { length bytes.now ≡ packing.size width }
         requires lane { lane < 512 }
         ensures { result ≡ slice_index (packing.codes width bytes.now) lane };
 
-    /// The code of each lane.
+    /// Sets `codes` to the code of each lane.
     fn unpack(width: u32, bytes: &[u8], codes: &mut [u64; LANES])
         requires width { (1 ≤ width) × (width ≤ 63) }
         requires size { length bytes.now ≡ packing.size width }
         ensures { codes.new ≡ packing.codes width bytes.now };
 
-    /// A law: what is kept is read again.
+    /// A law: the bytes of codes spell these codes.
     fn keeps_codes()
         ensures { IsPacking packing };
 }

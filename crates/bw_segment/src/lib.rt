@@ -1,18 +1,20 @@
-//! Segments: 512 rows of a table at a time, kept by columns, which scans run on.
+//! Segments: 512 rows of a table at a time, stored by columns, on which scans run.
 //!
-//! The contract that the crates above use: a [`Segment`] means the columns of a schema and 1 to 512 rows that
-//! they admit, and each of its methods answers from that meaning alone, whatever the layout. Bit i of
-//! `plane(v)` is row i's bit of the variable v, and 0 past the last row. `codes`, [`values_in_lanes`] and
-//! [`keys_in_lanes`] give a column in all 512 lanes at once.
+//! The contract that the crates above use: a [`Segment`] means the columns of a schema and 1 to 512
+//! rows that they admit. The result of each method depends only on that meaning, not on the layout.
+//! Bit i of `plane(v)` is row i's bit of the variable v, and 0 past the last row. `codes`,
+//! [`values_in_lanes`] and [`keys_in_lanes`] return a column in all 512 lanes at once.
 //!
-//! A [`PackedSegment`] is kept as the bytes of its blocks, in a [`CodeLayout`], which says how the codes of one column
-//! are kept: bit planes, after BitWeaving's vertical layout (Li and Patel), in `bw_planes`, and byte slices, after
-//! ByteSlice (Feng, Lo, Kao and Xu), in `bw_slices`. Segments as bytes, and the first fault of such bytes, are said
-//! once for any layout in `specs/Packing.antt` and `specs/BlockFault.antt`. What variables, codes and lanes are stands
-//! in the `specs/` of `bw_model`. Read `segment.rt` first, and then `layout.rt` and `packed.rt`.
+//! A [`PackedSegment`] is stored as the bytes of its blocks. Its [`CodeLayout`] packs the codes of
+//! one column: bit planes, after BitWeaving's vertical layout (Li and Patel), in `bw_planes`, and
+//! byte slices, after ByteSlice (Feng, Lo, Kao and Xu), in `bw_slices`. `specs/Packing.antt` and
+//! `specs/BlockFault.antt` define segments as bytes, and the first error of such bytes, once for
+//! any layout. The `specs/` of `bw_model` define variables, codes and lanes.
 //!
-//! [`is_group`] is for those who build segments of rows in memory: whether rows are 1 to 512 that a schema admits,
-//! which `build` in either layout demands:
+//! Read `segment.rt` first, then `layout.rt` and `packed.rt`.
+//!
+//! [`is_group`] is for callers who build segments of rows in memory. It tests what `build` demands
+//! in either layout: 1 to 512 rows that a schema admits.
 //!
 //! ```
 //! if is_group(&schema, &rows) {

@@ -1,4 +1,4 @@
-//! The segments of a table whose blocks are kept column by column.
+//! The segments of a table whose blocks are stored by columns.
 ghost use Rattle.std.specs.Prelude.{◌≡◌, ◌+◌, ◌<◌, ◌≤◌, ℕ, length, IfOk, OnOk, IsOkUnless};
 ghost use Rattle.bw_device.specs.Shared.{bytes_in};
 ghost use Rattle.bw_model.specs.Fault.{no_memory};
@@ -18,10 +18,11 @@ use bw_model::Fault;
 use std::alloc::Global;
 use std::rc::Rc;
 
-/// A column whose blocks have so many bytes has their first 64 apart too, if it's nullable: they take a seventeenth more.
+/// Nullable columns whose blocks have at least this many bytes store their null planes apart too,
+/// which takes a seventeenth more memory.
 const LONG: usize = 1088;
 
-/// The columns of a table in a layout, without a block.
+/// Returns the columns of a table in a layout, without a block. Errors: 801 if memory is refused.
 pub fn no_blocks<L: CodeLayout>(
     alloc: Global,
     placement: &Placement,
@@ -38,8 +39,8 @@ pub fn no_blocks<L: CodeLayout>(
     Ok(kept)
 }
 
-/// Adds the blocks of a segment, each to its column, after those of the segments before it. Where memory is refused,
-/// some columns may have a block more than others.
+/// Adds the blocks of a segment, each to its column, after those of earlier segments. Errors: 801
+/// if memory is refused; some columns may then have one block more than others.
 pub fn push_blocks<L: CodeLayout>(
     kept: &mut [ColumnBlocks],
     segment: &PackedSegment<L>,
@@ -62,7 +63,7 @@ pub fn push_blocks<L: CodeLayout>(
     Ok(())
 }
 
-/// The blocks of the segment of a number, each of which stands in its column.
+/// The blocks of one segment, by its number, each within its column.
 #[derive(Clone, Copy)]
 pub struct NumberedBlocks<'a> {
     columns: &'a [ColumnBlocks],
@@ -92,7 +93,8 @@ impl Blocks for NumberedBlocks<'_> {
 }
 
 impl<'a, L: CodeLayout> PackedSegment<L, NumberedBlocks<'a>> {
-    /// The segment of a number, of so many rows, of those whose blocks are kept in columns, each without fault.
+    /// Returns the segment of this number, which has `rows` rows. Its blocks, which are stored by
+    /// columns, must be valid.
     pub fn of_columns(
         placement: Rc<Placement>,
         rows: u32,

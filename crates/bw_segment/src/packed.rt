@@ -1,4 +1,4 @@
-//! A segment kept as bytes in a layout, and what it answers.
+//! A segment stored as bytes in a layout, and its results.
 ghost use Rattle.std.specs.Prelude.{◌≡◌, ◌≤◌, length};
 ghost use Rattle.bw_device.specs.Shared.{bytes_in};
 ghost use Rattle.bw_model.specs.Groups.{group_size};
@@ -17,9 +17,10 @@ use bw_model::{Schema, Value};
 use std::marker::PhantomData;
 use std::rc::Rc;
 
-/// A segment kept as bytes: for each column one block, of its null plane, if it is nullable, in 64 bytes, of which bit
-/// i mod 8, the least first, of byte i / 8 is row i's, and then its codes in a layout. Past the last row there are
-/// zeros. The bytes stand in one piece, or each block in a piece of its own.
+/// A segment stored as bytes: one block for each column. A block has the column's null plane, if it
+/// is nullable, and then its codes in a layout. The null plane has 64 bytes; bit i mod 8, the least
+/// first, of byte i / 8 is row i's. Past the last row there are zeros. Either all bytes are
+/// contiguous, or those of each block.
 #[derive(Drop)]
 pub struct PackedSegment<L: CodeLayout, B: Blocks = SharedBytes> {
     pub placement: Rc<Placement>,
@@ -108,7 +109,8 @@ impl<L: CodeLayout, B: Blocks> Segment for PackedSegment<L, B> {
 impl<L: CodeLayout> PackedSegment<L> {
     ghost use Rattle.std.specs.Prelude.{◌<◌};
 
-    /// The segment of so many rows whose blocks are these bytes, each without fault.
+    /// Returns the segment of `rows` rows whose blocks are these bytes, each of which must be
+    /// valid.
     pub fn of_blocks(placement: Rc<Placement>, rows: u32, bytes: SharedBytes) -> Self
         requires placed { IsPlaced L.packing placement.value }
         requires some { 1 ≤ rows }
@@ -120,7 +122,7 @@ impl<L: CodeLayout> PackedSegment<L> {
         PackedSegment::of_held_blocks(placement, rows, bytes)
     }
 
-    /// How many bytes a column's block takes.
+    /// Returns how many bytes a column's block has.
     pub fn block_size(placement: &Placement, col: usize) -> usize
         requires { col < length placement.now.schema.columns.items }
         ensures size { result ≡ block_size L.packing placement.now.schema.columns.items col }
@@ -129,7 +131,7 @@ impl<L: CodeLayout> PackedSegment<L> {
         placement.null_size(col) + L::size(placement.width(col))
     }
 
-    /// How many bytes a segment takes.
+    /// Returns how many bytes a segment has.
     pub fn segment_size(placement: &Placement) -> usize
         requires { IsPlaced L.packing placement.now }
         ensures { result ≡ segment_size L.packing placement.now.schema.columns.items }
@@ -137,7 +139,7 @@ impl<L: CodeLayout> PackedSegment<L> {
         placement.start::<L>(placement.schema.columns.len())
     }
 
-    /// The bytes of the segment: the blocks of its columns, in order.
+    /// Returns the bytes of the segment: the blocks of its columns, in order.
     pub fn bytes(&self) -> &[u8]
         ensures { result.now ≡ segment_bytes L.packing
             (⟦<PackedSegment<L> as Segment>⟧.meaning self.now).columns
@@ -155,7 +157,8 @@ impl<L: CodeLayout, B: Blocks> PackedSegment<L, B> {
     ghost use Rattle.bw_segment.specs.Meaning.{code_lanes};
     ghost use Rattle.bw_segment.specs.Packing.{block_at};
 
-    /// The segment of so many rows whose blocks stand in these bytes, each without fault.
+    /// Returns the segment of `rows` rows whose blocks are in these bytes, each of which must be
+    /// valid.
     pub(crate) fn of_held_blocks(placement: Rc<Placement>, rows: u32, bytes: B) -> Self
         requires placed { IsPlaced L.packing placement.value }
         requires some { 1 ≤ rows }
@@ -174,7 +177,7 @@ impl<L: CodeLayout, B: Blocks> PackedSegment<L, B> {
         }
     }
 
-    /// A column's block.
+    /// Returns a column's block.
     #[inline(always)]
     pub(crate) fn block(&self, col: usize) -> &[u8]
         requires { col < length self.now.placement.value.schema.columns.items }
@@ -189,7 +192,7 @@ impl<L: CodeLayout, B: Blocks> PackedSegment<L, B> {
         self.bytes.block(col, start, end)
     }
 
-    /// The first 64 bytes of a column's block, if they stand apart.
+    /// Returns the first 64 bytes of a column's block, if they are stored apart.
     #[inline(always)]
     fn front(&self, col: usize) -> Option<&[u8]>
         requires { col < length self.now.placement.value.schema.columns.items }
@@ -203,7 +206,8 @@ impl<L: CodeLayout, B: Blocks> PackedSegment<L, B> {
         self.bytes.front(col, start, end)
     }
 
-    /// How many digits a column's codes have, and the bytes that keep them, which end its block.
+    /// Returns how many digits a column's codes have, and the bytes of these codes, which end its
+    /// block.
     #[inline(always)]
     fn kept(&self, col: usize) -> (u32, &[u8])
         requires { col < length self.now.placement.value.schema.columns.items }

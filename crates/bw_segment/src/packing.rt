@@ -1,4 +1,4 @@
-//! Laws of segments as bytes, for the readers and writers of such bytes, in whichever layout.
+//! Laws of segments as bytes, for the readers and writers of such bytes, in either layout.
 ghost use Rattle.std.specs.Prelude.{◌≡◌, ◌<◌, ◌≤◌, ◌^◌, ◌++◌, ℕ, List, None, suc, length, All};
 ghost use Rattle.bw_model.specs.declared.column.Column.{Column};
 ghost use Rattle.bw_model.specs.Groups.{group_size};
@@ -6,7 +6,8 @@ ghost use Rattle.bw_segment.specs.BlockFault.{block_fault, AreSound, IsSound};
 ghost use Rattle.bw_segment.specs.Packing.{Packing, IsPacking, block_size, bytes_before, segment_size, block_at, block_bytes, segment_bytes, rows_spelled};
 ghost use Rattle.bw_segment.specs.Meaning.{Meaning, IsGroup};
 
-/// A law: bytes whose blocks are without fault are the bytes of the rows that they spell, which are a group.
+/// A law: bytes whose blocks are valid are the bytes of the rows that they spell, which are a
+/// group.
 pub fn sound_bytes_spell_a_group()
     ensures count { (packing : Packing) (columns : List Column) (count : ℕ) (bytes : List ℕ)
         → length (rows_spelled packing columns count bytes) ≡ count }
@@ -24,7 +25,7 @@ pub fn sound_bytes_spell_a_group()
         → segment_bytes packing columns (rows_spelled packing columns count bytes) ≡ bytes }
 {}
 
-/// A law: the bytes of a group are without fault, consist of the blocks of its columns, and spell its rows.
+/// A law: the bytes of a group are valid, consist of the blocks of its columns, and spell its rows.
 pub fn bytes_of_a_group_are_sound()
     ensures sound { (packing : Packing) (meaning : Meaning) → IsPacking packing → IsGroup meaning
         → IsSound packing meaning.columns (length meaning.rows)
@@ -41,7 +42,7 @@ pub fn bytes_of_a_group_are_sound()
         (segment_bytes packing meaning.columns meaning.rows) ≡ meaning.rows }
 {}
 
-/// A law: a block without fault after blocks without fault.
+/// A law: a valid block after valid blocks.
 pub fn blocks_are_added()
     ensures { (packing : Packing) (columns : List Column) (count blocks : ℕ) (bytes block : List ℕ)
         → AreSound packing columns count blocks bytes

@@ -1,4 +1,4 @@
-//! Where the blocks of a table's columns begin.
+//! The places at which the blocks of a table's columns begin.
 ghost use Rattle.std.specs.Prelude.{◌≤◌, length};
 ghost use Rattle.bw_segment.specs.Packing.{bytes_before};
 ghost use Rattle.bw_segment.specs.Packed.{IsPlaced};
@@ -12,7 +12,8 @@ impl Placement {
     ghost use Rattle.std.specs.Prelude.{◌≡◌, IfOk, IsOkUnless};
     ghost use Rattle.bw_model.specs.Fault.{no_memory};
 
-    /// The placement of a table whose schema is an equal one, in a layout.
+    /// Returns the placement of a table's blocks in a layout, with a copy of the schema. Errors:
+    /// 801 if memory is refused.
     pub fn of<L: CodeLayout>(alloc: Global, schema: &Schema) -> Result<Self, Fault>
         ensures name { IfOk result (λ placement. placement.schema.name ≡ schema.now.name) }
         ensures columns { IfOk result (λ placement.
@@ -38,8 +39,8 @@ impl Placement {
         })
     }
 
-    /// The first byte of a column's block in a segment of a layout. For the number of columns, it is the number of
-    /// bytes.
+    /// Returns the first byte of a column's block, in a segment of a layout. For the number of
+    /// columns, it is the number of bytes.
     #[inline(always)]
     pub(crate) fn start<L: CodeLayout>(&self, col: usize) -> usize
         requires placed { IsPlaced L.packing self.now }

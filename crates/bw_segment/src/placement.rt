@@ -1,17 +1,17 @@
-//! A table's schema, with what is looked up of it for each segment.
+//! A table's schema, with what each segment looks up in it.
 ghost use Rattle.std.specs.Prelude.{All, ◌≡◌, ◌<◌, ◌≤◌, length, map};
 ghost use Rattle.std.specs.List.{range_with_len};
 ghost use Rattle.bw_model.specs.Code.{width_at};
 
 use bw_model::Schema;
 
-/// A schema, how wide the codes of its columns are, and where the columns' blocks begin in a segment of one layout,
-/// found once for all segments of a table, which share it by an `Rc`. [`Placement::of`] makes it for a layout, and the
-/// calls of that layout's segments alone take it where they need the blocks' places.
+/// A schema, the widths of its columns' codes, and where the columns' blocks begin in a segment of
+/// one layout. It is made once by [`Placement::of`], and all segments of a table share it by an
+/// `Rc`. Only calls of that layout's segments may use the places of blocks.
 #[derive(Drop)]
 pub struct Placement {
     pub schema: Schema,
-    /// The first byte of each column's block, and after them the number of bytes.
+    /// The first byte of each column's block, then the number of bytes.
     pub starts: Vec<u32>,
     /// How many binary digits each column's codes have.
     pub(crate) widths: Vec<u32>,
@@ -21,7 +21,8 @@ pub struct Placement {
 }
 
 impl Placement {
-    /// How many binary digits a column's codes have: the schema's own answer, which is worked out anew each time.
+    /// Returns how many binary digits a column's codes have, as the schema does, which computes it
+    /// anew each time.
     #[inline(always)]
     pub(crate) fn width(&self, col: usize) -> u32
         requires { col < length self.now.schema.columns.items }

@@ -1,4 +1,4 @@
-//! What every segment answers, in whichever layout.
+//! The queries of a segment, in either layout.
 ghost use Rattle.std.specs.Prelude.{◌≡◌, ◌^◌, ◌<◌, ◌≤◌, ◌==◌, length, map, max, min, nat_lt, slice_index_or, sum, [], IfSome, Some};
 ghost use Rattle.std.specs.List.{reduce};
 ghost use Rattle.bw_lanes.specs.Lanes.{lanes_of_words};
@@ -12,75 +12,78 @@ ghost use Rattle.bw_segment.specs.Picked.{bit_lanes, codes_in};
 use bw_lanes::{LANES, Plane, Selection};
 use bw_model::{Schema, Value};
 
-/// At least 1 and at most 512 rows of a table, kept by columns. The methods take no memory and refuse nothing.
+/// 1 to 512 rows of a table, stored by columns. The methods allocate no memory and never fail.
 pub trait Segment {
     ghost meaning: { Self → Meaning };
 
-    /// The table's name and columns.
+    /// Returns the table's schema.
     fn schema(&self) -> &Schema
         ensures name { result.now.name ≡ (meaning self.now).name }
         ensures columns { result.now.columns.items ≡ (meaning self.now).columns };
 
-    /// How many rows the segment has, 1 to 512.
+    /// Returns how many rows the segment has, 1 to 512.
     fn rows_in(&self) -> u32
         ensures count { result ≡ length (meaning self.now).rows }
         ensures bounds { (1 ≤ result) × (result ≤ group_size) };
 
-    /// The rows in which a bit of a column's code is 1. Bit 0 is the least. The rows past the last one count as code 0,
-    /// as null does.
+    /// Returns the rows in which a bit of a column's code is 1. Bit 0 is the least. Null, and the
+    /// rows past the last one, have code 0.
     fn bit(&self, col: usize, bit: u32) -> Plane
         requires column { col < length (meaning self.now).columns }
         requires bit { bit < width_at (meaning self.now).columns col }
         ensures { lanes_of_words result ≡ bit_lanes (meaning self.now) col bit };
 
-    /// The rows in which a column is null, none where it isn't nullable.
+    /// Returns the rows in which a column is null, which are none if it isn't nullable.
     fn nulls(&self, col: usize) -> Plane
         requires { col < length (meaning self.now).columns }
         ensures { lanes_of_words result ≡ null_bits (meaning self.now).rows col };
 
-    /// The rows in which a byte of a column's code, padded to whole bytes by zero bits at its top, is below c.
-    /// Byte 0 is the least. The rows past the last one count as code 0, as null does.
+    /// Returns the rows in which a byte of a column's code is less than `c`. The code is padded to
+    /// whole bytes by zero bits at its top; byte 0 is the least. Null, and the rows past the last
+    /// one, have code 0.
     fn byte_lt(&self, col: usize, slice: usize, c: u8) -> Plane
         requires column { col < length (meaning self.now).columns }
         requires slice { slice < slices_at (meaning self.now).columns col }
         ensures { lanes_of_words result
             ≡ map (λ byte. nat_lt byte c) (byte_lanes (meaning self.now) col slice) };
 
-    /// The rows in which such a byte is c.
+    /// Returns the rows in which a byte of a column's code, padded as for `byte_lt`, is `c`.
     fn byte_eq(&self, col: usize, slice: usize, c: u8) -> Plane
         requires column { col < length (meaning self.now).columns }
         requires slice { slice < slices_at (meaning self.now).columns col }
         ensures { lanes_of_words result
             ≡ map (λ byte. byte == c) (byte_lanes (meaning self.now) col slice) };
 
-    /// The sum of a column's codes in some rows, where null and the rows past the last one count as code 0.
+    /// Returns the sum of a column's codes in these rows. Null, and the rows past the last one,
+    /// have code 0.
     fn sum_of_codes(&self, col: usize, rows: &Selection) -> u128
         requires { col < length (meaning self.now).columns }
         ensures sum { result ≡ sum (codes_in (meaning self.now) col (lanes_of_words rows.now)) }
         ensures bound { result ≤ 2 ^ 72 };
 
-    /// The least of a column's codes in some rows, where null and the rows past the last one count as code 0; none
-    /// where there are no rows.
+    /// Returns the minimum of a column's codes in these rows, or None if there are no rows. Null,
+    /// and the rows past the last one, have code 0.
     fn least_code(&self, col: usize, rows: &Selection) -> Option<u64>
         requires { col < length (meaning self.now).columns }
         ensures least { result
             ≡ reduce min (codes_in (meaning self.now) col (lanes_of_words rows.now)) }
         ensures bound { IfSome result (λ code. code < 2 ^ 63) };
 
-    /// The greatest of these codes.
+    /// Returns the maximum of a column's codes in these rows, or None if there are no rows. Null,
+    /// and the rows past the last one, have code 0.
     fn greatest_code(&self, col: usize, rows: &Selection) -> Option<u64>
         requires { col < length (meaning self.now).columns }
         ensures greatest { result
             ≡ reduce max (codes_in (meaning self.now) col (lanes_of_words rows.now)) }
         ensures bound { IfSome result (λ code. code < 2 ^ 63) };
 
-    /// The codes of a column in the 512 lanes, as they are stored: that of row i in lane i, and 0 where the row is null
-    /// and past the last row.
+    /// Sets `codes` to the stored codes of a column in the 512 lanes: lane i has that of row i.
+    /// Null, and the rows past the last one, have code 0.
     fn codes(&self, col: usize, codes: &mut [u64; LANES])
         requires { col < length (meaning self.now).columns }
         ensures { codes.new ≡ code_lanes (meaning self.now) col };
 
-    /// The value of a row, from 0, in a column.
+    /// Returns the value of a row, from 0, in a column.
     fn value(&self, col: usize, row: usize) -> Value
         requires column { col < length (meaning self.now).columns }
         requires row { row < length (meaning self.now).rows }
@@ -89,7 +92,7 @@ pub trait Segment {
     /// A law: the rows are those of one group, which the columns admit.
     ghost is_group: { (segment : Self) → IsGroup (meaning segment) };
 
-    /// The bit of a variable in each row, 0 past the last one.
+    /// Returns the bit of a variable in each row; it is 0 past the last one.
     final fn plane(&self, var: u32) -> Plane
         requires { var < variables_of (meaning self.now).columns }
         ensures { lanes_of_words result ≡ variable_lanes (meaning self.now) var }
@@ -103,8 +106,8 @@ pub trait Segment {
     }
 }
 
-/// The column of a variable, and how many of the column's variables come after it: those of its bits below, or all of
-/// its bits where it is the null variable.
+/// Returns the column of a variable, and how many of the column's variables follow it: those of its
+/// lower bits, or of all its bits if it is the null variable.
 fn place_of(schema: &Schema, var: u32) -> (usize, u32)
     requires { var < variables_of schema.now.columns.items }
     ensures column { result.0 < length schema.now.columns.items }

@@ -10,7 +10,8 @@ use crate::segment::Segment;
 use bw_lanes::{LANES, Plane, bytes_of_plane, is_zero, mask, not, or};
 use bw_model::{Column, Value};
 
-/// The values of a column in the 512 lanes: that of row i in lane i, and null past the last row.
+/// Sets `values` to the values of a column in the 512 lanes: lane i has that of row i, and is null
+/// past the last row.
 pub fn values_in_lanes<S: Segment>(segment: &S, col: usize, values: &mut [Value; LANES])
     requires { col < length (S.meaning segment.now).columns }
     ensures { (lane : ℕ) → lane < 512 → slice_index_or values.new lane None
@@ -27,8 +28,8 @@ pub fn values_in_lanes<S: Segment>(segment: &S, col: usize, values: &mut [Value;
     }
 }
 
-/// The values of a column in the 512 lanes as keys, and the lanes in which there is none: those of the rows that are
-/// null in it, and those past the last row.
+/// Sets `keys` to the values of a column in the 512 lanes, as keys. Returns the lanes without a
+/// value: those of null rows, and those past the last row.
 pub fn keys_in_lanes<S: Segment>(segment: &S, col: usize, keys: &mut [u64; LANES]) -> Plane
     requires { col < length (S.meaning segment.now).columns }
     ensures { (lane : ℕ) → lane < 512 → value_in_lane (lanes_of_words result) keys.new lane
@@ -40,21 +41,22 @@ pub fn keys_in_lanes<S: Segment>(segment: &S, col: usize, keys: &mut [u64; LANES
     no_values(segment, col)
 }
 
-/// The key of a number: how far it is above -2^63. Keys are ordered as the numbers are.
+/// Returns the key of a number: its distance from -2^63. Keys are ordered as the numbers are.
 pub fn key(n: i64) -> u64
     ensures { number_of_key result ≡ n }
 {
     (i128::from(n) + (1 << 63)) as u64
 }
 
-/// The number of a key.
+/// Returns the number of a key.
 pub fn number(key: u64) -> i64
     ensures { result ≡ number_of_key key }
 {
     (i128::from(key) - (1 << 63)) as i64
 }
 
-/// The lanes in which a column has no value: those of the rows that are null in it, and those past the last row.
+/// Returns the lanes without a value: those of rows that are null in the column, and those past the
+/// last row.
 fn no_values<S: Segment>(segment: &S, col: usize) -> Plane
     requires { col < length (S.meaning segment.now).columns }
     ensures { lanes_of_words result
@@ -65,7 +67,7 @@ fn no_values<S: Segment>(segment: &S, col: usize) -> Plane
     or(&past, &segment.nulls(col))
 }
 
-/// Puts the value of each lane's code in the lane.
+/// Sets each lane to the value of its code.
 fn put_all(column: &Column, codes: &[u64; LANES], values: &mut [Value; LANES])
     requires { All (λ code. code ≤ span_of column.now) codes.now }
     ensures { (lane : ℕ) → lane < 512 → slice_index_or values.new lane None
@@ -77,7 +79,7 @@ fn put_all(column: &Column, codes: &[u64; LANES], values: &mut [Value; LANES])
     }
 }
 
-/// The same in the lanes where a byte in `nulls` is 0, and null in the others.
+/// Sets each lane to the value of its code if its byte in `nulls` is 0, else to null.
 fn put_values(
     column: &Column,
     codes: &[u64; LANES],
@@ -95,7 +97,7 @@ fn put_values(
     }
 }
 
-/// Puts the key of each lane's code in the lane.
+/// Sets each lane to the key of its code.
 fn put_keys(column: &Column, codes: &[u64; LANES], keys: &mut [u64; LANES])
     requires { All (λ code. code ≤ span_of column.now) codes.now }
     ensures { (lane : ℕ) → lane < 512 → number_of_key (slice_index keys.new lane)
@@ -108,7 +110,7 @@ fn put_keys(column: &Column, codes: &[u64; LANES], keys: &mut [u64; LANES])
     }
 }
 
-/// The key of a code of a column, by its least and its greatest value, and the key of the least.
+/// Returns the key of a code, from the column's minimum and maximum, and the minimum's key.
 fn key_of(lo: i64, hi: i64, least: u64, code: u64) -> u64
     requires ordered { lo ≤ℤ hi }
     requires narrow { (hi -ℤ lo) <ℤ pos (2 ^ 63) }
@@ -119,7 +121,7 @@ fn key_of(lo: i64, hi: i64, least: u64, code: u64) -> u64
     least + code
 }
 
-/// The value of a code of a column, by its least and its greatest value.
+/// Returns the value of a code, from the column's minimum and maximum.
 fn value_of(lo: i64, hi: i64, code: u64) -> i64
     requires ordered { lo ≤ℤ hi }
     requires narrow { (hi -ℤ lo) <ℤ pos (2 ^ 63) }
@@ -129,7 +131,7 @@ fn value_of(lo: i64, hi: i64, code: u64) -> i64
     lo + code as i64
 }
 
-/// A value where a byte is 0, and else null.
+/// Returns the value if the byte is 0, else null.
 fn value_or_null(value: i64, null: u8) -> Value
     ensures { result ≡ (if null == 0 then Some value else None) }
 {

@@ -1,4 +1,5 @@
--- Which codes are above a number, from the least significant byte up, and whether one is or isn't 0.
+-- Which codes are above a number, from the least significant byte up, and whether one is or isn't
+-- 0.
 use Rattle.std.proofs.Common.{◌≡◌, ◌∙◌, refl, sym, ap, ap₂, ℕ, suc, ◌+◌, ◌-◌, ◌*◌, ◌/◌, ◌%◌, ◌^◌, ◌<◌, ◌≤◌, max, Bool, false, not, cond, ltb, eqb, ◌==◌, ◌&&◌, ◌||◌, List, [], ◌∷◌, ◌++◌, map, length, take, drop, get_or, replicate, bit_or, w8, w64, Fits, arith, mod-eq_of_lt, mod-lt, mul-le-mul_right, suc-mul, le-ltb}
 use Rattle.std.specs.Int.{bit_not}
 use Rattle.std.specs.List.{list_any, range_with_len}

@@ -38,7 +38,8 @@ chosen_picked g bit a (true ∷ lanes) (n ∷ ns) small = chosen_picked g bit (c
 chosen_picked g bit a (false ∷ lanes) (n ∷ ns) small =
     ap (λ k. fold (choice g) k (bytes_picked (blank g) lanes (map (λ n. n / 2 ^ bit % 256) ns))) (unchanged g a small).0 ∙ chosen_picked g bit a lanes ns small
 
--- The byte c is chosen among those of numbers: some number has it, and none has one that were chosen before it.
+-- The byte c is chosen among those of numbers: some number has it, and none has one that were
+-- chosen before it.
 module _ (g : Bool) (byte : ℕ → ℕ) (c : ℕ) where
   one_more : (n : ℕ) (ns : List ℕ) → is_none (filter (λ n. byte n == c) ns) ≡ false → is_none (filter (λ n. byte n == c) (n ∷ ns)) ≡ false
   one_more n ns has = put (byte n == c)

@@ -1,4 +1,5 @@
--- The codes that slices spell: how large they are, what the lanes tell of them, and sums of those that lanes pick.
+-- The codes that slices spell: how large they are, what the lanes tell of them, and sums of those
+-- that lanes pick.
 use Rattle.std.proofs.Common.{◌≡◌, ◌∙◌, refl, sym, ap, ap₂, ℕ, zero, suc, ◌+◌, ◌-◌, ◌*◌, ◌^◌, ◌<◌, ◌≤◌, Bool, not, eqb, ◌==◌, ◌&&◌, List, [], ◌∷◌, map, length, get_or, ◌/◌, Fits, w8, w64, arith, ◌%◌, true, false, sum, sum_by, inl, inr, cond, take, drop, set, length-set, bit_and, All, pow_mono, length-take, get_or-set_same, get_or-set_other, add-one}
 use Rattle.std.specs.List.{range_with_len, list_all, AllByRecursion}
 use Rattle.std.proofs.lemmas.Bool.Decides.{nat_tests}

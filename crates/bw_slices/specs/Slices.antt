@@ -1,27 +1,27 @@
--- Codes kept as byte slices: a slice for each byte of the codes, from the most significant down, of 512 bytes, one a
--- lane.
+-- Codes stored as byte slices: a slice for each byte of the codes, from the most significant down,
+-- of 512 bytes, one for each lane.
 use Rattle.std.specs.Prelude.{ℕ, zero, suc, ◌+◌, ◌*◌, ◌/◌, List, [], ◌++◌, map, slice_index}
 use Rattle.std.specs.List.{range_with_len}
 use Rattle.bw_model.specs.Stored.{byte_of}
 use Rattle.bw_model.specs.Groups.{group_size}
 use Rattle.bw_segment.specs.Packing.{Packing}
 
--- the number that so many bytes spell, the most significant first
+-- the number that `count` bytes spell, the most significant first
 abbrev pub number_from : (ℕ → ℕ) → ℕ → ℕ
 number_from byte zero = 0
 number_from byte (suc count) = 256 * number_from byte count + byte count
 
--- so many low slices of codes, from the most significant down
+-- this many of the lowest slices of codes, from the most significant down
 abbrev pub slices_bytes : ℕ → List ℕ → List ℕ
 slices_bytes zero codes = []
 slices_bytes (suc slices) codes = map (byte_of slices) codes ++ slices_bytes slices codes
 
--- the numbers that so many slices spell in the 512 lanes, the most significant first
+-- the numbers that `count` slices spell in the 512 lanes, the most significant first
 unfoldable pub slices_codes : ℕ → List ℕ → List ℕ
 slices_codes count bytes = map (λ row. number_from (λ place. slice_index bytes (512 * place + row)) count)
     (range_with_len 0 group_size)
 
--- codes that are kept as slices, one a byte
+-- the packing of codes as slices, one for each byte
 abbrev pub slice_packing : Packing
 slice_packing = record {
   size = λ width. 512 * ((width + 7) / 8);

@@ -1,4 +1,5 @@
-//! Which codes are above a number, from the least significant byte up, by vectors of 64 bytes.
+//! Comparisons of the codes with a number, from the least significant byte up, by vectors of 64
+//! bytes.
 ghost use Rattle.std.specs.Prelude.{◌≡◌, ◌==◌, ◌&&◌, ◌||◌, ◌+◌, ◌*◌, ◌^◌, ◌<◌, ◌≤◌, drop, length, map, nat_lt, not, take};
 ghost use Rattle.std.specs.List.{list_any};
 ghost use lib.Lanes.{zip2};
@@ -9,7 +10,8 @@ ghost use Rattle.bw_slices.specs.Slices.{slices_codes};
 use bw_lanes::{LANES, Plane};
 use std::simd::prelude::*;
 
-/// The lanes in which the number that so many slices spell is above one of so many bytes.
+/// Returns the lanes in which the number that `slices` slices spell is above `most`, which has as
+/// many bytes.
 #[tactic(auto, using(crate::proofs::AboveLemmas::above_steps))]
 pub(crate) fn above(bytes: &[u8], slices: usize, most: u64) -> Plane
     requires size { 512 * slices ≤ length bytes.now }
@@ -24,7 +26,7 @@ pub(crate) fn above(bytes: &[u8], slices: usize, most: u64) -> Plane
     words
 }
 
-/// Whether one of these numbers is above it.
+/// Returns whether one of the numbers that `slices` slices spell is above `most`.
 #[inline(always)]
 pub(crate) fn any_above(bytes: &[u8], slices: usize, most: u64) -> bool
     requires size { 512 * slices ≤ length bytes.now }
@@ -39,7 +41,8 @@ pub(crate) fn any_above(bytes: &[u8], slices: usize, most: u64) -> bool
     any.reduce_or() != 0
 }
 
-/// Bytes of 64 rows, from one on, that aren't 0 where the row's number is above it.
+/// Returns one byte for each of 64 rows, from `first` on, which isn't 0 if the row's number is
+/// above `most`.
 #[inline(always)]
 fn set_above(bytes: &[u8], slices: usize, first: usize, most: u64) -> u8x64
     requires size { 512 * slices ≤ length bytes.now }
@@ -57,7 +60,7 @@ fn set_above(bytes: &[u8], slices: usize, first: usize, most: u64) -> u8x64
     set
 }
 
-/// The same with one byte more: those of the rows, and c of the number.
+/// Returns the same with one byte more: `bytes` of the rows, and `c` of the number.
 #[inline(always)]
 fn next_above(set: u8x64, bytes: u8x64, c: u8) -> u8x64
     ensures { map (λ byte. not (byte == 0)) result
@@ -67,7 +70,7 @@ fn next_above(set: u8x64, bytes: u8x64, c: u8) -> u8x64
     bytes.saturating_sub(byte) | bytes.simd_eq(byte).select(set, u8x64::splat(0))
 }
 
-/// A byte of a number, of which byte 0 is the least.
+/// Returns a byte of a number; byte 0 is the least.
 fn byte_at(n: u64, slice: usize) -> u8
     requires { slice < 8 }
     ensures { result ≡ byte_of slice n }
@@ -75,7 +78,7 @@ fn byte_at(n: u64, slice: usize) -> u8
     (n >> (8 * slice) & 0xFF) as u8
 }
 
-/// A bit a byte: whether it isn't 0.
+/// Returns one bit for each byte: whether it isn't 0.
 fn bits_of_set(bytes: u8x64) -> u64
     ensures { bits_from_least 64 result ≡ map (λ byte. not (byte == 0)) bytes }
 {

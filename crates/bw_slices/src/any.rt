@@ -1,5 +1,5 @@
-//! Whether a code isn't 0, or is above a number. Of a column there are mostly one to four slices: each of these counts
-//! has a call of its own, in which there is no loop over slices.
+//! Whether a code isn't 0, or is above a number. Most columns have one to four slices: each of
+//! these numbers has a call of its own, without a loop over slices.
 ghost use Rattle.std.specs.Prelude.{◌≡◌, ◌==◌, ◌*◌, ◌^◌, ◌<◌, ◌≤◌, length, nat_lt, not};
 ghost use Rattle.std.specs.List.{list_any};
 ghost use Rattle.bw_lanes.specs.Lanes.{lanes_of_words};
@@ -9,7 +9,7 @@ ghost use Rattle.bw_slices.specs.Slices.{slices_codes};
 use crate::above::any_above;
 use bw_lanes::{Plane, bytes_any};
 
-/// Whether a number that so many slices spell is above one of so many bytes.
+/// Returns whether a number that `slices` slices spell is above `most`, which has as many bytes.
 #[tactic(auto, using(crate::proofs::AboveLemmas::none_above_none))]
 pub(crate) fn is_any_above(bytes: &[u8], slices: usize, most: u64) -> bool
     requires size { 512 * slices ≤ length bytes.now }
@@ -27,7 +27,7 @@ pub(crate) fn is_any_above(bytes: &[u8], slices: usize, most: u64) -> bool
     }
 }
 
-/// Whether a number that so many slices spell in some lanes isn't 0.
+/// Returns whether a number that `slices` slices spell in these lanes isn't 0.
 pub(crate) fn is_any_used(bytes: &[u8], slices: usize, lanes: &Plane) -> bool
     requires { 512 * slices ≤ length bytes.now }
     ensures { result ≡ list_any (λ code. not (code == 0))
@@ -42,7 +42,7 @@ pub(crate) fn is_any_used(bytes: &[u8], slices: usize, lanes: &Plane) -> bool
     }
 }
 
-/// The same.
+/// Returns the same, for any number of slices.
 #[inline(always)]
 fn any_used(bytes: &[u8], slices: usize, lanes: &Plane) -> bool
     requires { 512 * slices ≤ length bytes.now }

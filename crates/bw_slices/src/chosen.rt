@@ -1,4 +1,5 @@
-//! The least and the greatest of the codes in some lanes, byte by byte from the most significant down.
+//! The minimum and the maximum of the codes in some lanes, byte by byte from the most significant
+//! down.
 ghost use Rattle.std.specs.Prelude.{All, ◌≡◌, ◌^◌, ◌+◌, ◌*◌, ◌/◌, ◌<◌, ◌≤◌, Bool, IfSome, List, if◌then◌else◌, length, map, max, min};
 ghost use Rattle.std.specs.List.{fold, reduce};
 ghost use Rattle.bw_lanes.specs.Lanes.{lanes_of_words};
@@ -9,8 +10,9 @@ ghost use Rattle.bw_slices.specs.Slices.{slices_codes};
 use crate::read::{slice_of, slices_in};
 use bw_lanes::{LANES, Selection, bytes_of_plane, greatest_in, is_zero, keep_in, least_in};
 
-/// The greatest of the codes in some lanes, or the least; none where there are no lanes. From the most significant byte
-/// down the lanes that remain are those with the greatest, or the least, byte among them.
+/// Returns the maximum or the minimum of the codes in the lanes, or None if there are no lanes.
+/// From the most significant byte down, the lanes that remain are those with the maximum, or the
+/// minimum, byte among them.
 pub(crate) fn chosen_code(
     width: u32,
     bytes: &[u8],
@@ -39,7 +41,8 @@ pub(crate) fn chosen_code(
     Some(code)
 }
 
-/// The greatest of the bytes of some rows, or the least; 0, or 255, where there are none.
+/// Returns the maximum or the minimum of the bytes of selected rows; 0, or 255, if none is
+/// selected.
 fn chosen_in(bytes: &[u8; LANES], rows: &[u8; LANES], greatest: bool) -> u8
     ensures { (lanes : List Bool) → rows.now ≡ map as_byte lanes
         → result ≡ fold (if greatest then max else min) (if greatest then 0 else 255)

@@ -8,7 +8,7 @@ use crate::layout::Slices;
 use bw_lanes::Selection;
 use bw_segment::CodeLayout;
 
-/// The sum of the codes in some lanes.
+/// Returns the sum of the codes in these lanes.
 #[tactic(auto, using(crate::proofs::CodeLemmas::few_sums))]
 pub(crate) fn sum_of_few(width: u32, bytes: &[u8], lanes: &Selection) -> u128
     requires width { (1 ≤ width) × (width ≤ 63) }
@@ -23,7 +23,7 @@ pub(crate) fn sum_of_few(width: u32, bytes: &[u8], lanes: &Selection) -> u128
     sum
 }
 
-/// The same of the 64 rows of a word.
+/// Returns the sum of the codes of selected rows among the 64 of a word.
 #[tactic(auto, using(bw_segment::proofs::PickedLemmas::no_bits))]
 fn sum_of_word(width: u32, bytes: &[u8], word: usize, rows: u64) -> u128
     requires width { (1 ≤ width) × (width ≤ 63) }

@@ -13,11 +13,12 @@ use bw_lanes::{
 use bw_model::Fault;
 use bw_segment::{CodeLayout, bytes_of, push_byte, put_byte};
 
-/// The most lanes whose codes are added one by one, which takes less time than to add the bytes of all lanes.
+/// The most lanes whose codes are added one by one, which takes less time than to add the bytes of
+/// all lanes.
 const FEW: u32 = 24;
 
-/// Codes kept as byte slices. For each byte of the codes, from the most significant down, there are 512 bytes, byte i
-/// being lane i's.
+/// Codes stored as byte slices. For each byte of the codes, from the most significant down, there
+/// are 512 bytes, of which byte i is lane i's.
 pub struct Slices;
 
 impl CodeLayout for Slices {
@@ -72,7 +73,8 @@ impl CodeLayout for Slices {
         bytes_eq(slice_of(width, bytes, slice), c)
     }
 
-    /// The sum of the bytes, each slice's 256 times the next one's worth. Few codes are added one by one.
+    /// Returns the sum of the slices' sums, each weighted by 256 times the next one's weight. A few
+    /// codes are added one by one.
     #[tactic(auto, using(crate::proofs::CodeLemmas::sum_steps))]
     fn sum(width: u32, bytes: &[u8], lanes: &Selection) -> u128 {
         if count(lanes) <= FEW {

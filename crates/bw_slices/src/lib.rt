@@ -1,15 +1,16 @@
-//! Segments kept as byte slices, after ByteSlice (Feng, Lo, Kao and Xu): for each column its null plane, if it is
-//! nullable, and then the bytes of its codes by significance, from the most significant down, one a row.
+//! Segments stored as byte slices, after ByteSlice (Feng, Lo, Kao and Xu). Each column has its null
+//! plane, if it is nullable, and then the bytes of its codes by significance, from the most
+//! significant down, one for each row.
 //!
-//! The contract that the crates above use: [`Slices`] is a [`bw_segment::CodeLayout`], whose bytes spell the codes that
-//! `slices_codes` says, and each of its kernels answers from these alone. [`SliceSegment::build`] gives a segment that
-//! means the rows given, and [`SliceSegment::of_blocks`] one of bytes whose blocks [`SliceSegment::judge`] finds
-//! without fault; either answers as [`bw_segment::Segment`] says.
+//! The contract that the crates above use: [`Slices`] is a [`bw_segment::CodeLayout`]. The result
+//! of each of its kernels depends only on the codes that its bytes spell by `slices_codes`.
+//! [`SliceSegment::build`] returns a segment of the given rows, and [`SliceSegment::of_blocks`] one
+//! of bytes whose blocks [`SliceSegment::judge`] finds valid. Both are a [`bw_segment::Segment`].
 //!
-//! Read `specs/Slices.antt` first, and then `layout.rt`.
+//! Read `specs/Slices.antt` first, then `layout.rt`.
 //!
-//! `bw` itself makes segments of a file's blocks. [`SliceSegment::build`] is the library's public face, for 1 to 512
-//! rows that are in memory:
+//! `bw` itself makes segments of a file's blocks. [`SliceSegment::build`] is the library's call for
+//! 1 to 512 rows in memory:
 //!
 //! ```
 //! let segment = SliceSegment::build(rt.alloc(), &schema, &rows)?;
@@ -27,5 +28,5 @@ mod read;
 use bw_segment::PackedSegment;
 pub use layout::Slices;
 
-/// A segment kept as byte slices.
+/// A segment stored as byte slices.
 pub type SliceSegment = PackedSegment<Slices>;

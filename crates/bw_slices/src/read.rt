@@ -5,7 +5,7 @@ ghost use Rattle.bw_slices.specs.Slices.{slices_codes};
 
 use bw_lanes::LANES;
 
-/// How many bytes codes of so many binary digits have.
+/// Returns how many bytes codes of `width` binary digits have.
 #[inline(always)]
 pub(crate) fn slices_in(width: u32) -> usize
     requires { (1 ≤ width) × (width ≤ 63) }
@@ -15,7 +15,7 @@ pub(crate) fn slices_in(width: u32) -> usize
     (width as usize + 7) / 8
 }
 
-/// A byte of each code, of which byte 0 is the least.
+/// Returns a byte of each code; byte 0 is the least.
 #[inline(always)]
 pub(crate) fn slice_of(width: u32, bytes: &[u8], slice: usize) -> &[u8; LANES]
     requires width { (1 ≤ width) × (width ≤ 63) }

@@ -17,7 +17,8 @@ unfolding cut_lines lines_with
 cut_lines-by c cs =
     elim (is_line_feed c) as (λ b. cond b ([] ∷ cut_lines cs) (with_first c (cut_lines cs)) ≡ lines_with b c (cut_lines cs)) [ true ↦ refl | false ↦ refl ]
 
--- the first line and the rest, by whether the first byte is a line feed, and by where the next one stands
+-- the first line and the rest, by whether the first byte is a line feed, and by where the next one
+-- stands
 first_and_rest : Bool → ℕ → ℕ → List ℕ → List (List ℕ)
 first_and_rest b n c cs = take (cond (not b) (1 + n) 0) (c ∷ cs) ∷ cut_lines (drop (cond (not b) (1 + n) 0 + 1) (c ∷ cs))
 
@@ -34,7 +35,8 @@ unfolding lines_with first_and_rest cut_lines
 at_last true c = refl
 at_last false c = refl
 
--- a text that isn't empty begins with the line before its first line feed, and the other lines come after
+-- a text that isn't empty begins with the line before its first line feed, and the other lines come
+-- after
 pub cut_lines-cons : (c : ℕ) (cs : List ℕ) → cut_lines (c ∷ cs) ≡ before_first is_line_feed (c ∷ cs) ∷ cut_lines (after_first is_line_feed (c ∷ cs))
 unfolding first_and_rest
 cut_lines-cons c [] = cut_lines-by c [] ∙ at_last (is_line_feed c) c

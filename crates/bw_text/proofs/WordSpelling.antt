@@ -1,4 +1,5 @@
--- Each word of a table is found by its spelling, ignoring case, and what is found has that spelling.
+-- Each word of a table is found by its spelling, ignoring case, and what is found has that
+-- spelling.
 use Rattle.std.proofs.Common.{◌≡◌, ◌∙◌, refl, sym, ap, ℕ, Bool, true, false, cond, List, [], ◌∷◌, map, Some}
 use Rattle.std.specs.Char.{to_ascii_lowercase}
 use Rattle.std.specs.List.{find}

@@ -1,4 +1,4 @@
--- The words that say what a chain of a certificate text compares.
+-- The words for the comparison of a chain, in a certificate text.
 use Rattle.std.specs.Prelude.{ℕ, List, [], ◌∷◌, Option, codes, find}
 use Rattle.bw_text.specs.declared.form.Form.{Form}
 use Rattle.bw_text.specs.declared.form.Form.TheVariants as form

@@ -1,4 +1,4 @@
--- Lines of words as they are written: one blank between two words, and a line feed after the last.
+-- Lines of words as they are written: one blank between words, and a line feed after the last.
 use Rattle.std.specs.Prelude.{ℕ, Bool, List, [], ◌∷◌, ◌++◌, ◌&&◌, not, nat_lt}
 use Rattle.std.specs.Fmt.{decimal, signed_decimal}
 use Rattle.std.specs.List.{list_all}

@@ -1,10 +1,10 @@
-//! The words that say what a chain of a certificate text compares.
+//! The words for the comparison of a chain, in a certificate text.
 ghost use Rattle.std.specs.Prelude.{◌≡◌, Some};
 ghost use Rattle.bw_text.specs.Form.{form_spelling, form_of};
 
 use crate::text::is_same_text;
 
-/// What a chain compares, and with what: a column with a number, or with a column.
+/// The comparison of a chain, and its operands: a column and a number, or two columns.
 #[derive(Clone, Copy)]
 pub enum Form {
     Less,
@@ -13,11 +13,11 @@ pub enum Form {
     EqualTwo,
 }
 
-/// Every form of a chain.
+/// All forms of a chain.
 const FORMS: [Form; 4] = [Form::Less, Form::Equal, Form::LessTwo, Form::EqualTwo];
 
 impl Form {
-    /// The word in capitals.
+    /// Returns its word in capitals.
     pub fn spelling(self) -> &'static [u8]
         ensures { result.now ≡ form_spelling self }
     {
@@ -29,7 +29,7 @@ impl Form {
         }
     }
 
-    /// The form that a word spells, ignoring case.
+    /// Returns the form that a word spells, ignoring case.
     #[tactic(auto, unfolding(crate::specs::Form::form_of))]
     pub fn of(word: &[u8]) -> Option<Form>
         ensures { result ≡ form_of word.now }

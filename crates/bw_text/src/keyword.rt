@@ -27,7 +27,7 @@ pub enum Keyword {
     Where,
 }
 
-/// Every reserved word.
+/// All reserved words.
 const KEYWORDS: [Keyword; 17] = [
     Keyword::And,
     Keyword::Between,
@@ -49,7 +49,7 @@ const KEYWORDS: [Keyword; 17] = [
 ];
 
 impl Keyword {
-    /// The word in capitals.
+    /// Returns the word in capitals.
     pub fn spelling(self) -> &'static [u8]
         ensures { result.now ≡ spelling self }
     {
@@ -79,7 +79,7 @@ impl Keyword {
         ensures { keyword_of (spelling self) ≡ Some self }
     {}
 
-    /// The reserved word that a text is, ignoring the case of ASCII letters.
+    /// Returns the reserved word that a text is, ignoring the case of ASCII letters.
     #[tactic(auto, unfolding(crate::specs::Keyword::keyword_of))]
     pub fn of(text: &[u8]) -> Option<Keyword>
         ensures { result ≡ keyword_of text.now }

@@ -1,4 +1,4 @@
-//! What is written is read again, as laws.
+//! Laws: what is written can be read again.
 ghost use Rattle.std.specs.Prelude.{◌≡◌, ◌∷◌, ◌++◌, ◌+◌, ◌<◌, ◌^◌, ℕ, List, Some, IsTrue, true, false};
 ghost use Rattle.std.specs.Fmt.{decimal};
 ghost use Rattle.std.specs.List.{list_all};
@@ -6,8 +6,8 @@ ghost use Rattle.bw_text.specs.Lines.{begins_comment, cut_lines, numbered, numbe
 ghost use Rattle.bw_text.specs.Number.{natural_of};
 ghost use Rattle.bw_text.specs.Printed.{is_plain_word, line_text};
 
-/// A law: a line that is written of plain words is cut off the text that begins with it, and says these words; one
-/// whose first word begins a comment says nothing, and counts.
+/// A law: a line that is written of plain words is cut off the text that begins with it, and has
+/// these words. If its first word begins a comment, it is skipped, and counts.
 pub fn written_lines_are_read()
     ensures said { (number : ℕ) (word : List ℕ) (words : List (List ℕ)) (rest : List ℕ)
         → IsTrue (is_plain_word word) → begins_comment word ≡ false → IsTrue (list_all is_plain_word words)

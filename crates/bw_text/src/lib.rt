@@ -1,12 +1,16 @@
-//! What texts are made of: words, numbers and lines, read and written.
+//! The parts of texts: words, numbers and lines, read and written.
 //!
-//! Schemas, programs and certificates are texts of lines of words; statements and CSV fields have the same words and
-//! numbers. The contract that the crates above use: a text is cut into the lines that say something ([`Lines`]), with
-//! their numbers; a word of a table ([`Keyword`], [`Opcode`], [`LineKind`], [`Form`]) is found by its spelling,
-//! ignoring case; digits are read to the number that they spell, or refused; and a line that is written ([`push_line`])
-//! is cut into its words again ([`written_lines_are_read`]).
+//! Schemas, programs and certificates are texts of lines of words; statements and CSV fields have
+//! the same words and numbers. The contract that the crates above use:
 //!
-//! Read `specs/Lines.antt` first, and then `specs/Printed.antt`.
+//! - a text is cut into numbered lines, without blank lines and comments ([`Lines`])
+//! - a word of a table ([`Keyword`], [`Opcode`], [`LineKind`], [`Form`]) is found by its spelling,
+//!   ignoring case
+//! - digits are read as the number that they spell, or rejected
+//! - a line that is written ([`push_line`]) is cut into its words again
+//!   ([`written_lines_are_read`])
+//!
+//! Read `specs/Lines.antt` first, then `specs/Printed.antt`.
 #![tactic(auto)]
 
 mod form;

@@ -4,7 +4,7 @@ ghost use Rattle.bw_text.specs.LineKind.{kind_spelling, kind_of};
 
 use crate::text::is_same_text;
 
-/// What kind of line of a certificate a word begins.
+/// The kind of a certificate's line, by its first word.
 #[derive(Clone, Copy)]
 pub enum LineKind {
     Node,
@@ -40,7 +40,7 @@ pub enum InstructionKind {
     Skip,
 }
 
-/// Every kind.
+/// All kinds.
 const KINDS: [LineKind; 19] = [
     LineKind::Node,
     LineKind::Chain,
@@ -64,7 +64,7 @@ const KINDS: [LineKind; 19] = [
 ];
 
 impl LineKind {
-    /// The word in capitals.
+    /// Returns its word in capitals.
     pub fn spelling(self) -> &'static [u8]
         ensures { result.now ≡ kind_spelling self }
     {
@@ -91,7 +91,7 @@ impl LineKind {
         }
     }
 
-    /// The kind whose word this is, ignoring the case of ASCII letters.
+    /// Returns the kind whose word this is, ignoring the case of ASCII letters.
     #[tactic(auto, unfolding(crate::specs::LineKind::kind_of))]
     pub fn of(word: &[u8]) -> Option<LineKind>
         ensures { result ≡ kind_of word.now }

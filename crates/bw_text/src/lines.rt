@@ -1,6 +1,6 @@
-//! Texts by lines: a line ends at a line feed or at the text's end, with a carriage return before it or
-//! without; its words stand between spaces and tabs; a line without words, or whose first word begins with
-//! `#`, is skipped, but counted.
+//! Texts by lines. A line ends at a line feed or at the text's end; a carriage return before that
+//! is dropped. Words are separated by spaces and tabs. A line without words, or whose first word
+//! begins with `#`, is skipped, but counted.
 ghost use Rattle.std.specs.Prelude.{◌≡◌, ◌+◌, ◌<◌, ◌^◌, [], ◌∷◌, IfOk, IfSome, IfNone, OnOk, OnErr, map, filter, not, option_map, length};
 ghost use Rattle.std.specs.List.{find, position, slice_split};
 ghost use Rattle.std.specs.Str.Lines.{strip_carriage_return};
@@ -9,14 +9,14 @@ ghost use Rattle.bw_text.specs.Lines.{cut_lines, is_line_feed, is_blank, words_o
 use std::alloc::{AllocError, Global};
 use std::marker::Model;
 
-/// A line that says something: its number, from 1, and its words.
+/// A line that isn't skipped: its number, from 1, and its words.
 #[derive(Drop)]
 pub struct Line<'a> {
     pub number: u64,
     pub words: Vec<&'a [u8]>,
 }
 
-/// The lines of a text, from the first to the last. It is seen as the text that is still to be read, and the
+/// The lines of a text, from the first to the last. Its ghost value is the unread text, and the
 /// number of that text's first line.
 #[derive(Drop)]
 pub struct Lines<'a> {
@@ -36,7 +36,7 @@ impl<'a> Model for Lines<'a> {
 }
 
 impl<'a> Lines<'a> {
-    /// The lines of a whole text.
+    /// Returns the lines of a whole text.
     pub fn new(text: &'a [u8]) -> Self
         requires { length text.now < 2 ^ 63 }
         ensures { result ≡ whole text.now }
@@ -44,7 +44,7 @@ impl<'a> Lines<'a> {
         Lines { text, number: 1 }
     }
 
-    /// The lines of a part of a text, the first of which has this number.
+    /// Returns the lines of a part of a text, the first of which has this number.
     pub fn from_line(number: u64, text: &'a [u8]) -> Self
         requires { number + length text.now < 2 ^ 64 }
         ensures { result ≡ from_line number text.now }
@@ -52,21 +52,23 @@ impl<'a> Lines<'a> {
         Lines { text, number }
     }
 
-    /// The text that is still to be read.
+    /// Returns the unread text.
     pub fn unread(&self) -> &'a [u8]
         ensures { result.now ≡ self.now.text }
     {
         self.text
     }
 
-    /// The number of the line that is read next. Once there is none, it is that of a fault at the end.
+    /// Returns the number of the next line. After the last line, it is the number of the text's
+    /// end, where an error at the end is.
     pub fn number(&self) -> u64
         ensures { result ≡ self.now.number }
     {
         self.number
     }
 
-    /// The next line as it stands, without its line feed, or none at the end of the text. It takes no memory.
+    /// Returns the next line, skipped or not, without its line feed, or None at the end of the
+    /// text. Allocates no memory.
     pub fn cut_line(&mut self) -> Option<&'a [u8]>
         ensures line { IfSome result (λ line. cut_lines self.old.text ≡ line.now ∷ cut_lines self.new.text) }
         ensures split { IfSome result (λ line. IsFirstLine self.old.text line.now self.new.text) }
@@ -82,8 +84,8 @@ impl<'a> Lines<'a> {
         Some(line)
     }
 
-    /// The next line that says something, or none at the end of the text. Where memory runs out, no such
-    /// line is lost, so the caller may ask again.
+    /// Returns the next line that isn't skipped, or None at the end of the text. Fails if memory is
+    /// refused; no such line is lost then, so the caller may ask again.
     pub fn next_line(&mut self, alloc: Global) -> Result<Option<Line<'a>>, AllocError>
         ensures line { IfOk result (λ found. IfSome found (λ line. lines_in self.old ≡ line_of line ∷ lines_in
             self.new)) }
@@ -108,7 +110,7 @@ impl<'a> Lines<'a> {
     }
 }
 
-/// The first line, without its line feed, and the text after it.
+/// Returns the first line, without its line feed, and the text after it.
 fn split_line(text: &[u8]) -> (&[u8], &[u8])
     requires { 0 < length text.now }
     ensures cut { cut_lines text.now ≡ result.0.now ∷ cut_lines result.1.now }
@@ -121,14 +123,14 @@ fn split_line(text: &[u8]) -> (&[u8], &[u8])
     }
 }
 
-/// Where the first line feed stands.
+/// Returns the place of the first line feed.
 fn line_feed_in(text: &[u8]) -> Option<usize>
     ensures { result ≡ position is_line_feed text.now }
 {
     text.iter().position(|c| *c == b'\n')
 }
 
-/// The words of a line.
+/// Returns the words of a line.
 #[tactic(auto, unfolding(crate::specs::Lines::words_of))]
 fn words_of(alloc: Global, line: &[u8]) -> Result<Vec<&[u8]>, AllocError>
     ensures { IfOk result (λ words. map (λ word. word.now) words.items ≡ words_of line.now) }
@@ -136,7 +138,7 @@ fn words_of(alloc: Global, line: &[u8]) -> Result<Vec<&[u8]>, AllocError>
     words_between_blanks(alloc, without_carriage_return(line))
 }
 
-/// The only word of a line; none where it has no word, or several. It takes no memory.
+/// Returns the only word of a line, or None if it has no word or several. Allocates no memory.
 #[tactic(auto, using(crate::proofs::WordLemmas::first_kept, crate::proofs::WordLemmas::none_alone), unfolding(crate::specs::Lines::words_of))]
 pub fn only_word(line: &[u8]) -> Option<&[u8]>
     ensures { option_map (λ word. word.now) result ≡ only_of (words_of line.now) }
@@ -149,7 +151,7 @@ pub fn only_word(line: &[u8]) -> Option<&[u8]>
     }
 }
 
-/// How many words there are between blanks.
+/// Returns how many words there are between blanks.
 fn count_words(line: &[u8]) -> usize
     ensures { result ≡ length (filter (λ word. not (is_empty word)) (slice_split is_blank line.now)) }
 {
@@ -158,7 +160,7 @@ fn count_words(line: &[u8]) -> usize
         .count()
 }
 
-/// The first word between blanks.
+/// Returns the first word between blanks.
 fn first_word(line: &[u8]) -> Option<&[u8]>
     ensures { option_map (λ word. word.now) result
         ≡ find (λ word. not (is_empty word)) (slice_split is_blank line.now) }
@@ -166,7 +168,7 @@ fn first_word(line: &[u8]) -> Option<&[u8]>
     line.split(|c| is_blank(*c)).find(|word| !word.is_empty())
 }
 
-/// A line without the carriage return at its end, if there is one.
+/// Returns a line without the carriage return at its end, if it has one.
 fn without_carriage_return(line: &[u8]) -> &[u8]
     ensures { result.now ≡ strip_carriage_return line.now }
 {

@@ -1,25 +1,26 @@
-//! Whole numbers as decimal digits spell them.
+//! Whole numbers, spelled in decimal digits.
 ghost use Rattle.std.specs.Prelude.{◌≡◌, ◌+◌, ◌*◌, ◌^◌, ◌-◌, ◌<◌, ◌≤◌, ℕ, List, Some, None, IfSome, length, min, if◌then◌else◌};
 ghost use Rattle.std.specs.List.{list_all};
 ghost use Rattle.std.specs.Char.{is_ascii_digit};
 ghost use Rattle.bw_text.specs.Number.{digits_value, are_digits, number_of, natural_of, where_64_bits_hold};
 
-/// Whether a text is one digit or more, and nothing else.
+/// Returns whether a text is at least one digit, and nothing else.
 fn are_digits(text: &[u8]) -> bool
     ensures { result ≡ are_digits text.now }
 {
     !text.is_empty() && are_all_digits(text)
 }
 
-/// The whole number of a sign and decimal digits, however many; none where 64 bits don't hold it.
+/// Returns the number of a sign and decimal digits, however many, or None if it doesn't fit 64
+/// bits.
 pub fn whole_number(is_negative: bool, digits: &[u8]) -> Option<i64>
     ensures { result ≡ number_of is_negative digits.now }
 {
     signed(is_negative, magnitude_of(digits))
 }
 
-/// The whole number of a sign and a text of decimal digits, in one pass: none where the text is another one, and none
-/// inside where 64 bits don't hold the number.
+/// Returns the number of a sign and a text of decimal digits, in one pass. The outer option is None
+/// if the text isn't digits, the inner one if the number doesn't fit 64 bits.
 pub fn number_in(is_negative: bool, text: &[u8]) -> Option<Option<i64>>
     ensures { result ≡ if are_digits text.now then Some (number_of is_negative text.now) else None }
 {
@@ -30,7 +31,7 @@ pub fn number_in(is_negative: bool, text: &[u8]) -> Option<Option<i64>>
     }
 }
 
-/// The same for a text so short that 64 bits hold each number on the way.
+/// Returns the same for a text so short that every number on the way fits 64 bits.
 fn short_number(is_negative: bool, text: &[u8]) -> Option<Option<i64>>
     requires { length text.now ≤ 18 }
     ensures { result ≡ if are_digits text.now then Some (number_of is_negative text.now) else None }
@@ -41,7 +42,7 @@ fn short_number(is_negative: bool, text: &[u8]) -> Option<Option<i64>>
     }
 }
 
-/// The same for a text of any length.
+/// Returns the same for a text of any length.
 fn long_number(is_negative: bool, text: &[u8]) -> Option<Option<i64>>
     ensures { result ≡ if are_digits text.now then Some (number_of is_negative text.now) else None }
 {
@@ -51,8 +52,8 @@ fn long_number(is_negative: bool, text: &[u8]) -> Option<Option<i64>>
     }
 }
 
-/// The whole number that a text of decimal digits spells, with any number of leading zeros; none where the text
-/// is another one, or the number isn't below 2^64.
+/// Returns the number that a text of decimal digits spells, with any number of leading zeros, or
+/// None if the text isn't digits, or the number isn't less than 2^64.
 #[tactic(auto, unfolding(crate::specs::Number::natural_of))]
 pub fn natural_number(text: &[u8]) -> Option<u64>
     ensures { result ≡ natural_of text.now }
@@ -64,7 +65,7 @@ pub fn natural_number(text: &[u8]) -> Option<u64>
     }
 }
 
-/// What digits spell, where it is below 2^64.
+/// Returns the number that digits spell, if it is less than 2^64.
 fn number_of_digits(digits: &[u8]) -> Option<u64>
     ensures { result ≡ where_64_bits_hold (digits_value digits.now) }
 {
@@ -88,7 +89,7 @@ fn are_all_digits(text: &[u8]) -> bool
     text.iter().all(|c| c.is_ascii_digit())
 }
 
-/// What the digits spell, or the greatest `u64` where that is less.
+/// Returns the number that the digits spell, or the greatest `u64` if that is less.
 fn magnitude_of(digits: &[u8]) -> u64
     ensures { result ≡ min (digits_value digits.now) (2 ^ 64 - 1) }
 {
@@ -100,7 +101,7 @@ fn magnitude_of(digits: &[u8]) -> u64
     magnitude
 }
 
-/// What the digits of a short text spell; none for another text.
+/// Returns the number that the digits of a short text spell, or None for another text.
 fn short_magnitude(text: &[u8]) -> Option<u64>
     requires { length text.now ≤ 18 }
     ensures magnitude { result ≡ if are_digits text.now then Some (digits_value text.now) else None }
@@ -120,7 +121,8 @@ fn short_magnitude(text: &[u8]) -> Option<u64>
     Some(magnitude)
 }
 
-/// What the digits of a text spell, or the greatest `u64` where that is less; none for another text.
+/// Returns the number that the digits of a text spell, or the greatest `u64` if that is less; None
+/// for another text.
 fn long_magnitude(text: &[u8]) -> Option<u64>
     ensures { result ≡ if are_digits text.now then Some (min (digits_value text.now) (2 ^ 64 - 1)) else None }
 {
@@ -138,7 +140,7 @@ fn long_magnitude(text: &[u8]) -> Option<u64>
     Some(magnitude)
 }
 
-/// A magnitude with one digit more, or the greatest `u64` where that is less.
+/// Returns the magnitude with one digit more, or the greatest `u64` if that is less.
 fn with_digit(magnitude: u64, units: u64) -> u64
     requires { units < 10 }
     ensures { result ≡ min (10 * magnitude + units) (2 ^ 64 - 1) }
@@ -150,8 +152,8 @@ fn with_digit(magnitude: u64, units: u64) -> u64
     }
 }
 
-/// The number of a sign and digits of this magnitude, which 63 bits hold. Both sides are so short that they are
-/// compiled without a branch: no processor foresees a sign.
+/// Returns the number of a sign and a magnitude below 2^63. Both sides are so short that they are
+/// compiled without a branch: no processor can predict a sign.
 #[inline(always)]
 #[tactic(auto, unfolding(crate::specs::Number::number_of))]
 pub fn with_sign(is_negative: bool, magnitude: u64) -> i64
@@ -162,7 +164,7 @@ pub fn with_sign(is_negative: bool, magnitude: u64) -> i64
     if is_negative { -number } else { number }
 }
 
-/// The whole number of a sign and the magnitude of digits, where 64 bits hold it.
+/// Returns the number of a sign and a magnitude, if it fits 64 bits.
 fn signed(is_negative: bool, magnitude: u64) -> Option<i64>
     ensures { (digits : List ℕ) → magnitude ≡ min (digits_value digits) (2 ^ 64 - 1) → result
         ≡ number_of is_negative digits }

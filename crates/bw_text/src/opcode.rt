@@ -4,7 +4,7 @@ ghost use Rattle.bw_text.specs.Opcode.{opcode_spelling, opcode_of};
 
 use crate::text::is_same_text;
 
-/// What a line of a program text says to do: an instruction's kind, or which register is the result.
+/// The operation of a program text's line: the kind of an instruction, or the result register.
 #[derive(Clone, Copy)]
 pub enum Opcode {
     Load,
@@ -20,7 +20,7 @@ pub enum Opcode {
     Result,
 }
 
-/// Every such word.
+/// All opcodes.
 const OPCODES: [Opcode; 11] = [
     Opcode::Load,
     Opcode::Nulls,
@@ -36,7 +36,7 @@ const OPCODES: [Opcode; 11] = [
 ];
 
 impl Opcode {
-    /// The word in capitals.
+    /// Returns the word in capitals.
     pub fn spelling(self) -> &'static [u8]
         ensures { result.now ≡ opcode_spelling self }
     {
@@ -55,7 +55,7 @@ impl Opcode {
         }
     }
 
-    /// The opcode that a word spells, ignoring the case of ASCII letters.
+    /// Returns the opcode that a word spells, ignoring the case of ASCII letters.
     #[tactic(auto, unfolding(crate::specs::Opcode::opcode_of))]
     pub fn of(word: &[u8]) -> Option<Opcode>
         ensures { result ≡ opcode_of word.now }

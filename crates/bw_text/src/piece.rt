@@ -5,7 +5,7 @@ ghost use Rattle.bw_text.specs.Printed.{line_text, piece_text, spaced};
 
 use std::alloc::{AllocError, Global};
 
-/// What is written as one word of a line: a text as it stands, a number in decimal, or a register, as `r7`.
+/// One word of a line to write: a text as it is, a number in decimal, or a register, as `r7`.
 #[derive(Clone, Copy)]
 pub enum Piece<'a> {
     Word(&'a [u8]),
@@ -14,8 +14,8 @@ pub enum Piece<'a> {
     Register(u8),
 }
 
-/// Appends a line to a text: its pieces, one blank apart, and a line feed. Refused is out of memory alone, and then a
-/// part of the line may be there.
+/// Appends a line to a text: its pieces, one blank apart, and a line feed. Fails only if memory is
+/// refused; a part of the line may have been appended then.
 pub fn push_line(alloc: Global, pieces: &[Piece<'_>], text: &mut Vec<u8>) -> Result<(), AllocError>
     ensures { OnOk result (text.new.items ≡ text.old.items ++ line_text (map piece_text pieces.now)) }
 {
@@ -27,8 +27,8 @@ pub fn push_line(alloc: Global, pieces: &[Piece<'_>], text: &mut Vec<u8>) -> Res
     Ok(())
 }
 
-/// Appends more pieces of a line, each after a blank. Refused is out of memory alone, and then a part of them may be
-/// there.
+/// Appends more pieces of a line, each after a blank. Fails only if memory is refused; a part of
+/// them may have been appended then.
 pub fn push_spaced(
     alloc: Global,
     pieces: &[Piece<'_>],

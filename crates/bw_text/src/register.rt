@@ -4,11 +4,11 @@ ghost use Rattle.bw_text.specs.Register.{register_of};
 
 use crate::number::natural_number;
 
-/// A scan program has this many registers, numbered from 0.
+/// The number of registers of a scan program, which are numbered from 0.
 pub const REGISTERS: u64 = 64;
 
-/// The register that a word names: `r` or `R`, and a number below 64, with any number of leading zeros; none where the
-/// word is another one.
+/// Returns the register that a word names: `r` or `R`, and a number below 64, with any number of
+/// leading zeros. Returns None for another word.
 #[tactic(auto, unfolding(crate::specs::Register::register_of))]
 pub fn register_of(word: &[u8]) -> Option<u8>
     ensures register { result ≡ register_of word.now }

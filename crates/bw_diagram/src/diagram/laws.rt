@@ -1,4 +1,5 @@
-//! Laws: what a diagram holds is true of every assignment, and later lines change no node's value.
+//! Laws: the facts of a diagram are true of every assignment, and later lines change no node's
+//! value.
 ghost use Rattle.std.specs.Prelude.{◌≡◌, ◌-◌, ◌≤◌, ℕ, false, true, List, ◌++◌, Some, Option, Ok, slice_get};
 ghost use Rattle.bw_model.specs.declared.column.Column.{Column};
 ghost use Rattle.bw_model.specs.Code.{width_at};
@@ -16,7 +17,7 @@ ghost use Rattle.bw_diagram.specs.Facts.{Facts, AreTrue, no_facts, with_node, wi
 use super::Diagram;
 
 impl Diagram<'_> {
-    /// A law: what nodes are worth under an assignment.
+    /// A law: the values of nodes under an assignment.
     pub fn nodes_choose(&self)
         ensures zero { (assignment : Assignment) → node_value self.now.nodes assignment 0 ≡ false }
         ensures one { (assignment : Assignment) → node_value self.now.nodes assignment 1 ≡ true }
@@ -28,7 +29,7 @@ impl Diagram<'_> {
         let _ = &self.nodes;
     }
 
-    /// A law: all that is held is true.
+    /// A law: all facts are true.
     pub fn facts_are_true(&self)
         ensures { AreTrue self.now }
     {
@@ -58,8 +59,8 @@ pub fn later_nodes_change_no_value()
         → node_value (nodes ++ more) assignment n ≡ node_value nodes assignment n }
 {}
 
-/// A law on every list of columns: of as many bits as a column has, or more, its padded number is the one
-/// that all its bits spell, from its top bit to bit 0.
+/// A law on every list of columns: over as many bits as a column has, or more, its padded number is
+/// the one that all its bits spell, from its top bit to bit 0.
 pub fn whole_columns_are_spelled()
     ensures padded { (columns : List Column) (col len : ℕ) (assignment : Assignment)
         → width_at columns col ≤ len
@@ -70,7 +71,7 @@ pub fn whole_columns_are_spelled()
         ≡ spelled assignment (bit_variable columns col (width - 1)) width }
 {}
 
-/// A law on lists of lines: what any accepted lines make is true, beginning with nothing.
+/// A law on lists of lines: the facts of accepted lines, beginning with no facts, are true.
 pub fn accepted_lines_are_true()
     ensures start { (columns : List Column) → AreTrue (no_facts columns) }
     ensures node { (facts after : Facts) (n : ℕ) (node : Node) → AreTrue facts

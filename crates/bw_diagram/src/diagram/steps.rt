@@ -1,4 +1,4 @@
-//! The rule of chains: each follows from the chain over the bits below its top bit.
+//! The rule of chains: each chain follows from the chain over the bits below its top bit.
 ghost use Rattle.std.specs.Prelude.{◌≡◌, ◌+◌, ◌<◌, ◌≤◌, ◌^◌, Some, length, IsTrue, IfSome};
 ghost use Rattle.std.specs.Option.{ForSome};
 ghost use Rattle.std.specs.Bool.{OnTrue};
@@ -10,7 +10,8 @@ use crate::chain::{Chain, ChainColumns, ChainKind, is_choice};
 use crate::node::{Node, cofactor};
 
 impl Diagram<'_> {
-    /// The chain of a line's fields, if they name columns, a node, an earlier chain and bits that are there.
+    /// Returns the chain of a line's fields, if they name columns, a node, an earlier chain, and
+    /// bits of the columns.
     #[tactic(auto, unfolding(crate::specs::Chain::is_in_range))]
     pub(super) fn in_range(&self, columns: &ChainColumns) -> Option<Chain>
         ensures range { result ≡ in_range self.now.columns self.now.nodes self.now.chains
@@ -78,7 +79,7 @@ impl Diagram<'_> {
         }
     }
 
-    /// Whether a number is that of a node.
+    /// Returns whether a number is that of a node.
     fn is_node(&self, number: u64) -> bool
         ensures node { result ≡ is_node self.now.nodes number }
         ensures small { OnTrue result (number < 2 ^ 32) }
@@ -86,7 +87,7 @@ impl Diagram<'_> {
         number < self.nodes.len() as u64 + 2
     }
 
-    /// Whether a chain's line names no chain or one that is there.
+    /// Returns whether a chain's line names an earlier chain, or none.
     fn is_earlier(&self, prev: Option<u64>) -> bool
         ensures earlier { result ≡ is_earlier self.now.chains prev }
         ensures small { OnTrue result (ForSome prev (λ n. n < 2 ^ 32)) }
@@ -97,7 +98,8 @@ impl Diagram<'_> {
         }
     }
 
-    /// Whether a chain follows from the chain over the bits below its top bit, or is over no bits.
+    /// Returns whether a chain follows from the chain over the bits below its top bit, or is over
+    /// no bits.
     #[tactic(auto, unfolding(crate::specs::Chain::is_step))]
     pub(super) fn is_step(&self, chain: Chain) -> bool
         requires within { IsTrue (is_within self.now.columns chain) }
@@ -114,7 +116,7 @@ impl Diagram<'_> {
         }
     }
 
-    /// The node of the chain before a chain, over so many bits.
+    /// Returns the node of the previous chain, if it is over the `lower` bits.
     fn node_before(&self, chain: Chain, lower: u32) -> Option<u32>
         requires { lower < 63 }
         ensures { result ≡ node_before self.now.chains chain lower }
@@ -123,7 +125,8 @@ impl Diagram<'_> {
         chain.node_of_lower(lower, before)
     }
 
-    /// Whether a chain's node chooses by its top bits between what follows from node `e`.
+    /// Returns whether a chain's node chooses by its top bits between the nodes that follow from
+    /// node `e`.
     fn chooses(&self, chain: Chain, place: u32, e: u32) -> bool
         requires within { IsTrue (is_within self.now.columns chain) }
         requires place { place < length_of chain }
@@ -158,7 +161,7 @@ impl Diagram<'_> {
         }
     }
 
-    /// The variable of a column's bit, of which it has as many as its width.
+    /// Returns the variable of a column's bit, or None if the bit isn't below the column's width.
     fn variable_at(&self, col: u32, place: u32) -> Option<u32>
         requires { col < length self.now.columns }
         ensures { result ≡ variable_at self.now.columns col place }
@@ -172,7 +175,8 @@ impl Diagram<'_> {
     }
 }
 
-/// Whether a node leads by all bits that can occur at two variables to what they make of `e`.
+/// Returns whether all bits that can occur at two variables lead from a node to their outcome,
+/// given `e`.
 fn leads_always(
     nodes: &[Node],
     kind: ChainKind,
@@ -189,7 +193,8 @@ fn leads_always(
         && leads(nodes, kind, left, right, e, node, (true, true))
 }
 
-/// Whether a node leads by these bits, if they can occur at the two variables, to what they make of `e`.
+/// Returns whether these bits, if they can occur at the two variables, lead from a node to their
+/// outcome, given `e`.
 fn leads(
     nodes: &[Node],
     kind: ChainKind,
@@ -206,14 +211,15 @@ fn leads(
         || step(nodes, right, y, step(nodes, left, x, node)) == kind.outcome(x, y, e)
 }
 
-/// Whether a bit can occur: that of no variable is 0.
+/// Returns whether a bit can occur; without a variable it is 0.
 fn occurs(v: Option<u32>, bit: bool) -> bool
     ensures { result ≡ occurs v bit }
 {
     !bit || v.is_some()
 }
 
-/// The child of a node on the side of a bit, if it tests the bit's variable, and else the node itself.
+/// Returns the child of a node for a bit, if the node tests the bit's variable, else the node
+/// itself.
 fn step(nodes: &[Node], v: Option<u32>, bit: bool, node: u32) -> u32
     ensures { result ≡ step nodes.now v bit node }
 {
@@ -223,7 +229,7 @@ fn step(nodes: &[Node], v: Option<u32>, bit: bool, node: u32) -> u32
     }
 }
 
-/// The number of a chain, which 32 bits hold.
+/// Returns the number of a chain in 32 bits.
 fn narrow(prev: Option<u64>) -> Option<u32>
     requires { ForSome prev (λ n. n < 2 ^ 32) }
     ensures { result ≡ prev }

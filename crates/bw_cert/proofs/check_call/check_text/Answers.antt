@@ -1,5 +1,5 @@
--- At each exit after the schema's: what is accepted is spelled under the schema that was read, and its condition has the
--- tree of the query's.
+-- At each exit after the schema's: what is accepted is spelled under the schema that was read, and
+-- its condition has the tree of the query's.
 use Rattle.std.proofs.Common.{◌≡◌, true, false}
 use Rattle.std.proofs.lemmas.Result.{err_from_is_err_and}
 use Rattle.bw_sql.specs.Asked.{asked}

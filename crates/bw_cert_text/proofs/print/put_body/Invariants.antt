@@ -6,7 +6,8 @@ use Rattle.bw_cert_text.specs.PrintText.{lines_text, body_tokens}
 use Rattle.bw_cert_text.specs.Reprint.{are_small}
 use Rattle.bw_cert_text.proofs.print.put_body.Given as goal
 
--- what is written so far, and then the lines that are left, are all lines after the text; where the numbers of those are below 2^64, all are
+-- what is written so far, and then the lines that are left, are all lines after the text; where the
+-- numbers of those are below 2^64, all are
 abbrev pub invariant-loop-line : goal.invariant-loop-line
 invariant-loop-line l = record {
   text : l.text.items ++ lines_text (λ line. body_tokens (body_fields line)) (body_lines l.rest) ≡ l.fn.text.items ++ lines_text (λ line. body_tokens (body_fields line)) (body_lines l.body);

@@ -6,7 +6,8 @@ use Rattle.bw_cert_text.specs.Token.{chain_tokens}
 use Rattle.bw_cert_text.specs.Reprint.{are_small}
 use Rattle.bw_cert_text.proofs.print.put_chains.Given as goal
 
--- what is written so far, and then the lines that are left, are all lines after the text; the numbers of what is written are below 2^64
+-- what is written so far, and then the lines that are left, are all lines after the text; the
+-- numbers of what is written are below 2^64
 abbrev pub invariant-loop-chain : goal.invariant-loop-chain
 invariant-loop-chain l = record {
   text : l.text.items ++ lines_text (λ chain. chain_tokens (respelled_chain l.schema.columns.items (chain_fields chain))) (drop l.chain-index l.chains) ≡ l.fn.text.items ++ lines_text (λ chain. chain_tokens (respelled_chain l.schema.columns.items (chain_fields chain))) l.chains;

@@ -3,7 +3,8 @@ use Rattle.bw_csv.specs.Rest.{IsReadable, to_come}
 use Rattle.bw_csv.proofs.RowLemmas.{LedSoFar}
 use Rattle.bw_csv.proofs.rows.hand_rows.Given as goal
 
--- the taker was led through the rows so far, and the rows are those and then the rows of the records to come
+-- the taker was led through the rows so far, and the rows are those and then the rows of the
+-- records to come
 abbrev pub invariant-rows : goal.invariant-rows
 invariant-rows g l = record {
   readable : IsReadable l.rest;

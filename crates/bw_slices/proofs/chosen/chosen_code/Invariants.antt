@@ -6,7 +6,8 @@ use Rattle.bw_segment.proofs.DescentLemmas.{IsDescended}
 use Rattle.bw_slices.specs.Slices.{slices_codes}
 use Rattle.bw_slices.proofs.chosen.chosen_code.Given as goal
 
--- the codes in the lanes that are left have the same bytes so far, and the one that is sought is among them
+-- the codes in the lanes that are left have the same bytes so far, and the one that is sought is
+-- among them
 abbrev pub invariant-loop-place : goal.invariant-loop-place
 invariant-loop-place l =
     let codes = slices_codes ((l.width + 7) / 8) l.bytes in
