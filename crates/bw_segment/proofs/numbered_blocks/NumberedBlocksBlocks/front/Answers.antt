@@ -1,5 +1,5 @@
 -- They are those of the block that stands where it is looked for.
-use Rattle.std.proofs.Common.{◌∙◌, ◌*◌, ap, ℕ, List, get_or, rules}
+use Rattle.std.proofs.Common.{◌∙◌, ◌*◌, get_or, rules}
 use Rattle.bw_segment.proofs.ColumnBlockLemmas.{block_read, is_column}
 use Rattle.bw_segment.proofs.FrontLemmas.{front_is, if_some}
 use Rattle.bw_segment.proofs.numbered_blocks.NumberedBlocksBlocks.front.Goals as goal
