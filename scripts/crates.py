@@ -1,4 +1,4 @@
-"""What prove and wrong-bodies share: which crates there are, what each stands on, and rooms, in which one crate is proved beside
+"""What prove and mutants share: which crates there are, what each stands on, and rooms, in which one crate is proved beside
 others. `rt` keeps all others out of a crate and of all that it stands on while it works there; in a room there are the crate's
 files and the libraries that it stands on as they were built, under second names, so that nobody waits."""
 import os

@@ -1,5 +1,5 @@
 """Watches the kit's gate, `rt ci`, while ./check --proof runs it: prints how far it is every minute, and at the end where the time
-went. `rt ci` says when a crate is proved, but not when a wrong body was tried, and no times; so this looks at its processes in
+went. `rt ci` says when a crate is proved, but not when a mutant was tried, and no times; so this looks at its processes in
 /proc, every two seconds."""
 import os
 import re

@@ -1,8 +1,8 @@
 //! The bytes of a segment, and the place of each column's block among them.
 ghost use Rattle.std.specs.Prelude.{◌≡◌, ◌&&◌, Bool, IfSome, IsTrue, ℕ, List, length, nat_le, slice_range, take};
-ghost use Rattle.bw_device.specs.Shared.{bytes_in};
+ghost use Rattle.bw_io.specs.Shared.{bytes_in};
 
-use bw_device::SharedBytes;
+use bw_io::SharedBytes;
 
 /// The bytes of a segment, in which each column's block is contiguous.
 pub trait Blocks {

@@ -1,6 +1,6 @@
 //! A segment stored as bytes in a layout, and its results.
 ghost use Rattle.std.specs.Prelude.{◌≡◌, ◌≤◌, length};
-ghost use Rattle.bw_device.specs.Shared.{bytes_in};
+ghost use Rattle.bw_io.specs.Shared.{bytes_in};
 ghost use Rattle.bw_model.specs.Groups.{group_size};
 ghost use Rattle.bw_segment.specs.BlockFault.{IsSound};
 ghost use Rattle.bw_segment.specs.Packing.{block_size, meaning_spelled, segment_size, segment_bytes};
@@ -11,7 +11,7 @@ use crate::few::{greatest_in, least_in};
 use crate::layout::CodeLayout;
 use crate::placement::Placement;
 use crate::segment::Segment;
-use bw_device::SharedBytes;
+use bw_io::SharedBytes;
 use bw_lanes::{LANES, Plane, Selection, lane};
 use bw_model::{Schema, Value};
 use std::marker::PhantomData;

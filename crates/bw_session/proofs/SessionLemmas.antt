@@ -8,9 +8,9 @@ use Rattle.bw_model.specs.declared.fault.Fault.{Fault}
 use Rattle.bw_model.specs.declared.schema.Schema.{Schema}
 use Rattle.bw_model.specs.Fault.{nowhere}
 use Rattle.bw_model.specs.Row.{Value}
-use Rattle.bw_device.specs.Sink.{TookPart, is_write_fault}
-use Rattle.bw_device.specs.Source.{failed_reads, is_input_fault}
-use Rattle.bw_device.proofs.SinkLemmas.{no_write_fault}
+use Rattle.bw_io.specs.Sink.{TookPart, is_write_fault}
+use Rattle.bw_io.specs.Source.{failed_reads, is_input_fault}
+use Rattle.bw_io.proofs.SinkLemmas.{no_write_fault}
 use Rattle.bw_session.specs.Reading.{TookBeginning, TookStatement}
 use Rattle.std.specs.Prelude.{if◌then◌else◌}
 use Rattle.bw_session.specs.Session.{CameWhole, Ended, IsOutput, SoFar, Stopped, WroteOutput, WrotePart, begun, failed_writes, first_of, more, reading, whole, writing}

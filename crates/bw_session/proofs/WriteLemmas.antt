@@ -8,7 +8,7 @@ use Rattle.std.specs.Io.KnownBytes.{Appends}
 use Rattle.bw_model.specs.declared.fault.Fault.{Fault}
 use Rattle.bw_model.specs.declared.schema.Schema.{Schema}
 use Rattle.bw_model.specs.Row.{Value}
-use Rattle.bw_device.specs.Sink.{TookPart, Wrote, beginning, everything, is_write_fault, none_aside, nothing}
+use Rattle.bw_io.specs.Sink.{TookPart, Wrote, beginning, everything, is_write_fault, none_aside, nothing}
 use Rattle.bw_query.specs.MemoryAnswer.{IsMemoryAnswer, RowsText}
 use Rattle.bw_query.specs.TableAnswer.{by_statement}
 use Rattle.bw_sql.specs.Statement.{IsReadAs}

@@ -12,8 +12,8 @@ use Rattle.bw_sql.specs.Cut.{HasNoToken}
 use Rattle.bw_sql.specs.Limits.{longest_statement}
 use Rattle.bw_sql.specs.Statement.{IsReadAs}
 use Rattle.bw_answer.specs.Answer.{csv_text, meaning}
-use Rattle.bw_device.specs.Sink.{TookPart, is_write_fault}
-use Rattle.bw_device.specs.Source.{failed_reads, is_input_fault}
+use Rattle.bw_io.specs.Sink.{TookPart, is_write_fault}
+use Rattle.bw_io.specs.Source.{failed_reads, is_input_fault}
 use Rattle.bw_session.specs.Statements.{IsBegun, IsOpen, IsWhole}
 
 -- a statement asks for nothing: it isn't too long, and has nothing but blanks, line ends and comments

@@ -3,11 +3,11 @@ ghost use Rattle.std.specs.Prelude.{◌≡◌, ◌-◌, ◌^◌, ◌<◌, IfOk, 
 ghost use Rattle.std.specs.Io.KnownBytes.{Keeps};
 ghost use Rattle.bw_model.specs.FaultTable.{READ_FAILED};
 ghost use Rattle.bw_model.specs.Fault.{nowhere};
-ghost use Rattle.bw_device.specs.Source.{TellsFailure, is_input_fault};
+ghost use Rattle.bw_io.specs.Source.{TellsFailure, is_input_fault};
 ghost use Rattle.bw_session.specs.Reading.{TookBeginning, TookByte, TookStatement, with_byte};
 
 use crate::standing::Standing;
-use bw_device::{Failed, Source};
+use bw_io::{Failed, Source};
 use bw_model::{Fault, code};
 use std::alloc::AllocError;
 

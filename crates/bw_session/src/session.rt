@@ -1,12 +1,12 @@
 //! A session: statements of a source, answered one after another.
 ghost use Rattle.std.specs.Prelude.{◌≡◌, ◌-◌, ◌^◌, ◌<◌, ◌↔◌, IsTrue};
-ghost use Rattle.bw_device.specs.Sink.{is_write_fault};
+ghost use Rattle.bw_io.specs.Sink.{is_write_fault};
 ghost use Rattle.bw_memory.specs.MemoryTable.{rows_of, schema_of};
 ghost use Rattle.bw_session.specs.Session.{Answers, AnswersOne, AsksNothing, EndsLine, first_of};
 
 use crate::listener::Listener;
 use crate::reading::{MAX_LEN, next_statement};
-use bw_device::{Sink, Source, write_whole};
+use bw_io::{Sink, Source, write_whole};
 use bw_memory::MemoryTable;
 use bw_model::{Fault, code};
 use bw_query::answer_in_memory;

@@ -1,4 +1,4 @@
-use Rattle.bw_device.specs.Shared.{bytes_in}
+use Rattle.bw_io.specs.Shared.{bytes_in}
 use Rattle.bw_segment.specs.Packing.{block_at}
 use Rattle.bw_segment.proofs.ColumnBlockLemmas.{HaveMore}
 use Rattle.bw_segment.proofs.numbered_blocks.push_blocks.Given as goal

@@ -1,5 +1,5 @@
 use Rattle.std.proofs.Common.{◌≡◌, sym, ◌∙◌, false, true, arith}
-use Rattle.bw_device.specs.Sink.{is_write_fault}
+use Rattle.bw_io.specs.Sink.{is_write_fault}
 use Rattle.bw_session.specs.Session.{AsksNothing}
 use Rattle.bw_session.proofs.WriteLemmas.{answer_failed, answered, asks_something, count_kept, count_same, refused, silent}
 use Rattle.bw_session.proofs.session.answer_one.Goals as goal

@@ -1,6 +1,6 @@
 use Rattle.std.proofs.Common.{◌≡◌, refl, ap, ◌∙◌, ◌+◌, false, arith, IsTrue}
-use Rattle.bw_device.specs.Sink.{is_write_fault}
-use Rattle.bw_device.specs.Source.{failed_reads, is_input_fault}
+use Rattle.bw_io.specs.Sink.{is_write_fault}
+use Rattle.bw_io.specs.Source.{failed_reads, is_input_fault}
 use Rattle.bw_session.proofs.SessionLemmas.{begins, ends_as, goes_on_as, input_alone, no_reads, no_writes, one_write, stops, stops_reading, stops_writing}
 use Rattle.bw_session.proofs.session.answer_statements.Goals as goal
 
