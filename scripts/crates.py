@@ -1,6 +1,6 @@
-"""The parts that prove and wrong-bodies share: the crates, the libraries that each uses, and separate working directories, in
-which one crate is proved beside others. `rt` locks a crate and all libraries that it uses while it works there. A working
-directory has the crate's files, and under second names the built libraries that it uses, so that nobody waits."""
+"""What prove and mutants share: which crates there are, what each stands on, and rooms, in which one crate is proved beside
+others. `rt` keeps all others out of a crate and of all that it stands on while it works there; in a room there are the crate's
+files and the libraries that it stands on as they were built, under second names, so that nobody waits."""
 import os
 import pathlib
 import shutil

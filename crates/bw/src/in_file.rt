@@ -1,5 +1,5 @@
 //! An input file, which mustn't change while it is read.
-use bw_tell::Reads;
+use bw_explain::Reads;
 use std::fs::File;
 use std::io::{self, ErrorKind, Read};
 use std::os::unix::fs::MetadataExt;

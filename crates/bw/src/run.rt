@@ -1,21 +1,21 @@
 //! Runs the command that the command line asks for, and gives the exit status.
 ghost use Rattle.std.specs.Prelude.{◌≡◌, IfOk};
-ghost use Rattle.bw_device.specs.ReadAhead.{read_failures};
+ghost use Rattle.bw_io.specs.ReadAhead.{read_failures};
 
 use crate::calls::{answer, answer_all, check, direct, dump, infer, info, load, plan, read_table};
 use crate::in_file::InFile;
 use crate::out_file::{OutFile, is_same_file};
 use crate::out_stream::OutStream;
 use crate::session::Teller;
-use bw_device::ReadAhead;
+use bw_cli::{Asked, USAGE, Words, asked_by, words_given};
+use bw_explain::{Ended, Reads, explain, explain_rows};
 use bw_file::{FromRead, Layout, Source, ToWrite};
+use bw_io::ReadAhead;
 use bw_model::{Fault, MAX_SCHEMA_LEN, code};
 use bw_shell::{
     By, Input, MAX_PROGRAM_FILE_LEN, MemoryTable, Served, accepted_line, read_limited, report,
     stats_line,
 };
-use bw_tell::{Ended, Reads, explain, explain_rows};
-use bw_words::{Asked, USAGE, Words, asked_by, words_given};
 use std::fs::File;
 use std::io::{self, IsTerminal, Stdin};
 use std::rt::{Env, Files};

@@ -1,8 +1,8 @@
 //! `bw session`: what a person or a script is told beside the answers.
+use bw_explain::explain_statement;
 use bw_file::ToWrite;
 use bw_model::{Fault, Schema};
 use bw_shell::{Listener, Served, report, stats_line};
-use bw_tell::explain_statement;
 use std::io::IsTerminal;
 
 /// What is shown at a terminal where a statement is waited for.

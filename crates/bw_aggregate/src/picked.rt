@@ -37,8 +37,24 @@ pub fn add_picked<S: Segment>(total: &mut Accumulator, segment: &S, selection: &
     }
 }
 
-/// Returns the total of the selected rows of a segment.
+/// Returns the total of the selected rows of a segment. A count of rows is computed here: the other
+/// totals may need planes, which would be cleared for it too.
 fn total_of<S: Segment>(item: Item, segment: &S, selection: &Selection) -> Option<i128>
+    requires column { IsTrue (item_within (length (S.meaning segment.now).columns) item) }
+    requires selection { IsWithin (length (S.meaning segment.now).rows) (lanes_of_words selection.now) }
+    ensures total { result
+        ≡ total item (picked_rows (S.meaning segment.now) (lanes_of_words selection.now)) }
+    ensures small { IsTotalOfRows 1 result }
+{
+    match item {
+        Item::CountAll => Some(i128::from(count(selection))),
+        _ => total_by_columns(item, segment, selection),
+    }
+}
+
+/// Returns the same, for any item.
+#[inline(never)]
+fn total_by_columns<S: Segment>(item: Item, segment: &S, selection: &Selection) -> Option<i128>
     requires column { IsTrue (item_within (length (S.meaning segment.now).columns) item) }
     requires selection { IsWithin (length (S.meaning segment.now).rows) (lanes_of_words selection.now) }
     ensures total { result

@@ -19,13 +19,13 @@ use Rattle.bw_cert_text.specs.declared.lines.Entry.{Entry}
 use Rattle.bw_cert_text.specs.declared.lines.Entry.TheVariants as line_of
 use Rattle.bw_cert_text.specs.declared.lines.InstructionEntry.{InstructionEntry}
 use Rattle.bw_cert_text.specs.declared.lines.Keep.{Keep}
-use Rattle.bw_cert_parts.specs.declared.edge.Edge.{Edge}
-use Rattle.bw_cert_parts.specs.Accepted.{KeepLine, keep_line, are_kept}
-use Rattle.bw_cert_parts.specs.Instruction.{after, put, is_fill, is_skip_line, loaded_node, operation_row, byte_chain, byte_node, terminal, plane_on, read_on, joined_on, opposite_on, byte_on}
-use Rattle.bw_cert_parts.specs.Join.{is_kept}
-use Rattle.bw_cert_parts.specs.Known.{Known, node_of, nothing_known, with_node}
-use Rattle.bw_cert_parts.specs.Walk.{Taken, keep_in, by_keep, keeps_taken, join_taken, is_join, instruction_on, instruction_taken, joined}
-use Rattle.bw_cert_parts.proofs.JoinLemmas.{keep_on, keep_refused}
+use Rattle.bw_cert_rules.specs.declared.edge.Edge.{Edge}
+use Rattle.bw_cert_rules.specs.Accepted.{KeepLine, keep_line, are_kept}
+use Rattle.bw_cert_rules.specs.Instruction.{after, put, is_fill, is_skip_line, loaded_node, operation_row, byte_chain, byte_node, terminal, plane_on, read_on, joined_on, opposite_on, byte_on}
+use Rattle.bw_cert_rules.specs.Join.{is_kept}
+use Rattle.bw_cert_rules.specs.Known.{Known, node_of, nothing_known, with_node}
+use Rattle.bw_cert_rules.specs.Walk.{Taken, keep_in, by_keep, keeps_taken, join_taken, is_join, instruction_on, instruction_taken, joined}
+use Rattle.bw_cert_rules.proofs.JoinLemmas.{keep_on, keep_refused}
 use Rattle.bw_cert.specs.FirstFault.{NoKeep, WrongLine, WrongKeep, WrongJoin}
 use Rattle.bw_cert.proofs.ValidLemmas.{bind_ok, not_refused}
 

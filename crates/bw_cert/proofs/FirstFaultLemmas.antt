@@ -9,14 +9,14 @@ use Rattle.bw_diagram.specs.Facts.{Facts}
 use Rattle.bw_program.specs.declared.instr.Instr.{Instr}
 use Rattle.bw_cert_text.specs.declared.lines.BodyLine.{BodyLine}
 use Rattle.bw_cert_text.specs.declared.lines.Entry.TheVariants as line_of
-use Rattle.bw_cert_parts.specs.declared.edge.Edge.{Edge}
-use Rattle.bw_cert_parts.specs.Accepted.{KeepLine, JoinLines, Part, keep_line, join_lines, lines_of, before, edges_before, edge_at, fallen, past, known_past, kept_by, are_kept, obeys_join, Obeys}
-use Rattle.bw_cert_parts.specs.Instruction.{after}
-use Rattle.bw_cert_parts.specs.Join.{edge_of, with_edge, edges_into}
-use Rattle.bw_cert_parts.specs.Known.{Known, nothing_known, with_node}
-use Rattle.bw_cert_parts.specs.Walk.{Taken, by_keep, keeps_taken, instruction_taken, joined, walked, judged}
-use Rattle.bw_cert_parts.proofs.AcceptLemmas.{Line, Joined, line_read, join_read, drop_stands}
-use Rattle.bw_cert_parts.proofs.JoinLemmas.{keep_on}
+use Rattle.bw_cert_rules.specs.declared.edge.Edge.{Edge}
+use Rattle.bw_cert_rules.specs.Accepted.{KeepLine, JoinLines, Part, keep_line, join_lines, lines_of, before, edges_before, edge_at, fallen, past, known_past, kept_by, are_kept, obeys_join, Obeys}
+use Rattle.bw_cert_rules.specs.Instruction.{after}
+use Rattle.bw_cert_rules.specs.Join.{edge_of, with_edge, edges_into}
+use Rattle.bw_cert_rules.specs.Known.{Known, nothing_known, with_node}
+use Rattle.bw_cert_rules.specs.Walk.{Taken, by_keep, keeps_taken, instruction_taken, joined, walked, judged}
+use Rattle.bw_cert_rules.proofs.AcceptLemmas.{Line, Joined, line_read, join_read, drop_stands}
+use Rattle.bw_cert_rules.proofs.JoinLemmas.{keep_on}
 use Rattle.bw_cert.specs.FirstFault.{NoKeep, KeepsAreAll, WrongLine, WrongJoin, WrongPlace, known_after, edges_after, FirstFault, StandsOn}
 use Rattle.bw_cert.proofs.PartsLemmas.{with_one, stands_last, edges_here, known_here, obeys_more, lines_more}
 use Rattle.bw_cert.proofs.FaultLemmas.{bind_err, taken_of, line_wrong, wrong_line, next_keep, after_join, join_wrong, wrong_join, join_stops, line_stands}

@@ -5,11 +5,11 @@ use Rattle.bw_diagram.specs.Facts.{Facts}
 use Rattle.bw_program.specs.declared.instr.Instr.{Instr}
 use Rattle.bw_cert_text.specs.declared.lines.BodyLine.{BodyLine}
 use Rattle.bw_cert_text.specs.declared.lines.Entry.TheVariants as line_of
-use Rattle.bw_cert_parts.specs.declared.edge.Edge.{Edge}
-use Rattle.bw_cert_parts.specs.Accepted.{Part, join_lines, lines_of, before, edges_before, edge_at, fallen, known_or_nothing, past, known_past, obeys_join, Obeys}
-use Rattle.bw_cert_parts.specs.Instruction.{after}
-use Rattle.bw_cert_parts.specs.Join.{edge_of, with_edge, edges_into}
-use Rattle.bw_cert_parts.specs.Known.{Known}
+use Rattle.bw_cert_rules.specs.declared.edge.Edge.{Edge}
+use Rattle.bw_cert_rules.specs.Accepted.{Part, join_lines, lines_of, before, edges_before, edge_at, fallen, known_or_nothing, past, known_past, obeys_join, Obeys}
+use Rattle.bw_cert_rules.specs.Instruction.{after}
+use Rattle.bw_cert_rules.specs.Join.{edge_of, with_edge, edges_into}
+use Rattle.bw_cert_rules.specs.Known.{Known}
 
 abbrev pub with_one : {A : Type 0} → List A → A → List A
 with_one xs x = xs ++ x ∷ []

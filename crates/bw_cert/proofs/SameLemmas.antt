@@ -12,11 +12,11 @@ use Rattle.bw_cert_text.specs.declared.lines.BodyLine.{BodyLine}
 use Rattle.bw_cert_text.specs.declared.lines.ChainLine.{ChainLine}
 use Rattle.bw_cert_text.specs.CertificateFields.{CertificateFields, ChainFields, ColumnFields, BodyFields, One, Two, chain_fields, column_fields, body_fields, certificate_fields}
 use Rattle.bw_cert_text.specs.CertificateShape.{CertificateShape}
-use Rattle.bw_cert_parts.specs.declared.nodes.Pair.{Pair}
-use Rattle.bw_cert_parts.specs.Pair as pairs
-use Rattle.bw_cert_parts.specs.Known.{Known}
-use Rattle.bw_cert_parts.specs.Walk.{Taken}
-use Rattle.bw_cert_parts.specs.Walk as walk
+use Rattle.bw_cert_rules.specs.declared.nodes.Pair.{Pair}
+use Rattle.bw_cert_rules.specs.Pair as pairs
+use Rattle.bw_cert_rules.specs.Known.{Known}
+use Rattle.bw_cert_rules.specs.Walk.{Taken}
+use Rattle.bw_cert_rules.specs.Walk as walk
 use Rattle.bw_cert.specs.Stated.{on_line, with_lines, with_node_line, with_chain_line, with_product_line, facts_stated}
 use Rattle.bw_cert.specs.Valid.{last_on}
 

@@ -24,10 +24,10 @@ use Rattle.bw_program.specs.ProgramText.{found_on}
 use Rattle.bw_cert_text.specs.declared.lines.BodyLine.{BodyLine}
 use Rattle.bw_cert_text.specs.declared.lines.InstructionEntry.{InstructionEntry}
 use Rattle.bw_cert_text.specs.CertificateShape.{CertificateShape}
-use Rattle.bw_cert_parts.specs.Instruction.{after, loaded_node, byte_chain, plane_on, byte_on}
-use Rattle.bw_cert_parts.specs.Join.{is_zero}
-use Rattle.bw_cert_parts.specs.Known.{Known, node_of}
-use Rattle.bw_cert_parts.specs.Walk.{Taken}
+use Rattle.bw_cert_rules.specs.Instruction.{after, loaded_node, byte_chain, plane_on, byte_on}
+use Rattle.bw_cert_rules.specs.Join.{is_zero}
+use Rattle.bw_cert_rules.specs.Known.{Known, node_of}
+use Rattle.bw_cert_rules.specs.Walk.{Taken}
 use Rattle.bw_cert.specs.Stated.{on_line, with_lines, with_node_line, with_chain_line, with_product_line, facts_stated}
 use Rattle.bw_cert.specs.Valid.{last_on, end_on}
 

@@ -10,12 +10,12 @@ use Rattle.bw_program.specs.declared.instr.Instr.{Instr}
 use Rattle.bw_cert_text.specs.declared.lines.BodyLine.{BodyLine}
 use Rattle.bw_cert_text.specs.declared.lines.Entry.TheVariants as line_of
 use Rattle.bw_cert_text.specs.declared.lines.InstructionEntry.{InstructionEntry}
-use Rattle.bw_cert_parts.specs.declared.edge.Edge.{Edge}
-use Rattle.bw_cert_parts.specs.Accepted.{KeepLine, JoinLines, Part, Obeys, keep_line, lines_of, before, edges_before, are_kept}
-use Rattle.bw_cert_parts.specs.Instruction.{after}
-use Rattle.bw_cert_parts.specs.Join.{edge_of, with_edge, edges_into}
-use Rattle.bw_cert_parts.specs.Known.{Known}
-use Rattle.bw_cert_parts.specs.Walk.{instruction_on, is_join, keep_in, judged}
+use Rattle.bw_cert_rules.specs.declared.edge.Edge.{Edge}
+use Rattle.bw_cert_rules.specs.Accepted.{KeepLine, JoinLines, Part, Obeys, keep_line, lines_of, before, edges_before, are_kept}
+use Rattle.bw_cert_rules.specs.Instruction.{after}
+use Rattle.bw_cert_rules.specs.Join.{edge_of, with_edge, edges_into}
+use Rattle.bw_cert_rules.specs.Known.{Known}
+use Rattle.bw_cert_rules.specs.Walk.{instruction_on, is_join, keep_in, judged}
 
 -- the lines don't begin with a line KEEP
 abbrev pub NoKeep : List BodyLine → Type 0

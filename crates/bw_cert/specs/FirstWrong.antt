@@ -11,10 +11,10 @@ use Rattle.bw_cert_text.specs.declared.lines.NodeLine.{NodeLine}
 use Rattle.bw_cert_text.specs.declared.lines.ChainLine.{ChainLine}
 use Rattle.bw_cert_text.specs.declared.lines.ProductLine.{ProductLine}
 use Rattle.bw_cert_text.specs.CertificateShape.{CertificateShape}
-use Rattle.bw_cert_parts.specs.declared.nodes.Pair.{Pair}
-use Rattle.bw_cert_parts.specs.Pair.{pair_of}
-use Rattle.bw_cert_parts.specs.Accepted.{Accepts}
-use Rattle.bw_cert_parts.specs.Walk.{Taken}
+use Rattle.bw_cert_rules.specs.declared.nodes.Pair.{Pair}
+use Rattle.bw_cert_rules.specs.Pair.{pair_of}
+use Rattle.bw_cert_rules.specs.Accepted.{Accepts}
+use Rattle.bw_cert_rules.specs.Walk.{Taken}
 use Rattle.bw_cert.specs.FirstFault.{FirstFault}
 use Rattle.bw_cert.specs.Stated.{facts_stated, with_lines, with_node_line, with_chain_line, with_product_line}
 use Rattle.bw_cert.specs.Valid.{end_on}

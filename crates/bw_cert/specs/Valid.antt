@@ -13,12 +13,12 @@ use Rattle.bw_program.specs.Program.{ProgramShape}
 use Rattle.bw_program.specs.ProgramText.{found_on}
 use Rattle.bw_cert_text.specs.declared.lines.BodyLine.{BodyLine}
 use Rattle.bw_cert_text.specs.CertificateShape.{CertificateShape}
-use Rattle.bw_cert_parts.specs.declared.nodes.Pair.{Pair}
-use Rattle.bw_cert_parts.specs.Pair.{pair_of}
-use Rattle.bw_cert_parts.specs.Accepted.{Part, Obeys, before, lines_of}
-use Rattle.bw_cert_parts.specs.Join.{is_zero}
-use Rattle.bw_cert_parts.specs.Known.{Known, node_of}
-use Rattle.bw_cert_parts.specs.Walk.{Taken, judged}
+use Rattle.bw_cert_rules.specs.declared.nodes.Pair.{Pair}
+use Rattle.bw_cert_rules.specs.Pair.{pair_of}
+use Rattle.bw_cert_rules.specs.Accepted.{Part, Obeys, before, lines_of}
+use Rattle.bw_cert_rules.specs.Join.{is_zero}
+use Rattle.bw_cert_rules.specs.Known.{Known, node_of}
+use Rattle.bw_cert_rules.specs.Walk.{Taken, judged}
 use Rattle.bw_cert.specs.Stated.{facts_stated}
 
 -- A certificate is valid for a condition and a program under these columns.

@@ -10,7 +10,7 @@ ghost use Rattle.bw_cert.specs.Valid.{Valid, Checks, checked, end_on, is_check_f
 use crate::certified::Certified;
 use crate::laws::{valid_exactly_where_checked, valid_programs_select};
 use crate::stated::diagram_of;
-use bw_cert_parts::{AtEnd, known_at_end, pair};
+use bw_cert_rules::{AtEnd, known_at_end, pair};
 use bw_cert_text::{Certificate, EndLine};
 use bw_diagram::{Connective, Diagram};
 use bw_model::{Cond, Fault, Schema, code};

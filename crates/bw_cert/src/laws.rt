@@ -15,15 +15,15 @@ ghost use Rattle.bw_program.specs.declared.instr.Instr.{Instr};
 ghost use Rattle.bw_cert_text.specs.CertificateFields.{certificate_fields};
 ghost use Rattle.bw_cert_text.specs.CertificateShape.{CertificateShape};
 ghost use Rattle.bw_cert_text.specs.declared.lines.BodyLine.{BodyLine};
-ghost use Rattle.bw_cert_parts.specs.Accepted.{before};
-ghost use Rattle.bw_cert_parts.specs.Sound.{Hold};
-ghost use Rattle.bw_cert_parts.specs.Walk.{judged};
+ghost use Rattle.bw_cert_rules.specs.Accepted.{before};
+ghost use Rattle.bw_cert_rules.specs.Sound.{Hold};
+ghost use Rattle.bw_cert_rules.specs.Walk.{judged};
 ghost use Rattle.bw_cert.specs.FirstFault.{FirstFault, StandsOn};
 ghost use Rattle.bw_cert.specs.FirstWrong.{FirstWrong};
 ghost use Rattle.bw_cert.specs.Selects.{Selects};
 ghost use Rattle.bw_cert.specs.Valid.{Valid, checked};
 
-use bw_cert_parts::{
+use bw_cert_rules::{
     judged_lines_obey, lines_are_judged_by_what_they_say, obeying_lines_are_judged,
     pairs_are_of_trees, pairs_tell_truths, skip_soundness,
 };

@@ -1,6 +1,6 @@
 //! Lines that no call of the program comes to: numbers as great as they may be, and the fault of which no example is
 //! known.
-use bw_device::ToWrite;
+use bw_io::ToWrite;
 use bw_model::{Fault, Place};
 use bw_report::{Accepted, By, Served, accepted_line, report, stats_line};
 use std::test::Fail;

@@ -1,7 +1,7 @@
 //! Sources and sinks that give or take little at a time, fail at a given call, or never end.
 ghost use Rattle.std.specs.Prelude.{◌≡◌, None, []};
 
-use bw_device::{Failed, SharedBytes, Sink, Source};
+use bw_io::{Failed, SharedBytes, Sink, Source};
 
 /// What one call may move, at which call the device fails (from 1; 0 for never), and what has happened.
 #[derive(Drop)]

@@ -71,33 +71,48 @@ fn lists_over_one_byte_are_served(rt: HostRuntime) -> Result<(), Fail> {
 
 #[test]
 fn lists_over_two_bytes_are_served(rt: HostRuntime) -> Result<(), Fail> {
-    assert_served(&rt, "b", 16, &[60, 300])
+    assert_served(&rt, "b", 16, &[60, 240])
 }
 
 #[test]
 fn lists_over_three_bytes_are_served(rt: HostRuntime) -> Result<(), Fail> {
-    assert_served(&rt, "c", 20, &[40, 60, 300])
+    assert_served(&rt, "c", 20, &[40, 60, 180])
 }
 
 #[test]
 fn lists_over_four_bytes_are_served(rt: HostRuntime) -> Result<(), Fail> {
-    assert_served(&rt, "d", 26, &[60, 300])?;
+    assert_served(&rt, "d", 26, &[60, 129])?;
     assert_served(&rt, "e", 32, &[100])
+}
+
+/// Ends the test where a list of so many numbers isn't served, or the one of one more is.
+fn assert_longest(
+    rt: &impl Abort,
+    alloc: Global,
+    column: &str,
+    bits: u32,
+    count: u64,
+) -> Result<(), Fail> {
+    let schema = Schema::parse(alloc, WIDTHS.as_bytes())?;
+    let none: Vec<Row> = Vec::new(alloc);
+    let fits = scattered(alloc, count, bits)?;
+    let text = among(alloc, column, &fits)?;
+    cost_of(rt, alloc, &schema, text.as_str(), &none)?;
+    let passes = scattered(alloc, count.saturating_add(1), bits)?;
+    let text = among(alloc, column, &passes)?;
+    match judged(rt, alloc, &schema, text.as_str(), &none)? {
+        Ok(cost) => panic!(rt; "one number more: {cost:?}"),
+        Err(fault) => assert_eq!(rt; fault.code, code::NO_PROGRAM),
+    }
+    Ok(())
 }
 
 #[test]
 fn the_longest_lists_are_served(rt: HostRuntime) -> Result<(), Fail> {
-    let alloc = rt.alloc();
-    let schema = Schema::parse(alloc, WIDTHS.as_bytes())?;
-    let none: Vec<Row> = Vec::new(alloc);
-    let fits = scattered(alloc, 400, 26)?;
-    let text = among(alloc, "d", &fits)?;
-    cost_of(&rt, alloc, &schema, text.as_str(), &none)?;
-    let passes = scattered(alloc, 401, 26)?;
-    let text = among(alloc, "d", &passes)?;
-    match judged(&rt, alloc, &schema, text.as_str(), &none)? {
-        Ok(cost) => panic!(rt; "401 numbers: {cost:?}"),
-        Err(fault) => assert_eq!(rt; fault.code, code::NO_PROGRAM),
-    }
-    Ok(())
+    assert_longest(&rt, rt.alloc(), "a", 8, 400)
+}
+
+#[test]
+fn the_longest_scattered_lists_are_served(rt: HostRuntime) -> Result<(), Fail> {
+    assert_longest(&rt, rt.alloc(), "d", 26, 129)
 }

@@ -1,7 +1,7 @@
 //! Table files that were damaged.
 use crate::files::{again, planes_file, put, slices_file, wide_file, worked_files};
-use bw_device::Source;
 use bw_file::{Layout, TableReader, decode};
+use bw_io::Source;
 use bw_model::{Fault, Place};
 use std::alloc::Global;
 use std::process::Abort;
@@ -85,7 +85,7 @@ fn a_fault_is_repeated(rt: HostRuntime) -> Result<(), Fail> {
     let alloc = rt.alloc();
     let mut file = planes_file(alloc)?;
     put(&mut file, 56, 0x22);
-    let mut source = bw_device::FromRead::new(file.as_slice());
+    let mut source = bw_io::FromRead::new(file.as_slice());
     let mut reader = TableReader::begin(alloc, &mut source)?;
     assert_eq!(rt; reader.offset(), 56);
     for _ in 0..3 {

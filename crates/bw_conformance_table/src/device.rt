@@ -1,6 +1,6 @@
 //! Sources and sinks over memory and over a reader that fails: pieces, failures that are counted, and whole inputs and
 //! texts.
-use bw_device::{Failed, FromRead, Input, Sink, Source, ToWrite, read_limited, write_whole};
+use bw_io::{Failed, FromRead, Input, Sink, Source, ToWrite, read_limited, write_whole};
 use std::io;
 use std::io::{Read, Write};
 use std::test::Fail;

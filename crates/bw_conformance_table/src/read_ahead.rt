@@ -3,8 +3,8 @@ ghost use Rattle.std.specs.Prelude.{◌<◌};
 
 use crate::damage::flip;
 use crate::files::{long_file, worked_files};
-use bw_device::{Failed, ReadAhead, Source};
 use bw_file::{Layout, TableReader, decode};
+use bw_io::{Failed, ReadAhead, Source};
 use bw_model::{Fault, Value};
 use bw_segment::Segment;
 use std::alloc::Global;

@@ -2,8 +2,8 @@
 ghost use Rattle.std.specs.Prelude.{None, []};
 
 use crate::files::worked_files;
-use bw_device::{Failed, SharedBytes, Source};
 use bw_file::TableReader;
+use bw_io::{Failed, SharedBytes, Source};
 use bw_model::{Fault, code};
 use std::alloc::Global;
 use std::test::Fail;

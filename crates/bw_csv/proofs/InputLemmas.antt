@@ -1,7 +1,7 @@
 -- What is made of a CSV text that didn't come whole.
 use Rattle.std.proofs.Common.{ℕ, List, Result, Ok, Err}
 use Rattle.bw_model.specs.declared.fault.Fault.{Fault}
-use Rattle.bw_device.specs.Source.{Arrival, NotReached, Whole, TooLong, Failed}
+use Rattle.bw_io.specs.Source.{Arrival, NotReached, Whole, TooLong, Failed}
 use Rattle.bw_csv.specs.Input.{IsMadeOf}
 
 -- whatever is to be made, the fault of what came is the same

@@ -4,7 +4,7 @@ use Rattle.std.specs.declared.alloc.Global.{Global}
 use Rattle.bw_model.specs.FaultTable.{CSV_TOO_LONG}
 use Rattle.bw_model.specs.declared.fault.Fault.{Fault}
 use Rattle.bw_model.specs.Fault.{nowhere}
-use Rattle.bw_device.specs.Source.{Arrival, NotReached, Whole, TooLong, Failed, is_input_fault}
+use Rattle.bw_io.specs.Source.{Arrival, NotReached, Whole, TooLong, Failed, is_input_fault}
 
 -- The result of a call that reads a CSV text, by what its source yielded. If the text was read
 -- completely, it is that of this function. If the text is too long, or the source failed, it is

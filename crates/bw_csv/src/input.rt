@@ -1,12 +1,12 @@
 //! A CSV text, read completely.
 ghost use Rattle.std.specs.Prelude.{◌≡◌, ◌+◌, ◌-◌, ◌^◌, ◌<◌, false, IfErr, IsTrue};
 ghost use Rattle.bw_csv.specs.Rows.{is_reader_fault};
-ghost use Rattle.bw_device.specs.Sink.{is_write_fault};
+ghost use Rattle.bw_io.specs.Sink.{is_write_fault};
 ghost use Rattle.bw_model.specs.Limits.{longest_csv};
-ghost use Rattle.bw_device.specs.Source.{Arrival, Came, LeavesSource};
+ghost use Rattle.bw_io.specs.Source.{Arrival, Came, LeavesSource};
 ghost use Rattle.bw_csv.specs.Input.{is_csv_input_fault, CsvAnswered};
 
-use bw_device::{Input, Source, read_limited};
+use bw_io::{Input, Source, read_limited};
 use bw_model::{Fault, MAX_CSV_LEN, code};
 use std::alloc::Global;
 

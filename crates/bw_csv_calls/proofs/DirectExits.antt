@@ -4,7 +4,7 @@ use Rattle.bw_model.specs.declared.fault.Fault.{Fault}
 use Rattle.bw_model.specs.declared.query.Query.{Query}
 use Rattle.bw_model.specs.declared.schema.Schema.{Schema}
 use Rattle.bw_model.specs.Fault.{no_memory, is_memory}
-use Rattle.bw_device.specs.Source.{Arrival, NotReached, Failed}
+use Rattle.bw_io.specs.Source.{Arrival, NotReached, Failed}
 use Rattle.bw_csv.specs.Input.{IsMadeOf}
 use Rattle.bw_sql.specs.Statement.{IsReadAs, Parses}
 use Rattle.bw_csv_calls.specs.Arrived.{IsSchemaFrom}

@@ -4,7 +4,7 @@ use Rattle.bw_model.specs.declared.fault.Fault.{Fault}
 use Rattle.bw_model.specs.declared.schema.Schema.{Schema}
 use Rattle.bw_model.specs.Fault.{Gives, no_memory, is_memory}
 use Rattle.bw_model.specs.SchemaText.{schema_of, schema_shape, IsSchemaText}
-use Rattle.bw_device.specs.Source.{Arrival, Whole, Failed, Came}
+use Rattle.bw_io.specs.Source.{Arrival, Whole, Failed, Came}
 use Rattle.bw_csv_calls.specs.Arrived.{IsSchemaFrom}
 use Rattle.bw_csv_calls.proofs.Exits.{memory_is}
 

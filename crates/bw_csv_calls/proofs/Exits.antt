@@ -10,9 +10,9 @@ use Rattle.bw_model.specs.Fault.{no_memory, nowhere, is_memory}
 use Rattle.bw_model.proofs.BitsLemmas.{both}
 use Rattle.bw_csv.specs.Bare.{records_of}
 use Rattle.bw_csv.specs.Rows.{StopsUnder, is_aside}
-use Rattle.bw_device.specs.Sink.{is_write_fault, GoesOut, Wrote}
-use Rattle.bw_device.proofs.SinkLemmas.{wrote_nothing, wrote_text}
-use Rattle.bw_device.specs.Source.{Arrival, NotReached, Whole, TooLong, Failed, Came}
+use Rattle.bw_io.specs.Sink.{is_write_fault, GoesOut, Wrote}
+use Rattle.bw_io.proofs.SinkLemmas.{wrote_nothing, wrote_text}
+use Rattle.bw_io.specs.Source.{Arrival, NotReached, Whole, TooLong, Failed, Came}
 use Rattle.bw_csv_calls.specs.Arrived.{CsvStopped, SchemaCame, IsSchemaFrom}
 
 -- the text that goes out, or a fault

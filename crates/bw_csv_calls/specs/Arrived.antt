@@ -5,7 +5,7 @@ use Rattle.bw_model.specs.declared.fault.Fault.{Fault}
 use Rattle.bw_model.specs.declared.schema.Schema.{Schema}
 use Rattle.bw_model.specs.Fault.{nowhere}
 use Rattle.bw_model.specs.SchemaText.{schema_of, schema_shape, IsSchemaText}
-use Rattle.bw_device.specs.Source.{Arrival, NotReached, Whole, TooLong, Failed}
+use Rattle.bw_io.specs.Source.{Arrival, NotReached, Whole, TooLong, Failed}
 use Rattle.bw_csv.specs.Bare.{records_of}
 use Rattle.bw_csv.specs.Rows.{StopsUnder}
 

@@ -6,7 +6,7 @@ use Rattle.bw_model.specs.declared.fault.Fault.{Fault}
 use Rattle.bw_model.specs.declared.query.Query.{Query}
 use Rattle.bw_model.specs.declared.schema.Schema.{Schema}
 use Rattle.bw_model.specs.Fault.{◌>>=◌}
-use Rattle.bw_device.specs.Source.{Arrival, NotReached}
+use Rattle.bw_io.specs.Source.{Arrival, NotReached}
 use Rattle.bw_sql.specs.Statement.{IsReadAs}
 use Rattle.bw_model.specs.declared.column.Column.{Column}
 use Rattle.bw_model.specs.Column.{names_of}

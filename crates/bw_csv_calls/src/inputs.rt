@@ -1,12 +1,12 @@
 //! The text of a schema, read completely.
 ghost use Rattle.std.specs.Prelude.{◌≡◌, ◌+◌, ◌-◌, ◌^◌, ◌<◌, false, IfErr};
 ghost use Rattle.bw_csv.specs.Rows.{is_reader_fault};
-ghost use Rattle.bw_device.specs.Sink.{is_write_fault};
+ghost use Rattle.bw_io.specs.Sink.{is_write_fault};
 ghost use Rattle.bw_model.specs.Limits.{longest_schema};
-ghost use Rattle.bw_device.specs.Source.{Arrival, Came, LeavesSource};
+ghost use Rattle.bw_io.specs.Source.{Arrival, Came, LeavesSource};
 ghost use Rattle.bw_csv_calls.specs.Arrived.{IsSchemaFrom};
 
-use bw_device::{Input, Source, read_limited};
+use bw_io::{Input, Source, read_limited};
 use bw_model::{Fault, MAX_SCHEMA_LEN, Schema, code};
 use std::alloc::Global;
 

@@ -6,7 +6,7 @@
 //! failure.
 //!
 //! Read `specs/Direct.antt` first, then `direct_call.rt`. Sources and sinks are those of
-//! `bw_device`.
+//! `bw_io`.
 #![tactic(auto)]
 
 mod direct_call;

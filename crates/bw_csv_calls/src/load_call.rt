@@ -3,8 +3,8 @@ ghost use Rattle.std.specs.Prelude.{◌≡◌, ◌+◌, ◌-◌, ◌^◌, ◌<�
 ghost use Rattle.bw_model.specs.declared.fault.Fault.{Fault};
 ghost use Rattle.bw_model.specs.declared.schema.Schema.{Schema};
 ghost use Rattle.bw_model.specs.Limits.{longest_schema, longest_csv};
-ghost use Rattle.bw_device.specs.Sink.{Wrote, is_write_fault};
-ghost use Rattle.bw_device.specs.Source.{Arrival, Came, TellsFailureOfEither, TookAtMost};
+ghost use Rattle.bw_io.specs.Sink.{Wrote, is_write_fault};
+ghost use Rattle.bw_io.specs.Source.{Arrival, Came, TellsFailureOfEither, TookAtMost};
 ghost use Rattle.bw_csv.specs.Bare.{records_of};
 ghost use Rattle.bw_csv.specs.Rows.{is_aside, is_reader_fault, GivesButAside, IsRowsFault, StopsUnder};
 ghost use Rattle.bw_csv_calls.specs.Arrived.{CsvStopped, SchemaCame};
@@ -13,8 +13,8 @@ ghost use Rattle.bw_csv_calls.specs.Load.{IsFile, file_of};
 
 use crate::inputs::read_schema;
 use bw_csv::{read_csv, read_rows};
-use bw_device::{Sink, Source, write_whole};
 use bw_file::{Encoder, Layout};
+use bw_io::{Sink, Source, write_whole};
 use bw_model::{Fault, Schema};
 use std::alloc::Global;
 

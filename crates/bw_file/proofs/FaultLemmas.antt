@@ -7,7 +7,7 @@ use Rattle.bw_model.specs.declared.fault.Fault.{Fault}
 use Rattle.bw_model.specs.Fault.{at_byte, is_memory, refused_if}
 use Rattle.bw_model.specs.Groups.{group_size}
 use Rattle.bw_model.specs.SchemaText.{ColumnShape, shape_names}
-use Rattle.bw_device.specs.Source.{is_read_fault, is_input_fault}
+use Rattle.bw_io.specs.Source.{is_read_fault, is_input_fault}
 use Rattle.bw_segment.specs.BlockFault.{or_else, padding_fault, row_fault, first_fault, lanes_fault}
 use Rattle.bw_segment.specs.BlockFault as faults
 use Rattle.bw_file.specs.declared.layout.Layout.{Layout}

@@ -6,7 +6,7 @@ use Rattle.bw_model.specs.declared.fault.Fault.{Fault}
 use Rattle.bw_model.specs.Fault.{no_memory}
 use Rattle.bw_model.specs.Groups.{together}
 use Rattle.bw_model.specs.Row.{Value}
-use Rattle.bw_device.specs.Source.{is_read_fault, is_input_fault, failed_reads}
+use Rattle.bw_io.specs.Source.{is_read_fault, is_input_fault, failed_reads}
 use Rattle.bw_file.specs.Reading.{State, Took}
 use Rattle.bw_model.specs.declared.schema.Schema.{Schema}
 use Rattle.bw_file.specs.AnySegment.{any_meaning}

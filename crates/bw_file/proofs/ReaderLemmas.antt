@@ -10,7 +10,7 @@ use Rattle.bw_model.specs.Fault.{at_byte, is_memory}
 use Rattle.bw_model.specs.Groups.{group_size}
 use Rattle.bw_model.specs.Row.{Value}
 use Rattle.bw_model.specs.SchemaText.{schema_shape}
-use Rattle.bw_device.specs.Source.{is_input_fault, is_read_fault}
+use Rattle.bw_io.specs.Source.{is_input_fault, is_read_fault}
 use Rattle.bw_file.specs.declared.layout.Layout.{Layout}
 use Rattle.bw_file.specs.declared.table_reader.TableReader.{TableReader}
 use Rattle.bw_file.specs.Reading.{tail, Reading, ◌>>=◌, give, State, Took, GoesOn, NeedsEach, NeedsMore, HasFault, Fails, HasByteMore}

@@ -12,7 +12,7 @@ use Rattle.bw_file.specs.declared.layout.Layout.{Layout}
 use Rattle.bw_file.specs.declared.table_reader.TableReader.{TableReader}
 use Rattle.bw_file.specs.FileBytes.{IsFileBytes}
 use Rattle.bw_file.specs.Reading.{tail, State}
-use Rattle.bw_device.specs.Source.{is_input_fault}
+use Rattle.bw_io.specs.Source.{is_input_fault}
 use Rattle.bw_file.specs.TableReading.{group_sizes, body, header, Found, found_as, IsReadAfter}
 use Rattle.bw_file.specs.TableReader.{header_stated, SoFar, ReadWhole, AnswersFault, GaveFirst}
 use Rattle.bw_file.proofs.BodySpelling.{groups_found}

@@ -10,7 +10,7 @@ use Rattle.std.specs.Io.KnownBytes.{IsAtEnd}
 use Rattle.std.proofs.KnownBytes.{Consumes-trans}
 use Rattle.bw_model.specs.declared.fault.Fault.{Fault}
 use Rattle.bw_model.specs.Fault.{at_byte, no_memory, nowhere}
-use Rattle.bw_device.specs.Source.{is_read_fault}
+use Rattle.bw_io.specs.Source.{is_read_fault}
 use Rattle.bw_file.specs.Reading.{AreBytes, Tail, tail, Reading, passed, placed, ◌>>=◌, give, field, said_at, judged, State, state, Took, GoesOn, NeedsEach, NeedsMore, HasFault, Fails, Reads}
 
 -- the bytes of a buffer are bytes, and so are those in front, and those of several buffers

@@ -18,7 +18,7 @@ use Rattle.bw_model.specs.declared.fault.Fault.{Fault}
 use Rattle.bw_model.specs.Fault.{is_memory}
 use Rattle.bw_model.specs.SchemaText.{schema_shape}
 use Rattle.bw_file.specs.declared.table_reader.TableReader.{TableReader}
-use Rattle.bw_device.specs.Source.{is_read_fault}
+use Rattle.bw_io.specs.Source.{is_read_fault}
 use Rattle.bw_file.specs.Reading.{State, state}
 use Rattle.bw_file.specs.TableReader.{AnswersFault, ReadWhole, found_so_far}
 use Rattle.bw_file.specs.TableReading.{Found, IsReadAs}

@@ -1,5 +1,5 @@
 -- The meaning of a segment in either layout, and its layout.
-use Rattle.bw_device.specs.Shared.{bytes_in}
+use Rattle.bw_io.specs.Shared.{bytes_in}
 use Rattle.bw_planes.specs.Planes.{plane_packing}
 use Rattle.bw_slices.specs.Slices.{slice_packing}
 use Rattle.bw_segment.specs.Meaning.{Meaning, IsGroup}

@@ -4,7 +4,7 @@ use Rattle.std.specs.Io.KnownBytes.{Consumes}
 use Rattle.bw_model.specs.FaultTable.{TRUNCATED, BYTES_AFTER_END}
 use Rattle.bw_model.specs.declared.fault.Fault.{Fault}
 use Rattle.bw_model.specs.Fault.{at_byte, refused_if}
-use Rattle.bw_device.specs.Source.{is_read_fault, is_input_fault, failed_reads}
+use Rattle.bw_io.specs.Source.{is_read_fault, is_input_fault, failed_reads}
 
 -- the bytes of a file, from this place on
 pub record Tail : Type 0 where

@@ -1,6 +1,6 @@
 -- The bytes of a segment, of which the first ones have been read.
 use Rattle.std.specs.Prelude.{◌≡◌, ◌-◌, ◌≤◌, ⊤, ℕ, List, drop, length, take}
-use Rattle.bw_device.specs.Shared.{bytes_in}
+use Rattle.bw_io.specs.Shared.{bytes_in}
 use Rattle.bw_file.specs.declared.segment_bytes.SegmentBytes.{SegmentBytes}
 use Rattle.bw_file.specs.declared.segment_bytes.SegmentBytes.TheVariants.{Shared, Own}
 

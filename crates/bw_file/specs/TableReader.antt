@@ -9,7 +9,7 @@ use Rattle.bw_model.specs.Groups.{group_size, groups_of, together}
 use Rattle.bw_model.specs.Row.{Value}
 use Rattle.bw_model.specs.SchemaText.{schema_shape}
 use Rattle.bw_file.specs.AnySegment.{any_layout, any_meaning}
-use Rattle.bw_device.specs.Source.{is_read_fault, is_input_fault, failed_reads}
+use Rattle.bw_io.specs.Source.{is_read_fault, is_input_fault, failed_reads}
 use Rattle.bw_file.specs.declared.segments.AnySegment.{AnySegment}
 use Rattle.bw_file.specs.declared.layout.Layout.{Layout}
 use Rattle.bw_file.specs.declared.phase.Phase.{Phase}

@@ -15,7 +15,7 @@ use Rattle.bw_model.specs.Name.{is_name}
 use Rattle.bw_model.specs.Row.{Value}
 use Rattle.bw_model.specs.SchemaText.{ColumnShape, SchemaShape, shape, shape_names, schema_shape}
 use Rattle.bw_text.specs.Text.{same_text}
-use Rattle.bw_device.specs.Source.{is_input_fault}
+use Rattle.bw_io.specs.Source.{is_input_fault}
 use Rattle.bw_segment.specs.Packing.{null_size}
 use Rattle.bw_file.specs.declared.fields.Bounds.{Bounds}
 use Rattle.bw_file.specs.declared.layout.Layout.{Layout}

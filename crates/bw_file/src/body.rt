@@ -13,7 +13,7 @@ use crate::layout::Layout;
 use crate::segment_bytes::SegmentBytes;
 use crate::segments::{AnySegment, block_size, judge, segment_size};
 use crate::take::are_bytes;
-use bw_device::{Failed, Source};
+use bw_io::{Failed, Source};
 use bw_lanes::LANES;
 use bw_model::{Fault, code};
 use bw_segment::Placement;

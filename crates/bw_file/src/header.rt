@@ -17,7 +17,7 @@ use crate::fields::{
 };
 use crate::layout::Layout;
 use crate::take::take;
-use bw_device::Source;
+use bw_io::Source;
 use bw_model::{Column, Fault, Name, Schema, code, is_name};
 use std::alloc::Global;
 

@@ -33,7 +33,7 @@ mod table;
 mod table_reader;
 mod take;
 
-pub use bw_device::{Failed, FromRead, Sink, Source, ToWrite};
+pub use bw_io::{Failed, FromRead, Sink, Source, ToWrite};
 pub use encoder::Encoder;
 pub use laws::{
     a_file_is_of_one_table, bytes_are_read_in_one_way, what_is_read_is_a_file,

@@ -1,7 +1,7 @@
 //! Bytes in memory as a source that never fails.
 ghost use Rattle.std.specs.Prelude.{Some, []};
 
-use bw_device::{Failed, SharedBytes, Source};
+use bw_io::{Failed, SharedBytes, Source};
 
 /// The bytes that are still unread.
 #[derive(Drop)]

@@ -6,7 +6,7 @@ ghost use Rattle.bw_model.specs.Row.{Value};
 ghost use Rattle.bw_model.specs.SchemaText.{schema_shape};
 ghost use Rattle.bw_file.specs.FileBytes.{IsFileBytes};
 ghost use Rattle.bw_file.specs.Reading.{State, Took};
-ghost use Rattle.bw_device.specs.Source.{is_input_fault};
+ghost use Rattle.bw_io.specs.Source.{is_input_fault};
 ghost use Rattle.bw_file.specs.TableReader.{SoFar, ReadWhole, FrontsEndEarly, AnswersFault, GaveFirst};
 ghost use Rattle.bw_file.specs.TableReading.{Found, found_as};
 ghost use Rattle.bw_file.specs.declared.layout.Layout.{Layout};

@@ -1,12 +1,12 @@
 //! The bytes of a segment that is being read.
 ghost use Rattle.std.specs.Prelude.{◌≡◌, ◌+◌, ◌-◌, ◌^◌, ◌<◌, ◌≤◌, IfOk, IsOkUnless, OnOk, length, slice_range, take};
 ghost use Rattle.bw_model.specs.Fault.{no_memory};
-ghost use Rattle.bw_device.specs.Shared.{bytes_in};
+ghost use Rattle.bw_io.specs.Shared.{bytes_in};
 ghost use Rattle.bw_file.specs.Reading.{Reads, state, field};
 ghost use Rattle.bw_file.specs.SegmentBytes.{bytes_held, AreNext};
 
 use crate::take::{are_bytes, take};
-use bw_device::{SharedBytes, Source};
+use bw_io::{SharedBytes, Source};
 use bw_model::Fault;
 use std::alloc::Global;
 

@@ -1,6 +1,6 @@
 //! Segments in either layout, behind the same calls.
 ghost use Rattle.std.specs.Prelude.{◌≡◌, ◌++◌, ◌<◌, ◌≤◌, List, length, take, IfOk, OnOk, OnErr, IsOkUnless};
-ghost use Rattle.bw_device.specs.Shared.{bytes_in};
+ghost use Rattle.bw_io.specs.Shared.{bytes_in};
 ghost use Rattle.bw_model.specs.Fault.{no_memory};
 ghost use Rattle.bw_model.specs.Groups.{group_size};
 ghost use Rattle.bw_model.specs.Row.{Value};
@@ -8,7 +8,7 @@ ghost use Rattle.bw_segment.specs.Columns.{KeepRows};
 ghost use Rattle.bw_file.specs.Blocks.{form_of, block_size, block_fault, segment_size, segment_bytes, IsPlaced, IsSound, rows_spelled};
 
 use crate::layout::Layout;
-use bw_device::SharedBytes;
+use bw_io::SharedBytes;
 use bw_lanes::{LANES, Plane, Selection};
 use bw_model::{Fault, Schema, Value};
 use bw_planes::{PlaneSegment, Planes};

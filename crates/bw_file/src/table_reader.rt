@@ -11,7 +11,7 @@ use crate::header::{Header, read_header};
 use crate::layout::Layout;
 use crate::phase::Phase;
 use crate::segments::{AnySegment, placement_of, segment_size};
-use bw_device::Source;
+use bw_io::Source;
 use bw_lanes::LANES;
 use bw_model::{Fault, Schema};
 use bw_segment::{Placement, Segment};

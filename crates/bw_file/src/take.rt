@@ -2,7 +2,7 @@
 ghost use Rattle.std.specs.Prelude.{◌≡◌, ◌-◌, ◌+◌, ◌^◌, ◌<◌, length, OnOk};
 ghost use Rattle.bw_file.specs.Reading.{AreBytes, Reads, state, field};
 
-use bw_device::{Failed, Source};
+use bw_io::{Failed, Source};
 use bw_model::{Fault, code};
 
 /// Fills the buffer from the source, reads no byte more, and adds its length to the offset. Errors:

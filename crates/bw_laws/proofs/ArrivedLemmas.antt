@@ -2,7 +2,7 @@
 use Rattle.std.proofs.Common.{◌≡◌, ℕ, List, Result, Ok, Err, refl, sym, ap, subst}
 use Rattle.bw_model.specs.declared.fault.Fault.{Fault}
 use Rattle.bw_model.specs.declared.schema.Schema.{Schema}
-use Rattle.bw_device.specs.Source.{Arrival, NotReached, Whole, TooLong, Failed}
+use Rattle.bw_io.specs.Source.{Arrival, NotReached, Whole, TooLong, Failed}
 use Rattle.bw_csv.specs.Input.{IsMadeOf, IsMadeAfter}
 use Rattle.bw_csv_calls.specs.Arrived.{IsSchemaFrom}
 use Rattle.bw_csv_calls.specs.Direct.{IsAnswer, IsAnswerUnder, answer_of}

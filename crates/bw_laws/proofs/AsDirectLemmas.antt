@@ -12,7 +12,7 @@ use Rattle.bw_model.specs.Limits.{most_rows}
 use Rattle.bw_model.specs.Row.{Value}
 use Rattle.bw_model.specs.Schema.{IsSchema}
 use Rattle.bw_model.specs.SchemaText.{schema_shape}
-use Rattle.bw_device.specs.Source.{Arrival, NotReached, Whole, TooLong, Failed}
+use Rattle.bw_io.specs.Source.{Arrival, NotReached, Whole, TooLong, Failed}
 use Rattle.bw_sql.specs.Asked.{asked}
 use Rattle.bw_sql.specs.Statement.{IsReadAs}
 use Rattle.bw_sql.proofs.SameNames.{columns_too, spells_too}

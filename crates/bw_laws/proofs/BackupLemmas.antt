@@ -29,7 +29,7 @@ use Rattle.bw_csv.proofs.DigitsAlone.{both}
 use Rattle.bw_csv.proofs.RowLemmas.{rows_after-rows}
 use Rattle.bw_csv_calls.specs.Arrived.{IsSchemaFrom}
 use Rattle.bw_csv_calls.specs.Load.{file_of}
-use Rattle.bw_device.specs.Source.{Arrival, NotReached, Whole, TooLong, Failed, PassedLimit, is_input_fault}
+use Rattle.bw_io.specs.Source.{Arrival, NotReached, Whole, TooLong, Failed, PassedLimit, is_input_fault}
 use Rattle.bw_file.specs.declared.layout.Layout.{Layout}
 use Rattle.bw_file.specs.FileBytes.{IsFileBytes, bytes_of_version, file_bytes, file_bytes2, front_bytes, header_bytes, magic}
 use Rattle.bw_file.specs.Reading.{Tail, tail}

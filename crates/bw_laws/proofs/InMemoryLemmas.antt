@@ -21,7 +21,7 @@ use Rattle.bw_cert.specs.Judged.{Certifies, IsFileFault}
 use Rattle.bw_answer.specs.Answer.{csv_text}
 use Rattle.bw_file.specs.declared.layout.Layout.{Layout}
 use Rattle.bw_file.specs.FileBytes.{IsFileBytes}
-use Rattle.bw_device.specs.Source.{is_input_fault}
+use Rattle.bw_io.specs.Source.{is_input_fault}
 use Rattle.bw_file.specs.Reading.{State, Fails, state, tail}
 use Rattle.bw_file.specs.TableReading.{Found, IsReadAfter, body, found_as, group_sizes, header}
 use Rattle.bw_file.proofs.FileSpelling.{body_found}

@@ -4,7 +4,7 @@ use Rattle.std.proofs.Common.{ℕ, List, [], Some, Result, Ok, Err, sym, subst}
 use Rattle.bw_model.specs.declared.column.Column.{Column}
 use Rattle.bw_model.specs.declared.cond.Cond.{Cond}
 use Rattle.bw_model.specs.declared.fault.Fault.{Fault}
-use Rattle.bw_device.specs.Sink.{Wrote, everything, none_aside}
+use Rattle.bw_io.specs.Sink.{Wrote, everything, none_aside}
 use Rattle.bw_program.specs.Program.{ProgramShape}
 use Rattle.bw_cert_text.specs.CertificateShape.{CertificateShape}
 use Rattle.bw_cert.specs.Judged.{Certifies}

@@ -5,7 +5,7 @@ use Rattle.bw_model.specs.declared.fault.Fault.{Fault}
 use Rattle.bw_model.specs.declared.schema.Schema.{Schema}
 use Rattle.bw_model.specs.Fault.{◌>>=◌}
 use Rattle.bw_model.specs.SchemaText.{SchemaShape, schema_shape}
-use Rattle.bw_device.specs.Source.{Arrival, Whole}
+use Rattle.bw_io.specs.Source.{Arrival, Whole}
 use Rattle.bw_sql.proofs.SameNames.{columns_too}
 use Rattle.bw_csv.specs.Input.{IsMadeAfter}
 use Rattle.bw_csv.specs.Rows.{rows_of}

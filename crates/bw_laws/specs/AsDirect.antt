@@ -6,7 +6,7 @@ use Rattle.bw_model.specs.declared.query.Query.{Query}
 use Rattle.bw_model.specs.declared.schema.Schema.{Schema}
 use Rattle.bw_model.specs.Limits.{longest_schema, longest_csv}
 use Rattle.bw_model.specs.Row.{Value}
-use Rattle.bw_device.specs.Source.{Arrival}
+use Rattle.bw_io.specs.Source.{Arrival}
 use Rattle.bw_file.specs.declared.layout.Layout.{Layout}
 use Rattle.bw_file.specs.FileBytes.{IsFileBytes}
 use Rattle.bw_sql.specs.Statement.{IsReadAs}

@@ -8,7 +8,7 @@ use Rattle.bw_model.specs.Row.{Value}
 use Rattle.bw_model.specs.SchemaText.{IsSchemaText, schema_shape}
 use Rattle.bw_answer.specs.Answer.{csv_text, value_text}
 use Rattle.bw_csv_calls.specs.Load.{IsFile}
-use Rattle.bw_device.specs.Source.{Arrival, is_input_fault}
+use Rattle.bw_io.specs.Source.{Arrival, is_input_fault}
 use Rattle.bw_file.specs.declared.layout.Layout.{Layout}
 use Rattle.bw_file.specs.FileBytes.{version_for}
 use Rattle.bw_file.specs.Reading.{State, state}

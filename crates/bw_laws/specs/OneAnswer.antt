@@ -6,7 +6,7 @@ use Rattle.bw_model.specs.declared.schema.Schema.{Schema}
 use Rattle.bw_model.specs.Fault.{◌>>=◌}
 use Rattle.bw_model.specs.Limits.{longest_schema, longest_csv}
 use Rattle.bw_model.specs.SchemaText.{SchemaShape, schema_shape}
-use Rattle.bw_device.specs.Source.{Arrival, Came}
+use Rattle.bw_io.specs.Source.{Arrival, Came}
 use Rattle.bw_sql.specs.Asked.{Asked, asked}
 use Rattle.bw_csv_calls.specs.Direct.{IsAnswer}
 

@@ -2,7 +2,7 @@
 ghost use Rattle.std.specs.Prelude.{◌≡◌, ℕ, List, Option, Result, Ok};
 ghost use Rattle.std.specs.Io.KnownBytes.{Appends};
 ghost use Rattle.bw_model.specs.declared.fault.Fault.{Fault};
-ghost use Rattle.bw_device.specs.Source.{Arrival};
+ghost use Rattle.bw_io.specs.Source.{Arrival};
 ghost use Rattle.bw_file.specs.declared.layout.Layout.{Layout};
 ghost use Rattle.bw_query.specs.TableAnswer.{AnswersFile, by_statement};
 ghost use Rattle.bw_csv_calls.specs.Direct.{IsAnswer};

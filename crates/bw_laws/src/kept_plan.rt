@@ -5,7 +5,7 @@ ghost use Rattle.bw_model.specs.declared.query.Query.{Query};
 ghost use Rattle.bw_model.specs.declared.schema.Schema.{Schema};
 ghost use Rattle.bw_model.specs.Row.{Value};
 ghost use Rattle.bw_model.specs.SchemaText.{IsSchemaText, schema_shape};
-ghost use Rattle.bw_device.specs.Sink.{Wrote, none_aside};
+ghost use Rattle.bw_io.specs.Sink.{Wrote, none_aside};
 ghost use Rattle.bw_file.specs.declared.layout.Layout.{Layout};
 ghost use Rattle.bw_file.specs.FileBytes.{IsFileBytes};
 ghost use Rattle.bw_sql.specs.Statement.{IsReadAs};

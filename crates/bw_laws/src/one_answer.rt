@@ -4,7 +4,7 @@ ghost use Rattle.bw_model.specs.declared.fault.Fault.{Fault};
 ghost use Rattle.bw_model.specs.declared.query.Query.{Query};
 ghost use Rattle.bw_model.specs.declared.schema.Schema.{Schema};
 ghost use Rattle.bw_model.specs.SchemaText.{schema_shape};
-ghost use Rattle.bw_device.specs.Source.{Arrival};
+ghost use Rattle.bw_io.specs.Source.{Arrival};
 ghost use Rattle.bw_sql.specs.Statement.{IsReadAs};
 ghost use Rattle.bw_csv_calls.specs.Direct.{IsAnswer};
 ghost use Rattle.bw_laws.specs.OneAnswer.{DirectMayWrite, asked_in};

@@ -1,7 +1,7 @@
 //! What a schema text and a CSV text determine.
 ghost use Rattle.std.specs.Prelude.{◌≡◌, ℕ, List, Result};
 ghost use Rattle.bw_model.specs.declared.fault.Fault.{Fault};
-ghost use Rattle.bw_device.specs.Source.{Arrival};
+ghost use Rattle.bw_io.specs.Source.{Arrival};
 ghost use Rattle.bw_file.specs.declared.layout.Layout.{Layout};
 ghost use Rattle.bw_csv_calls.specs.Load.{IsFile};
 ghost use Rattle.bw_laws.specs.AsDirect.{LoadMayWrite};

@@ -3,7 +3,7 @@ ghost use Rattle.std.specs.Prelude.{◌≡◌, ◌-◌, ◌^◌, ◌<◌, ℕ, L
 ghost use Rattle.bw_model.specs.declared.schema.Schema.{Schema};
 ghost use Rattle.bw_model.specs.Row.{Value};
 ghost use Rattle.bw_segment.specs.ColumnBlocks.{KeepBlocks};
-ghost use Rattle.bw_device.specs.Source.{TellsFailure, is_input_fault};
+ghost use Rattle.bw_io.specs.Source.{TellsFailure, is_input_fault};
 ghost use Rattle.bw_file.specs.declared.layout.Layout.{Layout};
 ghost use Rattle.bw_file.specs.Blocks.{form_of};
 ghost use Rattle.bw_file.specs.FileBytes.{IsFileBytes};
@@ -15,8 +15,8 @@ ghost use Rattle.bw_memory.specs.ReadSegments.{KeptAll};
 
 use crate::layouts::{no_columns, placement_of, push_segment};
 use crate::table::MemoryTable;
-use bw_device::Source;
 use bw_file::{TableReader, a_file_is_read_whole, bytes_were_taken};
+use bw_io::Source;
 use bw_model::Fault;
 use bw_segment::ColumnBlocks;
 use std::alloc::Global;

@@ -1,255 +1,140 @@
 //! Chains: nodes that compare the codes of columns, each worked out once.
+use crate::ledger::{Entry, Ledger};
 use crate::nodes::Nodes;
 use crate::products::Cited;
 use crate::refusal::Refusal;
 use bw_diagram::ChainKind;
 use bw_model::Schema;
 use bw_program::ColumnIndex;
-use indexmap::IndexMap;
-use std::alloc::Global;
 
 /// A certificate has at most this many chains.
-const MAX_CHAINS: usize = 65_536;
+pub(crate) const MAX_CHAINS: u32 = 65_536;
 
-/// What a chain asks: whether a number is less than another, or equal to it.
-#[derive(Clone, Copy, PartialEq, Eq, Hash)]
-pub(crate) enum Kind {
-    Less,
-    Equal,
-}
-
-impl Kind {
-    /// The kind as a certificate's lines hold it.
-    pub(crate) fn chain_kind(self) -> ChainKind {
-        match self {
-            Kind::Less => ChainKind::Less,
-            Kind::Equal => ChainKind::Equal,
-        }
-    }
-
-    /// The node of a comparison of numbers without bits.
-    fn first_node(self) -> u32 {
-        match self {
-            Kind::Less => 0,
-            Kind::Equal => 1,
-        }
-    }
-
-    /// The node of a comparison of numbers with these top bits, where that of the bits below is
-    /// `lower`.
-    fn outcome(self, x: bool, y: bool, lower: u32) -> u32 {
-        match (self, x, y) {
-            (_, false, false) | (_, true, true) => lower,
-            (Kind::Less, false, true) => 1,
-            _ => 0,
-        }
-    }
-}
-
-/// What a chain is of: `len` bits of a column's code from bit `start` on against a number, or the
-/// `len` low bits of the codes of two columns.
-#[derive(Clone, Copy, PartialEq, Eq, Hash)]
-pub(crate) enum Compared {
-    Bound {
-        kind: Kind,
-        column: ColumnIndex,
-        start: u32,
-        len: u32,
-        bound: u64,
-    },
-    Columns {
-        kind: Kind,
-        left: ColumnIndex,
-        right: ColumnIndex,
-        len: u32,
-    },
-}
-
-/// The number of a chain's node, and that of the chain of one bit less, where it has bits.
+/// A chain: `len` bits of a column's code from bit `start` on are compared with a number, or, where there is a right
+/// column, the `len` low bits of both. It has the number of its node, and that of the chain of one bit less, where it
+/// has bits.
 #[derive(Clone, Copy)]
 pub(crate) struct Link {
+    pub(crate) kind: ChainKind,
+    pub(crate) left: ColumnIndex,
+    pub(crate) right: Option<ColumnIndex>,
+    pub(crate) start: u32,
+    pub(crate) len: u32,
+    pub(crate) bound: u64,
     pub(crate) node: u32,
     pub(crate) prev: Option<u32>,
 }
 
-/// The chains, in order.
-#[derive(Drop)]
-pub(crate) struct Chains {
-    pub(crate) links: IndexMap<Compared, Link>,
+impl Entry for Link {
+    fn words(self) -> [u64; 2] {
+        let right = self.right.map_or(0, |right| u64::from(right) + 1);
+        let columns = u64::from(self.left) << 8 | right;
+        let bits = u64::from(self.start) << 8 | u64::from(self.len);
+        let kind = u64::from(self.kind == ChainKind::Less);
+        [self.bound, (columns << 16 | bits) << 1 | kind]
+    }
+
+    fn is_alike(self, other: Self) -> bool {
+        self.kind == other.kind
+            && self.left == other.left
+            && self.right == other.right
+            && self.start == other.start
+            && self.len == other.len
+            && self.bound == other.bound
+    }
 }
 
-impl Chains {
-    /// No chains.
-    pub(crate) fn new(alloc: Global) -> Self {
-        Chains {
-            links: IndexMap::new(alloc),
+impl Link {
+    /// What it compares, of so many bits, without a node.
+    fn shortened(self, len: u32) -> Self {
+        Link {
+            len,
+            bound: self.bound % (1 << len.min(63)),
+            ..self
         }
     }
 
-    /// Drops the chains from this number on.
-    pub(crate) fn truncate(&mut self, number: usize) {
-        self.links.truncate(number);
+    /// The node that compares so, where that of the bits below the top bit is `lower`.
+    fn node_above(self, schema: &Schema, nodes: &mut Nodes, lower: u32) -> Result<u32, Refusal> {
+        let place = self.len.saturating_sub(1);
+        let left = variable(schema, self.left, self.start.saturating_add(place));
+        let Some(right) = self.right else {
+            let top = self.bound >> place.min(63) & 1 == 1;
+            let low = outcome(self.kind, false, top, lower);
+            let high = outcome(self.kind, true, top, lower);
+            return nodes.choice(left.ok_or(Refusal::NoProgram)?, low, high);
+        };
+        let right = variable(schema, right, place);
+        let low = self.node_right(nodes, false, right, lower)?;
+        let Some(left) = left else {
+            return Ok(low);
+        };
+        let high = self.node_right(nodes, true, right, lower)?;
+        nodes.choice(left, low, high)
     }
 
-    /// The chain that compares bits of a column, from `start` on, with a number, with those of
-    /// fewer bits added where they aren't there.
-    pub(crate) fn bound(
-        &mut self,
-        schema: &Schema,
+    /// The same where the left column's bit is known, and the right one may have a variable there.
+    fn node_right(
+        self,
         nodes: &mut Nodes,
-        kind: Kind,
-        column: ColumnIndex,
-        start: u32,
-        len: u32,
-        bound: u64,
-    ) -> Result<Cited, Refusal> {
-        let mut last = None;
-        for len in 0..=len.min(63) {
-            let compared = Compared::Bound {
-                kind,
-                column,
-                start,
-                len,
-                bound: bound % (1 << len),
-            };
-            last = Some(match (self.known(compared), last) {
-                (Some(cited), _) => cited,
-                (None, None) => self.first(compared, kind)?,
-                (None, Some(lower)) => { self.next_bit(schema, nodes, compared, lower)? }
-            });
-        }
-        last.ok_or(Refusal::NoProgram)
+        x: bool,
+        right: Option<u32>,
+        lower: u32,
+    ) -> Result<u32, Refusal> {
+        let low = outcome(self.kind, x, false, lower);
+        let Some(right) = right else {
+            return Ok(low);
+        };
+        nodes.choice(right, low, outcome(self.kind, x, true, lower))
     }
+}
 
-    /// The chain that compares the codes of two columns, with those of fewer bits added where they
-    /// aren't there.
-    pub(crate) fn columns(
-        &mut self,
-        schema: &Schema,
-        nodes: &mut Nodes,
-        kind: Kind,
-        left: ColumnIndex,
-        right: ColumnIndex,
-    ) -> Result<Cited, Refusal> {
-        let bits = width(schema, left).max(width(schema, right));
-        let mut last = None;
-        for len in 0..=bits.min(63) {
-            let compared = Compared::Columns {
-                kind,
-                left,
-                right,
-                len,
-            };
-            last = Some(match (self.known(compared), last) {
-                (Some(cited), _) => cited,
-                (None, None) => self.first(compared, kind)?,
-                (None, Some(lower)) => self.next_bit(schema, nodes, compared, lower)?,
-            });
-        }
-        last.ok_or(Refusal::NoProgram)
+/// The node of a comparison of numbers without bits.
+fn first_node(kind: ChainKind) -> u32 {
+    u32::from(kind == ChainKind::Equal)
+}
+
+/// The node of a comparison of numbers with these top bits, where that of the bits below is `lower`.
+fn outcome(kind: ChainKind, x: bool, y: bool, lower: u32) -> u32 {
+    match (kind, x, y) {
+        (_, false, false) | (_, true, true) => lower,
+        (ChainKind::Less, false, true) => 1,
+        _ => 0,
     }
+}
 
-    /// The chain that compares so, if it is there.
-    fn known(&self, compared: Compared) -> Option<Cited> {
-        let (number, _, link) = self.links.get_full(&compared)?;
-        Some(Cited {
-            number: u32::try_from(number).ok()?,
-            node: link.node,
-        })
-    }
-
-    /// Adds a chain of no bits.
-    fn first(&mut self, compared: Compared, kind: Kind) -> Result<Cited, Refusal> {
-        let node = kind.first_node();
-        self.add(compared, Link { node, prev: None })
-    }
-
-    /// Adds a chain of one bit more than another.
-    fn next_bit(
-        &mut self,
-        schema: &Schema,
-        nodes: &mut Nodes,
-        compared: Compared,
-        lower: Cited,
-    ) -> Result<Cited, Refusal> {
-        let node = match compared {
-            Compared::Bound {
-                kind,
-                column,
-                start,
-                len,
-                bound,
-            } => {
-                let place = len.saturating_sub(1);
-                let top = bound >> place.min(63) & 1 == 1;
-                let low = kind.outcome(false, top, lower.node);
-                let high = kind.outcome(true, top, lower.node);
-                match variable(schema, column, start.saturating_add(place)) {
-                    Some(variable) => nodes.choice(variable, low, high)?,
-                    None => return Err(Refusal::NoProgram),
-                }
-            }
-            Compared::Columns {
-                kind,
-                left,
-                right,
-                len,
-            } => {
-                let place = len.saturating_sub(1);
-                let first = variable(schema, left, place);
-                let second = variable(schema, right, place);
-                columns_node(nodes, kind, first, second, lower.node)?
+/// The chain that compares so, with those of fewer bits added where they aren't there.
+pub(crate) fn chain(
+    schema: &Schema,
+    nodes: &mut Nodes,
+    chains: &mut Ledger<Link>,
+    whole: Link,
+) -> Result<Cited, Refusal> {
+    let mut last: Option<Cited> = None;
+    for len in 0..=whole.len.min(63) {
+        let wanted = whole.shortened(len);
+        let cited = match chains.find(wanted) {
+            Some((number, link)) => Cited {
+                number,
+                node: link.node,
+            },
+            None => {
+                let node = match last {
+                    Some(lower) => wanted.node_above(schema, nodes, lower.node)?,
+                    None => first_node(wanted.kind),
+                };
+                let prev = last.map(|lower| lower.number);
+                let number = chains.push(Link {
+                    node,
+                    prev,
+                    ..wanted
+                })?;
+                Cited { number, node }
             }
         };
-        let prev = Some(lower.number);
-        self.add(compared, Link { node, prev })
+        last = Some(cited);
     }
-
-    /// Adds a chain.
-    fn add(&mut self, compared: Compared, link: Link) -> Result<Cited, Refusal> {
-        let number = self.links.len();
-        if number >= MAX_CHAINS {
-            return Err(Refusal::NoProgram);
-        }
-        self.links.insert(compared, link)?;
-        Ok(Cited {
-            number: number as u32,
-            node: link.node,
-        })
-    }
-}
-
-/// The node that compares two columns by the variables of their top bits, each of which may have
-/// none there, and by the node of the bits below.
-fn columns_node(
-    nodes: &mut Nodes,
-    kind: Kind,
-    first: Option<u32>,
-    second: Option<u32>,
-    lower: u32,
-) -> Result<u32, Refusal> {
-    let low = right_node(nodes, kind, false, second, lower)?;
-    let Some(first) = first else {
-        return Ok(low);
-    };
-    let high = right_node(nodes, kind, true, second, lower)?;
-    nodes.choice(first, low, high)
-}
-
-/// The same where the left column's bit is known.
-fn right_node(
-    nodes: &mut Nodes,
-    kind: Kind,
-    x: bool,
-    second: Option<u32>,
-    lower: u32,
-) -> Result<u32, Refusal> {
-    let low = kind.outcome(x, false, lower);
-    let Some(second) = second else {
-        return Ok(low);
-    };
-    let high = kind.outcome(x, true, lower);
-    nodes.choice(second, low, high)
+    last.ok_or(Refusal::NoProgram)
 }
 
 /// The variable of a column's bit, if there is that bit.
@@ -259,23 +144,4 @@ pub(crate) fn variable(schema: &Schema, column: ColumnIndex, bit: u32) -> Option
         return None;
     }
     Some(schema.var_bit(column, bit))
-}
-
-/// The null variable of a column, if it has one.
-pub(crate) fn null_variable(schema: &Schema, column: ColumnIndex) -> Option<u32> {
-    let column = column as usize;
-    if column >= schema.columns.len() {
-        return None;
-    }
-    schema.var_null(column)
-}
-
-/// How many bits a column's codes have.
-pub(crate) fn width(schema: &Schema, column: ColumnIndex) -> u32 {
-    let column = column as usize;
-    if column < schema.columns.len() {
-        schema.width(column)
-    } else {
-        0
-    }
 }

@@ -1,12 +1,14 @@
 //! Instructions, with the node of each register.
-use crate::chains::Kind;
 use crate::digits::Digits;
 use crate::facts::{Extent, Facts};
 use crate::line::{KeepLine, PlannedLine};
 use crate::order::VariableOrder;
-use crate::products::Logic;
+use crate::products::MAX_PRODUCTS;
 use crate::refusal::Refusal;
+use crate::steps::steps_of;
 use bw_cert_text::{EdgeProducts, InstructionEntry};
+use bw_diagram::{ChainKind, Connective};
+use bw_model::Cond;
 use bw_program::{ColumnIndex, Instr, Register, SliceIndex};
 use bw_text::REGISTERS;
 use std::alloc::Global;
@@ -26,6 +28,13 @@ const MAX_SQUARES: usize = 1000;
 /// A condition whose own lines take as many product rows has no skips from part to part: to show these takes several
 /// times as many.
 const MAX_ROWS_TO_SKIP_PARTS: usize = 10_000;
+
+/// The lines of a condition over columns of more bits take so many product rows at most. With more of them a program
+/// takes longer to plan and to check than to look up the rows of a small table.
+const MAX_LINE_PRODUCTS: u32 = 24_000;
+
+/// The bits of seven columns of 63 bits.
+const MANY_BITS: u32 = 441;
 
 /// What is known of a register: the node that it holds, whether it's needed, and whether it holds a plane
 /// as it was loaded, which may be wanted again.
@@ -59,6 +68,8 @@ pub(crate) struct Code<'a> {
     pub(crate) alloc: Global,
     pub(crate) facts: Facts<'a>,
     pub(crate) lines: Vec<PlannedLine>,
+    /// The facts and the lines of the condition.
+    begun: (Extent, usize),
     pub(crate) instrs: Vec<Instr>,
     /// The pairs of all lines KEEP.
     pub(crate) edges: Vec<EdgeProducts>,
@@ -83,13 +94,14 @@ pub(crate) struct Code<'a> {
 }
 
 impl<'a> Code<'a> {
-    /// No instructions, after the lines of a condition. There are to be skips.
-    pub(crate) fn new(alloc: Global, facts: Facts<'a>, lines: Vec<PlannedLine>) -> Self {
-        let skips_parts = facts.products().len() < MAX_ROWS_TO_SKIP_PARTS;
+    /// No lines and no instructions. There are to be skips.
+    pub(crate) fn new(alloc: Global, facts: Facts<'a>) -> Self {
+        let extent = facts.extent();
         Code {
             alloc,
             facts,
-            lines,
+            lines: Vec::new(alloc),
+            begun: (extent, 0),
             instrs: Vec::new(alloc),
             edges: Vec::new(alloc),
             order: VariableOrder::Whole,
@@ -101,12 +113,26 @@ impl<'a> Code<'a> {
             meeting: usize::MAX,
             with_skips: true,
             looks: 0,
-            skips_parts,
+            skips_parts: true,
         }
     }
 
-    /// Begins again, without skips, after so many facts and lines.
-    pub(crate) fn begin_again(&mut self, facts: Extent, lines: usize) {
+    /// Appends the lines of a condition, after which the instructions are to begin, and gives the number of the node
+    /// that is 1 where it is TRUE.
+    pub(crate) fn begin(&mut self, cond: &Cond) -> Result<u32, Refusal> {
+        if self.facts.bits() > MANY_BITS {
+            self.facts.limit_products(MAX_LINE_PRODUCTS);
+        }
+        let node = steps_of(&mut self.facts, &mut self.lines, cond)?.yes;
+        self.facts.limit_products(MAX_PRODUCTS);
+        self.begun = (self.facts.extent(), self.lines.len());
+        self.skips_parts = self.facts.products().len() < MAX_ROWS_TO_SKIP_PARTS;
+        Ok(node)
+    }
+
+    /// Begins again, without skips, after the lines of the condition.
+    pub(crate) fn begin_again(&mut self) {
+        let (facts, lines) = self.begun;
         self.facts.return_to(facts);
         self.lines.truncate(lines);
         self.instrs.clear();
@@ -245,7 +271,7 @@ impl<'a> Code<'a> {
         let Some(nulls) = self.facts.nulls(column)? else {
             return Ok(None);
         };
-        let values = self.facts.row(self.order, Logic::Diff, 1, nulls)?;
+        let values = self.facts.row(self.order, Connective::Diff, 1, nulls)?;
         if let Some(register) = self.held(values.node)? {
             return Ok(Some(register));
         }
@@ -260,7 +286,7 @@ impl<'a> Code<'a> {
     /// A register that is 1 where a byte of a column is less than (equal to) a number.
     pub(crate) fn byte(
         &mut self,
-        kind: Kind,
+        kind: ChainKind,
         column: ColumnIndex,
         slice: SliceIndex,
         byte: u8,
@@ -277,8 +303,8 @@ impl<'a> Code<'a> {
         }
         let register = self.claim()?;
         let instr = match kind {
-            Kind::Less => Instr::ByteLt(register, column, slice, byte),
-            Kind::Equal => Instr::ByteEq(register, column, slice, byte),
+            ChainKind::Less => Instr::ByteLt(register, column, slice, byte),
+            ChainKind::Equal => Instr::ByteEq(register, column, slice, byte),
         };
         let chain = Some(u64::from(cited.number));
         self.put(instr, InstructionEntry::Byte(chain))?;
@@ -289,7 +315,7 @@ impl<'a> Code<'a> {
     /// Makes a register a connective of two.
     pub(crate) fn join(
         &mut self,
-        op: Logic,
+        op: Connective,
         to: Register,
         left: Register,
         right: Register,
@@ -298,10 +324,10 @@ impl<'a> Code<'a> {
         let (a, b) = (self.node(left)?, self.node(right)?);
         let row = self.facts.row(self.order, op, a, b)?;
         let instr = match op {
-            Logic::And => Instr::And(to, left, right),
-            Logic::Or => Instr::Or(to, left, right),
-            Logic::Xor => Instr::Xor(to, left, right),
-            Logic::Diff => return Err(Refusal::NoProgram),
+            Connective::And => Instr::And(to, left, right),
+            Connective::Or => Instr::Or(to, left, right),
+            Connective::Xor => Instr::Xor(to, left, right),
+            Connective::Diff => return Err(Refusal::NoProgram),
         };
         self.put(instr, InstructionEntry::Op(u64::from(row.number)))?;
         self.hold(to, row.node, false);
@@ -311,7 +337,7 @@ impl<'a> Code<'a> {
     /// A new register, which is made a connective of two.
     pub(crate) fn joined(
         &mut self,
-        op: Logic,
+        op: Connective,
         left: Register,
         right: Register,
     ) -> Result<Register, Refusal> {
@@ -323,7 +349,7 @@ impl<'a> Code<'a> {
     /// Makes a register a connective of itself and another, which is let go.
     pub(crate) fn join_into(
         &mut self,
-        op: Logic,
+        op: Connective,
         to: Register,
         right: Register,
     ) -> Result<(), Refusal> {
@@ -336,7 +362,7 @@ impl<'a> Code<'a> {
     pub(crate) fn oppose(&mut self, to: Register, from: Register) -> Result<(), Refusal> {
         self.meet()?;
         let a = self.node(from)?;
-        let row = self.facts.row(self.order, Logic::Diff, 1, a)?;
+        let row = self.facts.row(self.order, Connective::Diff, 1, a)?;
         let entry = InstructionEntry::Op(u64::from(row.number));
         self.put(Instr::Not(to, from), entry)?;
         self.hold(to, row.node, false);
@@ -426,19 +452,31 @@ impl<'a> Code<'a> {
     /// Whether by a skip each register that is needed is shown to hold what it holds from above.
     fn can_meet(&mut self, at: usize) -> Result<bool, Refusal> {
         for register in 0..64u8 {
-            let known = self.registers.get(register as usize).copied();
-            let needed = known.filter(|register| register.needed);
-            let Some(node) = needed.and_then(|register| register.node) else {
-                continue;
-            };
-            let Some((tested, held)) = self.at_skip(register, at) else {
-                return Ok(false);
-            };
-            if held != node && self.edge(tested, held, node)?.is_none() {
+            if !self.can_keep(register, at)? {
                 return Ok(false);
             }
         }
         Ok(true)
+    }
+
+    /// The same of one register.
+    fn can_keep(&mut self, register: Register, at: usize) -> Result<bool, Refusal> {
+        let Some(node) = self.needed_node(register) else {
+            return Ok(true);
+        };
+        let Some((tested, held)) = self.at_skip(register, at) else {
+            return Ok(false);
+        };
+        if held == node {
+            return Ok(true);
+        }
+        Ok(self.edge(tested, held, node)?.is_some())
+    }
+
+    /// The node of a register, if that is needed.
+    fn needed_node(&self, register: Register) -> Option<u32> {
+        let known = self.registers.get(register as usize)?;
+        if known.needed { known.node } else { None }
     }
 
     /// Takes a skip back, with its instruction and its line: what stands after it moves up by one.
@@ -493,32 +531,49 @@ impl<'a> Code<'a> {
         let Some(node) = kept.node else {
             return Ok(());
         };
-        if !kept.needed && !self.is_everywhere(register, node, first) {
-            if let Some(kept) = self.registers.get_mut(register as usize) {
-                kept.node = None;
-            }
-            return Ok(());
+        if kept.needed || self.is_everywhere(register, node, first) {
+            return self.keep_node(register, node, first);
         }
-        let through = self.facts.row(self.order, Logic::Xor, node, node)?;
+        if let Some(kept) = self.registers.get_mut(register as usize) {
+            kept.node = None;
+        }
+        Ok(())
+    }
+
+    /// The line of a register that is kept where skips meet.
+    fn keep_node(&mut self, register: Register, node: u32, first: usize) -> Result<(), Refusal> {
+        let through = self.facts.row(self.order, Connective::Xor, node, node)?;
         let begin = self.edges.len();
         for at in first..self.skips.len() {
-            let (tested, held) = self.at_skip(register, at).ok_or(Refusal::NoProgram)?;
-            let edge = if held == node {
-                Some(self.same(tested, through.number)?)
-            } else {
-                self.edge(tested, held, node)?
-            };
-            self.edges.push(edge.ok_or(Refusal::NoProgram)?)?;
+            self.put_edge(register, node, at, through.number)?;
         }
         let line = keep_line(register, node, through.number, begin, self.edges.len());
         self.lines.push(line.ok_or(Refusal::NoProgram)?)?;
         Ok(())
     }
 
+    /// Appends the pair of a register that is kept where a skip meets.
+    fn put_edge(
+        &mut self,
+        register: Register,
+        node: u32,
+        at: usize,
+        differs: u32,
+    ) -> Result<(), Refusal> {
+        let (tested, held) = self.at_skip(register, at).ok_or(Refusal::NoProgram)?;
+        let edge = if held == node {
+            Some(self.same(tested, differs)?)
+        } else {
+            self.edge(tested, held, node)?
+        };
+        self.edges.push(edge.ok_or(Refusal::NoProgram)?)?;
+        Ok(())
+    }
+
     /// The rows of a register that holds the same node by a skip as from above, of which one says that the node differs
     /// from itself nowhere. They show so whatever the skip's own node is.
     fn same(&mut self, tested: u32, differs: u32) -> Result<EdgeProducts, Refusal> {
-        let within = self.facts.row(self.order, Logic::Diff, 0, tested)?;
+        let within = self.facts.row(self.order, Connective::Diff, 0, tested)?;
         Ok(EdgeProducts {
             differs: u64::from(differs),
             within: u64::from(within.number),
@@ -540,10 +595,10 @@ impl<'a> Code<'a> {
     /// The rows by which a register that holds a node at a skip may be taken to hold another where skips meet, if they
     /// show so: the two differ nowhere where the skip's own node is 0.
     fn edge(&mut self, tested: u32, held: u32, node: u32) -> Result<Option<EdgeProducts>, Refusal> {
-        let differs = self.facts.row(self.order, Logic::Xor, held, node)?;
+        let differs = self.facts.row(self.order, Connective::Xor, held, node)?;
         let within = self
             .facts
-            .row(self.order, Logic::Diff, differs.node, tested)?;
+            .row(self.order, Connective::Diff, differs.node, tested)?;
         if within.node != 0 {
             return Ok(None);
         }

@@ -1,8 +1,8 @@
 //! Comparisons, in the form in which certificates state them.
-use crate::chains::Kind;
 use crate::facts::Facts;
 use crate::order::VariableOrder;
 use crate::refusal::Refusal;
+use bw_diagram::ChainKind;
 use bw_model::{Op, Operand, Truth};
 use bw_program::ColumnIndex;
 
@@ -11,7 +11,7 @@ use bw_program::ColumnIndex;
 #[derive(Clone, Copy)]
 pub(crate) struct LiteralComparison {
     pub(crate) column: ColumnIndex,
-    pub(crate) kind: Kind,
+    pub(crate) kind: ChainKind,
     pub(crate) limit: i128,
     pub(crate) negated: bool,
 }
@@ -20,7 +20,7 @@ pub(crate) struct LiteralComparison {
 /// where it is negated, it isn't.
 #[derive(Clone, Copy)]
 pub(crate) struct ColumnComparison {
-    pub(crate) kind: Kind,
+    pub(crate) kind: ChainKind,
     pub(crate) left: ColumnIndex,
     pub(crate) right: ColumnIndex,
     pub(crate) negated: bool,
@@ -34,9 +34,9 @@ impl LiteralComparison {
     pub(crate) fn terminal(self, width: u32) -> Option<u32> {
         let past = self.limit >= 1 << width.min(63);
         match self.kind {
-            Kind::Less if self.limit <= 0 => Some(0),
-            Kind::Less if past => Some(1),
-            Kind::Equal if self.limit < 0 || past => Some(0),
+            ChainKind::Less if self.limit <= 0 => Some(0),
+            ChainKind::Less if past => Some(1),
+            ChainKind::Equal if self.limit < 0 || past => Some(0),
             _ => None,
         }
     }
@@ -47,8 +47,8 @@ impl ColumnComparison {
     pub(crate) fn terminal(self) -> Option<u32> {
         match self.kind {
             _ if self.left != self.right => None,
-            Kind::Less => Some(0),
-            Kind::Equal => Some(1),
+            ChainKind::Less => Some(0),
+            ChainKind::Equal => Some(1),
         }
     }
 
@@ -101,12 +101,12 @@ fn with_literal(
     let column = facts.column(column)?;
     let distance = i128::from(n) - i128::from(facts.lo(column)?);
     let (kind, limit, negated) = match op {
-        Op::Lt => (Kind::Less, distance, false),
-        Op::Ge => (Kind::Less, distance, true),
-        Op::Le => (Kind::Less, distance + 1, false),
-        Op::Gt => (Kind::Less, distance + 1, true),
-        Op::Eq => (Kind::Equal, distance, false),
-        Op::Ne => (Kind::Equal, distance, true),
+        Op::Lt => (ChainKind::Less, distance, false),
+        Op::Ge => (ChainKind::Less, distance, true),
+        Op::Le => (ChainKind::Less, distance + 1, false),
+        Op::Gt => (ChainKind::Less, distance + 1, true),
+        Op::Eq => (ChainKind::Equal, distance, false),
+        Op::Ne => (ChainKind::Equal, distance, true),
     };
     Ok(LiteralComparison {
         column,
@@ -123,12 +123,12 @@ fn with_column(facts: &Facts<'_>, op: Op, c: usize, d: usize) -> Result<ColumnCo
         return Err(Refusal::NoProgram);
     }
     let (kind, left, right, negated) = match op {
-        Op::Lt => (Kind::Less, c, d, false),
-        Op::Ge => (Kind::Less, c, d, true),
-        Op::Gt => (Kind::Less, d, c, false),
-        Op::Le => (Kind::Less, d, c, true),
-        Op::Eq => (Kind::Equal, c, d, false),
-        Op::Ne => (Kind::Equal, c, d, true),
+        Op::Lt => (ChainKind::Less, c, d, false),
+        Op::Ge => (ChainKind::Less, c, d, true),
+        Op::Gt => (ChainKind::Less, d, c, false),
+        Op::Le => (ChainKind::Less, d, c, true),
+        Op::Eq => (ChainKind::Equal, c, d, false),
+        Op::Ne => (ChainKind::Equal, c, d, true),
     };
     Ok(ColumnComparison {
         kind,

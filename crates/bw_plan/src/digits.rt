@@ -1,10 +1,9 @@
 //! The digits of a byte, of four bits each, for long lists of numbers: whether a byte is a number is
 //! then one AND of two registers, and needs no look at the byte.
-use crate::chains::Kind;
 use crate::code::Code;
-use crate::products::Logic;
 use crate::refusal::Refusal;
 use crate::sets::groups_from;
+use bw_diagram::{ChainKind, Connective};
 use bw_program::{ColumnIndex, Register, SliceIndex};
 
 /// Registers that are 1 where the upper digit of a byte is 0, 1 and so on, and where the lower one is. A byte of four
@@ -84,7 +83,7 @@ impl Code<'_> {
         let high = self.two_bits(column, start.saturating_add(2))?;
         let mut made = [0; 16];
         for (number, slot) in made.iter_mut().enumerate() {
-            *slot = self.joined(Logic::And, high[number / 4], low[number % 4])?;
+            *slot = self.joined(Connective::And, high[number / 4], low[number % 4])?;
         }
         for register in low.iter().chain(high.iter()) {
             self.release(*register);
@@ -96,11 +95,11 @@ impl Code<'_> {
     fn two_bits(&mut self, column: ColumnIndex, start: u32) -> Result<[Register; 4], Refusal> {
         let low = self.bit(column, start)?;
         let high = self.bit(column, start.saturating_add(1))?;
-        let none = self.joined(Logic::Or, low, high)?;
+        let none = self.joined(Connective::Or, low, high)?;
         self.oppose(none, none)?;
-        let both = self.joined(Logic::And, low, high)?;
-        let first = self.joined(Logic::Xor, low, both)?;
-        let second = self.joined(Logic::Xor, high, both)?;
+        let both = self.joined(Connective::And, low, high)?;
+        let first = self.joined(Connective::Xor, low, both)?;
+        let second = self.joined(Connective::Xor, high, both)?;
         self.release(low);
         self.release(high);
         Ok([none, first, second, both])
@@ -138,9 +137,9 @@ impl Code<'_> {
         if let Some(digits) = self.digits_of(slice) {
             return self.same_digits(digits, byte, mask, before);
         }
-        let same = self.byte(Kind::Equal, column, slice, byte)?;
+        let same = self.byte(ChainKind::Equal, column, slice, byte)?;
         if let Some(mask) = mask {
-            self.join(Logic::And, same, same, mask)?;
+            self.join(Connective::And, same, same, mask)?;
         }
         Ok(same)
     }
@@ -163,13 +162,13 @@ impl Code<'_> {
         let upper = digits.upper.map(|upper| upper[usize::from(byte >> 4)]);
         let (Some(mask), Some(upper)) = (mask, upper) else {
             let other = mask.or(upper).unwrap_or(lower);
-            return self.joined(Logic::And, lower, other);
+            return self.joined(Connective::And, lower, other);
         };
         let register = match *before {
             Some(known) if known.digit == byte >> 4 => known.register,
             _ => {
                 self.let_go(*before);
-                let register = self.joined(Logic::And, upper, mask)?;
+                let register = self.joined(Connective::And, upper, mask)?;
                 *before = Some(Upper {
                     digit: byte >> 4,
                     register,
@@ -177,7 +176,7 @@ impl Code<'_> {
                 register
             }
         };
-        self.joined(Logic::And, register, lower)
+        self.joined(Connective::And, register, lower)
     }
 
     /// Lets the register of an upper digit go.

@@ -5,8 +5,9 @@ ghost use Rattle.bw_cert_text.specs.CertificateFields.{certificate_fields};
 ghost use Rattle.bw_cert_text.specs.Columns.{has_columns, is_column};
 ghost use Rattle.bw_plan.specs.Named.{is_chain_named, are_chains_named};
 
-use crate::chains::{Compared, Link};
+use crate::chains::Link;
 use crate::facts::Facts;
+use crate::ledger::Ledger;
 use crate::line::PlannedLine;
 use crate::nodes::Branch;
 use crate::products::Row;
@@ -18,7 +19,6 @@ use bw_diagram::{ChainColumns, Reason};
 use bw_model::{Schema, code};
 use bw_program::{ColumnIndex, Instr, Program, Register, SliceIndex};
 use bw_text::{Opcode, Piece, push_line};
-use indexmap::IndexMap;
 use std::alloc::{AllocError, Global};
 
 /// The program of instructions and a result register, by its text.
@@ -169,26 +169,36 @@ fn node_lines(alloc: Global, nodes: &[Branch], first: u64) -> Result<Vec<NodeLin
 fn chain_lines(
     alloc: Global,
     schema: &Schema,
-    chains: &IndexMap<Compared, Link>,
+    chains: &Ledger<Link>,
     first: u64,
 ) -> Result<Vec<ChainLine>, Refusal>
     ensures { IfOk result (λ lines. IsTrue (are_chains_named schema.now.columns.items lines.items)) }
 {
     let mut lines = Vec::with_capacity(alloc, chains.len())?;
-    for (compared, link) in chains {
-        let number = lines.len() as u64;
+    for number in 0..chains.len() {
+        let Some(link) = chains.get(number) else {
+            break;
+        };
+        let number = number as u64;
         let line = first.saturating_add(number);
-        lines.push(chain_line(alloc, schema, line, number, *compared, *link)?)?;
+        lines.push(chain_line(alloc, schema, line, number, link)?)?;
     }
     Ok(lines)
 }
 
 /// The lines of product rows.
-fn product_lines(alloc: Global, rows: &[Row], first: u64) -> Result<Vec<ProductLine>, Refusal> {
+fn product_lines(
+    alloc: Global,
+    rows: &Ledger<Row>,
+    first: u64,
+) -> Result<Vec<ProductLine>, Refusal> {
     let mut lines = Vec::with_capacity(alloc, rows.len())?;
-    for row in rows {
-        let number = lines.len() as u64;
-        lines.push(row_line(first.saturating_add(number), number, *row))?;
+    for number in 0..rows.len() {
+        let Some(row) = rows.get(number) else {
+            break;
+        };
+        let number = number as u64;
+        lines.push(row_line(first.saturating_add(number), number, row))?;
     }
     Ok(lines)
 }
@@ -224,12 +234,7 @@ fn node_line(line: u64, number: u64, node: Branch) -> NodeLine {
 
 /// The line of a product row.
 fn row_line(line: u64, number: u64, row: Row) -> ProductLine {
-    let Row {
-        question,
-        outcome: answer,
-        ..
-    } = row;
-    let reason = match answer.reason {
+    let reason = match row.reason {
         None => Reason::Shortcut,
         Some(cofactors) => Reason::Cofactors {
             v: u64::from(cofactors.variable),
@@ -240,10 +245,10 @@ fn row_line(line: u64, number: u64, row: Row) -> ProductLine {
     ProductLine {
         line,
         n: number,
-        op: question.op.connective(),
-        a: u64::from(question.a),
-        b: u64::from(question.b),
-        c: u64::from(answer.node),
+        op: row.question.op,
+        a: u64::from(row.question.a),
+        b: u64::from(row.question.b),
+        c: u64::from(row.node),
         reason,
     }
 }
@@ -254,39 +259,28 @@ fn chain_line(
     schema: &Schema,
     line: u64,
     number: u64,
-    compared: Compared,
     link: Link,
 ) -> Result<ChainLine, Refusal>
     ensures { IfOk result (λ line. IsTrue (is_chain_named schema.now.columns.items line)) }
 {
-    let node = u64::from(link.node);
-    let prev = link.prev.map(u64::from);
-    let columns = match compared {
-        Compared::Bound {
+    let (kind, len) = (link.kind, u64::from(link.len));
+    let (node, prev) = (u64::from(link.node), link.prev.map(u64::from));
+    let left = name(alloc, schema, link.left)?;
+    let columns = match link.right {
+        None => ChainColumns::One {
             kind,
-            column,
-            start,
+            column: left,
+            start: u64::from(link.start),
             len,
-            bound,
-        } => ChainColumns::One {
-            kind: kind.chain_kind(),
-            column: name(alloc, schema, column)?,
-            start: u64::from(start),
-            len: u64::from(len),
-            bound,
+            bound: link.bound,
             node,
             prev,
         },
-        Compared::Columns {
+        Some(right) => ChainColumns::Two {
             kind,
             left,
-            right,
-            len,
-        } => ChainColumns::Two {
-            kind: kind.chain_kind(),
-            left: name(alloc, schema, left)?,
             right: name(alloc, schema, right)?,
-            len: u64::from(len),
+            len,
             node,
             prev,
         },

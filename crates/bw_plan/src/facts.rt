@@ -1,12 +1,13 @@
 //! What a certificate states: nodes, chains and product rows.
-use crate::chains::{self, Chains, Compared, Kind, Link};
+use crate::chains::{self, Link, MAX_CHAINS};
+use crate::ledger::Ledger;
 use crate::nodes::{Branch, Nodes};
 use crate::order::{Ranks, VariableOrder};
-use crate::products::{Cited, Logic, Products, Question, Row};
+use crate::products::{self, Cited, MAX_PRODUCTS, Pending, Question, Row};
 use crate::refusal::Refusal;
+use bw_diagram::{ChainKind, Connective};
 use bw_model::{Cond, Schema};
 use bw_program::ColumnIndex;
-use indexmap::IndexMap;
 use std::alloc::Global;
 
 /// How many nodes, chains and product rows there are.
@@ -21,10 +22,12 @@ pub(crate) struct Extent {
 /// those that it follows from, and is added where it is first asked for.
 #[derive(Drop)]
 pub(crate) struct Facts<'a> {
+    pub(crate) alloc: Global,
     schema: &'a Schema,
     nodes: Nodes,
-    chains: Chains,
-    products: Products,
+    chains: Ledger<Link>,
+    products: Ledger<Row>,
+    pending: Vec<Pending>,
     ranks: Ranks,
 }
 
@@ -33,10 +36,12 @@ impl<'a> Facts<'a> {
     /// columns, so each has a number that a byte holds: refused is out of memory alone.
     pub(crate) fn new(alloc: Global, schema: &'a Schema, cond: &Cond) -> Result<Self, Refusal> {
         Ok(Facts {
+            alloc,
             schema,
             nodes: Nodes::new(alloc),
-            chains: Chains::new(alloc),
-            products: Products::new(alloc),
+            chains: Ledger::new(alloc, MAX_CHAINS),
+            products: Ledger::new(alloc, MAX_PRODUCTS),
+            pending: Vec::new(alloc),
             ranks: Ranks::new(alloc, schema, cond)?,
         })
     }
@@ -45,8 +50,8 @@ impl<'a> Facts<'a> {
     pub(crate) fn extent(&self) -> Extent {
         Extent {
             nodes: self.nodes().len(),
-            chains: self.chains.links.len(),
-            products: self.products.as_slice().len(),
+            chains: self.chains.len(),
+            products: self.products.len(),
         }
     }
 
@@ -63,26 +68,37 @@ impl<'a> Facts<'a> {
     }
 
     /// The chains, of which the first has number 0.
-    pub(crate) fn chains(&self) -> &IndexMap<Compared, Link> {
-        &self.chains.links
+    pub(crate) fn chains(&self) -> &Ledger<Link> {
+        &self.chains
     }
 
     /// The product rows, of which the first has number 0.
-    pub(crate) fn products(&self) -> &[Row] {
-        self.products.as_slice()
+    pub(crate) fn products(&self) -> &Ledger<Row> {
+        &self.products
+    }
+
+    /// From now on there may be so many product rows.
+    pub(crate) fn limit_products(&mut self, limit: u32) {
+        self.products.set_limit(limit);
     }
 
     /// The product row of a connective of nodes `a` and `b`, whose variables are tested in this
-    /// order. Refused is, as `NoProgram`, what would pass 65,534 nodes or the planner's limit of rows.
+    /// order. Refused is, as `NoProgram`, what would pass 65,534 nodes or the limit of rows.
     pub(crate) fn row(
         &mut self,
         order: VariableOrder,
-        op: Logic,
+        op: Connective,
         a: u32,
         b: u32,
     ) -> Result<Cited, Refusal> {
         let asked = Question { order, op, a, b };
-        self.products.row(&self.ranks, &mut self.nodes, asked)
+        products::find_row(
+            &self.ranks,
+            &mut self.nodes,
+            &mut self.products,
+            &mut self.pending,
+            asked,
+        )
     }
 
     /// The chain that compares `len` bits of a column's code, at most 63, from bit `start` on, with
@@ -90,39 +106,56 @@ impl<'a> Facts<'a> {
     /// would pass 65,534 nodes or 65,536 chains.
     pub(crate) fn bound(
         &mut self,
-        kind: Kind,
+        kind: ChainKind,
         column: ColumnIndex,
         start: u32,
         len: u32,
         bound: u64,
     ) -> Result<Cited, Refusal> {
-        self.chains.bound(
-            self.schema,
-            &mut self.nodes,
+        self.chain(Link {
             kind,
-            column,
+            left: column,
+            right: None,
             start,
             len,
             bound,
-        )
+            node: 0,
+            prev: None,
+        })
     }
 
     /// The chain that compares the codes of two columns, of which the shorter one has zeros above
     /// its top bit. Refused is, as `NoProgram`, what would pass 65,534 nodes or 65,536 chains.
     pub(crate) fn columns(
         &mut self,
-        kind: Kind,
+        kind: ChainKind,
         left: ColumnIndex,
         right: ColumnIndex,
     ) -> Result<Cited, Refusal> {
-        self.chains
-            .columns(self.schema, &mut self.nodes, kind, left, right)
+        self.chain(Link {
+            kind,
+            left,
+            right: Some(right),
+            start: 0,
+            len: self.width(left).max(self.width(right)),
+            bound: 0,
+            node: 0,
+            prev: None,
+        })
+    }
+
+    fn chain(&mut self, whole: Link) -> Result<Cited, Refusal> {
+        chains::chain(self.schema, &mut self.nodes, &mut self.chains, whole)
     }
 
     /// The node that is 1 where a column is null, if it has a null variable. Refused is, as
     /// `NoProgram`, what would pass 65,534 nodes.
     pub(crate) fn nulls(&mut self, column: ColumnIndex) -> Result<Option<u32>, Refusal> {
-        match chains::null_variable(self.schema, column) {
+        let column = column as usize;
+        if column >= self.schema.columns.len() {
+            return Ok(None);
+        }
+        match self.schema.var_null(column) {
             Some(variable) => Ok(Some(self.nodes.test(variable, 0, 1)?)),
             None => Ok(None),
         }
@@ -142,9 +175,19 @@ impl<'a> Facts<'a> {
         self.ranks.relations
     }
 
+    /// How many bits the codes of the condition's columns have.
+    pub(crate) fn bits(&self) -> u32 {
+        self.ranks.bits
+    }
+
     /// How many bits a column's codes have: none, where there is no such column.
     pub(crate) fn width(&self, column: ColumnIndex) -> u32 {
-        chains::width(self.schema, column)
+        let column = column as usize;
+        if column < self.schema.columns.len() {
+            self.schema.width(column)
+        } else {
+            0
+        }
     }
 
     /// The least value of a column, whose code is 0. Refused is, as `NoProgram`, a column that the

@@ -1,11 +1,10 @@
 //! How many facts the parts of a condition take, foretold before all are joined.
 use crate::facts::{Extent, Facts};
 use crate::nodes::MAX_NODES;
-use crate::products::MAX_PRODUCTS;
 use crate::refusal::Refusal;
 
-/// So many product rows are worked out for the first parts before anything is foretold of the others.
-const FEWEST_ROWS: usize = 10_000;
+/// Before anything is foretold, the first parts take this part of the product rows that there may be.
+const FIRST_ROWS: usize = 8;
 
 /// How many parts were joined, and which facts there were then.
 #[derive(Clone, Copy)]
@@ -43,16 +42,17 @@ impl Growth {
         }
     }
 
-    /// One part more is joined. Refused is, as `NoProgram`, what would pass the limit of nodes or the planner's limit
-    /// of product rows, if each part that is left took as many as the last half of the parts so far.
+    /// One part more is joined. Refused is, as `NoProgram`, what would pass the limit of nodes or that of product rows, if
+    /// each part that is left took as many as the last half of the parts so far.
     pub(crate) fn join(&mut self, facts: &Facts<'_>) -> Result<(), Refusal> {
         self.joined = self.joined.saturating_add(1);
         let now = facts.extent();
-        if now.products.saturating_sub(self.start.products) >= FEWEST_ROWS {
+        let limit = facts.products().limit();
+        if now.products.saturating_sub(self.start.products) >= limit / FIRST_ROWS {
             let early = self.early.extent;
             let nodes = self.foretold(early.nodes, now.nodes);
             let rows = self.foretold(early.products, now.products);
-            if nodes > MAX_NODES || rows > MAX_PRODUCTS {
+            if nodes > MAX_NODES || rows > limit {
                 return Err(Refusal::NoProgram);
             }
         }

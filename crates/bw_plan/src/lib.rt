@@ -25,6 +25,7 @@ mod digits;
 mod emit;
 mod facts;
 mod growth;
+mod ledger;
 mod line;
 mod nodes;
 mod order;

@@ -33,6 +33,8 @@ pub(crate) struct Ranks {
     standings: Vec<Standing>,
     /// How many comparisons of two columns there are.
     pub(crate) relations: usize,
+    /// How many bits the codes of the condition's columns have.
+    pub(crate) bits: u32,
 }
 
 impl Ranks {
@@ -40,7 +42,8 @@ impl Ranks {
     pub(crate) fn new(alloc: Global, schema: &Schema, cond: &Cond) -> Result<Self, Refusal> {
         let mut compared = Vec::new(alloc);
         collect(cond, &mut compared)?;
-        let groups = Groups::of(&sequence_of(schema, cond), &compared);
+        let sequence = sequence_of(schema, cond);
+        let groups = Groups::of(&sequence, &compared);
         let mut standings = Vec::new(alloc);
         for (column, each) in schema.columns.iter().enumerate() {
             let Ok(number) = u8::try_from(column) else {
@@ -56,6 +59,7 @@ impl Ranks {
         Ok(Ranks {
             standings,
             relations: compared.len(),
+            bits: sequence.bits(schema),
         })
     }
 

@@ -10,11 +10,10 @@ use crate::code::Code;
 use crate::emit;
 use crate::facts::Facts;
 use crate::order::VariableOrder;
-use crate::products::Logic;
 use crate::refusal::Refusal;
-use crate::steps::steps_of;
 use crate::truths::Wanted;
 use bw_cert_text::Certificate;
+use bw_diagram::Connective;
 use bw_model::{Cond, Fault, Schema};
 use bw_program::{Program, Register};
 use std::alloc::Global;
@@ -52,23 +51,29 @@ fn planned(alloc: Global, schema: &Schema, cond: &Cond) -> Result<Proposal, Refu
     ensures certificate { IfOk result (λ proposal.
         IsTrue (has_columns schema.now.columns.items (certificate_fields proposal.certificate))) }
 {
-    let mut facts = Facts::new(alloc, schema, cond)?;
-    let mut lines = Vec::new(alloc);
-    let node = steps_of(&mut facts, &mut lines, cond)?.yes;
-    let (extent, count) = (facts.extent(), lines.len());
-    let mut code = Code::new(alloc, facts, lines);
-    let (program, row) = match programmed(schema, cond, node, &mut code) {
+    let mut code = Code::new(alloc, Facts::new(alloc, schema, cond)?);
+    let (program, row) = program_of(schema, cond, &mut code)?;
+    match certified(schema, code, row) {
+        Ok(certificate) => Ok(Proposal {
+            program,
+            certificate,
+        }),
+        Err(refusal) => Err(refusal),
+    }
+}
+
+/// The program, with skips or without, and the row that ends the certificate.
+fn program_of(schema: &Schema, cond: &Cond, code: &mut Code<'_>) -> Result<(Program, u32), Refusal>
+    ensures { IfOk result (λ made. IsTrue (fits schema.now.columns.items made.0)) }
+{
+    let node = code.begin(cond)?;
+    match programmed(schema, cond, node, code) {
         Err(Refusal::NoProgram) => {
-            code.begin_again(extent, count);
-            programmed(schema, cond, node, &mut code)?
+            code.begin_again();
+            programmed(schema, cond, node, code)
         }
-        made => made?,
-    };
-    let certificate = certified(schema, code, row)?;
-    Ok(Proposal {
-        program,
-        certificate,
-    })
+        made => made,
+    }
 }
 
 /// The program of a condition that has this node, and the row that says that its answer has it too.
@@ -91,7 +96,7 @@ fn agreeing(code: &mut Code<'_>, register: Register, wanted: u32) -> Result<u32,
     let node = code.node(register)?;
     let row = code
         .facts
-        .row(VariableOrder::Whole, Logic::Xor, node, wanted)?;
+        .row(VariableOrder::Whole, Connective::Xor, node, wanted)?;
     if row.node == 0 {
         Ok(row.number)
     } else {

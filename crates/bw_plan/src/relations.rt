@@ -1,9 +1,8 @@
 //! Instructions that compare the codes of two columns with one another, bit by bit.
-use crate::chains::Kind;
 use crate::code::Code;
 use crate::comparison::ColumnComparison;
-use crate::products::Logic;
 use crate::refusal::Refusal;
+use bw_diagram::{ChainKind, Connective};
 use bw_program::Register;
 
 /// Registers of one bit of two columns.
@@ -44,10 +43,10 @@ impl Code<'_> {
         };
         match (less, rest) {
             (Some(less), Some(rest)) => {
-                self.join_into(Logic::And, rest, same)?;
-                self.join_into(Logic::Or, less, rest)?;
+                self.join_into(Connective::And, rest, same)?;
+                self.join_into(Connective::Or, less, rest)?;
             }
-            (None, Some(rest)) => self.join_into(Logic::And, same, rest)?,
+            (None, Some(rest)) => self.join_into(Connective::And, same, rest)?,
             _ => {}
         }
         let Some(less) = less else {
@@ -68,8 +67,8 @@ impl Code<'_> {
             return Ok(None);
         }
         let less = match relation.kind {
-            Kind::Less => Some(self.fill(false)?),
-            Kind::Equal => None,
+            ChainKind::Less => Some(self.fill(false)?),
+            ChainKind::Equal => None,
         };
         let mut same = None;
         for bit in (low..bits).rev() {
@@ -96,39 +95,39 @@ impl Code<'_> {
             let below = if below == differs {
                 self.copied(differs)?
             } else {
-                self.join(Logic::And, below, below, differs)?;
+                self.join(Connective::And, below, below, differs)?;
                 below
             };
             if let Some(same) = same {
-                self.join(Logic::And, below, below, same)?;
+                self.join(Connective::And, below, below, same)?;
             }
-            self.join_into(Logic::Or, less, below)?;
+            self.join_into(Connective::Or, less, below)?;
         }
         self.oppose(differs, differs)?;
         let Some(same) = same else {
             return Ok(differs);
         };
-        self.join_into(Logic::And, same, differs)?;
+        self.join_into(Connective::And, same, differs)?;
         Ok(same)
     }
 
     /// A register that is 1 where so many low bits of a column spell a number that is less than
     /// (equal to) that of another's.
     fn lows(&mut self, relation: ColumnComparison, bits: u32) -> Result<Register, Refusal> {
-        let made = self.fill(relation.kind == Kind::Equal)?;
+        let made = self.fill(relation.kind == ChainKind::Equal)?;
         for bit in 0..bits {
             let Bits { differs, below } = self.bits(relation, bit)?;
             match below {
                 Some(below) if below != differs => {
-                    self.join(Logic::Xor, below, below, made)?;
-                    self.join(Logic::And, below, below, differs)?;
-                    self.join_into(Logic::Xor, made, below)?;
+                    self.join(Connective::Xor, below, below, made)?;
+                    self.join(Connective::And, below, below, differs)?;
+                    self.join_into(Connective::Xor, made, below)?;
                     self.release(differs);
                 }
-                Some(_) => self.join_into(Logic::Or, made, differs)?,
+                Some(_) => self.join_into(Connective::Or, made, differs)?,
                 None => {
                     self.oppose(differs, differs)?;
-                    self.join_into(Logic::And, made, differs)?;
+                    self.join_into(Connective::And, made, differs)?;
                 }
             }
         }
@@ -139,7 +138,7 @@ impl Code<'_> {
     fn bits(&mut self, relation: ColumnComparison, bit: u32) -> Result<Bits, Refusal> {
         let on_left = bit < self.facts.width(relation.left);
         let on_right = bit < self.facts.width(relation.right);
-        let is_less = relation.kind == Kind::Less;
+        let is_less = relation.kind == ChainKind::Less;
         if !on_right {
             let differs = self.bit(relation.left, bit)?;
             return Ok(Bits {
@@ -156,7 +155,7 @@ impl Code<'_> {
             });
         }
         let left = self.bit(relation.left, bit)?;
-        self.join(Logic::Xor, left, left, right)?;
+        self.join(Connective::Xor, left, left, right)?;
         if !is_less {
             self.release(right);
         }

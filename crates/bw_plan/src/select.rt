@@ -1,12 +1,11 @@
 //! Instructions that compare a column's codes with numbers, from the most significant byte down.
-use crate::chains::Kind;
 use crate::code::Code;
 use crate::digits::Upper;
-use crate::products::Logic;
 use crate::refusal::Refusal;
 use crate::sets::{
     byte_of, first_group, going_on, groups_from, is_rare, is_soon_done, most_instructions,
 };
+use bw_diagram::{ChainKind, Connective};
 use bw_program::{ColumnIndex, Register, SliceIndex};
 
 impl Code<'_> {
@@ -45,11 +44,11 @@ impl Code<'_> {
         code: u64,
     ) -> Result<Register, Refusal> {
         let first = self.waiting()?;
-        let same = self.byte(Kind::Equal, column, top, byte_of(code, top))?;
+        let same = self.byte(ChainKind::Equal, column, top, byte_of(code, top))?;
         for slice in (0..top).rev() {
             self.skip(same)?;
-            let next = self.byte(Kind::Equal, column, slice, byte_of(code, slice))?;
-            self.join_into(Logic::And, same, next)?;
+            let next = self.byte(ChainKind::Equal, column, slice, byte_of(code, slice))?;
+            self.join_into(Connective::And, same, next)?;
         }
         self.meet_from(first);
         Ok(same)
@@ -118,7 +117,7 @@ impl Code<'_> {
                 found
             }
             None => {
-                self.join_into(Logic::And, same, found)?;
+                self.join_into(Connective::And, same, found)?;
                 same
             }
         };
@@ -145,8 +144,8 @@ impl Code<'_> {
         if slice == 0 || looks < 2 || !few || self.split_slice() == Some(slice) {
             return Ok(());
         }
-        let below = self.byte(Kind::Less, column, slice, last.saturating_add(1))?;
-        self.join_into(Logic::And, same, below)?;
+        let below = self.byte(ChainKind::Less, column, slice, last.saturating_add(1))?;
+        self.join_into(Connective::And, same, below)?;
         self.skip(same)
     }
 
@@ -177,7 +176,7 @@ impl Code<'_> {
                     None
                 }
                 Some(last) => {
-                    let next = self.byte(Kind::Less, column, slice, last)?;
+                    let next = self.byte(ChainKind::Less, column, slice, last)?;
                     made = self.added(Some(next), None, made)?;
                     Some(byte)
                 }
@@ -186,7 +185,7 @@ impl Code<'_> {
         }
         match before {
             Some(last) => {
-                let next = self.byte(Kind::Less, column, slice, last)?;
+                let next = self.byte(ChainKind::Less, column, slice, last)?;
                 self.added(Some(next), None, made)
             }
             None => Ok(made),
@@ -205,12 +204,12 @@ impl Code<'_> {
             return Ok(out);
         };
         if let Some(mask) = mask {
-            self.join(Logic::And, next, next, mask)?;
+            self.join(Connective::And, next, next, mask)?;
         }
         let Some(out) = out else {
             return Ok(Some(next));
         };
-        self.join_into(Logic::Xor, out, next)?;
+        self.join_into(Connective::Xor, out, next)?;
         Ok(Some(out))
     }
 }

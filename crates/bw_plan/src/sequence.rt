@@ -30,6 +30,18 @@ impl Sequence {
         64
     }
 
+    /// How many bits the codes of these columns have.
+    pub(crate) fn bits(&self, schema: &Schema) -> u32 {
+        let mut bits = 0u32;
+        for column in self.columns.iter().take(self.count) {
+            let column = usize::from(*column);
+            if column < schema.columns.len() {
+                bits = bits.saturating_add(schema.width(column));
+            }
+        }
+        bits
+    }
+
     /// Puts a column after the others, if it isn't among them.
     fn push(&mut self, column: ColumnIndex) {
         if self.place(column) < 64 {

@@ -1,8 +1,10 @@
 //! Sets of a column's codes.
-use crate::chains::Kind;
 use crate::comparison::LiteralComparison;
+use crate::facts::Facts;
 use crate::refusal::Refusal;
-use bw_program::SliceIndex;
+use bw_diagram::ChainKind;
+use bw_model::Operand;
+use bw_program::{ColumnIndex, SliceIndex};
 use std::alloc::Global;
 
 /// A set of numbers of so many bits: those with an odd number of bounds above them, or, where it is
@@ -16,7 +18,7 @@ pub(crate) struct Set {
 
 impl Set {
     /// The empty set.
-    pub(crate) fn new(alloc: Global, width: u32) -> Self {
+    fn new(alloc: Global, width: u32) -> Self {
         Set {
             bounds: Vec::new(alloc),
             inverted: false,
@@ -35,7 +37,7 @@ impl Set {
     }
 
     /// Puts the numbers in from one on and below another.
-    pub(crate) fn add(&mut self, from: i128, below: i128) -> Result<(), Refusal> {
+    fn add(&mut self, from: i128, below: i128) -> Result<(), Refusal> {
         if from < below {
             self.toggle(from)?;
             self.toggle(below)?;
@@ -47,30 +49,64 @@ impl Set {
     pub(crate) fn of(alloc: Global, width: u32, bound: LiteralComparison) -> Result<Self, Refusal> {
         let mut set = Set::new(alloc, width);
         match bound.kind {
-            Kind::Less => set.add(0, bound.limit)?,
-            Kind::Equal => set.add(bound.limit, bound.limit.saturating_add(1))?,
+            ChainKind::Less => set.add(0, bound.limit)?,
+            ChainKind::Equal => set.add(bound.limit, bound.limit.saturating_add(1))?,
         }
-        set.finish()?;
+        set.finish();
         set.inverted ^= bound.negated;
         Ok(set)
     }
 
-    /// About how many looks at bytes tell its numbers: one for each range and the lowest byte, and for each byte above
-    /// one for each group of numbers that have it and the bytes above it in common; but for the byte with the most
-    /// groups, whose digits are kept.
-    pub(crate) fn looks(&self) -> usize {
-        let mut looks = self.bounds.len() / 2;
-        let mut most = 0;
-        for slice in 1..8u32 {
-            let groups = groups_from(&self.bounds, slice * 8);
-            looks = looks.saturating_add(groups);
-            most = groups.max(most);
+    /// About how many instructions tell its numbers.
+    pub(crate) fn instructions(&self) -> usize {
+        let top = self.width.saturating_sub(1) / 8;
+        most_instructions(&self.bounds, top.min(7) as u8, None)
+    }
+
+    /// The set of the literals of a list with which a column is compared, if there are some.
+    pub(crate) fn listed(
+        facts: &Facts<'_>,
+        x: Operand,
+        items: &[Operand],
+    ) -> Result<Option<(ColumnIndex, Self)>, Refusal> {
+        let Operand::Col(column) = x else {
+            return Ok(None);
+        };
+        let column = facts.column(column)?;
+        let codes = literal_codes(facts.alloc, items, facts.lo(column)?)?;
+        if codes.is_empty() {
+            return Ok(None);
         }
-        looks.saturating_sub(most)
+        match Set::of_codes(facts.alloc, facts.width(column), &codes) {
+            Ok(set) => Ok(Some((column, set))),
+            Err(refusal) => Err(refusal),
+        }
+    }
+
+    /// The set of some codes in order.
+    fn of_codes(alloc: Global, width: u32, codes: &[i128]) -> Result<Self, Refusal> {
+        let mut set = Set::new(alloc, width);
+        let mut last = None;
+        for code in codes {
+            if last != Some(*code) && *code >= 0 {
+                set.add(*code, code.saturating_add(1))?;
+            }
+            last = Some(*code);
+        }
+        set.finish();
+        Ok(set)
+    }
+
+    /// The set of the codes from one on and up to another.
+    pub(crate) fn range(alloc: Global, width: u32, from: i128, to: i128) -> Result<Self, Refusal> {
+        let mut set = Set::new(alloc, width);
+        set.add(from.max(0), to.saturating_add(1))?;
+        set.finish();
+        Ok(set)
     }
 
     /// Sorts the bounds, and drops those that stand twice, which cancel.
-    pub(crate) fn finish(&mut self) -> Result<(), Refusal> {
+    fn finish(&mut self) {
         self.bounds.sort_unstable();
         let mut kept = 0;
         for at in 0..self.bounds.len() {
@@ -88,8 +124,19 @@ impl Set {
             }
         }
         self.bounds.truncate(kept);
-        Ok(())
     }
+}
+
+/// How far the literals of a list are above a column's least value, in order.
+fn literal_codes(alloc: Global, items: &[Operand], lo: i64) -> Result<Vec<i128>, Refusal> {
+    let mut codes = Vec::new(alloc);
+    for item in items {
+        if let Operand::Lit(n) = *item {
+            codes.push(i128::from(n) - i128::from(lo))?;
+        }
+    }
+    codes.sort_unstable();
+    Ok(codes)
 }
 
 /// A byte of a number.

@@ -1,19 +1,25 @@
 //! The steps of a condition, operands first, each with its line.
-use crate::chains::Kind;
 use crate::comparison::{ColumnComparison, Comparison, LiteralComparison, compare};
 use crate::facts::Facts;
 use crate::growth::Growth;
 use crate::line::PlannedLine;
 use crate::order::VariableOrder;
-use crate::products::Logic;
 use crate::refusal::Refusal;
+use crate::sets::Set;
 use bw_cert_text::ConditionEntry;
+use bw_diagram::Connective;
 use bw_model::{Cond, Op, Operand, Truth};
 use bw_program::ColumnIndex;
 
 /// A list has so many items at most: to plan a longer one takes longer than to look up the rows of a table that isn't
 /// very large.
 const MAX_LIST: usize = 400;
+
+/// A list whose literals take more instructions takes so many product rows at most. With more it takes longer to plan the
+/// list and to scan a million rows for it than to look it up in each of them.
+const LONG_LIST: usize = 1200;
+
+const MAX_LONG_LIST_PRODUCTS: usize = 4000;
 
 /// The numbers of a condition's nodes: where it is TRUE, and where it is FALSE.
 #[derive(Clone, Copy)]
@@ -104,6 +110,7 @@ fn among(
     if items.len() > MAX_LIST {
         return Err(Refusal::NoProgram);
     }
+    let most = most_products(facts, x, items)?;
     let Some((first, others)) = items.split_first() else {
         return Err(Refusal::NoProgram);
     };
@@ -111,8 +118,24 @@ fn among(
     for item in others {
         let next = compared(facts, lines, Op::Eq, x, *item)?;
         made = joined(facts, lines, true, made, next)?;
+        if facts.products().len() > most {
+            return Err(Refusal::NoProgram);
+        }
     }
     Ok(made)
+}
+
+/// How many product rows there may be once a list is planned.
+fn most_products(facts: &Facts<'_>, x: Operand, items: &[Operand]) -> Result<usize, Refusal> {
+    Ok(match Set::listed(facts, x, items)? {
+        Some((_, set)) if set.instructions() > LONG_LIST => {
+            facts
+                .products()
+                .len()
+                .saturating_add(MAX_LONG_LIST_PRODUCTS)
+        }
+        _ => usize::MAX,
+    })
 }
 
 /// Appends a line.
@@ -136,9 +159,9 @@ fn joined(
     b: TruthNodes,
 ) -> Result<TruthNodes, Refusal> {
     let (yes, no) = if any {
-        (Logic::Or, Logic::And)
+        (Connective::Or, Connective::And)
     } else {
-        (Logic::And, Logic::Or)
+        (Connective::And, Connective::Or)
     };
     let yes = facts.row(VariableOrder::Whole, yes, a.yes, b.yes)?;
     let no = facts.row(VariableOrder::Whole, no, a.no, b.no)?;
@@ -168,8 +191,8 @@ fn tested(
         Truth::Yes => made.yes,
         Truth::No => made.no,
         Truth::Unknown => {
-            let known = facts.row(VariableOrder::Whole, Logic::Or, made.yes, made.no)?;
-            let other = facts.row(VariableOrder::Whole, Logic::Diff, 1, known.node)?;
+            let known = facts.row(VariableOrder::Whole, Connective::Or, made.yes, made.no)?;
+            let other = facts.row(VariableOrder::Whole, Connective::Diff, 1, known.node)?;
             let (i, j) = (u64::from(known.number), u64::from(other.number));
             put(lines, ConditionEntry::IsUnknown(i, j))?;
             return Ok(TruthNodes {
@@ -178,7 +201,7 @@ fn tested(
             });
         }
     };
-    let other = facts.row(VariableOrder::Whole, Logic::Diff, 1, half)?;
+    let other = facts.row(VariableOrder::Whole, Connective::Diff, 1, half)?;
     put(lines, ConditionEntry::Is(u64::from(other.number)))?;
     Ok(TruthNodes {
         yes: half,
@@ -200,7 +223,7 @@ fn null_tested(
     let Some(nulls) = facts.nulls(column)? else {
         return constant(lines, Truth::No);
     };
-    let values = facts.row(VariableOrder::Whole, Logic::Diff, 1, nulls)?;
+    let values = facts.row(VariableOrder::Whole, Connective::Diff, 1, nulls)?;
     put(lines, ConditionEntry::NullTest(u64::from(values.number)))?;
     Ok(TruthNodes {
         yes: nulls,
@@ -228,7 +251,7 @@ fn values(facts: &mut Facts<'_>, column: ColumnIndex) -> Result<(Option<u64>, u3
     let Some(nulls) = facts.nulls(column)? else {
         return Ok((None, 1));
     };
-    let values = facts.row(VariableOrder::Whole, Logic::Diff, 1, nulls)?;
+    let values = facts.row(VariableOrder::Whole, Connective::Diff, 1, nulls)?;
     Ok((Some(u64::from(values.number)), values.node))
 }
 
@@ -248,8 +271,8 @@ fn bounded(
             (Some(u64::from(cited.number)), cited.node)
         }
     };
-    let p = facts.row(VariableOrder::Whole, Logic::And, m, e)?;
-    let q = facts.row(VariableOrder::Whole, Logic::Diff, m, e)?;
+    let p = facts.row(VariableOrder::Whole, Connective::And, m, e)?;
+    let q = facts.row(VariableOrder::Whole, Connective::Diff, m, e)?;
     put(
         lines,
         ConditionEntry::Compare {
@@ -280,7 +303,7 @@ fn related(
     let [c, d] = relation.columns;
     let (left, first) = values(facts, c)?;
     let (right, second) = values(facts, d)?;
-    let both = facts.row(order, Logic::And, first, second)?;
+    let both = facts.row(order, Connective::And, first, second)?;
     let (chain, e) = match relation.terminal() {
         Some(terminal) => (None, terminal),
         None => {
@@ -288,8 +311,8 @@ fn related(
             (Some(u64::from(cited.number)), cited.node)
         }
     };
-    let p = facts.row(order, Logic::And, both.node, e)?;
-    let q = facts.row(order, Logic::Diff, both.node, e)?;
+    let p = facts.row(order, Connective::And, both.node, e)?;
+    let q = facts.row(order, Connective::Diff, both.node, e)?;
     put(
         lines,
         ConditionEntry::CompareColumns {

@@ -3,10 +3,10 @@ use crate::code::Code;
 use crate::comparison::{ColumnComparison, Comparison, LiteralComparison, compare};
 use crate::growth::Growth;
 use crate::order::VariableOrder;
-use crate::products::Logic;
 use crate::refusal::Refusal;
 use crate::room::leading;
 use crate::sets::Set;
+use bw_diagram::Connective;
 use bw_model::{Cond, Op, Operand, Truth};
 use bw_program::{ColumnIndex, Register};
 
@@ -57,10 +57,6 @@ impl Halves {
 
 /// So many parts of a condition are looked at for an early end.
 const SKIPPED_PARTS: usize = 16;
-
-/// A list is scanned for by so many looks at bytes at most. Even where skips leave many out, with more it takes longer
-/// than to search the list for each row by halving.
-const MAX_LIST_LOOKS: usize = 800;
 
 impl Code<'_> {
     /// The registers of a condition.
@@ -136,10 +132,10 @@ impl Code<'_> {
     fn join_parts(&mut self, any: bool, made: Halves, next: Halves) -> Result<(), Refusal> {
         let (made, next) = (made.turned(any), next.turned(any));
         if let (Some(to), Some(y)) = (made.yes, next.yes) {
-            self.join_into(Logic::And, to, y)?;
+            self.join_into(Connective::And, to, y)?;
         }
         if let (Some(to), Some(y)) = (made.no, next.no) {
-            self.join_into(Logic::Or, to, y)?;
+            self.join_into(Connective::Or, to, y)?;
         }
         Ok(())
     }
@@ -164,7 +160,7 @@ impl Code<'_> {
         let (held, negated) = match (truth, made.yes, made.no) {
             (Truth::Yes, Some(held), _) | (Truth::No, _, Some(held)) => (held, false),
             (Truth::Unknown, Some(held), Some(other)) => {
-                self.join_into(Logic::Or, held, other)?;
+                self.join_into(Connective::Or, held, other)?;
                 (held, true)
             }
             _ => return Err(Refusal::NoProgram),
@@ -243,13 +239,7 @@ impl Code<'_> {
         wanted: Wanted,
     ) -> Result<Halves, Refusal> {
         if let (Operand::Col(column), Operand::Lit(least), Operand::Lit(most)) = (x, y, z) {
-            let column = self.facts.column(column)?;
-            let lo = i128::from(self.facts.lo(column)?);
-            let mut set = Set::new(self.alloc, self.facts.width(column));
-            let from = (i128::from(least) - lo).max(0);
-            set.add(from, (i128::from(most) - lo).saturating_add(1))?;
-            set.finish()?;
-            return self.in_set(column, &set, wanted);
+            return self.in_range(column, least, most, wanted);
         }
         let first = self.waiting()?;
         let made = self.compared(Op::Ge, x, y, wanted)?;
@@ -260,10 +250,41 @@ impl Code<'_> {
         Ok(made)
     }
 
+    /// The registers of whether a column is from one number on and up to another.
+    fn in_range(
+        &mut self,
+        column: usize,
+        least: i64,
+        most: i64,
+        wanted: Wanted,
+    ) -> Result<Halves, Refusal> {
+        let column = self.facts.column(column)?;
+        let lo = i128::from(self.facts.lo(column)?);
+        let (from, to) = (i128::from(least) - lo, i128::from(most) - lo);
+        let set = Set::range(self.alloc, self.facts.width(column), from, to)?;
+        self.in_set(column, &set, wanted)
+    }
+
+    /// The registers of whether a column is one of the literals of a list, if it is a column and there are some.
+    fn in_list(
+        &mut self,
+        x: Operand,
+        items: &[Operand],
+        wanted: Wanted,
+    ) -> Result<Option<Halves>, Refusal> {
+        match Set::listed(&self.facts, x, items)? {
+            Some((column, set)) => match self.in_set(column, &set, wanted) {
+                Ok(made) => Ok(Some(made)),
+                Err(refusal) => Err(refusal),
+            },
+            None => Ok(None),
+        }
+    }
+
     /// The registers of `IN`: the literals at once, and then what else is in the list.
     fn among(&mut self, x: Operand, items: &[Operand], wanted: Wanted) -> Result<Halves, Refusal> {
         let first = self.waiting()?;
-        let mut made = self.among_literals(x, items, wanted)?;
+        let mut made = self.in_list(x, items, wanted)?;
         let at_once = made.is_some();
         for item in items {
             if at_once && matches!(item, Operand::Lit(_)) {
@@ -280,44 +301,6 @@ impl Code<'_> {
         }
         self.meet_from(first);
         made.ok_or(Refusal::NoProgram)
-    }
-
-    /// The registers of whether a column is one of the literals of a list, if it is a column and
-    /// there are some.
-    fn among_literals(
-        &mut self,
-        x: Operand,
-        items: &[Operand],
-        wanted: Wanted,
-    ) -> Result<Option<Halves>, Refusal> {
-        let Operand::Col(column) = x else {
-            return Ok(None);
-        };
-        let column = self.facts.column(column)?;
-        let lo = i128::from(self.facts.lo(column)?);
-        let mut codes = Vec::new(self.alloc);
-        for item in items {
-            if let Operand::Lit(n) = *item {
-                codes.push(i128::from(n) - lo)?;
-            }
-        }
-        if codes.is_empty() {
-            return Ok(None);
-        }
-        codes.sort_unstable();
-        let mut set = Set::new(self.alloc, self.facts.width(column));
-        let mut last = None;
-        for code in &codes {
-            if last != Some(*code) && *code >= 0 {
-                set.add(*code, code.saturating_add(1))?;
-            }
-            last = Some(*code);
-        }
-        set.finish()?;
-        if set.looks() > MAX_LIST_LOOKS {
-            return Err(Refusal::NoProgram);
-        }
-        Ok(Some(self.in_set(column, &set, wanted)?))
     }
 
     /// The registers of a comparison of two columns. Its skips meet right after its own
@@ -358,7 +341,7 @@ impl Code<'_> {
             let outside = if wanted.yes { self.copied(held)? } else { held };
             for column in columns {
                 if let Some(nulls) = self.nulls(*column)? {
-                    self.join_into(Logic::Or, outside, nulls)?;
+                    self.join_into(Connective::Or, outside, nulls)?;
                 }
             }
             self.oppose(outside, outside)?;
@@ -370,7 +353,7 @@ impl Code<'_> {
                     self.skip(held)?;
                 }
                 if let Some(values) = self.values(*column)? {
-                    self.join_into(Logic::And, held, values)?;
+                    self.join_into(Connective::And, held, values)?;
                 }
             }
             made.yes = Some(held);
@@ -383,7 +366,7 @@ impl Code<'_> {
     /// A register with the same lanes as another.
     pub(crate) fn copied(&mut self, register: Register) -> Result<Register, Refusal> {
         let copy = self.fill(false)?;
-        self.join(Logic::Or, copy, copy, register)?;
+        self.join(Connective::Or, copy, copy, register)?;
         Ok(copy)
     }
 }

@@ -13,9 +13,9 @@ use Rattle.bw_sql.specs.Refusal.{IsStatementFault, is_statement_fault}
 use Rattle.bw_cert.specs.Judged.{is_file_fault}
 use Rattle.bw_model.specs.Groups.{groups_of, together}
 use Rattle.bw_model.specs.Row.{Value}
-use Rattle.bw_device.specs.Sink.{GoesOut, Wrote, beginning, everything, is_write_fault, none_aside, nothing}
-use Rattle.bw_device.proofs.SinkLemmas.{no_write_fault, wrote_nothing, wrote_text}
-use Rattle.bw_device.specs.Source.{TellsFailure, failed_by, failed_reads, is_input_fault, is_read_fault}
+use Rattle.bw_io.specs.Sink.{GoesOut, Wrote, beginning, everything, is_write_fault, none_aside, nothing}
+use Rattle.bw_io.proofs.SinkLemmas.{no_write_fault, wrote_nothing, wrote_text}
+use Rattle.bw_io.specs.Source.{TellsFailure, failed_by, failed_reads, is_input_fault, is_read_fault}
 use Rattle.bw_file.specs.FileBytes.{IsFileBytes}
 use Rattle.bw_file.specs.Reading.{State, Fails, GoesOn, give}
 use Rattle.bw_file.specs.TableReading.{IsTableFault, header, is_table_fault}

@@ -8,7 +8,7 @@ use Rattle.bw_model.specs.Column.{names_of}
 use Rattle.bw_model.specs.Fault.{is_memory}
 use Rattle.bw_model.specs.Row.{Value}
 use Rattle.bw_answer.specs.Answer.{csv_text, meaning}
-use Rattle.bw_device.specs.Sink.{is_write_fault}
+use Rattle.bw_io.specs.Sink.{is_write_fault}
 
 -- the text of the meaning of what is asked under a schema, over rows
 pub record RowsText (asks : Schema → Result Query Fault → Type 0) (schema : Schema) (rows : List (List Value))

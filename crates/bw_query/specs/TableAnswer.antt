@@ -14,8 +14,8 @@ use Rattle.bw_model.specs.Row.{Value}
 use Rattle.bw_model.specs.SchemaText.{schema_shape}
 use Rattle.bw_sql.specs.Statement.{IsReadAs}
 use Rattle.bw_answer.specs.Answer.{csv_text, meaning}
-use Rattle.bw_device.specs.Sink.{is_write_fault}
-use Rattle.bw_device.specs.Source.{is_read_fault, is_input_fault, failed_by}
+use Rattle.bw_io.specs.Sink.{is_write_fault}
+use Rattle.bw_io.specs.Source.{is_read_fault, is_input_fault, failed_by}
 use Rattle.bw_file.specs.declared.layout.Layout.{Layout}
 use Rattle.bw_file.specs.FileBytes.{IsFileBytes}
 use Rattle.bw_file.specs.Reading.{State, Took, GoesOn, Fails, give}

@@ -3,7 +3,7 @@ ghost use Rattle.std.specs.Prelude.{◌≡◌, ◌-◌, ◌^◌, ◌<◌, ℕ, L
 ghost use Rattle.bw_model.specs.declared.fault.Fault.{Fault};
 ghost use Rattle.bw_model.specs.declared.query.Query.{Query};
 ghost use Rattle.bw_model.specs.Fault.{is_memory};
-ghost use Rattle.bw_device.specs.Sink.{Wrote, is_write_fault, none_aside};
+ghost use Rattle.bw_io.specs.Sink.{Wrote, is_write_fault, none_aside};
 ghost use Rattle.bw_memory.specs.MemoryTable.{rows_of, schema_of};
 ghost use Rattle.bw_query.specs.AnswerText.{text_in};
 ghost use Rattle.bw_query.specs.MemoryAnswer.{AnswersRows, IsMemoryAnswer, RowsText, is_output_fault};
@@ -14,7 +14,7 @@ ghost use Rattle.bw_query.specs.TableAnswer.{by_statement};
 use crate::memory_text::memory_text;
 use crate::served::served_by;
 use crate::table_calls::{AnswerText, prepare};
-use bw_device::{Sink, write_whole};
+use bw_io::{Sink, write_whole};
 use bw_memory::MemoryTable;
 use bw_model::Fault;
 use bw_report::Served;

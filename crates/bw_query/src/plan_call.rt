@@ -9,11 +9,11 @@ ghost use Rattle.bw_cert_text.specs.CertificateFields.{certificate_fields};
 ghost use Rattle.bw_cert_text.specs.CertificateShape.{CertificateShape};
 ghost use Rattle.bw_cert_text.specs.Columns.{has_columns};
 ghost use Rattle.bw_cert.specs.Judged.{Certifies};
-ghost use Rattle.bw_device.specs.Sink.{Wrote, none_aside};
+ghost use Rattle.bw_io.specs.Sink.{Wrote, none_aside};
 ghost use Rattle.bw_query.specs.Plan.{IsPlanned, IsPrinted};
 
 use bw_cert::certify;
-use bw_device::{Sink, write_whole};
+use bw_io::{Sink, write_whole};
 use bw_model::{Cond, Fault, Place, Schema, code};
 use bw_plan::{Proposal, propose};
 use bw_sql::parse;

@@ -3,11 +3,11 @@ ghost use Rattle.std.specs.Prelude.{◌≡◌, ◌+◌, ◌-◌, ◌^◌, ◌<�
 ghost use Rattle.std.specs.Fmt.InlineText.{inline_text};
 ghost use Rattle.bw_model.specs.Fault.{fault_line, place_text};
 ghost use Rattle.bw_report.specs.Lines.{status_of, IsWritten, accepted_line, by_text, stats_line, with_count};
-ghost use Rattle.bw_device.specs.Sink.{GoesOut};
+ghost use Rattle.bw_io.specs.Sink.{GoesOut};
 
 use crate::accepted::Accepted;
 use crate::served::{By, Served};
-use bw_device::{Sink, write_whole};
+use bw_io::{Sink, write_whole};
 use bw_model::{Fault, Place, words_of};
 use itoa::Buffer;
 use std::fmt::InlineText;

@@ -4,7 +4,7 @@ use Rattle.std.proofs.Common.{◌≡◌, ℕ, List, not, true, false, Result, Ok
 use Rattle.bw_model.specs.declared.fault.Fault.{Fault}
 use Rattle.bw_model.specs.Fault.{nowhere, refused_if}
 use Rattle.bw_model.specs.Name.{is_name}
-use Rattle.bw_device.specs.Source.{Arrival, NotReached, Whole}
+use Rattle.bw_io.specs.Source.{Arrival, NotReached, Whole}
 use Rattle.bw_csv.specs.Input.{IsMadeAfter, IsMadeOf}
 use Rattle.bw_csv.proofs.InputLemmas.{made_of_none}
 use Rattle.bw_schemas.specs.Infer.{IsTextFrom, inferred_text}

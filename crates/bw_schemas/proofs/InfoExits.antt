@@ -7,9 +7,9 @@ use Rattle.bw_model.specs.declared.schema.Schema.{Schema}
 use Rattle.bw_model.specs.Fault.{no_memory}
 use Rattle.bw_model.specs.Row.{Value}
 use Rattle.bw_model.specs.SchemaText.{IsSchemaText, SchemaShape, schema_shape}
-use Rattle.bw_device.specs.Sink.{GoesOut, Wrote, is_write_fault, none_aside}
-use Rattle.bw_device.proofs.SinkLemmas.{no_write_fault, wrote_nothing}
-use Rattle.bw_device.specs.Source.{failed_reads, is_input_fault, is_read_fault}
+use Rattle.bw_io.specs.Sink.{GoesOut, Wrote, is_write_fault, none_aside}
+use Rattle.bw_io.proofs.SinkLemmas.{no_write_fault, wrote_nothing}
+use Rattle.bw_io.specs.Source.{failed_reads, is_input_fault, is_read_fault}
 use Rattle.bw_file.specs.declared.layout.Layout.{Layout}
 use Rattle.bw_file.specs.declared.table_reader.TableReader.{TableReader}
 use Rattle.bw_file.specs.FileBytes.{IsFileBytes}

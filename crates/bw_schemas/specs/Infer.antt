@@ -7,7 +7,7 @@ use Rattle.bw_model.specs.declared.schema.Schema.{Schema}
 use Rattle.bw_model.specs.Fault.{nowhere, ◌>>=◌, refused_if}
 use Rattle.bw_model.specs.Name.{is_name}
 use Rattle.bw_model.specs.SchemaText.{schema_shape, IsSchemaText}
-use Rattle.bw_device.specs.Source.{Arrival}
+use Rattle.bw_io.specs.Source.{Arrival}
 use Rattle.bw_csv.specs.Bare.{bare_rows, records_of}
 use Rattle.bw_csv.specs.Input.{IsMadeAfter}
 use Rattle.bw_csv.specs.Rows.{Stops, StopsAfter, is_rows_fault}

@@ -6,8 +6,8 @@ use Rattle.bw_model.specs.declared.fault.Fault.{Fault}
 use Rattle.bw_model.specs.declared.schema.Schema.{Schema}
 use Rattle.bw_model.specs.Row.{Value}
 use Rattle.bw_model.specs.SchemaText.{IsSchemaText, schema_shape}
-use Rattle.bw_device.specs.Sink.{is_write_fault}
-use Rattle.bw_device.specs.Source.{TellsFailure, is_input_fault}
+use Rattle.bw_io.specs.Sink.{is_write_fault}
+use Rattle.bw_io.specs.Source.{TellsFailure, is_input_fault}
 use Rattle.bw_file.specs.declared.layout.Layout.{Layout}
 use Rattle.bw_file.specs.declared.layout.Layout.TheVariants.{Planes, Slices}
 use Rattle.bw_file.specs.Blocks.{segment_size}

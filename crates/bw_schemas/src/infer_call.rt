@@ -3,15 +3,15 @@ ghost use Rattle.std.specs.Prelude.{◌≡◌, ◌+◌, ◌-◌, ◌^◌, ◌<�
 ghost use Rattle.bw_model.specs.declared.fault.Fault.{Fault};
 ghost use Rattle.bw_model.specs.Limits.{longest_csv};
 ghost use Rattle.bw_model.specs.Name.{is_name};
-ghost use Rattle.bw_device.specs.Sink.{Wrote};
-ghost use Rattle.bw_device.specs.Source.{Arrival, Whole, Came, LeavesSource};
+ghost use Rattle.bw_io.specs.Sink.{Wrote};
+ghost use Rattle.bw_io.specs.Source.{Arrival, Whole, Came, LeavesSource};
 ghost use Rattle.bw_csv.specs.Rows.{is_aside, is_reader_fault, GivesButAside};
 ghost use Rattle.bw_schemas.specs.Infer.{inferred_text, is_inferring_fault, InfersExactly, IsTextFrom, SpellsExactly, StopsInferring};
 
 use crate::print::print_schema;
 use crate::schema::{infer_schema, inferred_schemas_are_exact};
 use bw_csv::read_csv;
-use bw_device::{Sink, Source, write_whole};
+use bw_io::{Sink, Source, write_whole};
 use bw_model::{Fault, code, is_name};
 use std::alloc::Global;
 

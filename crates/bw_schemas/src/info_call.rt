@@ -4,16 +4,16 @@ ghost use Rattle.bw_model.specs.declared.fault.Fault.{Fault};
 ghost use Rattle.bw_model.specs.declared.schema.Schema.{Schema};
 ghost use Rattle.bw_model.specs.Groups.{groups_of};
 ghost use Rattle.bw_model.specs.Row.{Value};
-ghost use Rattle.bw_device.specs.Sink.{Wrote, none_aside};
-ghost use Rattle.bw_device.specs.Source.{TellsFailure};
+ghost use Rattle.bw_io.specs.Sink.{Wrote, none_aside};
+ghost use Rattle.bw_io.specs.Source.{TellsFailure};
 ghost use Rattle.bw_file.specs.declared.layout.Layout.{Layout};
 ghost use Rattle.bw_file.specs.FileBytes.{AreRows, IsFileBytes, bytes_of_version};
 ghost use Rattle.bw_file.specs.Reading.{state};
 ghost use Rattle.bw_schemas.specs.Info.{InfoGave, TellsFile, file_size, is_no_verdict, segment_count};
 
 use crate::text::info_text;
-use bw_device::{Sink, Source, write_whole};
 use bw_file::{TableReader, a_file_is_read_whole};
+use bw_io::{Sink, Source, write_whole};
 use bw_model::Fault;
 use std::alloc::Global;
 

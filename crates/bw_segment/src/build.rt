@@ -12,7 +12,7 @@ use crate::layout::CodeLayout;
 use crate::packed::PackedSegment;
 use crate::placement::Placement;
 use crate::segment::Segment;
-use bw_device::SharedBytes;
+use bw_io::SharedBytes;
 use bw_model::{Fault, Row, Schema};
 use std::alloc::Global;
 use std::rc::Rc;

@@ -1,6 +1,6 @@
 //! A segment stored as bytes in a layout, and its results.
 ghost use Rattle.std.specs.Prelude.{◌≡◌, ◌≤◌, length};
-ghost use Rattle.bw_device.specs.Shared.{bytes_in};
+ghost use Rattle.bw_io.specs.Shared.{bytes_in};
 ghost use Rattle.bw_model.specs.Groups.{group_size};
 ghost use Rattle.bw_segment.specs.BlockFault.{IsSound};
 ghost use Rattle.bw_segment.specs.Packing.{block_size, meaning_spelled, segment_size, segment_bytes};
@@ -11,7 +11,7 @@ use crate::few::{greatest_in, least_in};
 use crate::layout::CodeLayout;
 use crate::placement::Placement;
 use crate::segment::Segment;
-use bw_device::SharedBytes;
+use bw_io::SharedBytes;
 use bw_lanes::{LANES, Plane, Selection, lane};
 use bw_model::{Schema, Value};
 use std::marker::PhantomData;
@@ -53,7 +53,10 @@ impl<L: CodeLayout, B: Blocks> Segment for PackedSegment<L, B> {
 
     #[inline(always)]
     fn nulls(&self, col: usize) -> Plane {
-        self.placement.nulls_in(col, self.block(col))
+        match self.front(col) {
+            Some(front) => self.placement.nulls_in(col, front),
+            None => self.placement.nulls_in(col, self.block(col)),
+        }
     }
 
     #[inline(always)]
@@ -149,7 +152,7 @@ impl<L: CodeLayout> PackedSegment<L> {
 }
 
 impl<L: CodeLayout, B: Blocks> PackedSegment<L, B> {
-    ghost use Rattle.std.specs.Prelude.{All, ◌<◌, ◌^◌};
+    ghost use Rattle.std.specs.Prelude.{All, IfSome, ◌<◌, ◌^◌, take};
     ghost use Rattle.bw_model.specs.Code.{width_at};
     ghost use Rattle.bw_segment.specs.Meaning.{code_lanes};
     ghost use Rattle.bw_segment.specs.Packing.{block_at};
@@ -187,6 +190,20 @@ impl<L: CodeLayout, B: Blocks> PackedSegment<L, B> {
         let start = placement.start::<L>(col);
         let end = placement.start::<L>(col + 1);
         self.bytes.block(col, start, end)
+    }
+
+    /// Returns the first 64 bytes of a column's block, if they are stored apart.
+    #[inline(always)]
+    fn front(&self, col: usize) -> Option<&[u8]>
+        requires { col < length self.now.placement.value.schema.columns.items }
+        ensures front { IfSome result (λ front. front.now ≡ take 64
+            (block_at L.packing self.now.placement.value.schema.columns.items col (B.bytes self.now.bytes))) }
+        ensures size { IfSome result (λ front. length front.now ≡ 64) }
+    {
+        let placement: &Placement = &self.placement;
+        let start = placement.start::<L>(col);
+        let end = placement.start::<L>(col + 1);
+        self.bytes.front(col, start, end)
     }
 
     /// Returns how many digits a column's codes have, and the bytes of these codes, which end its

@@ -1,26 +1,18 @@
 -- What is kept of a statement that is too long is answered as the whole of it is.
 use Rattle.std.proofs.Common.{◌≡◌, refl, sym, ◌∙◌, subst, ℕ, ◌<◌, Bool, true, false, List, Option, length, take, arith, length-take, take_all}
 use Rattle.std.proofs.lemmas.Bool.{leb-true, leb-false}
-use Rattle.std.specs.Prelude.{leb, ◌&&◌}
+use Rattle.std.specs.Prelude.{leb}
 use Rattle.bw_model.specs.declared.fault.Fault.{Fault}
 use Rattle.bw_model.specs.declared.schema.Schema.{Schema}
 use Rattle.bw_model.specs.Row.{Value}
 use Rattle.bw_sql.specs.Limits.{longest_statement}
 use Rattle.bw_sql.specs.Statement.{IsFault, refused, too_long}
 use Rattle.bw_session.specs.Reading.{most_kept}
-use Rattle.bw_session.specs.Session.{IsOutput, answer, asks_nothing, nothing, refusal}
-use Rattle.bw_session.specs.Silent.{is_silent}
-
-true_is_not_false : true ≡ false → ⊥
-true_is_not_false p = cc
+use Rattle.bw_session.specs.Session.{AsksNothing, IsOutput, answer, nothing, refusal}
 
 -- a statement that is too long asks for something
-long_asks : (sql : List ℕ) → longest_statement < length sql → asks_nothing sql ≡ false
-long_asks sql long = by_size (leb (length sql) longest_statement) refl
-  where
-    by_size : (fits : Bool) → leb (length sql) longest_statement ≡ fits → (fits && is_silent sql) ≡ false
-    by_size true fits = absurd (omega (arith, leb-true _ _ fits, long))
-    by_size false _ = refl
+long_asks : (sql : List ℕ) → longest_statement < length sql → AsksNothing sql → ⊥
+long_asks sql long asks = omega (arith, asks.0)
 
 -- and its fault is that of its length
 long_fault : (schema : Schema) (kept sql : List ℕ) (fault : Fault) → longest_statement < length kept
@@ -31,9 +23,8 @@ long_fault schema kept sql _ kept_long long (refused short _) = absurd (omega (a
 long_output : (schema : Schema) (rows : List (List Value)) (kept sql : List ℕ) (fault : Option Fault) (out : List ℕ)
     → longest_statement < length kept → longest_statement < length sql
     → IsOutput schema rows kept fault out → IsOutput schema rows sql fault out
-long_output schema rows kept sql _ _ kept_long long (nothing asks) =
-    absurd (true_is_not_false (sym asks ∙ long_asks kept kept_long))
-long_output schema rows kept sql _ _ kept_long long (answer query asks spelled) =
+long_output schema rows kept sql _ _ kept_long long (nothing asks) = absurd (long_asks kept kept_long asks)
+long_output schema rows kept sql _ _ kept_long long (answer query spelled) =
     absurd (omega (arith, spelled.short, kept_long))
 long_output schema rows kept sql _ _ kept_long long (refusal {fault} asks spelled) =
     refusal (long_asks sql long) (λ other. long_fault schema kept sql fault kept_long long (spelled other))

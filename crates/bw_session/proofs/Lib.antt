@@ -1,3 +1,4 @@
+mod CutLemmas
 mod KeptLemmas
 mod ReadingLemmas
 mod SessionLemmas

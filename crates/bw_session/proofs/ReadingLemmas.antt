@@ -1,26 +1,20 @@
 -- One more byte of a statement.
-use Rattle.std.proofs.Common.{◌≡◌, refl, sym, ap, ◌∙◌, ℕ, ◌+◌, ◌≤◌, ◌<◌, Bool, true, false, List, [], ◌∷◌, ◌++◌, Option, length, take, arith, append-nil, length-append, length-take, take_all}
+use Rattle.std.proofs.Common.{◌≡◌, refl, sym, ap, ◌∙◌, subst, ℕ, ◌+◌, ◌≤◌, ◌<◌, Bool, true, false, List, [], ◌∷◌, ◌++◌, Option, None, Some, Result, Ok, Err, length, take, arith, append-nil, length-append, length-take, take_all}
 use Rattle.std.proofs.lemmas.List.{take-append-le}
 use Rattle.std.proofs.lemmas.Bool.{ltb-true, ltb-false}
 use Rattle.std.proofs.KnownBytes.{Consumes-nil, Consumes-trans}
-use Rattle.std.specs.Prelude.{ltb, if◌then◌else◌}
+use Rattle.std.specs.Io.KnownBytes.{Keeps}
+use Rattle.std.specs.Prelude.{IfErr, ltb, if◌then◌else◌}
 use Rattle.std.specs.Io.KnownBytes.{Consumes, IsAtEnd}
 use Rattle.bw_session.specs.declared.standing.Standing.{Standing}
 use Rattle.bw_session.specs.declared.standing.Standing.TheVariants.{Blank}
 use Rattle.bw_session.specs.Standing.{after, is_ended, standing_after}
-use Rattle.bw_session.specs.Reading.{Reads, TookStatement, most_kept, with_byte}
-
-true_is_not_false : true ≡ false → ⊥
-true_is_not_false p = cc
+use Rattle.bw_session.specs.Statements.{IsOpen}
+use Rattle.bw_session.proofs.CutLemmas.{ended_by, opened, standing_after-snoc, true_is_not_false}
+use Rattle.bw_session.specs.Reading.{Reads, TookBeginning, TookStatement, most_kept, with_byte}
 
 no_bool : {A : Type 0} → true ≡ false → A
 no_bool p = absurd (true_is_not_false p)
-
-pub standing_after-snoc : (standing : Standing) (bytes : List ℕ) (byte : ℕ)
-    → standing_after standing (bytes ++ byte ∷ []) ≡ after (standing_after standing bytes) byte
-unfolding standing_after
-standing_after-snoc standing [] byte = refl
-standing_after-snoc standing (first ∷ rest) byte = standing_after-snoc (after standing first) rest byte
 
 -- what is kept of bytes, where another comes
 kept_or_all : (most : ℕ) (bytes : List ℕ) (byte : ℕ) (fits : Bool) → ltb (length (take most bytes)) most ≡ fits
@@ -38,6 +32,10 @@ kept_or_all most bytes byte false full =
 
 pub kept_more : (bytes : List ℕ) (byte : ℕ) → with_byte (take most_kept bytes) byte ≡ take most_kept (bytes ++ byte ∷ [])
 kept_more bytes byte = kept_or_all most_kept bytes byte _ refl
+
+is_open : (old now : Option (List ℕ)) (statement : List ℕ) (standing : Standing) → (so_far : Reads old now statement standing)
+    → is_ended (standing_after Blank so_far.bytes) ≡ false
+is_open old now statement standing so_far = ap is_ended so_far.stands ∙ so_far.opened
 
 -- nothing came yet
 pub begun : (known : Option (List ℕ)) (statement : List ℕ) → statement ≡ [] → Reads known known statement Blank
@@ -74,8 +72,8 @@ whole old before now statement standing byte so_far came end = record {
     front = so_far.bytes;
     last = byte;
     is = refl;
-    before = ap is_ended so_far.stands ∙ so_far.opened;
-    ended = ap is_ended (standing_after-snoc Blank so_far.bytes byte ∙ ap (λ now. after now byte) so_far.stands) ∙ end;
+    before = opened so_far.bytes (is_open _ _ _ _ so_far);
+    ended = ended_by so_far.bytes byte (is_open _ _ _ _ so_far) (ap (λ now. is_ended (after now byte)) so_far.stands ∙ end);
   };
   last = λ (p : true ≡ false). no_bool p;
   end = λ (p : true ≡ false). no_bool p;
@@ -90,6 +88,53 @@ ended old before now statement standing so_far came end = record {
   came = Consumes-trans old before now so_far.bytes [] so_far.came came;
   kept = so_far.kept ∙ ap (take most_kept) (sym (append-nil so_far.bytes));
   whole = λ (p : false ≡ true). no_bool (sym p);
-  last = λ _. ap (λ bytes. is_ended (standing_after Blank bytes)) (append-nil so_far.bytes) ∙ ap is_ended so_far.stands ∙ so_far.opened;
+  last = λ _. subst IsOpen (sym (append-nil so_far.bytes)) (opened so_far.bytes (is_open _ _ _ _ so_far));
   end = λ _. end;
 }
+
+-- known bytes that stay as they were are as many as before
+keeps_as_none : (before now : Option (List ℕ)) → Keeps before now → Consumes before now []
+keeps_as_none None now kept = tt
+keeps_as_none (Some bytes) None kept = absurd kept
+keeps_as_none (Some bytes) (Some others) kept = sym kept
+
+-- no more of a statement came
+pub no_more : (old before now : Option (List ℕ)) (statement : List ℕ) (standing : Standing)
+    → Reads old before statement standing → Consumes before now [] → TookBeginning old now
+no_more old before now statement standing so_far same = record {
+  bytes = so_far.bytes ++ [];
+  came = Consumes-trans old before now so_far.bytes [] so_far.came same;
+  begun = record {
+    front = so_far.bytes;
+    rest = [];
+    is = refl;
+    short = omega arith;
+    opened = opened so_far.bytes (is_open _ _ _ _ so_far);
+  };
+}
+
+-- a read failed
+pub unread : (old before now : Option (List ℕ)) (statement : List ℕ) (standing : Standing)
+    → Reads old before statement standing → Keeps before now → TookBeginning old now
+unread old before now statement standing so_far kept =
+    no_more old before now statement standing so_far (keeps_as_none before now kept)
+
+-- one byte more came, and no more
+pub one_more : (old before now : Option (List ℕ)) (statement : List ℕ) (standing : Standing) (byte : ℕ)
+    → Reads old before statement standing → Consumes before now (byte ∷ []) → TookBeginning old now
+one_more old before now statement standing byte so_far came = record {
+  bytes = so_far.bytes ++ byte ∷ [];
+  came = Consumes-trans old before now so_far.bytes (byte ∷ []) so_far.came came;
+  begun = record {
+    front = so_far.bytes;
+    rest = byte ∷ [];
+    is = refl;
+    short = omega arith;
+    opened = opened so_far.bytes (is_open _ _ _ _ so_far);
+  };
+}
+
+-- what holds in any case holds of a fault
+pub of_any : {A E : Type 0} (P : Type 0) (result : Result A E) → P → IfErr result (λ fault. P)
+of_any P (Ok x) holds = tt
+of_any P (Err fault) holds = holds

@@ -1,19 +1,20 @@
 -- One statement more of a session, and how it ends.
-use Rattle.std.proofs.Common.{◌≡◌, refl, sym, ap, ◌∙◌, subst, ℕ, ◌+◌, Bool, true, false, List, [], ◌++◌, Option, None, length, arith, length-append, IsTrue}
+use Rattle.std.proofs.Common.{◌≡◌, refl, sym, ap, ◌∙◌, subst, ℕ, ◌+◌, Bool, true, false, List, [], ◌++◌, Option, None, length, arith, append-nil, length-append, IsTrue, inl, inr}
 use Rattle.std.proofs.Math.Seq.{take-append-add}
 use Rattle.std.proofs.KnownBytes.{Appends-nil, Appends-trans, Consumes-nil, Consumes-trans}
-use Rattle.std.specs.Io.KnownBytes.{Appends}
+use Rattle.std.specs.Io.KnownBytes.{Appends, Consumes}
 use Rattle.bw_model.specs.FaultTable.{WRITE_FAILED}
 use Rattle.bw_model.specs.declared.fault.Fault.{Fault}
 use Rattle.bw_model.specs.declared.schema.Schema.{Schema}
 use Rattle.bw_model.specs.Fault.{nowhere}
 use Rattle.bw_model.specs.Row.{Value}
-use Rattle.bw_device.specs.Sink.{TookPart, is_write_fault}
-use Rattle.bw_device.specs.Source.{failed_reads, is_input_fault}
-use Rattle.bw_device.proofs.SinkLemmas.{no_write_fault}
-use Rattle.bw_session.specs.Reading.{TookStatement}
+use Rattle.bw_io.specs.Sink.{TookPart, is_write_fault}
+use Rattle.bw_io.specs.Source.{failed_reads, is_input_fault}
+use Rattle.bw_io.proofs.SinkLemmas.{no_write_fault}
+use Rattle.bw_session.specs.Reading.{TookBeginning, TookStatement}
 use Rattle.std.specs.Prelude.{if◌then◌else◌}
-use Rattle.bw_session.specs.Session.{Ended, IsOutput, SoFar, Stopped, WroteOutput, WrotePart, begun, failed_writes, first_of, more, whole}
+use Rattle.bw_session.specs.Session.{CameWhole, Ended, IsOutput, SoFar, Stopped, WroteOutput, WrotePart, begun, failed_writes, first_of, more, reading, whole, writing}
+use Rattle.bw_session.proofs.CutLemmas.{none_opened}
 use Rattle.bw_session.proofs.KeptLemmas.{kept_output}
 
 true_is_not_false : true ≡ false → ⊥
@@ -63,18 +64,27 @@ ends schema rows old before now taken_old taken_before taken_now statement first
       (of_all schema rows before now statement false fault wrote.out took wrote.is);
 }
 
--- it ended by another fault than that of a failed write
+-- it ended before the next statement had come
 pub stops : (schema : Schema) (rows : List (List Value)) (old now taken_old taken_now : Option (List ℕ))
     (first : Option Fault) (fault : Fault) → SoFar schema rows old now taken_old taken_now first
-    → is_write_fault fault ≡ false → Stopped schema rows taken_old taken_now fault
-stops schema rows old now taken_old taken_now first fault so_far other = record {
-  text = so_far.text;
-  output = so_far.output;
-  first = first;
-  answered = so_far.answered;
-  went = λ _. so_far.went;
-  part = λ write. absurd (true_is_not_false (sym write ∙ other));
-}
+    → IsTrue (is_input_fault fault) → Stopped schema rows old now taken_old taken_now fault
+stops schema rows old now taken_old taken_now first fault so_far input =
+    reading so_far.text [] so_far.output input so_far.answered (subst (Consumes old now) (sym (append-nil so_far.text)) so_far.came)
+    (record { front = []; rest = []; is = refl; short = omega arith; opened = none_opened }) so_far.went
+
+-- it ended while the next statement came
+pub stops_reading : (schema : Schema) (rows : List (List Value)) (old before now taken_old taken_now : Option (List ℕ))
+    (first : Option Fault) (fault : Fault) → SoFar schema rows old before taken_old taken_now first
+    → IsTrue (is_input_fault fault) → TookBeginning before now → Stopped schema rows old now taken_old taken_now fault
+stops_reading schema rows old before now taken_old taken_now first fault so_far input took =
+    reading so_far.text took.bytes so_far.output input so_far.answered
+    (Consumes-trans old before now so_far.text took.bytes so_far.came took.came) took.begun so_far.went
+
+-- what came is a statement, with what ends it or up to the end of the source
+came_whole : (old new : Option (List ℕ)) (statement : List ℕ) (goes_on : Bool) → (took : TookStatement old new statement goes_on)
+    → CameWhole new took.bytes
+came_whole old new statement true took = inl (took.whole refl)
+came_whole old new statement false took = inr (took.last refl, took.end refl)
 
 -- a text went out, and then a part of what follows it
 part_after : (old mid new : Option (List ℕ)) (text rest : List ℕ) → Appends old mid text → TookPart mid new rest
@@ -86,24 +96,19 @@ part_after old mid new text rest went part = (
 )
 
 -- it ended by a failed write
-pub stops_writing : (schema : Schema) (rows : List (List Value)) (old now taken_old taken_before taken_now : Option (List ℕ))
-    (statement : List ℕ) (first : Option Fault) (fault : Fault) → SoFar schema rows old now taken_old taken_before first
-    → WrotePart schema rows statement taken_before taken_now → fault ≡ nowhere WRITE_FAILED
-    → Stopped schema rows taken_old taken_now fault
-stops_writing schema rows old now taken_old taken_before taken_now statement first fault so_far wrote failed = record {
-  text = so_far.text;
-  output = so_far.output;
-  first = first;
-  answered = so_far.answered;
-  went = λ other. absurd (true_is_not_false (ap is_write_fault (sym failed) ∙ other));
-  part = λ _. (
-    statement,
-    wrote.out,
-    wrote.fault,
-    wrote.is,
-    part_after taken_old taken_before taken_now so_far.output wrote.out so_far.went wrote.went,
-  );
-}
+pub stops_writing : (schema : Schema) (rows : List (List Value)) (old before now taken_old taken_before taken_now : Option (List ℕ))
+    (statement sql : List ℕ) (goes : Bool) (first : Option Fault) (fault : Fault)
+    → SoFar schema rows old before taken_old taken_before first → TookStatement before now statement goes
+    → WrotePart schema rows sql taken_before taken_now → sql ≡ statement → fault ≡ nowhere WRITE_FAILED
+    → Stopped schema rows old now taken_old taken_now fault
+stops_writing schema rows old before now taken_old taken_before taken_now statement sql goes first fault so_far took wrote same failed =
+    subst (Stopped schema rows old now taken_old taken_now) (sym failed)
+    (writing so_far.text took.bytes so_far.output wrote.out so_far.answered
+    (Consumes-trans old before now so_far.text took.bytes so_far.came took.came)
+    (came_whole before now statement goes took)
+    (of_all schema rows before now statement goes wrote.fault wrote.out took
+    (subst (λ text. IsOutput schema rows text wrote.fault wrote.out) same wrote.is))
+    (part_after taken_old taken_before taken_now so_far.output wrote.out so_far.went wrote.went))
 
 -- what is read and written once more, as the loop has it
 pub goes_on_as : (schema : Schema) (rows : List (List Value)) (old before now taken_old taken_before taken_now : Option (List ℕ))

@@ -1,21 +1,26 @@
 -- What goes out for one statement: an answer or nothing, and then an LF.
-use Rattle.std.proofs.Common.{◌≡◌, refl, sym, ap, ◌∙◌, subst, ℕ, ◌+◌, true, false, List, [], ◌∷◌, ◌++◌, Option, Some, None, Result, Ok, Err, length, arith, length-append, inl, inr}
+use Rattle.std.proofs.Common.{◌≡◌, refl, sym, ap, ◌∙◌, subst, ℕ, ◌+◌, Bool, true, false, List, [], ◌∷◌, ◌++◌, Option, Some, None, Result, Ok, Err, length, arith, length-append, inl, inr}
 use Rattle.std.proofs.lemmas.List.{take-append-le}
 use Rattle.std.proofs.Math.Seq.{take-append-add}
 use Rattle.std.proofs.KnownBytes.{Appends-nil, Appends-trans}
+use Rattle.std.specs.Prelude.{◌↔◌, IsTrue}
 use Rattle.std.specs.Io.KnownBytes.{Appends}
 use Rattle.bw_model.specs.declared.fault.Fault.{Fault}
 use Rattle.bw_model.specs.declared.schema.Schema.{Schema}
 use Rattle.bw_model.specs.Row.{Value}
-use Rattle.bw_device.specs.Sink.{TookPart, Wrote, beginning, everything, is_write_fault, none_aside, nothing}
+use Rattle.bw_io.specs.Sink.{TookPart, Wrote, beginning, everything, is_write_fault, none_aside, nothing}
 use Rattle.bw_query.specs.MemoryAnswer.{IsMemoryAnswer, RowsText}
 use Rattle.bw_query.specs.TableAnswer.{by_statement}
 use Rattle.bw_sql.specs.Statement.{IsReadAs}
-use Rattle.bw_session.specs.Session.{AnswersOne, EndsLine, IsOutput, answer, asks_nothing, refusal}
+use Rattle.bw_session.specs.Session.{AnswersOne, AsksNothing, EndsLine, IsOutput, answer, refusal}
 use Rattle.bw_session.specs.Session.{nothing as none}
 
 true_is_not_false : true ≡ false → ⊥
 true_is_not_false p = cc
+
+-- what the test said that a statement asks
+pub asks_something : (sql : List ℕ) (test : Bool) → (IsTrue test ↔ AsksNothing sql) → test ≡ false → AsksNothing sql → ⊥
+asks_something sql test says fails asks = true_is_not_false (sym (says.1 asks) ∙ fails)
 
 -- a text went out, and then a part of what follows it
 part_after : (old mid new : Option (List ℕ)) (text more : List ℕ) → Appends old mid text → TookPart mid new more
@@ -35,10 +40,10 @@ part_before old new text more part = (
 )
 
 -- the text of an answer, with its LF
-answer_line : (schema : Schema) (rows : List (List Value)) (sql text : List ℕ) → asks_nothing sql ≡ false
+answer_line : (schema : Schema) (rows : List (List Value)) (sql text : List ℕ)
     → RowsText (by_statement None sql) schema rows text → IsOutput schema rows sql None (text ++ 10 ∷ [])
-answer_line schema rows sql text asks found =
-    subst (λ line. IsOutput schema rows sql None (line ++ 10 ∷ [])) (sym found.is) (answer found.query asks found.asked.0)
+answer_line schema rows sql text found =
+    subst (λ line. IsOutput schema rows sql None (line ++ 10 ∷ [])) (sym found.is) (answer found.query found.asked.0)
 
 -- the fault of a statement, answered without a program file
 statement_fault : (schema : Schema) (sql : List ℕ) (fault : Fault) → by_statement None sql schema (Err fault)
@@ -49,24 +54,24 @@ statement_fault schema sql fault (inr program) = absurd program.refused
 -- an LF follows an answer
 pub answered : (T : Type 0) (schema : Schema) (rows : List (List Value)) (sql : List ℕ)
     (old mid new : Option (List ℕ)) (before between after : ℕ) (given : Result (List ℕ) Fault) (served : T)
-    (result : Result (Option Fault) Fault) → asks_nothing sql ≡ false
+    (result : Result (Option Fault) Fault)
     → IsMemoryAnswer (by_statement None sql) schema rows given → Wrote none_aside old mid before between given (Ok served)
     → EndsLine mid new between after None result → AnswersOne schema rows sql old new before after result
-answered T schema rows sql old mid new before between after given served (Ok fault) asks is (everything text gave went count) line = (
+answered T schema rows sql old mid new before between after given served (Ok fault) is (everything text gave went count) line = (
   record {
     out = text ++ 10 ∷ [];
     is = subst (λ f. IsOutput schema rows sql f (text ++ 10 ∷ [])) (sym line.0)
-        (answer_line schema rows sql text asks (subst (IsMemoryAnswer (by_statement None sql) schema rows) gave is));
+        (answer_line schema rows sql text (subst (IsMemoryAnswer (by_statement None sql) schema rows) gave is));
     went = Appends-trans old mid new text (10 ∷ []) went line.1;
   },
   line.2 ∙ count,
 )
-answered T schema rows sql old mid new before between after given served (Err fault) asks is (everything text gave went count) line = (
+answered T schema rows sql old mid new before between after given served (Err fault) is (everything text gave went count) line = (
   line.0,
   record {
     out = text ++ 10 ∷ [];
     fault = None;
-    is = answer_line schema rows sql text asks (subst (IsMemoryAnswer (by_statement None sql) schema rows) gave is);
+    is = answer_line schema rows sql text (subst (IsMemoryAnswer (by_statement None sql) schema rows) gave is);
     went = part_after old mid new text (10 ∷ []) went line.1;
   },
   line.2 ∙ ap (λ n. n + 1) count,
@@ -75,26 +80,26 @@ answered T schema rows sql old mid new before between after given served (Err fa
 -- a write of an answer failed
 pub answer_failed : (T : Type 0) (schema : Schema) (rows : List (List Value)) (sql : List ℕ)
     (old new : Option (List ℕ)) (before after : ℕ) (given : Result (List ℕ) Fault) (fault : Fault)
-    → asks_nothing sql ≡ false → IsMemoryAnswer (by_statement None sql) schema rows given
+    → IsMemoryAnswer (by_statement None sql) schema rows given
     → Wrote {T = T} none_aside old new before after given (Err fault) → is_write_fault fault ≡ true
     → AnswersOne schema rows sql old new before after (Err fault)
-answer_failed T schema rows sql old new before after given _ asks is (beginning text gave part count) write = (
+answer_failed T schema rows sql old new before after given _ is (beginning text gave part count) write = (
   refl,
   record {
     out = text ++ 10 ∷ [];
     fault = None;
-    is = answer_line schema rows sql text asks (subst (IsMemoryAnswer (by_statement None sql) schema rows) gave is);
+    is = answer_line schema rows sql text (subst (IsMemoryAnswer (by_statement None sql) schema rows) gave is);
     went = part_before old new text (10 ∷ []) part;
   },
   count,
 )
-answer_failed T schema rows sql old new before after given fault asks is (nothing other gave same count) write =
+answer_failed T schema rows sql old new before after given fault is (nothing other gave same count) write =
     absurd (true_is_not_false (sym write ∙ other))
 
 -- an LF follows a refusal
 pub refused : (T : Type 0) (schema : Schema) (rows : List (List Value)) (sql : List ℕ)
     (old mid new : Option (List ℕ)) (before between after : ℕ) (given : Result (List ℕ) Fault) (fault : Fault)
-    (result : Result (Option Fault) Fault) → asks_nothing sql ≡ false
+    (result : Result (Option Fault) Fault) → (AsksNothing sql → ⊥)
     → IsMemoryAnswer (by_statement None sql) schema rows given
     → Wrote {T = T} none_aside old mid before between given (Err fault) → is_write_fault fault ≡ false
     → EndsLine mid new between after (Some fault) result → AnswersOne schema rows sql old new before after result
@@ -122,7 +127,7 @@ refused T schema rows sql old mid new before between after given fault (Err fail
 
 -- nothing is asked
 pub silent : (schema : Schema) (rows : List (List Value)) (sql : List ℕ) (known : Option (List ℕ)) (count : ℕ)
-    → asks_nothing sql ≡ true → AnswersOne schema rows sql known known count count (Ok None)
+    → AsksNothing sql → AnswersOne schema rows sql known known count count (Ok None)
 silent schema rows sql known count asks =
     (record { out = []; is = none asks; went = Appends-nil known }, refl)
 
@@ -132,3 +137,7 @@ pub count_kept : (T : Type 0) (old new : Option (List ℕ)) (before after : ℕ)
     → after ≡ before
 count_kept T old new before after given _ (beginning text gave part count) other = absurd (true_is_not_false other)
 count_kept T old new before after given fault (nothing _ gave same count) other = count
+
+pub count_same : (T : Type 0) (old new : Option (List ℕ)) (before after : ℕ) (given : Result (List ℕ) Fault) (x : T)
+    → Wrote {T = T} none_aside old new before after given (Ok x) → after ≡ before
+count_same T old new before after given x (everything text gave went count) = count

@@ -3,7 +3,8 @@ use Rattle.std.specs.Prelude.{◌≡◌, ℕ, Bool, true, false, List, [], ◌�
 use Rattle.std.specs.Io.KnownBytes.{Consumes, IsAtEnd}
 use Rattle.bw_session.specs.declared.standing.Standing.{Standing}
 use Rattle.bw_session.specs.declared.standing.Standing.TheVariants.{Blank}
-use Rattle.bw_session.specs.Standing.{IsWhole, is_ended, is_open, standing_after}
+use Rattle.bw_session.specs.Standing.{is_ended, standing_after}
+use Rattle.bw_session.specs.Statements.{IsBegun, IsOpen, IsWhole}
 
 -- so many bytes of a statement are kept, one more than it may have
 abbrev pub most_kept : ℕ
@@ -25,8 +26,14 @@ pub record TookStatement (old new : Option (List ℕ)) (statement : List ℕ) (m
   pub came : Consumes old new bytes
   pub kept : statement ≡ take most_kept bytes
   pub whole : more ≡ true → IsWhole bytes
-  pub last : more ≡ false → is_open bytes
+  pub last : more ≡ false → IsOpen bytes
   pub end : more ≡ false → IsAtEnd new
+
+-- bytes of a statement came, and then no more of it
+pub record TookBeginning (old new : Option (List ℕ)) : Type 0 where
+  pub bytes : List ℕ
+  pub came : Consumes old new bytes
+  pub begun : IsBegun bytes
 
 -- These bytes came of a statement that hasn't ended, and it stands so after them.
 pub record Reads (old new : Option (List ℕ)) (statement : List ℕ) (standing : Standing) : Type 0 where

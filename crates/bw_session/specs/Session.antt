@@ -1,5 +1,5 @@
 -- What a session writes: for each statement its answer and an LF, or an LF alone, or nothing.
-use Rattle.std.specs.Prelude.{◌≡◌, ℕ, ◌+◌, Bool, true, false, List, [], ◌∷◌, ◌++◌, length, ◌&&◌, leb, if◌then◌else◌, Option, Some, None, Result, Ok, Err}
+use Rattle.std.specs.Prelude.{◌≡◌, ℕ, ◌+◌, Bool, true, false, List, [], ◌∷◌, ◌++◌, length, ◌≤◌, ◌⊎◌, IsTrue, if◌then◌else◌, Option, Some, None, Result, Ok, Err}
 use Rattle.std.specs.Io.KnownBytes.{Appends, Consumes, IsAtEnd}
 use Rattle.bw_model.specs.declared.fault.Fault.{Fault}
 use Rattle.bw_model.specs.declared.query.Query.{Query}
@@ -8,26 +8,26 @@ use Rattle.bw_model.specs.Column.{names_of}
 use Rattle.bw_model.specs.FaultTable.{WRITE_FAILED}
 use Rattle.bw_model.specs.Fault.{is_memory, nowhere}
 use Rattle.bw_model.specs.Row.{Value}
+use Rattle.bw_sql.specs.Cut.{HasNoToken}
 use Rattle.bw_sql.specs.Limits.{longest_statement}
 use Rattle.bw_sql.specs.Statement.{IsReadAs}
 use Rattle.bw_answer.specs.Answer.{csv_text, meaning}
-use Rattle.bw_device.specs.Sink.{TookPart, is_write_fault}
-use Rattle.bw_device.specs.Source.{failed_reads}
-use Rattle.bw_session.specs.Silent.{is_silent}
-use Rattle.bw_session.specs.Standing.{IsWhole, is_open}
+use Rattle.bw_io.specs.Sink.{TookPart, is_write_fault}
+use Rattle.bw_io.specs.Source.{failed_reads, is_input_fault}
+use Rattle.bw_session.specs.Statements.{IsBegun, IsOpen, IsWhole}
 
 -- a statement asks for nothing: it isn't too long, and has nothing but blanks, line ends and comments
-abbrev pub asks_nothing : List ℕ → Bool
-asks_nothing sql = leb (length sql) longest_statement && is_silent sql
+abbrev pub AsksNothing : List ℕ → Type 0
+AsksNothing sql = (length sql ≤ longest_statement) × HasNoToken sql
 
 -- What a statement over rows is answered by, and its fault if it is refused. One that asks for nothing writes nothing. One
 -- that spells a query writes the CSV text of its meaning, and an LF. One that is refused writes an LF alone; where memory
 -- runs out any statement may be.
 pub data IsOutput (schema : Schema) (rows : List (List Value)) (sql : List ℕ) : Option Fault → List ℕ → Type 0 where
-  nothing : asks_nothing sql ≡ true → IsOutput schema rows sql None []
-  answer : (query : Query) → asks_nothing sql ≡ false → IsReadAs schema sql (Ok query)
+  nothing : AsksNothing sql → IsOutput schema rows sql None []
+  answer : (query : Query) → IsReadAs schema sql (Ok query)
       → IsOutput schema rows sql None (csv_text (meaning (names_of schema.columns.items) query rows) ++ 10 ∷ [])
-  refusal : {fault : Fault} → asks_nothing sql ≡ false
+  refusal : {fault : Fault} → (AsksNothing sql → ⊥)
       → (is_memory fault ≡ false → IsReadAs schema sql (Err fault)) → IsOutput schema rows sql (Some fault) (10 ∷ [])
 
 -- what a statement is answered by went out
@@ -65,7 +65,7 @@ pub data AreAnswered (schema : Schema) (rows : List (List Value)) : List ℕ →
 -- A whole text is answered: its statements, and then what is left after the last one that ends.
 pub data IsAnswered (schema : Schema) (rows : List (List Value)) : List ℕ → Option Fault → List ℕ → Type 0 where
   whole : {text output : List ℕ} {first : Option Fault} (sql out : List ℕ) (fault : Option Fault) →
-      AreAnswered schema rows text first output → is_open sql → IsOutput schema rows sql fault out
+      AreAnswered schema rows text first output → IsOpen sql → IsOutput schema rows sql fault out
       → IsAnswered schema rows (text ++ sql) (first_of first fault) (output ++ out)
 
 -- What went on so far in a session: a text came, and what its statements are answered by went out.
@@ -87,17 +87,21 @@ pub record Ended (schema : Schema) (rows : List (List Value)) (old new taken_old
   pub went : Appends taken_old taken_new output
   pub answered : IsAnswered schema rows text first output
 
--- A session that ended early: what some statements are answered by went out, and if a write failed, so did a part of what
--- the next one is answered by.
-pub record Stopped (schema : Schema) (rows : List (List Value)) (taken_old taken_new : Option (List ℕ))
-    (fault : Fault) : Type 0 where
-  pub text : List ℕ
-  pub output : List ℕ
-  pub first : Option Fault
-  pub answered : AreAnswered schema rows text first output
-  pub went : is_write_fault fault ≡ false → Appends taken_old taken_new output
-  pub part : is_write_fault fault ≡ true → (sql out : List ℕ) × (refused : Option Fault)
-      × IsOutput schema rows sql refused out × TookPart taken_old taken_new (output ++ out)
+-- a statement came whole: with what ends it, or up to the end of the source
+abbrev pub CameWhole : Option (List ℕ) → List ℕ → Type 0
+CameWhole new sql = IsWhole sql ⊎ (IsOpen sql × IsAtEnd new)
+
+-- A session that ended early, by this fault. A text came, whose statements are answered. Then a read failed, or memory ran
+-- out, before the next statement had come whole; or it came whole, and a write failed after a part of what it is answered by.
+pub data Stopped (schema : Schema) (rows : List (List Value)) (old new taken_old taken_new : Option (List ℕ))
+    : Fault → Type 0 where
+  reading : {fault : Fault} {first : Option Fault} (text begun output : List ℕ) → IsTrue (is_input_fault fault)
+      → AreAnswered schema rows text first output → Consumes old new (text ++ begun) → IsBegun begun
+      → Appends taken_old taken_new output → Stopped schema rows old new taken_old taken_new fault
+  writing : {first refused : Option Fault} (text sql output out : List ℕ) → AreAnswered schema rows text first output
+      → Consumes old new (text ++ sql) → CameWhole new sql → IsOutput schema rows sql refused out
+      → TookPart taken_old taken_new (output ++ out)
+      → Stopped schema rows old new taken_old taken_new (nowhere WRITE_FAILED)
 
 -- A session answered all statements of its source, and gives their first fault; or it ended early. The counts of failures
 -- rise by one where a failed read or write ended it, and else stay.
@@ -107,7 +111,7 @@ Answers schema rows old new taken_old taken_new reads_before reads_after writes_
     Ended schema rows old new taken_old taken_new first
     × (reads_after ≡ reads_before) × (writes_after ≡ writes_before)
 Answers schema rows old new taken_old taken_new reads_before reads_after writes_before writes_after (Err fault) =
-    Stopped schema rows taken_old taken_new fault
+    Stopped schema rows old new taken_old taken_new fault
     × (reads_after ≡ reads_before + failed_reads fault) × (writes_after ≡ writes_before + failed_writes fault)
 
 -- one statement is answered, or a write failed

@@ -1,11 +1,8 @@
--- Where a text of statements is cut: after the first ; outside a comment, and after an empty line.
-use Rattle.std.specs.Prelude.{◌≡◌, ℕ, Bool, true, false, List, [], ◌∷◌, ◌++◌, ◌==◌, ◌||◌, if◌then◌else◌}
+-- How the reader of statements finds where one ends, byte by byte.
+use Rattle.std.specs.Prelude.{ℕ, Bool, true, false, List, [], ◌∷◌, ◌==◌, if◌then◌else◌}
 use Rattle.bw_session.specs.declared.standing.Standing.{Standing}
 use Rattle.bw_session.specs.declared.standing.Standing.TheVariants.{Blank, Text, Dash, Comment, Ended}
-
--- a space, a tab or a CR
-abbrev pub is_blank : ℕ → Bool
-is_blank byte = (byte == 32) || (byte == 9) || (byte == 13)
+use Rattle.bw_session.specs.Statements.{is_blank}
 
 -- A text goes on after a part of it: with an LF begins a line of which only blanks came so far; a ; ends the statement;
 -- a dash may begin a comment; all else is text.
@@ -43,15 +40,3 @@ is_ended Text = false
 is_ended Dash = false
 is_ended Comment = false
 is_ended Ended = true
-
--- no statement ends in these bytes
-abbrev pub is_open : List ℕ → Type 0
-is_open bytes = is_ended (standing_after Blank bytes) ≡ false
-
--- these bytes are a statement with what ends it: none ends before their last one, and it ends there
-pub record IsWhole (bytes : List ℕ) : Type 0 where
-  pub front : List ℕ
-  pub last : ℕ
-  pub is : bytes ≡ front ++ last ∷ []
-  pub before : is_open front
-  pub ended : is_ended (standing_after Blank bytes) ≡ true

@@ -4,7 +4,6 @@
 mod listener;
 mod reading;
 mod session;
-mod silence;
 mod standing;
 
 pub use listener::Listener;

@@ -1,12 +1,13 @@
 //! Reads statements from a source, one at a time.
 ghost use Rattle.std.specs.Prelude.{◌≡◌, ◌-◌, ◌^◌, ◌<◌, IfOk, IfErr, OnOk, IsTrue};
+ghost use Rattle.std.specs.Io.KnownBytes.{Keeps};
 ghost use Rattle.bw_model.specs.FaultTable.{READ_FAILED};
 ghost use Rattle.bw_model.specs.Fault.{nowhere};
-ghost use Rattle.bw_device.specs.Source.{TellsFailure, is_input_fault};
-ghost use Rattle.bw_session.specs.Reading.{TookByte, TookStatement, with_byte};
+ghost use Rattle.bw_io.specs.Source.{TellsFailure, is_input_fault};
+ghost use Rattle.bw_session.specs.Reading.{TookBeginning, TookByte, TookStatement, with_byte};
 
 use crate::standing::Standing;
-use bw_device::{Failed, Source};
+use bw_io::{Failed, Source};
 use bw_model::{Fault, code};
 use std::alloc::AllocError;
 
@@ -27,6 +28,7 @@ pub(crate) fn next_statement<S: Source>(
         (TookStatement (S.to_come source.old) (S.to_come source.new) statement.new.items) }
     ensures failed { TellsFailure (S.failures source.old) (S.failures source.new) result }
     ensures fault { IfErr result (λ fault. IsTrue (is_input_fault fault)) }
+    ensures begun { IfErr result (λ _. TookBeginning (S.to_come source.old) (S.to_come source.new)) }
 {
     statement.clear();
     let mut standing = Standing::Blank;
@@ -49,6 +51,7 @@ fn read_byte<S: Source>(source: &mut S) -> Result<Option<u8>, Fault>
     ensures byte { IfOk result (TookByte (S.to_come source.old) (S.to_come source.new)) }
     ensures failed { TellsFailure (S.failures source.old) (S.failures source.new) result }
     ensures fault { IfErr result (λ fault. fault ≡ nowhere READ_FAILED) }
+    ensures same { IfErr result (λ _. Keeps (S.to_come source.old) (S.to_come source.new)) }
 {
     let mut byte = [0u8; 1];
     match source.read(&mut byte) {

@@ -1,16 +1,16 @@
 //! A session: statements of a source, answered one after another.
-ghost use Rattle.std.specs.Prelude.{◌≡◌, ◌-◌, ◌^◌, ◌<◌};
-ghost use Rattle.bw_device.specs.Sink.{is_write_fault};
+ghost use Rattle.std.specs.Prelude.{◌≡◌, ◌-◌, ◌^◌, ◌<◌, ◌↔◌, IsTrue};
+ghost use Rattle.bw_io.specs.Sink.{is_write_fault};
 ghost use Rattle.bw_memory.specs.MemoryTable.{rows_of, schema_of};
-ghost use Rattle.bw_session.specs.Session.{Answers, AnswersOne, EndsLine, asks_nothing, first_of};
+ghost use Rattle.bw_session.specs.Session.{Answers, AnswersOne, AsksNothing, EndsLine, first_of};
 
 use crate::listener::Listener;
 use crate::reading::{MAX_LEN, next_statement};
-use crate::silence::is_silent;
-use bw_device::{Sink, Source, write_whole};
+use bw_io::{Sink, Source, write_whole};
 use bw_memory::MemoryTable;
 use bw_model::{Fault, code};
 use bw_query::answer_in_memory;
+use bw_sql::has_no_token;
 use std::alloc::Global;
 
 /// Answers the statements of a source over a table in memory, one after another. A statement ends with a `;` outside a
@@ -107,9 +107,9 @@ fn is_write_fault(fault: &Fault) -> bool
 
 /// Whether a statement asks for nothing: it isn't too long, and has nothing but blanks, line ends and comments.
 fn asks_nothing(sql: &[u8]) -> bool
-    ensures { result ≡ asks_nothing sql.now }
+    ensures { IsTrue result ↔ AsksNothing sql.now }
 {
-    sql.len() <= MAX_LEN && is_silent(sql)
+    sql.len() <= MAX_LEN && has_no_token(sql)
 }
 
 /// The first of two faults, if there is one.

@@ -16,7 +16,7 @@
 
 pub use bw_cert::{MAX_PROGRAM_FILE_LEN, ProgramFile, check_text, split_file};
 pub use bw_csv_calls::{direct, load};
-pub use bw_device::{Input, read_limited};
+pub use bw_io::{Input, read_limited};
 pub use bw_memory::MemoryTable;
 pub use bw_query::{answer, answer_in_memory, dump, plan_text};
 pub use bw_report::{Accepted, By, Served, accepted_line, report, stats_line};

@@ -290,6 +290,28 @@ goes_on (token {at = at} {tokens = tokens} u b more) rest p a =
     let same = one_longest _ _ rest (Token u) p b a in
     (tokens, moved at _ _ _ rest tokens _ (ap length same.1) same.2 more, ap (λ q. pushed q at tokens) same.0)
 
+pub true_is_not_false : true ≡ false → ⊥
+true_is_not_false p = cc
+
+-- what is left after a gap has no token where the text has none
+pub bare_after : (n : ℕ) (text rest : List ℕ) → length text ≤ n → (a : IsLongest text rest Gap)
+    → IsCut (n - length text) text [] None → IsCut (n - length rest) rest [] None
+bare_after n text rest h a cut =
+    let q = goes_on cut rest Gap a in
+    let place : (n - length text) + length a.front ≡ n - length rest =
+    omega (arith, ap length a.cut, length-append a.front rest) in
+    subst (λ at. IsCut at rest [] None) place (subst (λ tokens. IsCut ((n - length text) + length a.front) rest tokens None) (sym q.2) q.1)
+
+-- a text that begins with a token has one
+pub token_first : (at : ℕ) (text rest : List ℕ) (t : Lexeme) → IsCut at text [] None → IsLongest text rest (Token t) → ⊥
+token_first at text rest t cut a = let q = goes_on cut rest (Token t) a in let e = q.2 in cc
+
+-- a text that no piece begins isn't cut to its end
+pub none_first : (at : ℕ) (text : List ℕ) → IsCut at text [] None → 0 < length text → BeginsNoPiece text → ⊥
+none_first at [] cut some none = omega arith
+none_first at (c ∷ text) cut some none =
+    let s = stops_there cut (λ rest p a. none a.front rest p a.cut a.is) in let e = s.1 in cc
+
 pub one_cut_of : (at : ℕ) (text : List ℕ) (tokens others : List Spot) (stop other : Option ℕ) → IsCut at text tokens stop →
     IsCut at text others other → (tokens ≡ others) × (stop ≡ other)
 one_cut_of at text tokens others stop other ended b =

@@ -26,3 +26,7 @@ pub data IsCut : ℕ → List ℕ → List Spot → Option ℕ → Type 0 where
   token : {at : ℕ} {text rest : List ℕ} {tokens : List Spot} {stop : Option ℕ} → (t : Lexeme) →
       (longest : IsLongest text rest (Token t)) → IsCut (at + length longest.front) rest tokens stop →
       IsCut at text (record { token = t; at = at } ∷ tokens) stop
+
+-- a text has nothing but blanks, line ends and comments: it is cut to its end, and has no token
+abbrev pub HasNoToken : List ℕ → Type 0
+HasNoToken text = IsCut 0 text [] None

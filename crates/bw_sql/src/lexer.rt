@@ -1,9 +1,9 @@
 //! Cuts a statement into tokens, the longest piece first.
-ghost use Rattle.std.specs.Prelude.{◌≡◌, ◌≤◌, length, [], ◌∷◌, false, IfOk, IfSome, IfNone, MatchOption};
+ghost use Rattle.std.specs.Prelude.{◌≡◌, ◌≤◌, ◌↔◌, IsTrue, length, [], ◌∷◌, false, IfOk, IfSome, IfNone, MatchOption};
 ghost use Rattle.std.specs.List.{prefix_len};
 ghost use Rattle.std.specs.Char.{is_ascii_digit};
 ghost use Rattle.bw_text.specs.Text.{goes_on_in_word};
-ghost use Rattle.bw_sql.specs.Cut.{IsCut, spots};
+ghost use Rattle.bw_sql.specs.Cut.{HasNoToken, IsCut, spots};
 ghost use Rattle.bw_sql.specs.Lexer.{piece};
 ghost use Rattle.bw_sql.specs.Piece.{IsDelimiter, IsLongestDelimiter, BeginsNoDelimiter, IsLongest, BeginsNoPiece, is_short_delimiter, is_long_delimiter, is_blank, is_in_comment, begins_comment};
 ghost use Rattle.bw_sql.specs.Token.{Compare, lexeme, word_lexeme};
@@ -51,6 +51,23 @@ pub fn lex(alloc: Global, text: &[u8]) -> Result<Lexed<'_>, AllocError>
         tokens,
         stopped: None,
     })
+}
+
+/// Returns whether a text has no token: nothing but blanks, line ends and comments.
+pub fn has_no_token(text: &[u8]) -> bool
+    ensures { IsTrue result ↔ HasNoToken text.now }
+{
+    let mut rest = text;
+    while !rest.is_empty() {
+        let Some((piece, after)) = first_piece(rest) else {
+            return false;
+        };
+        if let Piece::Token(_) = piece {
+            return false;
+        }
+        rest = after;
+    }
+    true
 }
 
 /// The longest piece that begins a text, and what follows it.

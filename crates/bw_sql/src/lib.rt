@@ -50,6 +50,7 @@ use crate::lexer::{Lexed, lex};
 use crate::reader::Stop;
 use crate::statement::statement;
 use bw_model::{Fault, Query, Schema, code};
+pub use lexer::has_no_token;
 use std::alloc::Global;
 
 /// How many bytes a statement may have.

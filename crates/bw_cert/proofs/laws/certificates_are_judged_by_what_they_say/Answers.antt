@@ -7,8 +7,8 @@ use Rattle.bw_diagram.specs.Facts.{Facts}
 use Rattle.bw_cert_text.specs.declared.lines.BodyLine.{BodyLine}
 use Rattle.bw_cert_text.specs.declared.lines.EndLine.{EndLine}
 use Rattle.bw_cert_text.specs.CertificateFields.{CertificateFields}
-use Rattle.bw_cert_parts.specs.Pair.{pair_of}
-use Rattle.bw_cert_parts.specs.Walk.{judged}
+use Rattle.bw_cert_rules.specs.Pair.{pair_of}
+use Rattle.bw_cert_rules.specs.Walk.{judged}
 use Rattle.bw_cert.specs.Stated.{facts_stated}
 use Rattle.bw_cert.specs.Valid.{end_on}
 use Rattle.bw_cert.proofs.SameLemmas.{then-same, stated-same, after_pair, after_walk, end-same}

@@ -1,10 +1,10 @@
 -- A certificate is valid exactly where no line breaks a rule.
 use Rattle.std.proofs.Common.{◌∙◌, sym, ap, ◌++◌, append-nil, length}
 use Rattle.bw_model.specs.Fault.{◌>>=◌}
-use Rattle.bw_cert_parts.specs.Pair.{pair_of}
-use Rattle.bw_cert_parts.specs.Accepted.{before, lines_of}
-use Rattle.bw_cert_parts.specs.Known.{node_of}
-use Rattle.bw_cert_parts.specs.Walk.{judged}
+use Rattle.bw_cert_rules.specs.Pair.{pair_of}
+use Rattle.bw_cert_rules.specs.Accepted.{before, lines_of}
+use Rattle.bw_cert_rules.specs.Known.{node_of}
+use Rattle.bw_cert_rules.specs.Walk.{judged}
 use Rattle.bw_cert.specs.Stated.{facts_stated}
 use Rattle.bw_cert.specs.Valid.{end_on}
 use Rattle.bw_cert.proofs.ValidLemmas.{bind_ok, ended, ends}

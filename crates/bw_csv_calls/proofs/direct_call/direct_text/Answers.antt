@@ -2,7 +2,7 @@
 use Rattle.std.proofs.Common.{Err, refl}
 use Rattle.std.proofs.lemmas.Result.{IfErr-weaker, err_from_is_err_and}
 use Rattle.bw_model.specs.Limits.{longest_schema, longest_csv}
-use Rattle.bw_device.specs.Source.{NotReached, Whole}
+use Rattle.bw_io.specs.Source.{NotReached, Whole}
 use Rattle.bw_csv.proofs.InputLemmas.{made_of_none}
 use Rattle.bw_csv_calls.specs.Direct.{answer_of}
 use Rattle.bw_csv_calls.proofs.Exits.{came_of, stopped_of, refused_exit, text_exit, none_understood, not_reached}

@@ -4,7 +4,7 @@ use Rattle.std.proofs.lemmas.Result.{IfErr-weaker, err_from_is_err_and}
 use Rattle.bw_model.specs.declared.fault.Fault.{Fault}
 use Rattle.bw_model.specs.declared.schema.Schema.{Schema}
 use Rattle.bw_model.specs.Limits.{longest_csv}
-use Rattle.bw_device.specs.Source.{Arrival, NotReached, Whole}
+use Rattle.bw_io.specs.Source.{Arrival, NotReached, Whole}
 use Rattle.bw_file.specs.declared.layout.Layout.{Layout}
 use Rattle.bw_csv.specs.Input.{IsMadeOf}
 use Rattle.bw_csv.proofs.InputLemmas.{made_of_none}

@@ -1,7 +1,7 @@
 -- Each exit, by what its calls' contracts say.
 use Rattle.std.proofs.Common.{◌≡◌, ◌∙◌, true, false, sym, ap}
 use Rattle.std.proofs.lemmas.Result.{err_from_is_err_and}
-use Rattle.bw_device.specs.Source.{failed_reads}
+use Rattle.bw_io.specs.Source.{failed_reads}
 use Rattle.bw_file.specs.TableReader.{schema_in}
 use Rattle.bw_model.specs.Fault.{is_memory}
 use Rattle.bw_query.specs.TableAnswer.{by_dump}

@@ -2,8 +2,8 @@
 use Rattle.std.proofs.Common.{◌∙◌, Err, refl, sym, ap}
 use Rattle.std.proofs.lemmas.Result.{err_from_is_err_and}
 use Rattle.bw_csv.specs.Rows.{is_aside}
-use Rattle.bw_device.specs.Sink.{is_write_fault}
-use Rattle.bw_device.proofs.SinkLemmas.{no_write_fault, wrote_nothing, wrote_text}
+use Rattle.bw_io.specs.Sink.{is_write_fault}
+use Rattle.bw_io.proofs.SinkLemmas.{no_write_fault, wrote_nothing, wrote_text}
 use Rattle.bw_schemas.specs.Infer.{is_inferring_fault}
 use Rattle.bw_schemas.proofs.InferExits.{csv_exit, name_exit, text_exit}
 use Rattle.bw_schemas.proofs.infer_call.infer.Goals as goal

@@ -1,6 +1,7 @@
 use Rattle.std.proofs.Common.{◌≡◌, refl, sym, ◌∙◌, ap, rules, false, true}
 use Rattle.bw_session.specs.Standing.{after, is_ended}
-use Rattle.bw_session.proofs.ReadingLemmas.{begun, more, whole}
+use Rattle.bw_session.proofs.ReadingLemmas.{begun, ended, more, no_more, of_any, one_more, unread, whole}
+use Rattle.std.proofs.KnownBytes.{Consumes-nil}
 use Rattle.bw_session.proofs.reading.next_statement.Goals as goal
 
 pub loop-init : goal.loop-init
@@ -22,3 +23,20 @@ loop-preserved g c =
       reads = rw c.in_ok-keep_byte.ensures (rw c.after-standing.ensures (more _ _ _ _ _ _ c.loop.invariant.reads came goes_on));
       count = search rules;
     }
+
+pub returns-in_default-clause-statement : goal.returns-in_default-clause-statement
+returns-in_default-clause-statement g c =
+    let came = rw c.in_default.is at c.in_ok-byte.ensures.byte in
+    ended _ _ _ _ _ c.loop.invariant.reads came.0 came.1
+
+pub returns-in_err-byte-clause-begun : goal.returns-in_err-byte-clause-begun
+returns-in_err-byte-clause-begun g c =
+    of_any _ c.from_residual.result (unread _ _ _ _ _ c.loop.invariant.reads c.in_err-byte.ensures.same)
+
+pub returns-in_err-keep_byte-clause-begun : goal.returns-in_err-keep_byte-clause-begun
+returns-in_err-keep_byte-clause-begun g c =
+    let came = rw c.in-Some.is at c.in_ok-byte.ensures.byte in
+    of_any _ c.from_residual-in_err-keep_byte.result (one_more _ _ _ _ _ _ c.loop.invariant.reads came)
+
+pub returns-clause-begun : goal.returns-clause-begun
+returns-clause-begun g c = no_more _ _ _ _ _ c.loop.invariant.reads (Consumes-nil _)

@@ -1,7 +1,7 @@
-use Rattle.std.proofs.Common.{◌≡◌, refl, ap, ◌∙◌, ◌+◌, false, arith}
-use Rattle.bw_device.specs.Sink.{is_write_fault}
-use Rattle.bw_device.specs.Source.{failed_reads}
-use Rattle.bw_session.proofs.SessionLemmas.{begins, ends_as, goes_on_as, input_alone, no_reads, no_writes, one_write, stops, stops_writing}
+use Rattle.std.proofs.Common.{◌≡◌, refl, ap, ◌∙◌, ◌+◌, false, arith, IsTrue}
+use Rattle.bw_io.specs.Sink.{is_write_fault}
+use Rattle.bw_io.specs.Source.{failed_reads, is_input_fault}
+use Rattle.bw_session.proofs.SessionLemmas.{begins, ends_as, goes_on_as, input_alone, no_reads, no_writes, one_write, stops, stops_reading, stops_writing}
 use Rattle.bw_session.proofs.session.answer_statements.Goals as goal
 
 pub loop-init : goal.loop-init
@@ -10,7 +10,7 @@ loop-init g c = record { so_far = begins _ _ _ _; reads = refl; writes = refl }
 pub returns-in-Err : goal.returns-in-Err
 returns-in-Err g c =
     let other : is_write_fault c.in-Err.fault ≡ false = input_alone c.in-Err.fault c.in-Err.ensures.fault in (
-      stops _ _ _ _ _ _ _ c.in-Err.fault c.loop.invariant.so_far other,
+      stops_reading _ _ _ _ _ _ _ _ c.in-Err.fault c.loop.invariant.so_far c.in-Err.ensures.fault c.in-Err.ensures.begun,
       c.in-Err.ensures.failed ∙ ap (λ n. n + failed_reads c.in-Err.fault) c.loop.invariant.reads,
       no_writes c.in-Err.fault _ _ other c.loop.invariant.writes,
     )
@@ -18,7 +18,8 @@ returns-in-Err g c =
 pub returns-in-Err-answer_one : goal.returns-in-Err-answer_one
 returns-in-Err-answer_one g c =
     let failed = c.in-Err-answer_one.ensures in (
-      stops_writing _ _ _ _ _ _ _ _ _ c.in-Err-answer_one.fault c.loop.invariant.so_far failed.1 failed.0,
+      stops_writing _ _ _ _ _ _ _ _ _ _ _ _ c.in-Err-answer_one.fault c.loop.invariant.so_far c.in-Ok.ensures.statement
+          failed.1 c.deref.ensures.value failed.0,
       no_reads c.in-Err-answer_one.fault _ _ failed.0 (omega (arith, c.in-Ok.ensures.failed, c.loop.invariant.reads)),
       one_write c.in-Err-answer_one.fault _ _ failed.0 (omega (arith, failed.2, c.loop.invariant.writes)),
     )
@@ -41,3 +42,12 @@ loop-preserved g c =
       reads = omega (arith, c.in-Ok.ensures.failed, c.loop.invariant.reads);
       writes = omega (arith, wrote.1, c.loop.invariant.writes);
     }
+
+pub returns : goal.returns
+returns g c =
+    let input : IsTrue (is_input_fault c.new.result) = rw c.new.ensures refl in
+    let none : failed_reads c.new.result ≡ 0 = rw c.new.ensures refl in (
+      stops _ _ _ _ _ _ c.loop.first c.new.result c.loop.invariant.so_far input,
+      omega (arith, none, c.loop.invariant.reads),
+      no_writes c.new.result _ _ (input_alone c.new.result input) c.loop.invariant.writes,
+    )

@@ -1,6 +1,6 @@
 use Rattle.std.proofs.Common.{◌≡◌, ◌+◌, ◌-◌, ◌≤◌, length, length-take, length-drop, take, drop, subst, arith}
 use Rattle.std.specs.Prelude.{slice_range}
-use Rattle.bw_device.specs.Shared.{bytes_in}
+use Rattle.bw_io.specs.Shared.{bytes_in}
 use Rattle.bw_file.specs.Reading.{Took, state}
 use Rattle.bw_file.specs.SegmentBytes.{bytes_held, AreNext}
 use Rattle.bw_file.specs.declared.segment_bytes.SegmentBytes.{SegmentBytes}

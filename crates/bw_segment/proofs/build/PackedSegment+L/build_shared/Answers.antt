@@ -1,5 +1,5 @@
 use Rattle.std.proofs.Common.{◌∙◌, sym, ap, subst, map, arith}
-use Rattle.bw_device.specs.Shared.{bytes_in}
+use Rattle.bw_io.specs.Shared.{bytes_in}
 use Rattle.bw_model.specs.Row.{values_of}
 use Rattle.bw_segment.specs.Columns.{KeepRows}
 use Rattle.bw_segment.specs.Packing.{segment_bytes}

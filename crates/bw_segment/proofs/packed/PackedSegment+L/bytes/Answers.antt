@@ -1,5 +1,5 @@
 use Rattle.std.proofs.Common.{◌∙◌, sym}
-use Rattle.bw_device.specs.Shared.{bytes_in}
+use Rattle.bw_io.specs.Shared.{bytes_in}
 use Rattle.bw_segment.proofs.PackedLemmas.{few}
 use Rattle.bw_segment.proofs.SoundLemmas.{bytes_again}
 use Rattle.bw_segment.proofs.packed.PackedSegment+L.bytes.Goals as goal

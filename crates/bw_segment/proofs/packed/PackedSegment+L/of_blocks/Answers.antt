@@ -1,4 +1,4 @@
-use Rattle.bw_device.specs.Shared.{bytes_in}
+use Rattle.bw_io.specs.Shared.{bytes_in}
 use Rattle.bw_segment.proofs.PackedLemmas.{held_in_one_piece}
 use Rattle.bw_segment.proofs.packed.PackedSegment+L.of_blocks.Goals as goal
 

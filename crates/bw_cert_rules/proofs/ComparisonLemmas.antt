@@ -1,0 +1,368 @@
+-- Pairs of comparisons tell the truth of them under every assignment.
+use Rattle.std.proofs.Common.{◌≡◌, ◌∙◌, refl, sym, ap, ap₂, subst, ℕ, zero, suc, ℤ, pos, ◌+◌, ◌-◌, ◌^◌, ◌+ℤ◌, ◌-ℤ◌, ◌<◌, Bool, true, false, not, cond, ◌&&◌, ◌||◌, List, [], ◌∷◌, length, max, Option, Some, None, arith, int_le, int_lt, unsigned_abs}
+use Rattle.std.specs.Ordering.{int_eq}
+use Rattle.std.proofs.Math.Dec.{eqb}
+use Rattle.std.proofs.Math.Nat.{pow-succ'}
+use Rattle.std.proofs.lemmas.Bool.{eqb-true, ltb-true, le-ltb, eq-eqb}
+use Rattle.bw_model.specs.declared.column.Column.{Column}
+use Rattle.bw_model.specs.declared.cond.Op.{Op}
+use Rattle.bw_model.specs.declared.cond.Op.TheVariants.{Eq, Ne, Lt, Gt, Le, Ge}
+use Rattle.bw_model.specs.declared.cond.Operand.{Operand}
+use Rattle.bw_model.specs.declared.cond.Operand.TheVariants.{Col, Lit, Null}
+use Rattle.bw_model.specs.declared.cond.Truth.{Truth}
+use Rattle.bw_model.specs.declared.cond.Truth.TheVariants.{No, Unknown, Yes}
+use Rattle.bw_model.specs.Code.{width_at, value_at}
+use Rattle.bw_model.specs.Cond.{operand_value, is_within}
+use Rattle.bw_model.specs.Row.{Value, value_in}
+use Rattle.bw_model.specs.Stored.{number_spelled}
+use Rattle.bw_model.specs.Truth.{truth_from, is_truth, holds, compared, turned}
+use Rattle.bw_model.specs.Variable.{Assignment, first_variable, is_nullable, spelled, row_of, null_variable, bit_variable}
+use Rattle.bw_model.proofs.PlaceLemmas.{value_in-row_of}
+use Rattle.bw_diagram.specs.declared.chain.ChainKind.{ChainKind}
+use Rattle.bw_diagram.specs.declared.chain.ChainKind.TheVariants.{Less, Equal}
+use Rattle.bw_diagram.specs.declared.node.Node.{Node}
+use Rattle.bw_diagram.specs.declared.product.Connective.TheVariants.{And, Diff}
+use Rattle.bw_diagram.specs.Chain.{compares, padded_number, first_node}
+use Rattle.bw_diagram.specs.Cited.{AreWorth, cited, chain_cited, two_cited}
+use Rattle.bw_diagram.specs.Facts.{Facts}
+use Rattle.bw_diagram.proofs.ChainLemmas.{padded_number-whole, number_spelled-whole}
+use Rattle.bw_cert_text.specs.declared.lines.ConditionEntry.{ConditionEntry}
+use Rattle.bw_cert_text.specs.declared.lines.ConditionEntry.TheVariants.{Compare, CompareColumns, Fixed}
+use Rattle.bw_cert_rules.specs.declared.nodes.Pair.{Pair}
+use Rattle.bw_cert_rules.specs.declared.comparison.Bound.{Bound}
+use Rattle.bw_cert_rules.specs.declared.comparison.Order.{Order}
+use Rattle.bw_cert_rules.specs.Rows.{if_both, exchanged, value_node}
+use Rattle.bw_cert_rules.specs.Comparison.{lo_at, constant_pair, fixed, split, turned_if, bound_of, terminal_of, terminal_or_cited, bound_node, with_literal, order_of, order_node, both_node, with_column, comparison}
+use Rattle.bw_cert_rules.specs.Meaning.{Tells}
+use Rattle.bw_cert_rules.proofs.NumberLemmas.{compares_to, turned_bit, lt_low, lt_high, eq_low, eq_high, lt_within, eq_within, holds_moved, holds_turned, lt_apart, le_apart, eq_apart, equal-lo}
+use Rattle.bw_cert_rules.proofs.RowLemmas.{Worth, zero_worth, one_worth, worth_so, if_both-is, cited-worth, has_value, value_node-worth}
+
+-- a pair whose nodes are worth this tells it
+pub tells_by : (nodes : List Node) (truth : Assignment → Truth) (pair : Pair) → Worth nodes (λ assignment. is_truth (truth assignment) Yes) pair.yes → Worth nodes (λ assignment. is_truth (truth assignment) No) pair.no → Tells nodes truth pair
+tells_by nodes truth pair t f = record { yes_node = t.is_node; no_node = f.is_node; yes = t.worth; no = f.worth }
+
+pub tells_yes : (nodes : List Node) (truth : Assignment → Truth) (pair : Pair) → Tells nodes truth pair → Worth nodes (λ assignment. is_truth (truth assignment) Yes) pair.yes
+tells_yes nodes truth pair t = record { is_node = t.yes_node; worth = t.yes }
+
+pub tells_no : (nodes : List Node) (truth : Assignment → Truth) (pair : Pair) → Tells nodes truth pair → Worth nodes (λ assignment. is_truth (truth assignment) No) pair.no
+tells_no nodes truth pair t = record { is_node = t.no_node; worth = t.no }
+
+pub tells_so : (nodes : List Node) (truth other : Assignment → Truth) (pair : Pair) → ((assignment : Assignment) → truth assignment ≡ other assignment) → Tells nodes truth pair → Tells nodes other pair
+tells_so nodes truth other pair same t = record {
+  yes_node = t.yes_node;
+  no_node = t.no_node;
+  yes = λ assignment. t.yes assignment ∙ ap (λ v. is_truth v Yes) (same assignment);
+  no = λ assignment. t.no assignment ∙ ap (λ v. is_truth v No) (same assignment);
+}
+
+-- a step with one truth
+constant_tells : (nodes : List Node) (truth : Truth) → Tells nodes (λ assignment. truth) (constant_pair truth)
+constant_tells nodes Yes = tells_by nodes (λ assignment. Yes) (constant_pair Yes) (one_worth nodes) (zero_worth nodes)
+constant_tells nodes No = tells_by nodes (λ assignment. No) (constant_pair No) (zero_worth nodes) (one_worth nodes)
+constant_tells nodes Unknown = tells_by nodes (λ assignment. Unknown) (constant_pair Unknown) (zero_worth nodes) (zero_worth nodes)
+
+-- the same by its line
+pub fixed-tells : (nodes : List Node) (truth : Truth) (pair : Pair) (entry : ConditionEntry) → fixed truth entry ≡ Some pair → Tells nodes (λ assignment. truth) pair
+fixed-tells nodes truth pair Fixed is = subst (Tells nodes (λ assignment. truth)) (cc) (constant_tells nodes truth)
+fixed-tells nodes truth pair _ is = cc
+
+-- so many bits spell a number below that power of 2
+spelled-lt : (assignment : Assignment) (first count : ℕ) → spelled assignment first count < 2 ^ count
+spelled-lt assignment first zero = omega arith
+spelled-lt assignment first (suc count) = by_bit (assignment first) (spelled-lt assignment (suc first) count)
+  where
+    by_bit : (bit : Bool) → spelled assignment (suc first) count < 2 ^ count → cond bit (2 ^ count) 0 + spelled assignment (suc first) count < 2 ^ suc count
+    by_bit true lt = omega (arith, pow-succ' 2 count)
+    by_bit false lt = omega (arith, pow-succ' 2 count)
+
+-- the code of a column
+abbrev pub code_spelled : List Column → ℕ → Assignment → ℕ
+code_spelled columns col assignment = number_spelled columns col 0 (width_at columns col) assignment
+
+code_spelled-lt : (columns : List Column) (col : ℕ) (assignment : Assignment) → code_spelled columns col assignment < 2 ^ width_at columns col
+code_spelled-lt columns col assignment = spelled-lt assignment (first_variable columns (suc col) - (0 + width_at columns col)) (width_at columns col)
+
+value_at-lo : (columns : List Column) (col code : ℕ) → col < length columns → value_at columns col code ≡ lo_at columns col +ℤ pos code
+value_at-lo [] col code lt = absurd (omega arith)
+value_at-lo (c ∷ columns) zero code lt = refl
+value_at-lo (c ∷ columns) (suc col) code lt = value_at-lo columns col code (omega arith)
+
+-- a number where a column has a value, and else null
+abbrev pub value_if : Bool → ℤ → Value
+value_if there n = cond there (Some n) None
+
+-- the value of a column in the row of an assignment
+pub value_in-assigned : (columns : List Column) (col : ℕ) → col < length columns → (assignment : Assignment) →
+    value_in (row_of columns assignment) col ≡ value_if (has_value columns col assignment) (lo_at columns col +ℤ pos (code_spelled columns col assignment))
+value_in-assigned columns col lt assignment =
+    value_in-row_of columns assignment col lt
+    ∙ by_null (is_nullable columns col && assignment (first_variable columns col)) _
+    ∙ ap (value_if (has_value columns col assignment)) (value_at-lo columns col (spelled assignment (bit_variable columns col (width_at columns col - 1)) (width_at columns col)) lt
+    ∙ ap (λ code. lo_at columns col +ℤ pos code) (sym (number_spelled-whole columns col assignment)))
+  where
+    by_null : (null : Bool) (v : ℤ) → cond null None (Some v) ≡ value_if (not null) v
+    by_null true v = refl
+    by_null false v = refl
+
+-- the terminal of a comparison with a bound that no number of the bits is compared to
+terminal-worth : (nodes : List Node) (x : Assignment → ℕ) (kind : ChainKind) (limit : ℤ) (width e : ℕ) → ((assignment : Assignment) → x assignment < 2 ^ width) → terminal_of kind limit width ≡ Some e →
+    Worth nodes (λ assignment. compares_to kind (pos (x assignment)) limit) e
+terminal-worth nodes x Less limit width e below is = by_low (int_le limit (pos 0)) refl is
+  where
+    by_high : (high : Bool) → int_le (pos (2 ^ width)) limit ≡ high → cond high (Some 1) None ≡ Some e → Worth nodes (λ assignment. int_lt (pos (x assignment)) limit) e
+    by_high true high is = subst (Worth nodes (λ assignment. int_lt (pos (x assignment)) limit)) (cc)
+        (worth_so nodes (λ assignment. true) _ 1 (λ assignment. sym (lt_high (x assignment) (2 ^ width) limit (below assignment) high)) (one_worth nodes))
+    by_high false high is = cc
+
+    by_low : (low : Bool) → int_le limit (pos 0) ≡ low → cond low (Some 0) (cond (int_le (pos (2 ^ width)) limit) (Some 1) None) ≡ Some e → Worth nodes (λ assignment. int_lt (pos (x assignment)) limit) e
+    by_low true low is = subst (Worth nodes (λ assignment. int_lt (pos (x assignment)) limit)) (cc)
+        (worth_so nodes (λ assignment. false) _ 0 (λ assignment. sym (lt_low (x assignment) limit low)) (zero_worth nodes))
+    by_low false low is = by_high (int_le (pos (2 ^ width)) limit) refl is
+terminal-worth nodes x Equal limit width e below is = by_tests (int_lt limit (pos 0)) (int_le (pos (2 ^ width)) limit) refl refl is
+  where
+    worth : ((assignment : Assignment) → int_eq (pos (x assignment)) limit ≡ false) → 0 ≡ e → Worth nodes (λ assignment. int_eq (pos (x assignment)) limit) e
+    worth unequal is = subst (Worth nodes (λ assignment. int_eq (pos (x assignment)) limit)) is (worth_so nodes (λ assignment. false) _ 0 (λ assignment. sym (unequal assignment)) (zero_worth nodes))
+
+    by_tests : (low high : Bool) → int_lt limit (pos 0) ≡ low → int_le (pos (2 ^ width)) limit ≡ high → cond (low || high) (Some 0) None ≡ Some e → Worth nodes (λ assignment. int_eq (pos (x assignment)) limit) e
+    by_tests true high low_is high_is is = worth (λ assignment. eq_low (x assignment) limit low_is) (cc)
+    by_tests false true low_is high_is is = worth (λ assignment. eq_high (x assignment) (2 ^ width) limit (below assignment) high_is) (cc)
+    by_tests false false low_is high_is is = cc
+
+-- other bounds are natural numbers
+within-compares : (kind : ChainKind) (limit : ℤ) (width x : ℕ) → terminal_of kind limit width ≡ None → compares kind x (unsigned_abs limit) ≡ compares_to kind (pos x) limit
+within-compares Less limit width x is = by_low (int_le limit (pos 0)) refl is
+  where
+    by_low : (low : Bool) → int_le limit (pos 0) ≡ low → cond {A = Option ℕ} low (Some 0) (cond (int_le (pos (2 ^ width)) limit) (Some 1) None) ≡ None → compares Less x (unsigned_abs limit) ≡ int_lt (pos x) limit
+    by_low true low is = cc
+    by_low false low is = lt_within x limit low
+within-compares Equal limit width x is = by_low (int_lt limit (pos 0)) refl is
+  where
+    by_low : (low : Bool) → int_lt limit (pos 0) ≡ low → cond {A = Option ℕ} (low || int_le (pos (2 ^ width)) limit) (Some 0) None ≡ None → compares Equal x (unsigned_abs limit) ≡ int_eq (pos x) limit
+    by_low true low is = cc
+    by_low false low is = eq_within x limit low
+
+-- what a comparison of two values says of their distances from one number
+holds_ordered : (op : Op) (lo : ℤ) (c d : ℕ) (code : ℕ → ℕ) → holds op (lo +ℤ pos (code c)) (lo +ℤ pos (code d)) ≡ turned_bit (order_of op c d).negated (compares (order_of op c d).kind (code (order_of op c d).left) (code (order_of op c d).right))
+holds_ordered Lt lo c d code = lt_apart lo (code c) (code d)
+holds_ordered Ge lo c d code = le_apart lo (code d) (code c)
+holds_ordered Le lo c d code = le_apart lo (code c) (code d)
+holds_ordered Gt lo c d code = lt_apart lo (code d) (code c)
+holds_ordered Eq lo c d code = eq_apart lo (code c) (code d)
+holds_ordered Ne lo c d code = ap not (eq_apart lo (code c) (code d))
+
+-- a comparison of a literal with a value, and the other way round
+compared-turned : (op : Op) (n : ℤ) (v : Value) → compared (turned op) v (Some n) ≡ compared op (Some n) v
+compared-turned op n None = refl
+compared-turned op n (Some m) = ap truth_from (holds_turned op m n)
+
+compared-null : (op : Op) (v : Value) → compared op v None ≡ Unknown
+compared-null op None = refl
+compared-null op (Some m) = refl
+
+-- the pair of a comparison that has a truth where m is 1, and is TRUE there where e is 1, or where
+-- e is 0
+abbrev split_truth : Bool → Bool → Bool → Truth
+split_truth negated there bit = cond there (truth_from (turned_bit negated bit)) Unknown
+
+module _ (facts : Facts) (are_worth : AreWorth facts) where
+  split-tells : (negated : Bool) (m e : Option ℕ) (p q : ℕ) (pair : Pair) (there bit : Assignment → Bool) → ((n : ℕ) → m ≡ Some n → Worth facts.nodes there n) → ((n : ℕ) → e ≡ Some n → Worth facts.nodes bit n) →
+      turned_if negated (split facts m e p q) ≡ Some pair → Tells facts.nodes (λ assignment. split_truth negated (there assignment) (bit assignment)) pair
+  split-tells negated None e p q pair there bit m_worth e_worth is = by_turn negated is
+    where
+      by_turn : (negated : Bool) → turned_if negated None ≡ Some pair → Tells facts.nodes (λ assignment. split_truth negated (there assignment) (bit assignment)) pair
+      by_turn true is = cc
+      by_turn false is = cc
+  split-tells negated (Some m) None p q pair there bit m_worth e_worth is = by_turn negated is
+    where
+      by_turn : (negated : Bool) → turned_if negated None ≡ Some pair → Tells facts.nodes (λ assignment. split_truth negated (there assignment) (bit assignment)) pair
+      by_turn true is = cc
+      by_turn false is = cc
+  split-tells negated (Some m) (Some e) p q pair there bit m_worth e_worth is = by_turn negated (if_both (cited facts And m e p) (cited facts Diff m e q)) refl is
+    where
+      t_worth : (made : Pair) → if_both (cited facts And m e p) (cited facts Diff m e q) ≡ Some made → Worth facts.nodes (λ assignment. there assignment && bit assignment) made.yes
+      t_worth made is = cited-worth facts are_worth And m e made.yes p there bit (m_worth m refl) (e_worth e refl) (if_both-is _ _ made is).0
+
+      f_worth : (made : Pair) → if_both (cited facts And m e p) (cited facts Diff m e q) ≡ Some made → Worth facts.nodes (λ assignment. there assignment && not (bit assignment)) made.no
+      f_worth made is = cited-worth facts are_worth Diff m e made.no q there bit (m_worth m refl) (e_worth e refl) (if_both-is _ _ made is).1
+
+      both_yes : (there bit : Bool) → (there && bit) ≡ is_truth (split_truth false there bit) Yes
+      both_yes true true = refl
+      both_yes true false = refl
+      both_yes false bit = refl
+
+      both_no : (there bit : Bool) → (there && not bit) ≡ is_truth (split_truth false there bit) No
+      both_no true true = refl
+      both_no true false = refl
+      both_no false bit = refl
+
+      turned_yes : (there bit : Bool) → (there && not bit) ≡ is_truth (split_truth true there bit) Yes
+      turned_yes true true = refl
+      turned_yes true false = refl
+      turned_yes false bit = refl
+
+      turned_no : (there bit : Bool) → (there && bit) ≡ is_truth (split_truth true there bit) No
+      turned_no true true = refl
+      turned_no true false = refl
+      turned_no false bit = refl
+
+      by_turn : (negated : Bool) (made : Option Pair) → if_both (cited facts And m e p) (cited facts Diff m e q) ≡ made → turned_if negated made ≡ Some pair →
+          Tells facts.nodes (λ assignment. split_truth negated (there assignment) (bit assignment)) pair
+      by_turn true None made is = cc
+      by_turn false None made is = cc
+      by_turn false (Some found) made is =
+          subst (Tells facts.nodes (λ assignment. split_truth false (there assignment) (bit assignment))) (cc)
+          (tells_by facts.nodes _ found
+          (worth_so facts.nodes _ _ found.yes (λ assignment. both_yes (there assignment) (bit assignment)) (t_worth found made))
+          (worth_so facts.nodes _ _ found.no (λ assignment. both_no (there assignment) (bit assignment)) (f_worth found made)))
+      by_turn true (Some found) made is =
+          subst (Tells facts.nodes (λ assignment. split_truth true (there assignment) (bit assignment))) (cc)
+          (tells_by facts.nodes _ (exchanged found)
+          (worth_so facts.nodes _ _ found.no (λ assignment. turned_yes (there assignment) (bit assignment)) (f_worth found made))
+          (worth_so facts.nodes _ _ found.yes (λ assignment. turned_no (there assignment) (bit assignment)) (t_worth found made)))
+
+  -- the node of a comparison of a column's code with a bound
+  bound_node-worth : (col : ℕ) (bound : Bound) (chain : Option ℕ) (e : ℕ) → bound_node facts.columns facts col bound chain ≡ Some e →
+      Worth facts.nodes (λ assignment. compares_to bound.kind (pos (code_spelled facts.columns col assignment)) bound.limit) e
+  bound_node-worth col bound chain e is = by_terminal (terminal_of bound.kind bound.limit (width_at facts.columns col)) refl chain is
+    where
+      cite : ℕ → Option ℕ
+      cite = chain_cited facts bound.kind col 0 (width_at facts.columns col) (unsigned_abs bound.limit)
+
+      P : ℕ → Type 0
+      P = Worth facts.nodes (λ assignment. compares_to bound.kind (pos (code_spelled facts.columns col assignment)) bound.limit)
+
+      by_terminal : (terminal : Option ℕ) → terminal_of bound.kind bound.limit (width_at facts.columns col) ≡ terminal → (chain : Option ℕ) → terminal_or_cited terminal cite chain ≡ Some e → P e
+      by_terminal (Some terminal) which None is =
+          subst P (cc) (terminal-worth facts.nodes (code_spelled facts.columns col) bound.kind bound.limit (width_at facts.columns col) terminal (code_spelled-lt facts.columns col) which)
+      by_terminal (Some terminal) which (Some number) is = cc
+      by_terminal None which None is = cc
+      by_terminal None which (Some number) is =
+          let found = are_worth.chain bound.kind col 0 (width_at facts.columns col) (unsigned_abs bound.limit) number e is in
+          worth_so facts.nodes _ _ e (λ assignment. within-compares bound.kind bound.limit (width_at facts.columns col) (code_spelled facts.columns col assignment) which)
+          (record { is_node = found.0; worth = found.1 })
+
+  -- CMP
+  pub with_literal-tells : (op : Op) (col : ℕ) (n : ℤ) (entry : ConditionEntry) (pair : Pair) → col < length facts.columns → with_literal facts.columns facts op col n entry ≡ Some pair →
+      Tells facts.nodes (λ assignment. compared op (value_in (row_of facts.columns assignment) col) (Some n)) pair
+  unfolding with_literal
+  with_literal-tells op col n (Compare chain value p q) pair lt is =
+      tells_so facts.nodes _ _ pair same
+      (split-tells bound.negated (value_node facts (null_variable facts.columns col) value) (bound_node facts.columns facts col bound chain) p q pair (has_value facts.columns col)
+      (λ assignment. compares_to bound.kind (pos (code_spelled facts.columns col assignment)) bound.limit)
+      (λ m found. value_node-worth facts.columns facts are_worth col value m found) (λ e found. bound_node-worth col bound chain e found) is)
+    where
+      bound : Bound
+      bound = bound_of op (n -ℤ lo_at facts.columns col)
+
+      by_value : (there : Bool) (x : ℤ) → split_truth bound.negated there (compares_to bound.kind x bound.limit) ≡ compared op (value_if there (lo_at facts.columns col +ℤ x)) (Some n)
+      by_value true x = ap truth_from (sym (holds_moved op (lo_at facts.columns col) x n))
+      by_value false x = refl
+
+      same : (assignment : Assignment) → split_truth bound.negated (has_value facts.columns col assignment) (compares_to bound.kind (pos (code_spelled facts.columns col assignment)) bound.limit) ≡ compared op (value_in (row_of facts.columns assignment) col) (Some n)
+      same assignment = by_value (has_value facts.columns col assignment) (pos (code_spelled facts.columns col assignment))
+          ∙ ap (λ v. compared op v (Some n)) (sym (value_in-assigned facts.columns col lt assignment))
+  with_literal-tells op col n _ pair lt is = cc
+
+  -- the node of a comparison of the codes of two columns
+  order_node-worth : (order : Order) (chain : Option ℕ) (e : ℕ) → order_node facts.columns facts order chain ≡ Some e →
+      Worth facts.nodes (λ assignment. compares order.kind (code_spelled facts.columns order.left assignment) (code_spelled facts.columns order.right assignment)) e
+  order_node-worth order chain e is = by_same (eqb order.left order.right) refl chain is
+    where
+      len : ℕ
+      len = max (width_at facts.columns order.left) (width_at facts.columns order.right)
+
+      cite : ℕ → Option ℕ
+      cite = two_cited facts order.kind order.left order.right len
+
+      P : ℕ → Type 0
+      P = Worth facts.nodes (λ assignment. compares order.kind (code_spelled facts.columns order.left assignment) (code_spelled facts.columns order.right assignment))
+
+      itself : (kind : ChainKind) (x : Assignment → ℕ) → Worth facts.nodes (λ assignment. compares kind (x assignment) (x assignment)) (first_node kind)
+      itself Less x = worth_so facts.nodes _ _ 0 (λ assignment. sym (le-ltb (x assignment) (x assignment) (omega arith))) (zero_worth facts.nodes)
+      itself Equal x = worth_so facts.nodes _ _ 1 (λ assignment. sym (eq-eqb (x assignment) (x assignment) refl)) (one_worth facts.nodes)
+
+      whole : (assignment : Assignment) → compares order.kind (padded_number facts.columns order.left len assignment) (padded_number facts.columns order.right len assignment)
+          ≡ compares order.kind (code_spelled facts.columns order.left assignment) (code_spelled facts.columns order.right assignment)
+      whole assignment = ap₂ (compares order.kind)
+          (padded_number-whole facts.columns order.left len assignment (omega arith))
+          (padded_number-whole facts.columns order.right len assignment (omega arith))
+
+      by_same : (same : Bool) → eqb order.left order.right ≡ same → (chain : Option ℕ) → terminal_or_cited (cond same (Some (first_node order.kind)) None) cite chain ≡ Some e → P e
+      by_same true same None is =
+          let one : order.left ≡ order.right = eqb-true order.left order.right same in
+          subst P (cc) (worth_so facts.nodes _ _ (first_node order.kind)
+          (λ assignment. ap (λ c. compares order.kind (code_spelled facts.columns order.left assignment) (code_spelled facts.columns c assignment)) one)
+          (itself order.kind (code_spelled facts.columns order.left)))
+      by_same true same (Some number) is = cc
+      by_same false same None is = cc
+      by_same false same (Some number) is =
+          let found = are_worth.two order.kind order.left order.right len number e is in
+          worth_so facts.nodes _ _ e whole (record { is_node = found.0; worth = found.1 })
+
+  both_node-worth : (left right : Option ℕ) (number m : ℕ) (x y : Assignment → Bool) → ((n : ℕ) → left ≡ Some n → Worth facts.nodes x n) → ((n : ℕ) → right ≡ Some n → Worth facts.nodes y n) →
+      both_node facts left right number ≡ Some m → Worth facts.nodes (λ assignment. x assignment && y assignment) m
+  both_node-worth (Some left) (Some right) number m x y x_worth y_worth is = cited-worth facts are_worth And left right m number x y (x_worth left refl) (y_worth right refl) is
+  both_node-worth (Some left) None number m x y x_worth y_worth is = cc
+  both_node-worth None right number m x y x_worth y_worth is = cc
+
+  -- CMP2
+  pub with_column-tells : (op : Op) (c d : ℕ) (entry : ConditionEntry) (pair : Pair) → c < length facts.columns → d < length facts.columns → with_column facts.columns facts op c d entry ≡ Some pair →
+      Tells facts.nodes (λ assignment. compared op (value_in (row_of facts.columns assignment) c) (value_in (row_of facts.columns assignment) d)) pair
+  unfolding with_column
+  with_column-tells op c d (CompareColumns chain left right number p q) pair c_lt d_lt is = by_lo (int_eq (lo_at facts.columns c) (lo_at facts.columns d)) refl is
+    where
+      order : Order
+      order = order_of op c d
+
+      code : Assignment → ℕ → ℕ
+      code assignment col = code_spelled facts.columns col assignment
+
+      m : Option ℕ
+      m = both_node facts (value_node facts (null_variable facts.columns c) left) (value_node facts (null_variable facts.columns d) right) number
+
+      by_value : (assignment : Assignment) (x y : Bool) → lo_at facts.columns c ≡ lo_at facts.columns d →
+          split_truth order.negated (x && y) (compares order.kind (code assignment order.left) (code assignment order.right))
+          ≡ compared op (value_if x (lo_at facts.columns c +ℤ pos (code assignment c))) (value_if y (lo_at facts.columns d +ℤ pos (code assignment d)))
+      by_value assignment true true one = ap truth_from (sym (holds_ordered op (lo_at facts.columns c) c d (code assignment)) ∙ ap (λ lo. holds op (lo_at facts.columns c +ℤ pos (code assignment c)) (lo +ℤ pos (code assignment d))) one)
+      by_value assignment true false one = refl
+      by_value assignment false y one = refl
+
+      same : lo_at facts.columns c ≡ lo_at facts.columns d → (assignment : Assignment) →
+          split_truth order.negated (has_value facts.columns c assignment && has_value facts.columns d assignment) (compares order.kind (code assignment order.left) (code assignment order.right))
+          ≡ compared op (value_in (row_of facts.columns assignment) c) (value_in (row_of facts.columns assignment) d)
+      same one assignment = by_value assignment (has_value facts.columns c assignment) (has_value facts.columns d assignment) one
+          ∙ ap₂ (compared op) (sym (value_in-assigned facts.columns c c_lt assignment)) (sym (value_in-assigned facts.columns d d_lt assignment))
+
+      by_lo : (one : Bool) → int_eq (lo_at facts.columns c) (lo_at facts.columns d) ≡ one →
+          cond one (turned_if order.negated (split facts m (order_node facts.columns facts order chain) p q)) None ≡ Some pair →
+          Tells facts.nodes (λ assignment. compared op (value_in (row_of facts.columns assignment) c) (value_in (row_of facts.columns assignment) d)) pair
+      by_lo false one is = cc
+      by_lo true one is =
+          tells_so facts.nodes _ _ pair (same (equal-lo (lo_at facts.columns c) (lo_at facts.columns d) one))
+          (split-tells order.negated m (order_node facts.columns facts order chain) p q pair
+          (λ assignment. has_value facts.columns c assignment && has_value facts.columns d assignment)
+          (λ assignment. compares order.kind (code assignment order.left) (code assignment order.right))
+          (λ n found. both_node-worth _ _ number n _ _ (λ n found. value_node-worth facts.columns facts are_worth c left n found) (λ n found. value_node-worth facts.columns facts are_worth d right n found) found)
+          (λ e found. order_node-worth order chain e found) is)
+  with_column-tells op c d _ pair c_lt d_lt is = cc
+
+  -- a comparison
+  pub comparison-tells : (op : Op) (x y : Operand) (entry : ConditionEntry) (pair : Pair) → is_within (length facts.columns) x ≡ true → is_within (length facts.columns) y ≡ true → comparison facts.columns facts op x y entry ≡ Some pair →
+      Tells facts.nodes (λ assignment. compared op (operand_value (row_of facts.columns assignment) x) (operand_value (row_of facts.columns assignment) y)) pair
+  unfolding comparison
+  comparison-tells op (Col c) (Lit n) entry pair x_in y_in is = with_literal-tells op c n entry pair (ltb-true c (length facts.columns) x_in) is
+  comparison-tells op (Lit n) (Col c) entry pair x_in y_in is =
+      tells_so facts.nodes _ _ pair (λ assignment. compared-turned op n (value_in (row_of facts.columns assignment) c))
+      (with_literal-tells (turned op) c n entry pair (ltb-true c (length facts.columns) y_in) is)
+  comparison-tells op (Col c) (Col d) entry pair x_in y_in is = with_column-tells op c d entry pair (ltb-true c (length facts.columns) x_in) (ltb-true d (length facts.columns) y_in) is
+  comparison-tells op (Lit m) (Lit n) entry pair x_in y_in is = fixed-tells facts.nodes (truth_from (holds op m n)) pair entry is
+  comparison-tells op (Col c) Null entry pair x_in y_in is =
+      tells_so facts.nodes _ _ pair (λ assignment. sym (compared-null op (value_in (row_of facts.columns assignment) c)))
+      (fixed-tells facts.nodes Unknown pair entry is)
+  comparison-tells op (Lit n) Null entry pair x_in y_in is = fixed-tells facts.nodes Unknown pair entry is
+  comparison-tells op Null y entry pair x_in y_in is = by_operand y is
+    where
+      by_operand : (y : Operand) → comparison facts.columns facts op Null y entry ≡ Some pair → Tells facts.nodes (λ assignment. Unknown) pair
+      by_operand (Col c) is = fixed-tells facts.nodes Unknown pair entry is
+      by_operand (Lit n) is = fixed-tells facts.nodes Unknown pair entry is
+      by_operand Null is = fixed-tells facts.nodes Unknown pair entry is

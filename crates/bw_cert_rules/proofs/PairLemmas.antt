@@ -1,0 +1,55 @@
+-- The lines of each kind of condition.
+use Rattle.std.proofs.Common.{◌≡◌, ◌∙◌, ℕ, List, [], ◌∷◌, map, Vec, Box, Global, sym, ap}
+use Rattle.bw_model.specs.declared.column.Column.{Column}
+use Rattle.bw_model.specs.declared.cond.Truth.{Truth}
+use Rattle.bw_model.specs.declared.cond.Truth.TheVariants.{Yes}
+use Rattle.bw_model.specs.declared.cond.Op.{Op}
+use Rattle.bw_model.specs.declared.cond.Op.TheVariants.{Le, Ge}
+use Rattle.bw_model.specs.declared.cond.Operand.{Operand}
+use Rattle.bw_model.specs.declared.cond.Cond.{Cond, Cond-F, fold-roll-Cond}
+use Rattle.bw_model.specs.declared.cond.Cond.TheVariants.{Always, Cmp, Between, Among, IsNull, And, Or, Not, Test, rolls-Always, rolls-Cmp, rolls-Between, rolls-Among, rolls-IsNull, rolls-And, rolls-Or, rolls-Not, rolls-Test}
+use Rattle.bw_model.specs.Fault.{◌>>=◌}
+use Rattle.bw_diagram.specs.Facts.{Facts}
+use Rattle.bw_cert_text.specs.declared.lines.BodyLine.{BodyLine}
+use Rattle.bw_cert_rules.specs.declared.steps.Junction.TheVariants.{All, Any}
+use Rattle.bw_cert_rules.specs.Comparison.{fixed, comparison}
+use Rattle.bw_cert_rules.specs.Pair.{Reading, by_line, is_null_test, negated_pair, tested_pair, joined_parts, equations, pair_step, pair_of}
+
+module _ (columns : List Column) (facts : Facts) (end : ℕ) where
+  pub pair_of-Always : (lines : List BodyLine) → pair_of columns facts end Always lines ≡ by_line end (fixed Yes) lines
+  unfolding pair_of
+  pair_of-Always lines = ap (λ cond. pair_of columns facts end cond lines) (sym rolls-Always) ∙ ap (λ reader. reader lines) (fold-roll-Cond (List BodyLine → Reading) (pair_step columns facts end) Cond-F.Always)
+
+  pub pair_of-Cmp : (op : Op) (x y : Operand) (lines : List BodyLine) → pair_of columns facts end (Cmp op x y) lines ≡ by_line end (comparison columns facts op x y) lines
+  unfolding pair_of
+  pair_of-Cmp op x y lines = ap (λ cond. pair_of columns facts end cond lines) (sym (rolls-Cmp op x y)) ∙ ap (λ reader. reader lines) (fold-roll-Cond (List BodyLine → Reading) (pair_step columns facts end) (Cond-F.Cmp op x y))
+
+  pub pair_of-Between : (x y z : Operand) (lines : List BodyLine) → pair_of columns facts end (Between x y z) lines ≡ joined_parts columns facts end All (by_line end (comparison columns facts Ge x y) ∷ by_line end (comparison columns facts Le x z) ∷ []) lines
+  unfolding pair_of
+  pair_of-Between x y z lines = ap (λ cond. pair_of columns facts end cond lines) (sym (rolls-Between x y z)) ∙ ap (λ reader. reader lines) (fold-roll-Cond (List BodyLine → Reading) (pair_step columns facts end) (Cond-F.Between x y z))
+
+  pub pair_of-Among : (x : Operand) (items : Vec Operand Global) (lines : List BodyLine) → pair_of columns facts end (Among x items) lines ≡ joined_parts columns facts end Any (equations columns facts end x items.items) lines
+  unfolding pair_of
+  pair_of-Among x items lines = ap (λ cond. pair_of columns facts end cond lines) (sym (rolls-Among x items)) ∙ ap (λ reader. reader lines) (fold-roll-Cond (List BodyLine → Reading) (pair_step columns facts end) (Cond-F.Among x items))
+
+  pub pair_of-IsNull : (x : Operand) (lines : List BodyLine) → pair_of columns facts end (IsNull x) lines ≡ by_line end (is_null_test columns facts x) lines
+  unfolding pair_of
+  pair_of-IsNull x lines = ap (λ cond. pair_of columns facts end cond lines) (sym (rolls-IsNull x)) ∙ ap (λ reader. reader lines) (fold-roll-Cond (List BodyLine → Reading) (pair_step columns facts end) (Cond-F.IsNull x))
+
+  pub pair_of-And : (parts : Vec Cond Global) (lines : List BodyLine) → pair_of columns facts end (And parts) lines ≡ joined_parts columns facts end All (map (pair_of columns facts end) parts.items) lines
+  unfolding pair_of
+  pair_of-And parts lines = ap (λ cond. pair_of columns facts end cond lines) (sym (rolls-And parts)) ∙ ap (λ reader. reader lines) (fold-roll-Cond (List BodyLine → Reading) (pair_step columns facts end) (Cond-F.And parts))
+
+  pub pair_of-Or : (parts : Vec Cond Global) (lines : List BodyLine) → pair_of columns facts end (Or parts) lines ≡ joined_parts columns facts end Any (map (pair_of columns facts end) parts.items) lines
+  unfolding pair_of
+  pair_of-Or parts lines = ap (λ cond. pair_of columns facts end cond lines) (sym (rolls-Or parts)) ∙ ap (λ reader. reader lines) (fold-roll-Cond (List BodyLine → Reading) (pair_step columns facts end) (Cond-F.Or parts))
+
+  pub pair_of-Not : (part : Box Cond Global) (lines : List BodyLine) → pair_of columns facts end (Not part) lines ≡ (pair_of columns facts end part.value lines >>= λ read. by_line end (negated_pair read.0) read.1)
+  unfolding pair_of
+  pair_of-Not part lines = ap (λ cond. pair_of columns facts end cond lines) (sym (rolls-Not part)) ∙ ap (λ reader. reader lines) (fold-roll-Cond (List BodyLine → Reading) (pair_step columns facts end) (Cond-F.Not part))
+
+  pub pair_of-Test : (part : Box Cond Global) (t : Truth) (lines : List BodyLine) → pair_of columns facts end (Test part t) lines ≡ (pair_of columns facts end part.value lines >>= λ read. by_line end (tested_pair facts t read.0) read.1)
+  unfolding pair_of
+  pair_of-Test part t lines = ap (λ cond. pair_of columns facts end cond lines) (sym (rolls-Test part t)) ∙ ap (λ reader. reader lines) (fold-roll-Cond (List BodyLine → Reading) (pair_step columns facts end) (Cond-F.Test part t))
+
+pub ruleset pairs = (pair_of-Always, pair_of-Cmp, pair_of-Between, pair_of-Among, pair_of-IsNull, pair_of-And, pair_of-Or, pair_of-Not, pair_of-Test)

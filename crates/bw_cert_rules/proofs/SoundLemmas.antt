@@ -1,0 +1,349 @@
+-- What is known at each place holds in every run that reaches it, whichever skips the run takes.
+use Rattle.std.proofs.Common.{◌≡◌, ◌∙◌, refl, sym, ap, ap₂, subst, ◌⊎◌, inl, inr, ℕ, zero, suc, ◌+◌, ◌<◌, ◌≤◌, Bool, true, false, not, cond, IsTrue, List, [], ◌∷◌, ◌++◌, length, Option, Some, None, slice_get, add-zero, arith}
+use Rattle.std.proofs.Math.Dec.{eqb}
+use Rattle.std.proofs.lemmas.Bool.{eqb-true, eqb-false, eq-eqb, ltb-true, leb-true}
+use Rattle.std.specs.Option.{option_and_then}
+use Rattle.bw_model.proofs.BitsLemmas.{both}
+use Rattle.std.proofs.lemmas.Option.{slice_get_within}
+use Rattle.bw_model.specs.declared.column.Column.{Column}
+use Rattle.bw_model.specs.Variable.{Assignment}
+use Rattle.bw_diagram.specs.declared.product.Connective.TheVariants as connective
+use Rattle.bw_diagram.specs.Facts.{Facts}
+use Rattle.bw_diagram.specs.Node.{node_value}
+use Rattle.bw_diagram.specs.Product.{joined}
+use Rattle.bw_diagram.specs.Cited.{AreWorth, cited}
+use Rattle.bw_program.specs.declared.instr.Instr.{Instr}
+use Rattle.bw_program.specs.declared.instr.Instr.TheVariants.{Load, Nulls, Fill, And, Or, Xor, Not, ByteLt, ByteEq, Skip}
+use Rattle.bw_program.specs.Machine.{State, step, step_of, state_after, steps_from, after_skip, is_zero_in_all, end_state}
+use Rattle.bw_program.specs.Program.{ProgramShape, is_sound, are_sound, is_program}
+use Rattle.bw_cert_text.specs.declared.lines.EdgeProducts.{EdgeProducts}
+use Rattle.bw_cert_text.specs.declared.lines.Keep.{Keep}
+use Rattle.bw_cert_rules.specs.declared.edge.Edge.{Edge}
+use Rattle.bw_cert_rules.specs.Accepted.{KeepLine, JoinLines, Part, before, edges_before, edge_at, fallen, past, known_past, kept_by, are_kept, obeys_join, Obeys}
+use Rattle.bw_cert_rules.specs.Join.{with_edge, edges_into, is_zero, is_kept, keeps_through, keeps_by_skip, keeps_by_skips}
+use Rattle.bw_cert_rules.specs.Known.{Known, node_of, nothing_known, with_node}
+use Rattle.bw_cert_rules.specs.Sound.{Hold}
+use Rattle.bw_cert_rules.proofs.HoldLemmas.{map_same, holds_nothing, holds_kept}
+use Rattle.bw_cert_rules.proofs.StepLemmas.{values, holds_after_instr}
+
+-- two bits whose XOR is 0 are the same
+xor_zero : (a b : Bool) → joined connective.Xor a b ≡ false → a ≡ b
+xor_zero true true is = refl
+xor_zero false false is = refl
+xor_zero true false is = cc
+xor_zero false true is = cc
+
+-- a node that is 0
+zero_is : (found : Option ℕ) → is_zero found ≡ true → found ≡ Some 0
+zero_is None is = cc
+zero_is (Some n) is = ap Some (eqb-true n 0 is)
+
+chained : {A B : Type 0} (o : Option A) (f : A → Option B) (y : B) → option_and_then f o ≡ Some y → (x : A) × (o ≡ Some x) × (f x ≡ Some y)
+chained None f y is = cc
+chained (Some x) f y is = (x, refl, is)
+
+-- of two nodes whose XOR is the node 0, the values are the same
+same_worth : (facts : Facts) (f h row : ℕ) → AreWorth facts → cited facts connective.Xor f h row ≡ Some 0 → (assignment : Assignment) → node_value facts.nodes assignment f ≡ node_value facts.nodes assignment h
+same_worth facts f h row worth is assignment =
+    xor_zero _ _ (sym ((worth.row connective.Xor f h row 0 is).1 assignment) ∙ worth.zero assignment)
+
+-- falling through, a kept register holds the values of its node
+kept_through : (facts : Facts) (lanes : List Assignment) (through : Known) (registers : ℕ → List Bool) (keep : Keep) → AreWorth facts → Hold facts lanes through registers → keeps_through facts through keep ≡ true →
+    registers keep.register ≡ values facts lanes keep.node
+kept_through facts lanes through registers keep worth holds is =
+    let node = chained (node_of through keep.register) (λ f. cited facts connective.Xor f keep.node keep.through) 0 (zero_is _ is) in
+    holds keep.register node.0 node.1 ∙ map_same _ _ lanes (same_worth facts node.0 keep.node keep.through worth node.2)
+
+-- where a node is 0 in all lanes, and another is 1 only where it is 1, two nodes that differ only
+-- where the other is 1 have the same values
+same_where_zero : (facts : Facts) (lanes : List Assignment) (g h z q differs within : ℕ) → AreWorth facts → cited facts connective.Xor g h differs ≡ Some z → cited facts connective.Diff z q within ≡ Some 0 →
+    is_zero_in_all (values facts lanes q) ≡ true → values facts lanes g ≡ values facts lanes h
+same_where_zero facts [] g h z q differs within worth xor diff zeros = refl
+same_where_zero facts (lane ∷ lanes) g h z q differs within worth xor diff zeros =
+    let each = both (not (node_value facts.nodes lane q)) (is_zero_in_all (values facts lanes q)) zeros in
+    ap₂ (λ (b : Bool) (bs : List Bool). b ∷ bs) (at (node_value facts.nodes lane z) (node_value facts.nodes lane q) refl
+    (sym ((worth.row connective.Diff z q within 0 diff).1 lane) ∙ worth.zero lane) each.0)
+    (same_where_zero facts lanes g h z q differs within worth xor diff each.1)
+  where
+    at : (zv qv : Bool) → node_value facts.nodes lane z ≡ zv → joined connective.Diff zv qv ≡ false → not qv ≡ true → node_value facts.nodes lane g ≡ node_value facts.nodes lane h
+    at false qv zv_is none q_is = xor_zero _ _ (sym ((worth.row connective.Xor g h differs z xor).1 lane) ∙ zv_is)
+    at true true zv_is none q_is = cc
+    at true false zv_is none q_is = cc
+
+-- by a skip that is taken, a kept register holds the values of its node
+kept_by_skip : (facts : Facts) (lanes : List Assignment) (registers : ℕ → List Bool) (keep : Keep) (edge : Edge) (rows : EdgeProducts) → AreWorth facts → Hold facts lanes edge.known registers →
+    is_zero_in_all (registers edge.register) ≡ true → keeps_by_skip facts keep edge rows ≡ true → registers keep.register ≡ values facts lanes keep.node
+kept_by_skip facts lanes registers keep edge rows worth holds zeros is =
+    let z = chained (option_and_then (λ g. cited facts connective.Xor g keep.node rows.differs) (node_of edge.known keep.register)) _ 0 (zero_is _ is) in
+    let q = chained (node_of edge.known edge.register) (λ skipped. cited facts connective.Diff z.0 skipped rows.within) 0 z.2 in
+    let g = chained (node_of edge.known keep.register) (λ g. cited facts connective.Xor g keep.node rows.differs) z.0 z.1 in
+    holds keep.register g.0 g.1
+    ∙ same_where_zero facts lanes g.0 keep.node z.0 q.0 rows.differs rows.within worth g.2 q.2 (ap is_zero_in_all (sym (holds edge.register q.0 q.1)) ∙ zeros)
+
+-- an edge stands among others
+In : Edge → List Edge → Type 0
+In edge [] = ⊥
+In edge (e ∷ edges) = (edge ≡ e) ⊎ In edge edges
+
+pair_there : (facts : Facts) (keep : Keep) (edge : Edge) (edges : List Edge) (rows : List EdgeProducts) → In edge edges → keeps_by_skips facts keep edges rows ≡ true → (pair : EdgeProducts) × (keeps_by_skip facts keep edge pair ≡ true)
+unfolding keeps_by_skips In
+pair_there facts keep edge [] rows there is = absurd there
+pair_there facts keep edge (e ∷ edges) [] there is = cc
+pair_there facts keep edge (e ∷ edges) (pair ∷ more) (inl same) is = (pair, ap (λ e. keeps_by_skip facts keep e pair) same ∙ (both _ _ is).0)
+pair_there facts keep edge (e ∷ edges) (pair ∷ more) (inr there) is = pair_there facts keep edge edges more there (both _ _ is).1
+
+-- what is kept of a register
+kept_parts : (facts : Facts) (through : Known) (edges : List Edge) (least : ℕ) (keep : Keep) → is_kept facts through edges least keep ≡ true → (keeps_through facts through keep ≡ true) × (keeps_by_skips facts keep edges keep.edges ≡ true)
+unfolding is_kept
+kept_parts facts through edges least keep is =
+    let skips = both _ _ is in
+    let falls = both _ _ skips.0 in
+    (falls.1, skips.1)
+
+-- what a join keeps holds, where each register that it keeps does
+all_kept : (facts : Facts) (lanes : List Assignment) (through : Known) (registers : ℕ → List Bool) (edges : List Edge) (least : ℕ) (known : Known) (keeps : List KeepLine) →
+    ((keep : Keep) → keeps_through facts through keep ≡ true → keeps_by_skips facts keep edges keep.edges ≡ true → registers keep.register ≡ values facts lanes keep.node) →
+    Hold facts lanes known registers → are_kept facts through edges least keeps ≡ true → Hold facts lanes (kept_by known keeps) registers
+unfolding are_kept kept_by
+all_kept facts lanes through registers edges least known [] each holds is = holds
+all_kept facts lanes through registers edges least known (k ∷ keeps) each holds is =
+    let now = both _ _ is in
+    let parts = kept_parts facts through edges least k.keep now.0 in
+    all_kept facts lanes through registers edges (suc k.keep.register) (with_node known k.keep.register k.keep.node) keeps each
+    (holds_kept facts lanes known registers k.keep.register k.keep.node holds (each k.keep parts.0 parts.1)) now.1
+
+-- what is known after an instruction holds on falling through to its join, if it has one
+past_through : (facts : Facts) (lanes : List Assignment) (through : Known) (registers : ℕ → List Bool) (edges : List Edge) (join : Option JoinLines) → AreWorth facts → Hold facts lanes through registers →
+    obeys_join facts through edges join ≡ true → Hold facts lanes (past through join) registers
+past_through facts lanes through registers edges None worth holds is = holds
+past_through facts lanes through registers [] (Some join) worth holds is = cc
+past_through facts lanes through registers (e ∷ edges) (Some join) worth holds is =
+    all_kept facts lanes through registers (e ∷ edges) 0 nothing_known join.keeps (λ keep falls skips. kept_through facts lanes through registers keep worth holds falls) (holds_nothing facts lanes registers) is
+
+-- and by a skip into it that is taken
+past_skip : (facts : Facts) (lanes : List Assignment) (through : Known) (registers : ℕ → List Bool) (edge : Edge) (edges : List Edge) (join : Option JoinLines) → AreWorth facts → In edge edges → Hold facts lanes edge.known registers →
+    is_zero_in_all (registers edge.register) ≡ true → obeys_join facts through edges join ≡ true → Hold facts lanes (past through join) registers
+unfolding In
+past_skip facts lanes through registers edge [] join worth there holds zeros is = absurd there
+past_skip facts lanes through registers edge (e ∷ edges) None worth there holds zeros is = cc
+past_skip facts lanes through registers edge (e ∷ edges) (Some join) worth there holds zeros is =
+    all_kept facts lanes through registers (e ∷ edges) 0 nothing_known join.keeps
+    (λ keep falls skips. let pair = pair_there facts keep edge (e ∷ edges) keep.edges there skips in
+    kept_by_skip facts lanes registers keep edge pair.0 worth holds zeros pair.1)
+    (holds_nothing facts lanes registers) is
+
+in_append : (edge e : Edge) (edges : List Edge) → In edge edges → In edge (edges ++ e ∷ [])
+unfolding In
+in_append edge e [] there = absurd there
+in_append edge e (x ∷ edges) (inl same) = inl same
+in_append edge e (x ∷ edges) (inr there) = inr (in_append edge e edges there)
+
+in_last : (edge : Edge) (edges : List Edge) → In edge (edges ++ edge ∷ [])
+unfolding In
+in_last edge [] = inl refl
+in_last edge (x ∷ edges) = inr (in_last edge edges)
+
+in_more : (edge : Edge) (edges : List Edge) (more : Option Edge) → In edge edges → In edge (with_edge edges more)
+in_more edge edges None there = there
+in_more edge edges (Some e) there = in_append edge e edges there
+
+in_into : (edge : Edge) (edges : List Edge) (place : ℕ) → edge.target ≡ place → In edge edges → In edge (edges_into place edges)
+unfolding In edges_into
+in_into edge [] place target there = absurd there
+in_into edge (e ∷ edges) place target there = at (eqb e.target place) refl there (in_into edge edges place target)
+  where
+    at : (here : Bool) → eqb e.target place ≡ here → In edge (e ∷ edges) → (In edge edges → In edge (edges_into place edges)) → In edge (cond here (e ∷ edges_into place edges) (edges_into place edges))
+    at true is (inl same) rest = inl same
+    at true is (inr there) rest = inr (rest there)
+    at false is (inl same) rest =
+        let here : eqb e.target place ≡ true = ap (λ (e : Edge). eqb e.target place) (sym same) ∙ eq-eqb edge.target place target in
+        absurd (false_true (sym is ∙ here))
+      where
+        false_true : false ≡ true → ⊥
+        false_true is = cc
+    at false is (inr there) rest = rest there
+
+-- the edge of a skip stands among those before each later place
+skip_before : (facts : Facts) (instrs : List Instr) (parts : List Part) (k x target place : ℕ) → slice_get instrs k ≡ Some (Skip x target) → k < place →
+    In (record { target = target; register = x; known = before facts instrs parts k }) (edges_before facts instrs parts place)
+unfolding edges_before
+skip_before facts instrs parts k x target zero there lt = absurd (omega (arith, lt))
+skip_before facts instrs parts k x target (suc place) there lt = at (eqb k place) refl (skip_before facts instrs parts k x target place there)
+  where
+    edge : Edge
+    edge = record { target = target; register = x; known = before facts instrs parts k }
+
+    earlier : List Edge
+    earlier = edges_before facts instrs parts place
+
+    at : (here : Bool) → eqb k place ≡ here → (k < place → In edge earlier) → In edge (with_edge earlier (edge_at (before facts instrs parts place) (slice_get instrs place)))
+    at true is rest =
+        let same : k ≡ place = eqb-true k place is in
+        let last : with_edge earlier (edge_at (before facts instrs parts place) (slice_get instrs place)) ≡ earlier ++ edge ∷ [] =
+        ap (λ p. with_edge earlier (edge_at (before facts instrs parts p) (slice_get instrs p))) (sym same)
+        ∙ ap (λ i. with_edge earlier (edge_at (before facts instrs parts k) i)) there in
+        subst (In edge) (sym last) (in_last edge earlier)
+    at false is rest = in_more edge earlier _ (rest (omega (arith, lt, eqb-false k place is)))
+
+-- a list as long as another has something wherever that one has
+part_there : {A B : Type 0} (xs : List A) (ys : List B) (k : ℕ) (x : A) → length ys ≡ length xs → slice_get xs k ≡ Some x → (y : B) × (slice_get ys k ≡ Some y)
+part_there [] ys k x long is = cc
+part_there (a ∷ xs) [] k x long is = cc
+part_there (a ∷ xs) (b ∷ ys) zero x long is = (b, refl)
+part_there (a ∷ xs) (b ∷ ys) (suc k) x long is = part_there xs ys k x (omega (arith, long)) is
+
+instr_there : {A : Type 0} (xs : List A) (k : ℕ) → k < length xs → (x : A) × (slice_get xs k ≡ Some x)
+instr_there [] k lt = absurd (omega (arith, lt))
+instr_there (a ∷ xs) zero lt = (a, refl)
+instr_there (a ∷ xs) (suc k) lt = instr_there xs k (omega (arith, lt))
+
+-- what is known after an instruction, by its part
+past_is : (facts : Facts) (instrs : List Instr) (parts : List Part) (place : ℕ) (instr : Instr) (part : Part) → slice_get instrs place ≡ Some instr → slice_get parts place ≡ Some part →
+    before facts instrs parts (suc place) ≡ past (fallen facts (before facts instrs parts place) instr part) part.join
+unfolding before
+past_is facts instrs parts place instr part there given = ap₂ (known_past facts (before facts instrs parts place)) there given
+
+-- skips go forward, and not past the end
+abbrev pub Forward : List Instr → Type 0
+Forward instrs = (k x target : ℕ) → slice_get instrs k ≡ Some (Skip x target) → (k < target) × (target ≤ length instrs)
+
+-- a state in which what is known at its place holds
+HoldsAt : Facts → List Assignment → List Instr → List Part → State → Type 0
+HoldsAt facts lanes instrs parts state = Hold facts lanes (before facts instrs parts state.place) state.registers
+
+-- an instruction after which the next one comes
+fell : (facts : Facts) (lanes : List Assignment) (instrs : List Instr) (parts : List Part) (state : State) (instr : Instr) (next : State) → AreWorth facts → Obeys facts instrs parts → slice_get instrs state.place ≡ Some instr →
+    HoldsAt facts lanes instrs parts state → next.place ≡ suc state.place → next.registers ≡ (step facts.columns lanes instr state).registers → HoldsAt facts lanes instrs parts next
+unfolding HoldsAt
+fell facts lanes instrs parts state instr next worth obeys there holds place registers =
+    let part = part_there instrs parts state.place instr obeys.counted there in
+    let known : Known = before facts instrs parts state.place in
+    let stepped = holds_after_instr facts lanes known (fallen facts known instr part.0) state part.0.line instr part.0.entry worth holds (obeys.instruction state.place instr part.0 there part.1) in
+    let past_join = past_through facts lanes (fallen facts known instr part.0) (step facts.columns lanes instr state).registers _ part.0.join worth stepped (obeys.join state.place instr part.0 there part.1) in
+    let here = past_is facts instrs parts state.place instr part.0 there part.1 in
+    subst (λ p. Hold facts lanes (before facts instrs parts p) next.registers) (sym place)
+    (subst (λ rs. Hold facts lanes (before facts instrs parts (suc state.place)) rs) (sym registers) (subst (λ k. Hold facts lanes k (step facts.columns lanes instr state).registers) (sym here) past_join))
+
+-- a skip that is taken
+skipped : (facts : Facts) (lanes : List Assignment) (instrs : List Instr) (parts : List Part) (state : State) (x target : ℕ) → AreWorth facts → Obeys facts instrs parts → Forward instrs → slice_get instrs state.place ≡ Some (Skip x target) →
+    is_zero_in_all (state.registers x) ≡ true → HoldsAt facts lanes instrs parts state → Hold facts lanes (before facts instrs parts target) state.registers
+unfolding HoldsAt
+skipped facts lanes instrs parts state x zero worth obeys forward there zeros holds = absurd (omega (arith, (forward state.place x 0 there).0))
+skipped facts lanes instrs parts state x (suc place) worth obeys forward there zeros holds =
+    let ahead = forward state.place x (suc place) there in
+    let instr = instr_there instrs place (omega (arith, ahead.1)) in
+    let part = part_there instrs parts place instr.0 obeys.counted instr.1 in
+    let edge : Edge = record { target = suc place; register = x; known = before facts instrs parts state.place } in
+    let among = in_into edge (edges_before facts instrs parts (suc place)) (suc place) refl (skip_before facts instrs parts state.place x (suc place) (suc place) there ahead.0) in
+    subst (λ k. Hold facts lanes k state.registers) (sym (past_is facts instrs parts place instr.0 part.0 instr.1 part.1))
+    (past_skip facts lanes (fallen facts (before facts instrs parts place) instr.0 part.0) state.registers edge _ part.0.join worth among holds zeros (obeys.join place instr.0 part.0 instr.1 part.1))
+
+-- one step more
+stepped : (facts : Facts) (lanes : List Assignment) (instrs : List Instr) (parts : List Part) (state : State) (instr : Instr) → AreWorth facts → Obeys facts instrs parts → Forward instrs → slice_get instrs state.place ≡ Some instr →
+    HoldsAt facts lanes instrs parts state → HoldsAt facts lanes instrs parts (step facts.columns lanes instr state)
+unfolding HoldsAt
+stepped facts lanes instrs parts state (Load r column bit) worth obeys forward there holds = fell facts lanes instrs parts state (Load r column bit) (step facts.columns lanes (Load r column bit) state) worth obeys there holds (omega arith) refl
+stepped facts lanes instrs parts state (Nulls r column) worth obeys forward there holds = fell facts lanes instrs parts state (Nulls r column) (step facts.columns lanes (Nulls r column) state) worth obeys there holds (omega arith) refl
+stepped facts lanes instrs parts state (Fill r bit) worth obeys forward there holds = fell facts lanes instrs parts state (Fill r bit) (step facts.columns lanes (Fill r bit) state) worth obeys there holds (omega arith) refl
+stepped facts lanes instrs parts state (And r x y) worth obeys forward there holds = fell facts lanes instrs parts state (And r x y) (step facts.columns lanes (And r x y) state) worth obeys there holds (omega arith) refl
+stepped facts lanes instrs parts state (Or r x y) worth obeys forward there holds = fell facts lanes instrs parts state (Or r x y) (step facts.columns lanes (Or r x y) state) worth obeys there holds (omega arith) refl
+stepped facts lanes instrs parts state (Xor r x y) worth obeys forward there holds = fell facts lanes instrs parts state (Xor r x y) (step facts.columns lanes (Xor r x y) state) worth obeys there holds (omega arith) refl
+stepped facts lanes instrs parts state (Not r x) worth obeys forward there holds = fell facts lanes instrs parts state (Not r x) (step facts.columns lanes (Not r x) state) worth obeys there holds (omega arith) refl
+stepped facts lanes instrs parts state (ByteLt r column slice k) worth obeys forward there holds = fell facts lanes instrs parts state (ByteLt r column slice k) (step facts.columns lanes (ByteLt r column slice k) state) worth obeys there holds (omega arith) refl
+stepped facts lanes instrs parts state (ByteEq r column slice k) worth obeys forward there holds = fell facts lanes instrs parts state (ByteEq r column slice k) (step facts.columns lanes (ByteEq r column slice k) state) worth obeys there holds (omega arith) refl
+stepped facts lanes instrs parts state (Skip x target) worth obeys forward there holds = at (is_zero_in_all (state.registers x)) refl
+  where
+    same : (taken : Bool) → (after_skip state taken target).registers ≡ state.registers
+    same true = refl
+    same false = refl
+
+    at : (taken : Bool) → is_zero_in_all (state.registers x) ≡ taken → HoldsAt facts lanes instrs parts (after_skip state taken target)
+    at true is = skipped facts lanes instrs parts state x target worth obeys forward there is holds
+    at false is = fell facts lanes instrs parts state (Skip x target) (after_skip state false target) worth obeys there holds (omega arith) (sym (same (is_zero_in_all (state.registers x))))
+
+-- after any number of steps
+pub holds_after : (facts : Facts) (lanes : List Assignment) (program : ProgramShape) (parts : List Part) (steps : ℕ) → AreWorth facts → Obeys facts program.instrs parts → Forward program.instrs →
+    let state : State = state_after facts.columns lanes program steps in Hold facts lanes (before facts program.instrs parts state.place) state.registers
+unfolding HoldsAt steps_from before
+holds_after facts lanes program parts zero worth obeys forward = holds_nothing facts lanes _
+holds_after facts lanes program parts (suc steps) worth obeys forward =
+    at (slice_get program.instrs (state_after facts.columns lanes program steps).place) refl (holds_after facts lanes program parts steps worth obeys forward)
+  where
+    last : State
+    last = state_after facts.columns lanes program steps
+
+    at : (instr : Option Instr) → slice_get program.instrs last.place ≡ instr → HoldsAt facts lanes program.instrs parts last → HoldsAt facts lanes program.instrs parts (step_of facts.columns lanes instr last)
+    at None there holds = holds
+    at (Some instr) there holds = stepped facts lanes program.instrs parts last instr worth obeys forward there holds
+
+-- an instruction of a program is sound
+sound_at : (end number : ℕ) (instrs : List Instr) (k : ℕ) (instr : Instr) → are_sound end number instrs ≡ true → slice_get instrs k ≡ Some instr → is_sound end (number + k) instr ≡ true
+unfolding are_sound
+sound_at end number [] k instr sound there = cc
+sound_at end number (i ∷ instrs) zero instr sound there =
+    let same : i ≡ instr = cc in
+    subst (λ n. is_sound end n instr ≡ true) (sym (add-zero number)) (subst (λ i. is_sound end number i ≡ true) same (both _ _ sound).0)
+sound_at end number (i ∷ instrs) (suc k) instr sound there =
+    subst (λ n. is_sound end n instr ≡ true) (omega arith) (sound_at end (suc number) instrs k instr (both _ _ sound).1 there)
+
+-- a program's skips go forward, and not past the end
+pub forward : (program : ProgramShape) → IsTrue (is_program program) → Forward program.instrs
+forward program sound k x target there =
+    let is : is_sound (length program.instrs) k (Skip x target) ≡ true =
+    subst (λ n. is_sound (length program.instrs) n (Skip x target) ≡ true) (omega arith) (sound_at (length program.instrs) 0 program.instrs k (Skip x target) (both _ _ sound).1 there) in
+    let ends = both _ _ is in
+    let starts = both _ _ ends.0 in
+    (ltb-true k target starts.1, leb-true target (length program.instrs) ends.1)
+
+-- a step goes on, and not past the end
+goes_on : (columns : List Column) (lanes : List Assignment) (instrs : List Instr) (state : State) (instr : Instr) → Forward instrs → slice_get instrs state.place ≡ Some instr →
+    (state.place < (step columns lanes instr state).place) × ((step columns lanes instr state).place ≤ length instrs)
+goes_on columns lanes instrs state (Load r column bit) forward there = (omega arith, omega (arith, slice_get_within instrs state.place _ there))
+goes_on columns lanes instrs state (Nulls r column) forward there = (omega arith, omega (arith, slice_get_within instrs state.place _ there))
+goes_on columns lanes instrs state (Fill r bit) forward there = (omega arith, omega (arith, slice_get_within instrs state.place _ there))
+goes_on columns lanes instrs state (And r x y) forward there = (omega arith, omega (arith, slice_get_within instrs state.place _ there))
+goes_on columns lanes instrs state (Or r x y) forward there = (omega arith, omega (arith, slice_get_within instrs state.place _ there))
+goes_on columns lanes instrs state (Xor r x y) forward there = (omega arith, omega (arith, slice_get_within instrs state.place _ there))
+goes_on columns lanes instrs state (Not r x) forward there = (omega arith, omega (arith, slice_get_within instrs state.place _ there))
+goes_on columns lanes instrs state (ByteLt r column slice k) forward there = (omega arith, omega (arith, slice_get_within instrs state.place _ there))
+goes_on columns lanes instrs state (ByteEq r column slice k) forward there = (omega arith, omega (arith, slice_get_within instrs state.place _ there))
+goes_on columns lanes instrs state (Skip x target) forward there = at (is_zero_in_all (state.registers x))
+  where
+    at : (taken : Bool) → (state.place < (after_skip state taken target).place) × ((after_skip state taken target).place ≤ length instrs)
+    at true = forward state.place x target there
+    at false = (omega arith, omega (arith, slice_get_within instrs state.place _ there))
+
+-- after so many steps a run has come so far, or to the end
+come_far : (columns : List Column) (lanes : List Assignment) (program : ProgramShape) (steps : ℕ) → Forward program.instrs → let state : State = state_after columns lanes program steps in
+    (state.place ≤ length program.instrs) × ((steps ≤ state.place) ⊎ (state.place ≡ length program.instrs))
+unfolding steps_from
+come_far columns lanes program zero forward = (omega arith, inl (omega arith))
+come_far columns lanes program (suc steps) forward = at (slice_get program.instrs last.place) refl (come_far columns lanes program steps forward)
+  where
+    last : State
+    last = state_after columns lanes program steps
+
+    Far : ℕ → State → Type 0
+    Far steps state = (state.place ≤ length program.instrs) × ((steps ≤ state.place) ⊎ (state.place ≡ length program.instrs))
+
+    at : (instr : Option Instr) → slice_get program.instrs last.place ≡ instr → Far steps last → Far (suc steps) (step_of columns lanes instr last)
+    at None there (within, far) = (within, inr (ended program.instrs last.place there within))
+      where
+        ended : (xs : List Instr) (k : ℕ) → slice_get xs k ≡ None → k ≤ length xs → k ≡ length xs
+        ended [] k is le = omega (arith, le)
+        ended (x ∷ xs) zero is le = cc
+        ended (x ∷ xs) (suc k) is le = ap suc (ended xs k is (omega (arith, le)))
+    at (Some instr) there (within, inl far) = let on = goes_on columns lanes program.instrs last instr forward there in (on.1, inl (omega (arith, on.0, far)))
+    at (Some instr) there (within, inr end) = absurd (omega (arith, slice_get_within program.instrs last.place instr there, end))
+
+-- at the end, what is known there holds
+pub holds_at_end : (facts : Facts) (lanes : List Assignment) (program : ProgramShape) (parts : List Part) → AreWorth facts → Obeys facts program.instrs parts → Forward program.instrs →
+    Hold facts lanes (before facts program.instrs parts (length program.instrs)) (end_state facts.columns lanes program).registers
+holds_at_end facts lanes program parts worth obeys forward =
+    subst (λ p. Hold facts lanes (before facts program.instrs parts p) (end_state facts.columns lanes program).registers) (there (come_far facts.columns lanes program (length program.instrs) forward))
+    (holds_after facts lanes program parts (length program.instrs) worth obeys forward)
+  where
+    there : ((end_state facts.columns lanes program).place ≤ length program.instrs) × ((length program.instrs ≤ (end_state facts.columns lanes program).place) ⊎ ((end_state facts.columns lanes program).place ≡ length program.instrs)) →
+        (end_state facts.columns lanes program).place ≡ length program.instrs
+    there (within, inl far) = omega (arith, within, far)
+    there (within, inr end) = end

@@ -1,0 +1,182 @@
+-- A condition's lines are read by its tree, and by what the lines say, wherever their parts lie in
+-- memory.
+use Rattle.std.proofs.Common.{◌≡◌, ◌∙◌, refl, sym, ap, ap₂, ℕ, List, [], ◌∷◌, map, Option, Some, None, Ok, Err}
+use Rattle.std.specs.Option.{option_and_then}
+use Rattle.bw_model.specs.declared.column.Column.{Column}
+use Rattle.bw_model.specs.declared.cond.Truth.TheVariants.{Yes}
+use Rattle.bw_model.specs.declared.cond.Op.TheVariants.{Eq, Le, Ge}
+use Rattle.bw_model.specs.declared.cond.Operand.{Operand}
+use Rattle.bw_model.specs.declared.cond.Cond.{Cond, Cond-F, fold-Cond}
+use Rattle.bw_model.specs.declared.cond.Cond.TheFolds.{map-Cond}
+use Rattle.bw_model.specs.CondTree.{CondTree, CondTrees, none, more, trees_of, tree_step, tree_of}
+use Rattle.bw_model.specs.CondTree as tree
+use Rattle.bw_model.specs.Fault.{at_line, ◌>>=◌}
+use Rattle.bw_model.proofs.SameLemmas.{Known, bare, of_tree}
+use Rattle.bw_diagram.specs.Facts.{Facts}
+use Rattle.bw_cert_text.specs.declared.lines.BodyLine.{BodyLine}
+use Rattle.bw_cert_text.specs.declared.lines.ConditionEntry.{ConditionEntry}
+use Rattle.bw_cert_text.specs.declared.lines.Entry.{Entry}
+use Rattle.bw_cert_text.specs.declared.lines.Entry.TheVariants as entry
+use Rattle.bw_cert_text.specs.CertificateFields.{BodyFields, EntryFields, Condition, Instruction, Join, Kept, body_fields, entry_fields}
+use Rattle.bw_cert_rules.specs.declared.nodes.Pair.{Pair}
+use Rattle.bw_cert_rules.specs.declared.steps.Junction.{Junction}
+use Rattle.bw_cert_rules.specs.declared.steps.Junction.TheVariants.{All, Any}
+use Rattle.bw_cert_rules.specs.Comparison.{fixed, comparison}
+use Rattle.bw_cert_rules.specs.Pair.{Reading, told, condition_entry, next_entry, taken, by_line, is_null_test, joined_pair, negated_pair, tested_pair, one_more, more_parts, joined_parts, equations, pair_step, pair_of}
+
+-- lines that say the same
+abbrev pub SayTheSame : List BodyLine → List BodyLine → Type 0
+SayTheSame lines others = map body_fields lines ≡ map body_fields others
+
+-- a reader of what lines say
+abbrev pub Steady : (List BodyLine → Reading) → Type 0
+Steady reader = (lines others : List BodyLine) → SayTheSame lines others → told (reader lines) ≡ told (reader others)
+
+abbrev AllSteady : List (List BodyLine → Reading) → Type 0
+AllSteady [] = Unit {0}
+AllSteady (reader ∷ readers) = Steady reader × AllSteady readers
+
+said_of_condition : EntryFields → Option ConditionEntry
+said_of_condition (Condition given) = Some given
+said_of_condition (Instruction given) = None
+said_of_condition (Join place) = None
+said_of_condition (Kept keep) = None
+
+said : (e : Entry) → condition_entry e ≡ said_of_condition (entry_fields e)
+unfolding said_of_condition
+said (entry.Condition given) = refl
+said (entry.Instruction given) = refl
+said (entry.Join place) = refl
+said (entry.Keep keep) = refl
+
+taken-steady : (end : ℕ) (made : Option Pair) → Steady (taken end made)
+taken-steady end None [] [] same = refl
+taken-steady end None [] (other ∷ others) same = cc
+taken-steady end None (line ∷ lines) [] same = cc
+taken-steady end None (line ∷ lines) (other ∷ others) same =
+    let first : body_fields line ≡ body_fields other = cc in
+    ap (λ (fields : BodyFields). Err (at_line 606 fields.line)) first
+taken-steady end (Some pair) [] [] same = refl
+taken-steady end (Some pair) [] (other ∷ others) same = cc
+taken-steady end (Some pair) (line ∷ lines) [] same = cc
+taken-steady end (Some pair) (line ∷ lines) (other ∷ others) same =
+    let rest : SayTheSame lines others = cc in
+    ap (λ (fields : List BodyFields). Ok (pair, fields)) rest
+
+next-same : (lines others : List BodyLine) → SayTheSame lines others → next_entry lines ≡ next_entry others
+next-same [] [] same = refl
+next-same [] (other ∷ others) same = cc
+next-same (line ∷ lines) [] same = cc
+next-same (line ∷ lines) (other ∷ others) same =
+    let first : body_fields line ≡ body_fields other = cc in
+    said line.entry ∙ ap (λ (fields : BodyFields). said_of_condition fields.entry) first ∙ sym (said other.entry)
+
+by_line-steady : (end : ℕ) (rule : ConditionEntry → Option Pair) → Steady (by_line end rule)
+unfolding by_line
+by_line-steady end rule lines others same =
+    taken-steady end (option_and_then rule (next_entry lines)) lines others same
+    ∙ ap (λ entry. told (taken end (option_and_then rule entry) others)) (next-same lines others same)
+
+-- one reader after another
+then-steady : (read other : Reading) (f g : Pair × List BodyLine → Reading) → told read ≡ told other →
+    ((pair : Pair) (lines others : List BodyLine) → SayTheSame lines others → told (f (pair, lines)) ≡ told (g (pair, others))) →
+    told (read >>= f) ≡ told (other >>= g)
+then-steady (Ok a) (Ok b) f g same each =
+    let both : (a.0, map body_fields a.1) ≡ (b.0, map body_fields b.1) = cc in
+    let pairs : a.0 ≡ b.0 = ap (λ (said : Pair × List BodyFields). said.0) both in
+    let rests : SayTheSame a.1 b.1 = ap (λ (said : Pair × List BodyFields). said.1) both in
+    each a.0 a.1 b.1 rests ∙ ap (λ pair. told (g (pair, b.1))) pairs
+then-steady (Ok a) (Err fault) f g same each = cc
+then-steady (Err fault) (Ok b) f g same each = cc
+then-steady (Err fault) (Err other) f g same each = same
+
+module _ (columns : List Column) (facts : Facts) (end : ℕ) where
+  more-steady : (junction : Junction) (parts : List (List BodyLine → Reading)) → AllSteady parts → (pair : Pair) (lines others : List BodyLine) → SayTheSame lines others →
+      told (more_parts columns facts end junction parts (pair, lines)) ≡ told (more_parts columns facts end junction parts (pair, others))
+  more-steady junction [] all pair lines others same = ap (λ (fields : List BodyFields). Ok (pair, fields)) same
+  more-steady junction (part ∷ parts) all pair lines others same =
+      then-steady (one_more columns facts end junction part (pair, lines)) (one_more columns facts end junction part (pair, others)) _ _
+      (then-steady (part lines) (part others) _ _ (all.0 lines others same) (λ next lines others same. by_line-steady end (joined_pair facts junction pair next) lines others same))
+      (λ next lines others same. more-steady junction parts all.1 next lines others same)
+
+  joined-steady : (junction : Junction) (parts : List (List BodyLine → Reading)) → AllSteady parts → Steady (joined_parts columns facts end junction parts)
+  joined-steady junction [] all lines others same = taken-steady end None lines others same
+  joined-steady junction (part ∷ parts) all lines others same =
+      then-steady (part lines) (part others) _ _ (all.0 lines others same) (λ first lines others same. more-steady junction parts all.1 first lines others same)
+
+  equations-steady : (x : Operand) (items : List Operand) → AllSteady (equations columns facts end x items)
+  equations-steady x [] = tt
+  equations-steady x (item ∷ items) = (by_line-steady end (comparison columns facts Eq x item), equations-steady x items)
+
+  -- a part's lines, and one line more
+  abbrev after_part : (List BodyLine → Reading) → (Pair → ConditionEntry → Option Pair) → List BodyLine → Reading
+  after_part reader rule lines = reader lines >>= λ read. by_line end (rule read.0) read.1
+
+  after-steady : (reader : List BodyLine → Reading) (rule : Pair → ConditionEntry → Option Pair) → Steady reader → Steady (after_part reader rule)
+  after-steady reader rule steady lines others same =
+      then-steady (reader lines) (reader others) _ _ (steady lines others same) (λ pair lines others same. by_line-steady end (rule pair) lines others same)
+
+  -- what a condition's lines are read as, by its tree
+  abbrev mutual
+    pub tree_pair : CondTree → List BodyLine → Reading
+    tree_pair tree.Always lines = by_line end (fixed Yes) lines
+    tree_pair (tree.Cmp op x y) lines = by_line end (comparison columns facts op x y) lines
+    tree_pair (tree.Between x y z) lines =
+        joined_parts columns facts end All (by_line end (comparison columns facts Ge x y) ∷ by_line end (comparison columns facts Le x z) ∷ []) lines
+    tree_pair (tree.Among x items) lines = joined_parts columns facts end Any (equations columns facts end x items) lines
+    tree_pair (tree.IsNull x) lines = by_line end (is_null_test columns facts x) lines
+    tree_pair (tree.And parts) lines = joined_parts columns facts end All (tree_pairs parts) lines
+    tree_pair (tree.Or parts) lines = joined_parts columns facts end Any (tree_pairs parts) lines
+    tree_pair (tree.Not part) lines = tree_pair part lines >>= λ read. by_line end (negated_pair read.0) read.1
+    tree_pair (tree.Test part t) lines = tree_pair part lines >>= λ read. by_line end (tested_pair facts t read.0) read.1
+
+    tree_pairs : CondTrees → List (List BodyLine → Reading)
+    tree_pairs none = []
+    tree_pairs (more part parts) = tree_pair part ∷ tree_pairs parts
+
+  mutual
+    pub tree-steady : (t : CondTree) → Steady (tree_pair t)
+    tree-steady tree.Always = by_line-steady end (fixed Yes)
+    tree-steady (tree.Cmp op x y) = by_line-steady end (comparison columns facts op x y)
+    tree-steady (tree.Between x y z) =
+        joined-steady All (by_line end (comparison columns facts Ge x y) ∷ by_line end (comparison columns facts Le x z) ∷ [])
+        (by_line-steady end (comparison columns facts Ge x y), (by_line-steady end (comparison columns facts Le x z), tt))
+    tree-steady (tree.Among x items) = joined-steady Any (equations columns facts end x items) (equations-steady x items)
+    tree-steady (tree.IsNull x) = by_line-steady end (is_null_test columns facts x)
+    tree-steady (tree.And parts) = joined-steady All (tree_pairs parts) (trees-steady parts)
+    tree-steady (tree.Or parts) = joined-steady Any (tree_pairs parts) (trees-steady parts)
+    tree-steady (tree.Not part) = after-steady (tree_pair part) negated_pair (tree-steady part)
+    tree-steady (tree.Test part t) = after-steady (tree_pair part) (tested_pair facts t) (tree-steady part)
+
+    trees-steady : (ts : CondTrees) → AllSteady (tree_pairs ts)
+    trees-steady none = tt
+    trees-steady (more part parts) = (tree-steady part, trees-steady parts)
+
+  abbrev Reader : Type 0
+  Reader = List BodyLine → Reading
+
+  abbrev step : Cond-F Reader → Reader
+  step = pair_step columns facts end
+
+  abbrev Parts : Type 0
+  Parts = Known Reader step tree_pair
+
+  parts-known : (parts : List Parts) → map (fold-Cond Reader step) (map (λ e. e.0) parts) ≡ tree_pairs (trees_of (map tree_of (map (λ e. e.0) parts)))
+  parts-known [] = refl
+  parts-known (part ∷ parts) = ap₂ (λ (r : Reader) (rs : List Reader). r ∷ rs) part.1 (parts-known parts)
+
+  layer-known : (layer : Cond-F Parts) →
+      step (map-Cond Cond Reader (fold-Cond Reader step) (bare Reader step tree_pair layer)) ≡ tree_pair (tree_step (map-Cond Cond CondTree tree_of (bare Reader step tree_pair layer)))
+  layer-known Cond-F.Always = refl
+  layer-known (Cond-F.Cmp op x y) = refl
+  layer-known (Cond-F.Between x y z) = refl
+  layer-known (Cond-F.Among x items) = refl
+  layer-known (Cond-F.IsNull x) = refl
+  layer-known (Cond-F.And parts) = ap (λ (rs : List Reader). joined_parts columns facts end All rs) (parts-known parts.items)
+  layer-known (Cond-F.Or parts) = ap (λ (rs : List Reader). joined_parts columns facts end Any rs) (parts-known parts.items)
+  layer-known (Cond-F.Not part) = ap (λ (r : Reader). after_part r negated_pair) part.value.1
+  layer-known (Cond-F.Test part t) = ap (λ (r : Reader). after_part r (tested_pair facts t)) part.value.1
+
+  pub pair_of-tree_of : (cond : Cond) → pair_of columns facts end cond ≡ tree_pair (tree_of cond)
+  unfolding pair_of
+  pair_of-tree_of cond = of_tree Reader step tree_pair layer-known cond

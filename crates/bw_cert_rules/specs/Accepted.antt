@@ -1,0 +1,123 @@
+-- When lines state what is known of a program's registers, place by place. It doesn't mention how
+-- lines are checked.
+use Rattle.std.specs.Prelude.{◌≡◌, ℕ, zero, suc, Bool, true, false, ◌&&◌, IsTrue, List, [], ◌∷◌, ◌++◌, length, map, Option, Some, None, Result, Ok, Err, slice_get}
+use Rattle.bw_model.specs.declared.fault.Fault.{Fault}
+use Rattle.bw_diagram.specs.Facts.{Facts}
+use Rattle.bw_program.specs.declared.instr.Instr.{Instr}
+use Rattle.bw_cert_text.specs.declared.lines.BodyLine.{BodyLine}
+use Rattle.bw_cert_text.specs.declared.lines.Entry.TheVariants as line_of
+use Rattle.bw_cert_text.specs.declared.lines.InstructionEntry.{InstructionEntry}
+use Rattle.bw_cert_text.specs.declared.lines.Keep.{Keep}
+use Rattle.bw_cert_rules.specs.declared.edge.Edge.{Edge}
+use Rattle.bw_cert_rules.specs.Known.{Known, nothing_known, with_node}
+use Rattle.bw_cert_rules.specs.Instruction.{after}
+use Rattle.bw_cert_rules.specs.Walk.{Taken}
+use Rattle.bw_cert_rules.specs.Join.{edge_of, with_edge, edges_into, is_kept}
+
+-- a line KEEP with its number
+pub record KeepLine : Type 0 where
+  pub line : ℕ
+  pub keep : Keep
+
+-- the number of a line JOIN, and the lines KEEP after it
+pub record JoinLines : Type 0 where
+  pub line : ℕ
+  pub keeps : List KeepLine
+
+-- the lines of one instruction: its own, and those of the join after it, if there is one
+pub record Part : Type 0 where
+  pub line : ℕ
+  pub entry : InstructionEntry
+  pub join : Option JoinLines
+
+abbrev pub keep_line : KeepLine → BodyLine
+keep_line k = record { line = k.line; entry = line_of.Keep k.keep }
+
+abbrev pub join_lines : ℕ → Option JoinLines → List BodyLine
+join_lines place None = []
+join_lines place (Some join) = record { line = join.line; entry = line_of.Join place } ∷ map keep_line join.keeps
+
+-- the lines of parts, the first of which has this number
+unfoldable pub lines_of : ℕ → List Part → List BodyLine
+lines_of place [] = []
+lines_of place (part ∷ parts) =
+    record { line = part.line; entry = line_of.Instruction part.entry }
+    ∷ (join_lines (suc place) part.join ++ lines_of (suc place) parts)
+
+-- what is known after lines KEEP: the registers that they name, and nothing else
+unfoldable pub kept_by : Known → List KeepLine → Known
+kept_by known [] = known
+kept_by known (k ∷ keeps) = kept_by (with_node known k.keep.register k.keep.node) keeps
+
+-- What is known on fall-through from an instruction, by its line; nothing if the line breaks its
+-- rule.
+abbrev pub known_or_nothing : Result Known Fault → Known
+known_or_nothing (Ok known) = known
+known_or_nothing (Err fault) = nothing_known
+
+abbrev pub fallen : Facts → Known → Instr → Part → Known
+fallen facts known instr part = known_or_nothing (after facts known part.line instr part.entry)
+
+-- what is known after an instruction: what its join keeps, or what falls through if there is no
+-- join
+abbrev pub past : Known → Option JoinLines → Known
+past through None = through
+past through (Some join) = kept_by nothing_known join.keeps
+
+abbrev pub known_past : Facts → Known → Option Instr → Option Part → Known
+known_past facts known (Some instr) (Some part) = past (fallen facts known instr part) part.join
+known_past facts known (Some instr) None = nothing_known
+known_past facts known None part = nothing_known
+
+-- What is known before each place.
+unfoldable pub before : Facts → List Instr → List Part → ℕ → Known
+before facts instrs parts zero = nothing_known
+before facts instrs parts (suc place) =
+    known_past facts (before facts instrs parts place) (slice_get instrs place) (slice_get parts place)
+
+-- the edge of the skip at a place, if there is one
+abbrev pub edge_at : Known → Option Instr → Option Edge
+edge_at known None = None
+edge_at known (Some instr) = edge_of known instr
+
+-- the edges of the skips before a place
+unfoldable pub edges_before : Facts → List Instr → List Part → ℕ → List Edge
+edges_before facts instrs parts zero = []
+edges_before facts instrs parts (suc place) =
+    with_edge (edges_before facts instrs parts place) (edge_at (before facts instrs parts place)
+    (slice_get instrs place))
+
+-- the lines KEEP are of ascending registers, from the least on, and each is true
+unfoldable pub are_kept : Facts → Known → List Edge → ℕ → List KeepLine → Bool
+are_kept facts through edges least [] = true
+are_kept facts through edges least (k ∷ keeps) =
+    is_kept facts through edges least k.keep && are_kept facts through edges (suc k.keep.register) keeps
+
+-- There is a join exactly if skips lead to the place, and what it keeps is true on fall-through and
+-- by each skip.
+abbrev pub obeys_join : Facts → Known → List Edge → Option JoinLines → Bool
+obeys_join facts through [] None = true
+obeys_join facts through [] (Some join) = false
+obeys_join facts through (edge ∷ edges) None = false
+obeys_join facts through (edge ∷ edges) (Some join) = are_kept facts through (edge ∷ edges) 0 join.keeps
+
+-- Parts, one for each instruction, satisfy their rules: each instruction's line its own, and each
+-- place's join its own.
+pub record Obeys (facts : Facts) (instrs : List Instr) (parts : List Part) : Type 0 where
+  pub counted : length parts ≡ length instrs
+  pub instruction : (place : ℕ) (instr : Instr) (part : Part) → slice_get instrs place ≡ Some instr
+      → slice_get parts place ≡ Some part
+      → after facts (before facts instrs parts place) part.line instr part.entry
+      ≡ Ok (fallen facts (before facts instrs parts place) instr part)
+  pub join : (place : ℕ) (instr : Instr) (part : Part) → slice_get instrs place ≡ Some instr → slice_get parts place
+      ≡ Some part
+      → IsTrue (obeys_join facts (fallen facts (before facts instrs parts place) instr part)
+      (edges_into (suc place) (edges_before facts instrs parts (suc place))) part.join)
+
+-- The lines state what is known at the end of a program, and others follow: they are those of parts
+-- that satisfy their rules.
+pub record Accepts (facts : Facts) (instrs : List Instr) (lines : List BodyLine) (taken : Taken) : Type 0 where
+  pub parts : List Part
+  pub obeys : Obeys facts instrs parts
+  pub spelled : lines ≡ lines_of 0 parts ++ taken.rest
+  pub known : taken.known ≡ before facts instrs parts (length instrs)

@@ -1,0 +1,367 @@
+//! The lines below a fault's own line.
+use crate::by_rows::of_rows;
+use crate::csv_text::of_csv;
+use crate::frontier::of_statement;
+use crate::heading::put_reason;
+use crate::kind::Kind;
+use crate::lines::of_program;
+use crate::shown::Shown;
+use bw_cli::Words;
+use bw_file::TableReader;
+use bw_io::{FromRead, Input, read_limited};
+use bw_model::{Fault, MAX_CSV_LEN, Place, Schema, code};
+use std::fmt::{self, Write};
+use std::fs::File;
+use std::io::{self, ErrorKind, Read};
+
+/// The excerpt of a statement has so many columns at most before a fault, and in all: with what stands before it, it
+/// fits a terminal of 80 columns.
+const BEFORE: usize = 50;
+
+const EXCERPT: usize = 74;
+
+/// So many first bytes show what a file seems to be.
+const BEGINNING: usize = 4096;
+
+/// How the reads of a file went.
+#[derive(Clone, Copy)]
+pub enum Reads {
+    /// None failed.
+    Good,
+    /// One failed, or the file couldn't be opened, for this reason of the system's.
+    Failed(io::Error),
+    /// The file changed meanwhile.
+    Changed,
+}
+
+/// What ended a command: its fault; the file whose reads failed, if that is the fault; and why a write failed, if that is.
+#[derive(Clone, Copy)]
+pub struct Ended<'a> {
+    pub fault: Fault,
+    unread: Option<(&'a str, Reads)>,
+    unwritten: Option<io::Error>,
+}
+
+impl<'a> Ended<'a> {
+    /// A command that one of its files ended, which couldn't be opened.
+    pub fn unread(path: &'a str, error: io::Error) -> Self {
+        Ended {
+            fault: Fault::new(code::READ_FAILED),
+            unread: Some((path, Reads::Failed(error))),
+            unwritten: None,
+        }
+    }
+
+    /// A command that a fault ended, and the files that it had opened, each with how its reads went.
+    pub fn of(fault: Fault, files: &[(&'a str, Reads)]) -> Self {
+        let failed = files
+            .iter()
+            .find(|(_, reads)| !matches!(reads, Reads::Good));
+        Ended {
+            fault,
+            unread: failed.copied(),
+            unwritten: None,
+        }
+    }
+
+    /// The same, where a write failed for a reason of the system's.
+    pub fn unwritten(self, error: Option<io::Error>) -> Self {
+        Ended {
+            unwritten: error,
+            ..self
+        }
+    }
+
+    /// Whether a write failed since nobody reads any more what is written, as in `bw dump t.bw | head`.
+    pub fn is_closed_pipe(&self) -> bool {
+        let is_pipe = self
+            .unwritten
+            .is_some_and(|error| error.kind() == ErrorKind::BrokenPipe);
+        self.fault.code == code::WRITE_FAILED && is_pipe
+    }
+}
+
+/// Says on standard error what is wrong, where there is something to say of it: the statement's part with a caret under
+/// the byte, and what could stand there; or the line of the file, what stands on it, and what would have been right; or
+/// else the file that the fault is of.
+pub fn explain(rt: &HostRuntime, words: &Words<'_>, ended: &Ended<'_>) {
+    let fault = &ended.fault;
+    if let (400..500, Some(sql), Place::Byte(byte)) = (fault.code, words.sql(), fault.place) {
+        explain_byte(rt, sql, byte);
+        say(rt, "", said_of_statement(rt, words, sql, fault));
+    } else if let (Some(name), Place::Nowhere) = (words.name(), fault.place) {
+        say(rt, "", said_of_name(rt, name, fault));
+    } else if let Some(file) = file_of(words, ended) {
+        let said = said_of_kind(rt, words, file, fault);
+        if !say(rt, file, said) && !say(rt, file, said_of_file(rt, words, file, fault)) {
+            explain_place(rt, ended, file);
+        }
+    }
+}
+
+/// What is to be said of a table's name that the command line gave, and that is none.
+fn said_of_name(rt: &HostRuntime, name: &str, fault: &Fault) -> Option<String> {
+    if fault.code != code::SCHEMA_NAME {
+        return None;
+    }
+    let mut text = String::new(rt.alloc());
+    write!(text, "--table is {}: ", Shown(name.as_bytes())).ok()?;
+    put_reason(&mut text, name.as_bytes()).ok()?;
+    text.push_str("a name is a letter or _, then letters, digits and _, and no word of SQL\n")
+        .ok()?;
+    Some(text)
+}
+
+/// What is to be said of a file that seems to be of another kind than the command takes in its place.
+fn said_of_kind(rt: &HostRuntime, words: &Words<'_>, file: &str, fault: &Fault) -> Option<String> {
+    let wanted = match fault.code {
+        100..200 if words.schema() == Some(file) => Kind::Schema,
+        200..300 if words.csv() == Some(file) => Kind::Csv,
+        300..310 => Kind::Table,
+        500..600 => Kind::Program,
+        _ => return None,
+    };
+    let kind = Kind::of(&beginning_of(rt, file)?)?;
+    if kind == wanted {
+        return None;
+    }
+    let mut text = String::new(rt.alloc());
+    let (kind, wanted) = (kind.name(), wanted.name());
+    writeln!(
+        text,
+        "seems to be {kind}, where {wanted} is wanted: {}",
+        words.usage()
+    )
+    .ok()?;
+    Some(text)
+}
+
+/// The first bytes of a file.
+fn beginning_of(rt: &HostRuntime, path: &str) -> Option<Vec<u8>> {
+    let mut file = regular_file(rt, path)?;
+    let mut buffer = [0u8; BEGINNING];
+    let count = file.read(&mut buffer).ok()?;
+    Vec::from_slice(rt.alloc(), buffer.get(..count)?).ok()
+}
+
+/// Says on standard error what is wrong with a statement that was refused under a schema.
+pub fn explain_statement(rt: &HostRuntime, schema: &Schema, sql: &[u8], fault: &Fault) {
+    if let (400..500, Place::Byte(byte), Ok(text)) = (
+        fault.code,
+        fault.place,
+        std::str::from_utf8(sql),
+    ) {
+        explain_byte(rt, text, byte);
+    }
+    say(rt, "", of_statement(rt.alloc(), schema, sql, fault).ok());
+}
+
+/// Says on standard error why the rows that a statement asks for were looked up one by one, where the table can be read
+/// again.
+pub fn explain_rows(rt: &HostRuntime, table: &str, sql: &str) {
+    say(rt, "", said_of_rows(rt, table, sql));
+}
+
+/// What is to be said of a statement that was answered row by row.
+fn said_of_rows(rt: &HostRuntime, table: &str, sql: &str) -> Option<String> {
+    let mut table = FromRead::new(regular_file(rt, table)?);
+    let reader = TableReader::begin(rt.alloc(), &mut table).ok()?;
+    of_rows(rt.alloc(), reader.schema(), sql.as_bytes()).ok()
+}
+
+/// Writes what is to be said, a line each, after the name of its file; and tells whether that was something.
+fn say(rt: &HostRuntime, file: &str, said: Option<String>) -> bool {
+    let Some(said) = said else {
+        return false;
+    };
+    let blank = if file.is_empty() { "" } else { " " };
+    for line in said.lines() {
+        let _ = eprintln!(rt; "    {}{}{}", file, blank, line);
+    }
+    !said.is_empty()
+}
+
+/// What is to be said of a statement's fault.
+fn said_of_statement(
+    rt: &HostRuntime,
+    words: &Words<'_>,
+    sql: &str,
+    fault: &Fault,
+) -> Option<String> {
+    let (alloc, sql) = (rt.alloc(), sql.as_bytes());
+    if let Some(path) = words.schema() {
+        let schema = Schema::parse(alloc, &read_again(rt, path)?).ok()?;
+        return of_statement(alloc, &schema, sql, fault).ok();
+    }
+    let mut table = FromRead::new(regular_file(rt, words.table()?)?);
+    let reader = TableReader::begin(alloc, &mut table).ok()?;
+    of_statement(alloc, reader.schema(), sql, fault).ok()
+}
+
+/// What is to be said of the fault of a file.
+fn said_of_file(rt: &HostRuntime, words: &Words<'_>, file: &str, fault: &Fault) -> Option<String> {
+    match fault.code {
+        500..651 => of_program(rt.alloc(), &read_again(rt, file)?, fault).ok(),
+        100..300 if words.csv() == Some(file) => {
+            let csv = read_again(rt, file)?;
+            match words.schema() {
+                Some(path) => {
+                    let schema = Schema::parse(rt.alloc(), &read_again(rt, path)?).ok()?;
+                    of_csv(rt.alloc(), &csv, Some(&schema), fault).ok()
+                }
+                None => of_csv(rt.alloc(), &csv, None, fault).ok(),
+            }
+        }
+        _ => None,
+    }
+}
+
+/// The bytes of a file that was read before.
+fn read_again(rt: &HostRuntime, path: &str) -> Option<Vec<u8>> {
+    let mut source = FromRead::new(regular_file(rt, path)?);
+    match read_limited(rt.alloc(), &mut source, MAX_CSV_LEN).ok()? {
+        Input::Whole(bytes) => Some(bytes),
+        Input::Over => None,
+    }
+}
+
+/// A file that can be read once more: what came of a pipe doesn't come again.
+fn regular_file(rt: &HostRuntime, path: &str) -> Option<File> {
+    let file = File::open(rt, path).ok()?;
+    file.metadata().ok()?.is_file().then_some(file)
+}
+
+/// Shows the part of a statement about a byte.
+fn explain_byte(rt: &HostRuntime, sql: &str, byte: u64) {
+    if let Some(part) = usize::try_from(byte).ok().and_then(|at| Part::of(sql, at)) {
+        let _ = eprintln!(rt;
+            "    {}{}\n    {}^",
+            part.before,
+            part.after,
+            Blank(part.before)
+        );
+    }
+}
+
+/// Says where in a file a fault stands, or why the system failed to read or to write it.
+fn explain_place(rt: &HostRuntime, ended: &Ended<'_>, file: &str) {
+    let _ = match (ended.fault.code, ended.fault.place) {
+        (code::READ_FAILED, _) => return explain_read(rt, ended, file),
+        (code::WRITE_FAILED, _) => return explain_failure(rt, file, "written", ended.unwritten),
+        (_, Place::Byte(byte)) => eprintln!(rt; "    byte {} of {}, from 0", byte, file),
+        (_, Place::Line(line)) => eprintln!(rt; "    line {} of {}", line, file),
+        (_, Place::Rec(0)) => eprintln!(rt; "    the heading of {}", file),
+        (_, Place::Rec(record)) => {
+            eprintln!(rt;
+                "    record {} of {}: the heading is record 0, and empty lines are none",
+                record, file
+            )
+        }
+        (_, Place::Nowhere) => eprintln!(rt; "    in {}", file),
+    };
+}
+
+/// Says why a file couldn't be read.
+fn explain_read(rt: &HostRuntime, ended: &Ended<'_>, file: &str) {
+    match ended.unread {
+        Some((_, Reads::Changed)) => {
+            let _ = eprintln!(rt; "    {} changed while it was read", file);
+        }
+        Some((_, Reads::Failed(error))) => explain_failure(rt, file, "opened or read", Some(error)),
+        _ => explain_failure(rt, file, "opened or read", None),
+    }
+}
+
+/// Says what couldn't be done with a file, and the system's reason if it gave one.
+fn explain_failure(rt: &HostRuntime, file: &str, done: &str, error: Option<io::Error>) {
+    let _ = match error {
+        Some(error) => eprintln!(rt; "    {} can't be {}: {}", file, done, error),
+        None => eprintln!(rt; "    {} can't be {}", file, done),
+    };
+}
+
+/// The file that a fault is of, among those that the command line names.
+fn file_of<'a>(words: &Words<'a>, ended: &Ended<'a>) -> Option<&'a str> {
+    match ended.fault.code {
+        // of `bw infer`: a name that the command line gave, or one of the heading
+        100..200 if words.schema().is_none() => match ended.fault.place {
+            Place::Nowhere => None,
+            _ => words.csv(),
+        },
+        100..200 => words.schema(),
+        200..300 => words.csv(),
+        300..400 => words.table(),
+        500..600 => words.program(),
+        code::NO_PROGRAM => None,
+        600..700 => words.program(),
+        code::READ_FAILED => ended.unread.map(|(path, _)| path),
+        code::WRITE_FAILED => Some(words.out().unwrap_or("standard output")),
+        _ => None,
+    }
+}
+
+/// The part of a statement's line about a byte, cut there.
+#[derive(Clone, Copy)]
+struct Part<'a> {
+    before: &'a str,
+    after: &'a str,
+}
+
+impl<'a> Part<'a> {
+    /// The part about this byte, where a character begins there or the statement ends.
+    fn of(sql: &'a str, at: usize) -> Option<Self> {
+        let before = end_of_line(sql.get(..at)?)?;
+        let room = EXCERPT.saturating_sub(columns_of(before));
+        let after = begin_of_line(sql.get(at..)?, room)?;
+        Some(Part { before, after })
+    }
+}
+
+/// How many columns of a terminal a text takes at most: a tab takes eight, and a character that isn't ASCII may take
+/// two.
+fn columns_of(text: &str) -> usize {
+    let mut columns: usize = 0;
+    for character in text.chars() {
+        columns = columns.saturating_add(match character {
+            '\t' => 8,
+            _ if character.is_ascii() => 1,
+            _ => 2,
+        });
+    }
+    columns
+}
+
+/// The last line of a text, cut to its last columns.
+fn end_of_line(text: &str) -> Option<&str> {
+    let begin = text.rfind('\n').map_or(0, |feed| feed + 1);
+    let first = begin.max(text.len().saturating_sub(2 * BEFORE));
+    let near = (first..=text.len()).find(|from| fits(text.get(*from..), BEFORE))?;
+    text.get(near..)
+}
+
+/// The first line of a text, cut to so many columns.
+fn begin_of_line(text: &str, room: usize) -> Option<&str> {
+    let end = text.find('\n').unwrap_or(text.len());
+    let last = end.min(2 * EXCERPT);
+    let far = (0..=last).rev().find(|to| fits(text.get(..*to), room))?;
+    text.get(..far)
+}
+
+/// Whether a part of a text, if characters begin and end with it, takes so many columns at most.
+fn fits(part: Option<&str>, columns: usize) -> bool {
+    part.is_some_and(|part| columns_of(part) <= columns)
+}
+
+/// As many blanks as a text has characters.
+#[derive(Clone, Copy)]
+struct Blank<'a>(&'a str);
+
+impl fmt::Display for Blank<'_> {
+    fn fmt<W: fmt::Write>(&self, f: &mut fmt::Formatter<W>) -> fmt::Result {
+        for character in self.0.chars() {
+            // a tab moves as far in both lines
+            f.write_str(if character == '\t' { "\t" } else { " " })?;
+        }
+        Ok(())
+    }
+}

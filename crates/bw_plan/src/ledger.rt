@@ -1,0 +1,136 @@
+//! Facts in the order in which they came, each of which stands once and is found again.
+use crate::refusal::Refusal;
+use std::alloc::Global;
+
+/// What a ledger has once.
+pub(crate) trait Entry: Copy {
+    /// Two words of what it is of. Most entries that differ have other ones.
+    fn words(self) -> [u64; 2];
+
+    /// Whether it is of the same as another.
+    fn is_alike(self, other: Self) -> bool;
+}
+
+/// An entry, and the number of the one before it whose words have the same hash, from 1 on, or 0.
+#[derive(Clone, Copy)]
+struct Slot<T: Entry> {
+    entry: T,
+    before: u32,
+}
+
+/// Entries in order, numbered from 0 on. Those whose words have one hash are chained from the last to the first. To
+/// find and to add entries is most of the planner's work: beside an `IndexMap` this takes a third of the time.
+#[derive(Drop)]
+pub(crate) struct Ledger<T: Entry> {
+    slots: Vec<Slot<T>>,
+    /// For each hash the number of the last entry that has it, from 1 on, or 0; a power of two of them.
+    last: Vec<u32>,
+    limit: u32,
+}
+
+/// The number of hashes at first.
+const FEWEST_HASHES: usize = 256;
+
+impl<T: Entry> Ledger<T> {
+    /// No entries, of which there may be so many.
+    pub(crate) fn new(alloc: Global, limit: u32) -> Self {
+        Ledger {
+            slots: Vec::new(alloc),
+            last: Vec::new(alloc),
+            limit,
+        }
+    }
+
+    /// From now on there may be so many.
+    pub(crate) fn set_limit(&mut self, limit: u32) {
+        self.limit = limit;
+    }
+
+    /// How many there may be.
+    pub(crate) fn limit(&self) -> usize {
+        self.limit as usize
+    }
+
+    /// How many there are.
+    pub(crate) fn len(&self) -> usize {
+        self.slots.len()
+    }
+
+    /// The entry of a number.
+    pub(crate) fn get(&self, number: usize) -> Option<T> {
+        let slot = self.slots.get(number)?;
+        Some(slot.entry)
+    }
+
+    /// The number of the entry that is of the same as another, and that entry.
+    pub(crate) fn find(&self, wanted: T) -> Option<(u32, T)> {
+        let mut next = *self.last.get(place(wanted, self.last.len()))?;
+        for _ in 0..self.slots.len() {
+            let number = next.checked_sub(1)?;
+            let slot = self.slots.get(number as usize)?;
+            if slot.entry.is_alike(wanted) {
+                return Some((number, slot.entry));
+            }
+            next = slot.before;
+        }
+        None
+    }
+
+    /// Adds an entry, of which there is none that is of the same, and gives its number. Refused is, as `NoProgram`, one
+    /// more than there may be.
+    pub(crate) fn push(&mut self, entry: T) -> Result<u32, Refusal> {
+        let number = u32::try_from(self.slots.len()).unwrap_or(u32::MAX);
+        if number >= self.limit {
+            return Err(Refusal::NoProgram);
+        }
+        if self.slots.len() >= self.last.len() {
+            self.spread()?;
+        }
+        let at = place(entry, self.last.len());
+        let mut before = 0;
+        if let Some(last) = self.last.get_mut(at) {
+            before = *last;
+            *last = number + 1;
+        }
+        self.slots.push(Slot { entry, before })?;
+        Ok(number)
+    }
+
+    /// Drops the entries from this number on.
+    pub(crate) fn truncate(&mut self, number: usize) {
+        for _ in 0..self.slots.len().saturating_sub(number) {
+            let Some(slot) = self.slots.pop() else {
+                break;
+            };
+            let at = place(slot.entry, self.last.len());
+            if let Some(last) = self.last.get_mut(at) {
+                *last = slot.before;
+            }
+        }
+    }
+
+    /// Spreads the entries over four times as many hashes.
+    fn spread(&mut self) -> Result<(), Refusal> {
+        let count = self.last.len().saturating_mul(4).max(FEWEST_HASHES);
+        self.last.clear();
+        self.last.resize(count, 0)?;
+        let mut after = 0u32;
+        for slot in self.slots.iter_mut() {
+            after = after.saturating_add(1);
+            if let Some(last) = self.last.get_mut(place(slot.entry, count)) {
+                slot.before = *last;
+                *last = after;
+            }
+        }
+        Ok(())
+    }
+}
+
+/// The place of an entry's hash among so many, a power of two: bits of products with odd numbers (Knuth, The Art of
+/// Computer Programming, 6.4).
+fn place<T: Entry>(entry: T, count: usize) -> usize {
+    let [first, second] = entry.words();
+    let mixed = first.wrapping_mul(0x9E37_79B9_7F4A_7C15) ^ second;
+    let hash = mixed.wrapping_mul(0xD6E8_FEB8_6659_FD93) >> 40;
+    hash as usize & count.saturating_sub(1)
+}
