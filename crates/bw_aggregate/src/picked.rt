@@ -36,8 +36,24 @@ pub fn add_picked<S: Segment>(total: &mut Accumulator, segment: &S, selection: &
     }
 }
 
-/// The total over the rows of a segment that a selection picks.
+/// The total over the rows of a segment that a selection picks. A count of rows is found here: the other totals may need
+/// planes, which would be cleared for it too.
 fn total_of<S: Segment>(item: Item, segment: &S, selection: &Selection) -> Option<i128>
+    requires column { IsTrue (item_within (length (S.meaning segment.now).columns) item) }
+    requires selection { IsWithin (length (S.meaning segment.now).rows) (lanes_of_words selection.now) }
+    ensures total { result
+        ≡ total item (picked_rows (S.meaning segment.now) (lanes_of_words selection.now)) }
+    ensures small { IsTotalOfRows 1 result }
+{
+    match item {
+        Item::CountAll => Some(i128::from(count(selection))),
+        _ => total_by_columns(item, segment, selection),
+    }
+}
+
+/// The same, of any item.
+#[inline(never)]
+fn total_by_columns<S: Segment>(item: Item, segment: &S, selection: &Selection) -> Option<i128>
     requires column { IsTrue (item_within (length (S.meaning segment.now).columns) item) }
     requires selection { IsWithin (length (S.meaning segment.now).rows) (lanes_of_words selection.now) }
     ensures total { result

@@ -8,9 +8,12 @@
 //! `specs/MemoryAnswer.antt`.
 #![tactic(auto)]
 
+mod file_text;
 mod memory_calls;
 mod memory_text;
 mod plan_call;
+mod program_cache;
+mod same_condition;
 mod scan;
 mod served;
 mod table_calls;
@@ -18,4 +21,5 @@ mod table_text;
 
 pub use memory_calls::answer_in_memory;
 pub use plan_call::plan_text;
+pub use program_cache::{ProgramCache, RefusedFile};
 pub use table_calls::{answer, dump};

@@ -5,6 +5,7 @@ pub mod ColumnLemmas
 pub mod DescentLemmas
 pub mod FaultLemmas
 pub mod FewLemmas
+pub mod FrontLemmas
 pub mod LaneLemmas
 pub mod LaneValues
 pub mod LayoutLemmas

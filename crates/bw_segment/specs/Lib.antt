@@ -1,6 +1,7 @@
 pub mod BlockFault
 pub mod ColumnBlocks
 pub mod Columns
+pub mod Fronts
 pub mod Keys
 pub mod Meaning
 pub mod Packed

@@ -1,5 +1,5 @@
 //! Where the bytes of a segment stand.
-ghost use Rattle.std.specs.Prelude.{◌≡◌, ◌&&◌, Bool, IsTrue, ℕ, List, length, nat_le, slice_range};
+ghost use Rattle.std.specs.Prelude.{◌≡◌, ◌&&◌, Bool, IfSome, IsTrue, ℕ, List, length, nat_le, slice_range, take};
 ghost use Rattle.bw_device.specs.Shared.{bytes_in};
 
 use bw_device::SharedBytes;
@@ -16,6 +16,12 @@ pub trait Blocks {
     fn block(&self, col: usize, start: usize, end: usize) -> &[u8]
         requires { IsTrue (holds self.now col start end) }
         ensures { result.now ≡ slice_range (bytes self.now) start end };
+
+    /// The first 64 bytes of the block of a column, from one place of the bytes up to another, if they stand apart too.
+    fn front(&self, col: usize, start: usize, end: usize) -> Option<&[u8]>
+        requires { IsTrue (holds self.now col start end) }
+        ensures front { IfSome result (λ front. front.now ≡ take 64 (slice_range (bytes self.now) start end)) }
+        ensures size { IfSome result (λ front. length front.now ≡ 64) };
 }
 
 /// All blocks in one piece.
@@ -27,5 +33,10 @@ impl Blocks for SharedBytes {
     #[inline(always)]
     fn block(&self, _col: usize, start: usize, end: usize) -> &[u8] {
         &self.as_slice()[start..end]
+    }
+
+    #[inline(always)]
+    fn front(&self, _col: usize, _start: usize, _end: usize) -> Option<&[u8]> {
+        None
     }
 }

@@ -1,131 +1,106 @@
-//! The blocks of a table's columns, of one segment after the other.
-ghost use Rattle.std.specs.Prelude.{◌≡◌, ◌+◌, ◌<◌, ◌≤◌, ℕ, length, IfOk, OnOk, IsOkUnless};
-ghost use Rattle.bw_device.specs.Shared.{bytes_in};
-ghost use Rattle.bw_model.specs.Fault.{no_memory};
-ghost use Rattle.bw_model.specs.Groups.{group_size};
-ghost use Rattle.bw_segment.specs.BlockFault.{IsSound};
-ghost use Rattle.bw_segment.specs.ColumnBlocks.{KeepBlocks, segment_numbered};
-ghost use Rattle.bw_segment.specs.Packing.{meaning_spelled};
-ghost use Rattle.bw_segment.specs.Packed.{IsPlaced};
+//! The blocks of one column of a table.
+ghost use Rattle.bw_segment.specs.Fronts.{AreFronts};
 
-use crate::blocks::Blocks;
-use crate::layout::CodeLayout;
-use crate::packed::PackedSegment;
-use crate::placement::Placement;
-use crate::segment::Segment;
 use bw_model::Fault;
 use std::alloc::Global;
-use std::rc::Rc;
 
-/// The blocks of one column of a table, of one segment after the other, back to back.
+/// The blocks of one column of a table, of one segment after the other, back to back. Where they are long, the null
+/// planes stand once more, back to back: they are found without the codes between them.
 #[derive(Drop)]
 pub struct ColumnBlocks {
-    size: usize,
-    bytes: Vec<u8>,
+    pub(crate) size: usize,
+    pub(crate) bytes: Vec<u8>,
+    pub(crate) fronts: Vec<u8>,
+    /// Whether the first 64 bytes of each block are put apart too.
+    is_long: bool,
+    ghost same: { AreFronts size bytes.items fronts.items },
 }
 
 impl ColumnBlocks {
-    ghost use Rattle.std.specs.Prelude.{◌++◌};
+    ghost use Rattle.std.specs.Prelude.{◌≡◌, ◌+◌, ◌*◌, ◌≤◌, ◌++◌, [], IfSome, IsTrue, OnOk, IsOkUnless, drop, length, take};
+    ghost use Rattle.bw_model.specs.Fault.{no_memory};
+    ghost use Rattle.bw_segment.specs.Fronts.{HasFronts};
 
-    /// Adds a block. Memory grows by what is added, or by a sixteenth of the bytes so far where that is more.
-    fn push(&mut self, block: &[u8]) -> Result<(), Fault>
+    /// A column without a block, whose blocks are to have so many bytes.
+    pub(crate) fn new(alloc: Global, size: usize, is_long: bool) -> Self
+        ensures size { result.size ≡ size }
+        ensures bytes { result.bytes.items ≡ [] }
+    {
+        ColumnBlocks {
+            size,
+            bytes: Vec::new(alloc),
+            fronts: Vec::new(alloc),
+            is_long,
+        }
+    }
+
+    /// Adds a block, and its first 64 bytes apart, if those of all blocks before it stand apart. Memory grows by what is
+    /// added, or by a sixteenth of the bytes so far where that is more.
+    #[tactic(auto, using(crate::proofs::FrontLemmas::fronts_kept))]
+    pub(crate) fn push(&mut self, block: &[u8]) -> Result<(), Fault>
         ensures size { self.new.size ≡ self.old.size }
         ensures bytes { OnOk result (self.new.bytes.items ≡ self.old.bytes.items ++ block.now) }
         ensures only_memory { IsOkUnless result no_memory }
     {
-        if self.bytes.capacity() - self.bytes.len() < block.len() {
-            let more = block.len().max(self.bytes.len() / 16);
-            self.bytes.reserve_exact(more)?;
+        ColumnBlocks::make_room(&mut self.bytes, block.len())?;
+        if self.is_long && self.size >= 64 && block.len() == self.size && self.has_all_fronts() {
+            return self.push_both(block);
         }
         self.bytes.extend_from_slice(block)?;
         Ok(())
     }
-}
 
-/// The columns of a table in a layout, without a block.
-pub fn no_blocks<L: CodeLayout>(
-    alloc: Global,
-    placement: &Placement,
-) -> Result<Vec<ColumnBlocks>, Fault>
-    ensures keep { IfOk result (λ kept. KeepBlocks L.packing placement.now.schema.columns.items 0 kept.items) }
-    ensures only_memory { IsOkUnless result no_memory }
-{
-    let mut kept = Vec::with_capacity(alloc, placement.schema.columns.len())?;
-    for col in 0..placement.schema.columns.len() {
-        kept.push(ColumnBlocks {
-            size: PackedSegment::<L>::block_size(placement, col),
-            bytes: Vec::new(alloc),
-        })?;
-    }
-    Ok(kept)
-}
-
-/// Adds the blocks of a segment, each to its column, after those of the segments before it. Where memory is refused,
-/// some columns may have a block more than others.
-pub fn push_blocks<L: CodeLayout>(
-    kept: &mut [ColumnBlocks],
-    segment: &PackedSegment<L>,
-) -> Result<(), Fault>
-    requires { length kept.old ≡ length segment.now.placement.value.schema.columns.items }
-    ensures keep { OnOk result ((count : ℕ)
-        → KeepBlocks L.packing segment.now.placement.value.schema.columns.items count kept.old
-        → KeepBlocks L.packing segment.now.placement.value.schema.columns.items (count + 1) kept.new) }
-    ensures last { OnOk result ((count : ℕ)
-        → KeepBlocks L.packing segment.now.placement.value.schema.columns.items count kept.old
-        → segment_numbered kept.new count ≡ bytes_in segment.now.bytes) }
-    ensures others { OnOk result ((count number : ℕ)
-        → KeepBlocks L.packing segment.now.placement.value.schema.columns.items count kept.old
-        → number < count → segment_numbered kept.new number ≡ segment_numbered kept.old number) }
-    ensures only_memory { IsOkUnless result no_memory }
-{
-    for (col, blocks) in kept.iter_mut().enumerate() {
-        blocks.push(segment.block(col))?;
-    }
-    Ok(())
-}
-
-/// The blocks of the segment of a number, each of which stands in its column.
-#[derive(Clone, Copy)]
-pub struct NumberedBlocks<'a> {
-    columns: &'a [ColumnBlocks],
-    number: usize,
-}
-
-impl Blocks for NumberedBlocks<'_> {
-    ghost use Rattle.bw_segment.specs.ColumnBlocks.{segment_numbered, stands_numbered};
-
-    ghost bytes = { λ blocks. segment_numbered blocks.columns.now blocks.number };
-
-    ghost holds = { λ blocks column start end.
-        stands_numbered blocks.columns.now blocks.number column start end };
-
-    #[inline(always)]
-    fn block(&self, col: usize, _start: usize, _end: usize) -> &[u8] {
-        let column = &self.columns[col];
-        let bytes: &[u8] = &column.bytes;
-        let start = self.number * column.size;
-        &bytes[start..start + column.size]
-    }
-}
-
-impl<'a, L: CodeLayout> PackedSegment<L, NumberedBlocks<'a>> {
-    /// The segment of a number, of so many rows, of those whose blocks are kept in columns, each without fault.
-    pub fn of_columns(
-        placement: Rc<Placement>,
-        rows: u32,
-        columns: &'a [ColumnBlocks],
-        number: usize,
-    ) -> Self
-        requires placed { IsPlaced L.packing placement.value }
-        requires some { 1 ≤ rows }
-        requires few { rows ≤ group_size }
-        requires kept { (count : ℕ) × (number < count)
-            × KeepBlocks L.packing placement.value.schema.columns.items count columns.now }
-        requires sound { IsSound L.packing placement.value.schema.columns.items rows
-            (segment_numbered columns.now number) }
-        ensures means { ⟦<PackedSegment<L, NumberedBlocks<'a>> as Segment>⟧.meaning result
-            ≡ meaning_spelled L.packing placement.value.schema rows (segment_numbered columns.now number) }
+    /// Adds a block, and its first 64 bytes apart.
+    fn push_both(&mut self, block: &[u8]) -> Result<(), Fault>
+        requires size { length block.now ≡ self.old.size }
+        requires room { 64 ≤ self.old.size }
+        requires all { HasFronts self.old.size self.old.bytes.items self.old.fronts.items }
+        ensures size { self.new.size ≡ self.old.size }
+        ensures bytes { OnOk result (self.new.bytes.items ≡ self.old.bytes.items ++ block.now) }
+        ensures only_memory { IsOkUnless result no_memory }
     {
-        PackedSegment::of_held_blocks(placement, rows, NumberedBlocks { columns, number })
+        ColumnBlocks::make_room(&mut self.fronts, 64)?;
+        self.bytes.extend_from_slice(block)?;
+        self.fronts.extend_from_slice(&block[..64])?;
+        Ok(())
+    }
+
+    /// The first 64 bytes of the block of a number, if they stand apart.
+    #[inline(always)]
+    pub(crate) fn front(&self, number: usize) -> Option<&[u8]>
+        ensures front { IfSome result (λ front. front.now
+            ≡ take 64 (take self.now.size (drop (number * self.now.size) self.now.bytes.items))) }
+        ensures size { IfSome result (λ front. length front.now ≡ 64) }
+        ensures room { IfSome result (λ _. number * self.now.size + self.now.size ≤ length self.now.bytes.items) }
+    {
+        let fronts: &[u8] = &self.fronts;
+        if number >= fronts.len() / 64 {
+            return None;
+        }
+        let start = 64 * number;
+        Some(&fronts[start..start + 64])
+    }
+
+    /// Whether the first 64 bytes of each block stand apart.
+    fn has_all_fronts(&self) -> bool
+        ensures { IsTrue result → HasFronts self.now.size self.now.bytes.items self.now.fronts.items }
+    {
+        let count = self.fronts.len() / 64;
+        match count.checked_mul(self.size) {
+            Some(len) => self.fronts.len() == 64 * count && self.bytes.len() == len,
+            None => false,
+        }
+    }
+
+    /// Makes room for so many bytes more, or for a sixteenth of the bytes so far where that is more.
+    fn make_room(bytes: &mut Vec<u8>, count: usize) -> Result<(), Fault>
+        ensures same { bytes.new.items ≡ bytes.old.items }
+        ensures only_memory { IsOkUnless result no_memory }
+    {
+        if bytes.capacity() - bytes.len() < count {
+            let more = count.max(bytes.len() / 16);
+            bytes.reserve_exact(more)?;
+        }
+        Ok(())
     }
 }

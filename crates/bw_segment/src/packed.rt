@@ -52,7 +52,10 @@ impl<L: CodeLayout, B: Blocks> Segment for PackedSegment<L, B> {
 
     #[inline(always)]
     fn nulls(&self, col: usize) -> Plane {
-        self.placement.nulls_in(col, self.block(col))
+        match self.front(col) {
+            Some(front) => self.placement.nulls_in(col, front),
+            None => self.placement.nulls_in(col, self.block(col)),
+        }
     }
 
     #[inline(always)]
@@ -147,7 +150,7 @@ impl<L: CodeLayout> PackedSegment<L> {
 }
 
 impl<L: CodeLayout, B: Blocks> PackedSegment<L, B> {
-    ghost use Rattle.std.specs.Prelude.{All, ◌<◌, ◌^◌};
+    ghost use Rattle.std.specs.Prelude.{All, IfSome, ◌<◌, ◌^◌, take};
     ghost use Rattle.bw_model.specs.Code.{width_at};
     ghost use Rattle.bw_segment.specs.Meaning.{code_lanes};
     ghost use Rattle.bw_segment.specs.Packing.{block_at};
@@ -184,6 +187,20 @@ impl<L: CodeLayout, B: Blocks> PackedSegment<L, B> {
         let start = placement.start::<L>(col);
         let end = placement.start::<L>(col + 1);
         self.bytes.block(col, start, end)
+    }
+
+    /// The first 64 bytes of a column's block, if they stand apart.
+    #[inline(always)]
+    fn front(&self, col: usize) -> Option<&[u8]>
+        requires { col < length self.now.placement.value.schema.columns.items }
+        ensures front { IfSome result (λ front. front.now ≡ take 64
+            (block_at L.packing self.now.placement.value.schema.columns.items col (B.bytes self.now.bytes))) }
+        ensures size { IfSome result (λ front. length front.now ≡ 64) }
+    {
+        let placement: &Placement = &self.placement;
+        let start = placement.start::<L>(col);
+        let end = placement.start::<L>(col + 1);
+        self.bytes.front(col, start, end)
     }
 
     /// How many digits a column's codes have, and the bytes that keep them, which end its block.

@@ -1,6 +1,6 @@
 -- Each block stands where a segment of the layout has it.
 use Rattle.bw_segment.proofs.ColumnBlockLemmas.{stands}
-use Rattle.bw_segment.proofs.column_blocks.PackedSegment+L+NumberedBlocks.of_columns.Goals as goal
+use Rattle.bw_segment.proofs.numbered_blocks.PackedSegment+L+NumberedBlocks.of_columns.Goals as goal
 
 pub of_held_blocks-requires-clause-held : goal.of_held_blocks-requires-clause-held
 of_held_blocks-requires-clause-held g c =

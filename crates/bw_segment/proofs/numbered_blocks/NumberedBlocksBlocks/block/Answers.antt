@@ -1,7 +1,7 @@
 -- The block stands where it is looked for.
 use Rattle.std.proofs.Common.{◌∙◌, ap, ℕ, ◌+◌, ◌*◌, List, length, get_or, slice_range, rules, arith}
 use Rattle.bw_segment.proofs.ColumnBlockLemmas.{block_read, is_column, room_read}
-use Rattle.bw_segment.proofs.column_blocks.NumberedBlocksBlocks.block.Goals as goal
+use Rattle.bw_segment.proofs.numbered_blocks.NumberedBlocksBlocks.block.Goals as goal
 
 pub offset_bounds-self-col : goal.offset_bounds-self-col
 offset_bounds-self-col c = let there = is_column _ _ _ _ _ c.requires in search rules

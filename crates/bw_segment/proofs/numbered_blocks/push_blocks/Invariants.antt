@@ -1,7 +1,7 @@
 use Rattle.bw_device.specs.Shared.{bytes_in}
 use Rattle.bw_segment.specs.Packing.{block_at}
 use Rattle.bw_segment.proofs.ColumnBlockLemmas.{HaveMore}
-use Rattle.bw_segment.proofs.column_blocks.push_blocks.Given as goal
+use Rattle.bw_segment.proofs.numbered_blocks.push_blocks.Given as goal
 
 -- the columns so far have a block more
 abbrev pub invariant-loop-col : goal.invariant-loop-col

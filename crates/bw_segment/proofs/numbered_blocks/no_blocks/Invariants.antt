@@ -3,7 +3,7 @@ use Rattle.std.specs.List.{range_with_len}
 use Rattle.bw_segment.specs.declared.column_blocks.ColumnBlocks.{ColumnBlocks}
 use Rattle.bw_segment.specs.Packing.{block_size}
 use Rattle.bw_segment.proofs.ColumnBlockLemmas.{no_bytes}
-use Rattle.bw_segment.proofs.column_blocks.no_blocks.Given as goal
+use Rattle.bw_segment.proofs.numbered_blocks.no_blocks.Given as goal
 
 -- the columns so far have no block
 abbrev pub invariant-loop-col : goal.invariant-loop-col

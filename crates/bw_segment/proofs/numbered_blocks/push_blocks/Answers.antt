@@ -3,7 +3,7 @@ use Rattle.std.proofs.Common.{◌∙◌, ap, List, ℕ, ◌++◌, length, get_or
 use Rattle.bw_device.specs.Shared.{bytes_in}
 use Rattle.bw_segment.proofs.ColumnBlockLemmas.{all_more, keep_more, last_segment, none_more, one_more, other_segment}
 use Rattle.bw_segment.proofs.PackedLemmas.{length-block}
-use Rattle.bw_segment.proofs.column_blocks.push_blocks.Goals as goal
+use Rattle.bw_segment.proofs.numbered_blocks.push_blocks.Goals as goal
 
 pub loop-col-init : goal.loop-col-init
 loop-col-init g c = none_more c.args.kept.now _

@@ -1,0 +1,114 @@
+//! The segments of a table whose blocks are kept column by column.
+ghost use Rattle.std.specs.Prelude.{◌≡◌, ◌+◌, ◌<◌, ◌≤◌, ℕ, length, IfOk, OnOk, IsOkUnless};
+ghost use Rattle.bw_device.specs.Shared.{bytes_in};
+ghost use Rattle.bw_model.specs.Fault.{no_memory};
+ghost use Rattle.bw_model.specs.Groups.{group_size};
+ghost use Rattle.bw_segment.specs.BlockFault.{IsSound};
+ghost use Rattle.bw_segment.specs.ColumnBlocks.{KeepBlocks, segment_numbered};
+ghost use Rattle.bw_segment.specs.Packing.{meaning_spelled};
+ghost use Rattle.bw_segment.specs.Packed.{IsPlaced};
+
+use crate::blocks::Blocks;
+use crate::column_blocks::ColumnBlocks;
+use crate::layout::CodeLayout;
+use crate::packed::PackedSegment;
+use crate::placement::Placement;
+use crate::segment::Segment;
+use bw_model::Fault;
+use std::alloc::Global;
+use std::rc::Rc;
+
+/// A column whose blocks have so many bytes has their first 64 apart too, if it's nullable: they take a seventeenth more.
+const LONG: usize = 1088;
+
+/// The columns of a table in a layout, without a block.
+pub fn no_blocks<L: CodeLayout>(
+    alloc: Global,
+    placement: &Placement,
+) -> Result<Vec<ColumnBlocks>, Fault>
+    ensures keep { IfOk result (λ kept. KeepBlocks L.packing placement.now.schema.columns.items 0 kept.items) }
+    ensures only_memory { IsOkUnless result no_memory }
+{
+    let mut kept = Vec::with_capacity(alloc, placement.schema.columns.len())?;
+    for col in 0..placement.schema.columns.len() {
+        let size = PackedSegment::<L>::block_size(placement, col);
+        let is_long = placement.schema.columns[col].nullable && size >= LONG;
+        kept.push(ColumnBlocks::new(alloc, size, is_long))?;
+    }
+    Ok(kept)
+}
+
+/// Adds the blocks of a segment, each to its column, after those of the segments before it. Where memory is refused,
+/// some columns may have a block more than others.
+pub fn push_blocks<L: CodeLayout>(
+    kept: &mut [ColumnBlocks],
+    segment: &PackedSegment<L>,
+) -> Result<(), Fault>
+    requires { length kept.old ≡ length segment.now.placement.value.schema.columns.items }
+    ensures keep { OnOk result ((count : ℕ)
+        → KeepBlocks L.packing segment.now.placement.value.schema.columns.items count kept.old
+        → KeepBlocks L.packing segment.now.placement.value.schema.columns.items (count + 1) kept.new) }
+    ensures last { OnOk result ((count : ℕ)
+        → KeepBlocks L.packing segment.now.placement.value.schema.columns.items count kept.old
+        → segment_numbered kept.new count ≡ bytes_in segment.now.bytes) }
+    ensures others { OnOk result ((count number : ℕ)
+        → KeepBlocks L.packing segment.now.placement.value.schema.columns.items count kept.old
+        → number < count → segment_numbered kept.new number ≡ segment_numbered kept.old number) }
+    ensures only_memory { IsOkUnless result no_memory }
+{
+    for (col, blocks) in kept.iter_mut().enumerate() {
+        blocks.push(segment.block(col))?;
+    }
+    Ok(())
+}
+
+/// The blocks of the segment of a number, each of which stands in its column.
+#[derive(Clone, Copy)]
+pub struct NumberedBlocks<'a> {
+    columns: &'a [ColumnBlocks],
+    number: usize,
+}
+
+impl Blocks for NumberedBlocks<'_> {
+    ghost use Rattle.bw_segment.specs.ColumnBlocks.{segment_numbered, stands_numbered};
+
+    ghost bytes = { λ blocks. segment_numbered blocks.columns.now blocks.number };
+
+    ghost holds = { λ blocks column start end.
+        stands_numbered blocks.columns.now blocks.number column start end };
+
+    #[inline(always)]
+    fn block(&self, col: usize, _start: usize, _end: usize) -> &[u8] {
+        let column = &self.columns[col];
+        let bytes: &[u8] = &column.bytes;
+        let start = self.number * column.size;
+        &bytes[start..start + column.size]
+    }
+
+    #[inline(always)]
+    fn front(&self, col: usize, _start: usize, _end: usize) -> Option<&[u8]> {
+        self.columns[col].front(self.number)
+    }
+}
+
+impl<'a, L: CodeLayout> PackedSegment<L, NumberedBlocks<'a>> {
+    /// The segment of a number, of so many rows, of those whose blocks are kept in columns, each without fault.
+    pub fn of_columns(
+        placement: Rc<Placement>,
+        rows: u32,
+        columns: &'a [ColumnBlocks],
+        number: usize,
+    ) -> Self
+        requires placed { IsPlaced L.packing placement.value }
+        requires some { 1 ≤ rows }
+        requires few { rows ≤ group_size }
+        requires kept { (count : ℕ) × (number < count)
+            × KeepBlocks L.packing placement.value.schema.columns.items count columns.now }
+        requires sound { IsSound L.packing placement.value.schema.columns.items rows
+            (segment_numbered columns.now number) }
+        ensures means { ⟦<PackedSegment<L, NumberedBlocks<'a>> as Segment>⟧.meaning result
+            ≡ meaning_spelled L.packing placement.value.schema rows (segment_numbered columns.now number) }
+    {
+        PackedSegment::of_held_blocks(placement, rows, NumberedBlocks { columns, number })
+    }
+}
