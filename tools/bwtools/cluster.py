@@ -34,10 +34,13 @@ class Cluster:
     """Queries shards on the workers of a cluster, which is started or joined for the first statement."""
 
     def __init__(self, workers: int, scheduler: str | None) -> None:
-        self.workers, self.scheduler, self.client = workers, scheduler, None
+        self.workers, self.scheduler = workers, scheduler
+        # Dask's client
+        self.client: Any = None
         self.stack = contextlib.ExitStack()
 
-    def start(self) -> None:
+    def start(self) -> Any:
+        """Starts or joins the cluster, and returns Dask's client."""
         # these load slowly, and only here is it known that they're needed
         import cloudpickle
         import distributed
@@ -48,6 +51,7 @@ class Cluster:
             client = self.stack.enter_context(distributed.Client(self.scheduler or self.local(), timeout=SECONDS))
             client.wait_for_workers(1, timeout=SECONDS)
             self.client = client
+            return client
         except Exception as error:
             where = f"the scheduler {self.scheduler}" if self.scheduler else "a cluster of this machine"
             self.stack.close()
@@ -66,19 +70,18 @@ class Cluster:
 
     def replies(self, calls: list[tuple[Any, ...]]) -> Iterator[Reply]:
         """Returns the replies of these calls of ask_shard, in their order. A reply leaves the cluster once it is consumed."""
-        if self.client is None:
-            self.start()
+        client = self.start() if self.client is None else self.client
 
         def asked(*call: Any) -> Reply:
             return ask_shard(*call)
 
-        futures = [self.client.submit(asked, *call, pure=False) for call in calls]
+        futures = [client.submit(asked, *call, pure=False) for call in calls]
         try:
             while futures:
                 yield self.reply(futures[0])
                 futures.pop(0).release()
         finally:
-            self.client.cancel(futures)
+            client.cancel(futures)
 
     def reply(self, future: Any) -> Reply:
         try:

@@ -84,14 +84,16 @@ def number_of(text: str) -> tuple[Number | None, str]:
         (sign == "" or value != 0)
     digits = len(part)
     if power is not None:
-        value, digits = exact(value, digits, int(power))
-        if digits is None:
+        shorter = exact(value, digits, int(power))
+        if shorter is None:
             return None, f" has more than {MOST_DIGITS} digits"
+        value, digits = shorter
     return Number(value, digits, mark, is_plain, has_zeros, GROUPED.fullmatch(text) is not None), ""
 
 
-def exact(value: int, digits: int, power: int) -> tuple[int, int | None]:
-    """Returns a number times a power of ten, without zeros at its end after the point; no digits if it has too many."""
+def exact(value: int, digits: int, power: int) -> tuple[int, int] | None:
+    """Returns a number times a power of ten, without zeros at its end after the point, and its digits there. Returns None if
+    it has too many digits."""
     while value and digits and value % 10 == 0:
         value, digits = value // 10, digits - 1
     digits -= power
@@ -99,7 +101,7 @@ def exact(value: int, digits: int, power: int) -> tuple[int, int | None]:
         return 0, 0
     length = max(len(str(abs(value))), digits) - min(digits, 0)
     if length > MOST_DIGITS:
-        return value, None
+        return None
     return (value, digits) if digits >= 0 else (value * 10 ** -digits, 0)
 
 
@@ -208,7 +210,8 @@ def day_of(year: int, month: int, day: int) -> int | None:
 @functools.lru_cache(1 << 16)
 def date_part(text: str) -> tuple[dict[str, int], bool]:
     """Returns the days that a date may mean, by format, and whether it has all its zeros; no days if it isn't a date."""
-    found, days = DATE.fullmatch(text), {}
+    days: dict[str, int] = {}
+    found = DATE.fullmatch(text)
     if not found:
         return days, False
     first, mark, second, third = found.groups()

@@ -64,7 +64,8 @@ class Kinds(unittest.TestCase):
         self.assertEqual(kind("01/02/2024", words=("--date", "a=%d/%m/%Y")), ("dates", {"format": "%d/%m/%Y"}))
         self.assertEqual(kind("1.5", "2.50", words=("--keep-spelling",)), "one of its fields wouldn't be restored exactly")
         self.assertEqual(kind("+1", words=("--keep-spelling",)), "'+1' wouldn't be restored exactly")
-        for data, words in [(b"a\nx\n", ("--number", "a")), (b"a\n1\n", ("--number", "b")), (b"a\nx\n", ("--date", "a=%Y-%m-%d"))]:
+        for data, words in [(b"a\nx\n", ("--number", "a")), (b"a\n1\n", ("--number", "b")), (b"a\nx\n", ("--date", "a=%Y-%m-%d")),
+                            (b"a\n2024-05-01T12:5\n", ("--date", "a=%Y-%m-%dT%H:%M"))]:
             with self.subTest(words), self.assertRaises(Refused):
                 table_of(data, *words)
 

@@ -28,7 +28,7 @@ class Parts(io.RawIOBase):
 def answer_of(*parts: bytes) -> bytes:
     """The answer of a session that writes these parts, read by many bytes at a time."""
     session = mock.Mock()
-    session.process.stdout = Parts(*parts)
+    session.stdout = Parts(*parts)
     session.fail.side_effect = Failed("ended")
     return io.BufferedReader(Answer(session), AT_ONCE).read()
 
