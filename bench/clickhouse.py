@@ -42,7 +42,7 @@ class Server:
         sys.exit("clickhouse-server doesn't answer")
 
     def ask(self, statement, rows=None):
-        """What the server answers, as CSV. Rows are sent after the statement, a part at a time."""
+        """Returns the server's result as CSV. Rows are sent after the statement, a part at a time."""
         if self.connection is None or rows is not None:
             self.connection = http.client.HTTPConnection("127.0.0.1", PORT, timeout=300)
         if rows is None:
@@ -62,7 +62,7 @@ class Server:
 
 
 def lines_of(path):
-    """The rows of a CSV file without its heading, with nulls as ClickHouse spells them, some at a time."""
+    """Yields the rows of a CSV file without its heading, many at a time, with nulls as ClickHouse spells them."""
     with open(path, "rb") as file:
         file.readline()
         while part := file.read(1 << 20):
@@ -70,7 +70,7 @@ def lines_of(path):
 
 
 def in_clickhouse(csv, questions, runs):
-    """For each question the least time of some calls, in milliseconds, and the lines of the answer below a heading. None if
+    """Returns for each question the minimum time of `runs` calls, in milliseconds, and the lines of the result. Returns None if
     ClickHouse isn't installed."""
     if not (shutil.which("clickhouse-server") or pathlib.Path("/usr/sbin/clickhouse-server").exists()):
         return None

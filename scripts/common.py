@@ -104,7 +104,7 @@ def filled(template, given):
 
 
 def cells_of(line):
-    """The cells of a table's line."""
+    """Returns the cells of a table's line."""
     return [cell.strip().replace("\\|", "|") for cell in re.split(r"(?<!\\)\|", line)[1:-1]]
 
 

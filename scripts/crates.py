@@ -10,7 +10,7 @@ PARTS = ("src", "specs", "proofs")
 
 
 def libraries():
-    """The libraries of the repository that each crate names."""
+    """Returns the libraries of the repository that each crate names."""
     lines = (line.split("#")[0] for line in (ROOT / "crates.txt").read_text(encoding="utf-8").splitlines())
     named = {name: rest.split() for name, found, rest in (line.partition(":") for line in lines) if found}
     return {name: [each for each in below if each in named] for name, below in named.items()}
@@ -25,7 +25,7 @@ def below(name, named):
 
 
 def cost(name):
-    """What a check of a crate costs, roughly: its lines."""
+    """Returns the rough cost of checking a crate: its number of lines."""
     files = (path for part in PARTS for path in (ROOT / "crates" / name / part).rglob("*.*"))
     return sum(path.read_bytes().count(b"\n") for path in files)
 

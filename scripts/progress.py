@@ -17,7 +17,7 @@ ENDED = re.compile(r"rt: (\w+)(: its tests are)? (NOT PROVED|proved)$")
 
 
 def processes():
-    """Each process's parent, its seconds of work, and when it began."""
+    """Returns each process's parent, its processor time in seconds, and when it began."""
     found = {}
     for name in filter(str.isdigit, os.listdir("/proc")):
         try:
