@@ -1,5 +1,5 @@
-"""Asks ClickHouse, with one thread, over a table in its memory: what bench/session times beside its own questions, if Debian's
-clickhouse-server is installed. The server runs in a folder of its own, listens on 127.0.0.1 alone, and ends with the run."""
+"""Queries ClickHouse, with one thread, over a table in its memory. bench/session times it if Debian's clickhouse-server is
+installed. The server runs in its own folder, listens only on 127.0.0.1, and ends with the run."""
 import http.client
 import pathlib
 import shutil

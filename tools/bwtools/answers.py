@@ -105,7 +105,7 @@ def blocks(answer: TextIO, width: int) -> Iterator[tuple[int, Sequence[Sequence[
             break
         yield before, columns
         before += len(columns[0])
-    # what isn't of bw alone is the csv module's
+    # anything that bw doesn't write is left to the csv module
     records = csv.reader(itertools.chain(io.StringIO(text, newline=""), answer))
     first = before
     while True:

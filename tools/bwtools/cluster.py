@@ -41,10 +41,10 @@ class Cluster:
 
     def start(self) -> Any:
         """Starts or joins the cluster, and returns Dask's client."""
-        # these load slowly, and only here is it known that they're needed
+        # these load slowly, and aren't needed before
         import cloudpickle
         import distributed
-        # workers elsewhere have no package of this name: they get its functions themselves
+        # workers on other machines don't have this package: its functions are sent to them
         cloudpickle.register_pickle_by_value(sys.modules[__package__])
         logging.getLogger("distributed").setLevel(logging.CRITICAL)
         try:
@@ -87,7 +87,7 @@ class Cluster:
         try:
             return future.result()
         except Exception as error:
-            # whatever the cluster can't do; Dask asks three workers at most
+            # whatever fails in the cluster; Dask tries at most three workers
             what = f"{type(error).__name__}: {error}"
             died = "every worker that tried died"
             return 5, f"the cluster returned no result: {died if what.startswith('KilledWorker: ') else what}", b""

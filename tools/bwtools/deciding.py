@@ -16,7 +16,8 @@ from .source import Chunk, Source
 from .spelling import Moment, Number
 
 NULLS = ("NULL", "null", "NA", "N/A", "nan", "NaN", "-")
-# of a column that isn't one of texts: so many distinct texts are known, and from so many on numbers are looked at together
+# of a column that isn't one of texts: at most so many distinct texts are stored, and above so many, numbers are examined
+# together
 MOST_KNOWN, MANY = 1 << 17, 1 << 11
 
 
@@ -27,7 +28,7 @@ class Seen:
         self.heading, self.separator = heading, separator
         self.is_number, self.keeps_spelling = heading in given.number, given.keep_spelling
         self.wanted = kind_by(given.date[heading]) if heading in given.date else None
-        # the words that are null whatever the column is, and those that are where it isn't one of texts; and how many there are
+        # the words that are always null, those that are null unless the column is one of texts, and how many fields have each
         self.always, self.words = {"", *given.null}, list(dict.fromkeys(["", *given.null, *NULLS]))
         self.nulls: dict[str, int] = {}
         self.null_codes = frozenset(range(len(self.words)))
@@ -46,7 +47,7 @@ class Seen:
         # the first field that was read, and the first with a decimal sign, each with its line
         self.firsts: dict[str, str] = {}
         self.noted: list[str] = []
-        # how fields are spelled, None among them for one that won't come back as it stands, and the first of these
+        # how fields are spelled, with None for a field that isn't restored exactly, and the first such field
         self.styles = set[Hashable]()
         self.odd: str | None = None
         # why it is a column of texts, whether the codes have all texts, and whether the file has to be read again for it
@@ -132,7 +133,7 @@ class Seen:
 
     def add_times(self, fields: Sequence[str], nulls: bytes) -> Numbered | None:
         found = spelling.plain_times(fields)
-        # the first field says whether such times go with those before them
+        # the first field shows whether such times fit those before them
         if not found or self.judge(fields[0]) is not None:
             return None
         return keeping.numbered(found.numbers, nulls, found.digits, {found.style: len(fields)})
@@ -324,7 +325,7 @@ def decide(source: Source, given: argparse.Namespace, store: Store | None = None
                 store.append(kept)
             progress.add(chunk.count, source.file.tell())
     decided = [seen.kind() for seen in columns]
-    # beside decimal commas a point may part thousands
+    # beside decimal commas a point may separate thousands
     if any(isinstance(kind, kinds.Decimals) and kind.mark == "," for kind in decided):
         decided = [None if isinstance(kind, kinds.Decimals) and seen.may_be_thousands() else kind
                    for seen, kind in zip(columns, decided)]

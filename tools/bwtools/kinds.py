@@ -110,9 +110,9 @@ class Dates(Whole):
     name, plural = "dates", "dates"
 
     def __init__(self, form: str = ISO_DATE) -> None:
-        # the format of the date alone, where it's one that is read without being asked for
+        # the format of only the date, if it is one that is detected
         self.form, self.date = form, form[:8] if spelling.OWN.fullmatch(form) else None
-        # what is written of a time by its day, and then by its second of the day
+        # the part of the format that a time's day fills, and the part that its second of the day fills
         self.parts = (form[:9], form[9:]) if self.date else (form, "")
         self.example = f"'{spelling.written_by(form, 19844, 45000)}'"
 

@@ -48,7 +48,7 @@ class Answer(io.RawIOBase):
         text = self.last + bytes(buffer[:count])
         end, self.last = text.find(b"\n\n"), text[-1:]
         self.is_ended = end >= 0
-        # nothing comes after the empty line until the next statement is sent
+        # nothing follows the empty line until the next statement is sent
         if self.is_ended and end + 2 < len(text):
             raise Failed(SURPLUS)
         return count - self.is_ended
@@ -59,7 +59,7 @@ class Session:
     result is written, so that neither waits for the other. Standard error has a short line or two for each result."""
 
     def __init__(self, table: BinaryIO, options: Sequence[str] = ()) -> None:
-        # the very file that was looked at is read, whatever stands at its path by now
+        # bw reads the file that was compared, even if its path has another one by now
         words = [command.program(), "session", *options, f"/dev/fd/{table.fileno()}"]
         self.process = subprocess.Popen(words, bufsize=0, stdin=subprocess.PIPE, stdout=subprocess.PIPE, stderr=subprocess.PIPE,
                                         pass_fds=[table.fileno()])

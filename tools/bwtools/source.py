@@ -19,13 +19,13 @@ from .kinds import Refused, counted
 SEPARATORS = {"comma": ",", "semicolon": ";", "tab": "\t", "bar": "|", "\\t": "\t"}
 MARKS = ((b"\xef\xbb\xbf", "utf-8-sig"), (b"\xff\xfe", "utf-16"), (b"\xfe\xff", "utf-16"))
 MOST_COLUMNS, MOST_ROWS, ROWS_AT_ONCE, CHARACTERS_AT_ONCE = 64, 1 << 24, 8192, 1 << 18
-# stands for a field in quotes while records are parted; what has one is the csv module's
+# stands for a field in quotes while records are split; a text that has one is left to the csv module
 NUL = "\0"
 BREAK = re.compile("\r\n|\r|\n")
 SAID = re.compile('"?sep=(.)"?[\r\n]*', re.IGNORECASE)
 
 csv.field_size_limit(1 << 30)
-# newer Pythons take no number of more than some digits where nothing is said
+# newer Pythons reject numbers of many digits, unless the limit is set
 getattr(sys, "set_int_max_str_digits", int)(0)
 
 
@@ -81,11 +81,11 @@ class Source:
         if self.encoding.lower().replace("_", "-") in ("utf-8", "utf8"):
             self.encoding = "utf-8-sig"
         self.quote, self.escape, self.has_heading = given.quote, given.escape, given.heading is not False
-        # how many empty lines were left out, and how many rows there are
+        # how many empty lines were skipped, how many rows there are, and how many lines are before the heading
         self.empty, self.count, self.skipped = 0, 0, 0
         said = self.said_separator()
         self.separator = SEPARATORS.get(given.separator, given.separator) or said or self.most_frequent()
-        # whether fields may be parted without the csv module
+        # whether fields may be split without the csv module
         self.is_simple = self.escape is None and len({self.separator, self.quote, NUL, "\n", "\r"}) == 5
         self.headings = self.read_headings()
 
@@ -204,7 +204,7 @@ class Source:
         except UnicodeError:
             self.undecoded()
         except csv.Error:
-            # found once more, record by record, it is refused by its line
+            # reading record by record finds it again, and names its line
             collections.deque(self.records(), 0)
             raise
         finally:

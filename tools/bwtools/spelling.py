@@ -23,7 +23,7 @@ GROUPED = re.compile(r"[+-]?[1-9][0-9]{0,2}[,.][0-9]{3}")
 LONGEST = 100
 DATE = re.compile(r"([0-9]{1,2}|[0-9]{4})([-./])([0-9]{1,2})\2([0-9]{4}|[0-9]{1,2})")
 CLOCK = re.compile(r"([0-9]{1,2}):([0-9]{2})(?::([0-9]{2})(?:([.,])([0-9]{1,6}))?)?(Z|[+-][0-9]{2}(?::?[0-9]{2})?)?")
-# the formats of dates that are read without being asked for, by their mark and whether the year is first
+# the formats of dates that are detected, by their mark and whether the year is first
 FORMATS = {("-", True): ("%Y-%m-%d",), ("/", True): ("%Y/%m/%d",), (".", False): ("%d.%m.%Y",),
            ("/", False): ("%d/%m/%Y", "%m/%d/%Y"), ("-", False): ("%d-%m-%Y", "%m-%d-%Y")}
 OWN = re.compile("(?:{})(?:[T ]%H:%M(?::%S)?)?".format("|".join(form for forms in FORMATS.values() for form in forms)))
@@ -129,7 +129,7 @@ def are_whole(fields: Sequence[str], joined: str) -> bool:
     """Returns whether fields without line feeds, which are joined with one after each, are all whole numbers as they are
     restored."""
     digits = joined.replace("\n", "").replace("-", "")
-    # ASCII alone: other scripts have digits too
+    # only ASCII: other scripts have digits too
     if not digits.isdigit() or not digits.isascii() or "-0" in joined or "--" in joined or "-\n" in joined:
         return False
     if joined.count("-") != joined.count("\n-") + joined.startswith("-") or "" in fields:

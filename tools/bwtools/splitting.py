@@ -121,7 +121,7 @@ def load(given: argparse.Namespace) -> None:
         loads.end()
         pairs.write_columns(made / FILE, table.columns, {"name": given.name, "shards": loads.records})
         put_folder(made, path, room / "before")
-    # last, since whoever reads it may stop early, as head does
+    # last, since its reader may stop early, as head does
     table.report()
     print(f"{path} is written, as table {given.name}: {counted(len(loads.records), 'shard')} of up to "
           f"{counted(max(record['rows'] for record in loads.records), 'row')}")

@@ -21,7 +21,7 @@ from .progress import Progress
 from .source import MOST_ROWS, Chunk, Source
 
 MOST_BYTES = 1 << 30
-# a process of its own writes so many chunks of rows at least
+# a separate process writes at least so many chunks of rows
 CHUNKS_A_PART = 16
 
 # what a process counts of a column: the fields that aren't restored exactly, and the minimum and the maximum
@@ -61,7 +61,7 @@ class Kept(Numbers):
 
     def __init__(self, kind: Whole, null: str, seen: Seen) -> None:
         Numbers.__init__(self, kind, null)
-        # what is written for each code, and the codes of texts that won't come back
+        # what is written for each code, and the codes of texts that aren't restored exactly
         self.by_code, self.odd = [null] * len(seen.codes), set[int]()
         if isinstance(kind, Texts):
             for code, place in zip(map(seen.codes.__getitem__, kind.texts), map(str, itertools.count())):
