@@ -27,18 +27,24 @@ class Server:
     """A server with one thread, and a connection to it."""
 
     def __init__(self, folder):
+        """Starts a server, whose files are in a folder."""
         program, self.connection = shutil.which("clickhouse-server") or "/usr/sbin/clickhouse-server", None
         for name, text in (("config.xml", CONFIG), ("users.xml", USERS)):
             (folder / name).write_text(text.format(folder=folder), encoding="ascii")
         words = [program, f"--config-file={folder}/config.xml"]
         self.process = subprocess.Popen(words, stdin=subprocess.DEVNULL, stdout=subprocess.DEVNULL, stderr=subprocess.DEVNULL)
+
+    def wait(self):
+        """Waits until the server answers."""
         for _ in range(300):
             try:
                 self.ask("SELECT 1")
                 return
             except OSError:
                 self.connection = None
-                time.sleep(0.1)
+            if self.process.poll() is not None:
+                sys.exit(f"clickhouse-server ended with status {self.process.returncode}")
+            time.sleep(0.1)
         sys.exit("clickhouse-server doesn't answer")
 
     def ask(self, statement, rows=None):
@@ -66,7 +72,8 @@ def lines_of(path):
     with open(path, "rb") as file:
         file.readline()
         while part := file.read(1 << 20):
-            yield (part + file.readline()).replace(b"NULL", b"\\N")
+            # an empty field would be 0 in ClickHouse
+            yield (part + file.readline()).replace(b"NULL", b"\\N").replace(b",\n", b",\\N\n")
 
 
 def in_clickhouse(csv, questions, runs):
@@ -77,6 +84,7 @@ def in_clickhouse(csv, questions, runs):
     with tempfile.TemporaryDirectory(prefix="clickhouse-") as name:
         server, found = Server(pathlib.Path(name)), {}
         try:
+            server.wait()
             server.ask("CREATE DATABASE IF NOT EXISTS default")
             server.connection.request("POST", "/", TABLE.encode())
             server.connection.getresponse().read()
