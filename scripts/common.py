@@ -1,5 +1,4 @@
-"""The parts that the scripts share which run the built program: which program that is, the calls of a page, and the last
-line.
+"""The parts shared by scripts that run the built program: finding the program, the calls of a page, and the last line.
 
 A page is Markdown. In its blocks, indented by four spaces, sh runs a line that begins with `$ `, which lines that begin with
 `> ` continue; the other lines are its output. An empty line ends a block. `cases/README.md` describes tables too."""

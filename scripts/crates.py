@@ -1,6 +1,6 @@
-"""What prove and mutants share: which crates there are, what each stands on, and rooms, in which one crate is proved beside
-others. `rt` keeps all others out of a crate and of all that it stands on while it works there; in a room there are the crate's
-files and the libraries that it stands on as they were built, under second names, so that nobody waits."""
+"""The parts that prove and mutants share: the crates, the libraries that each uses, and working directories in which crates are
+proved side by side. `rt` locks a crate and all libraries below it while it works there. A working directory has hard links to the
+crate's files and to its libraries as they were built, so that no process waits for another."""
 import os
 import pathlib
 import shutil
