@@ -19,7 +19,7 @@ bench:     ## time whole queries beside C; it makes a table of ten million rows
 fmt:       ## lay out the sources of all crates
 	for crate in crates/*; do (cd $$crate && rt fmt) || exit 1; done
 
-lint:      ## look over the scripts by ruff or flake8, and by shellcheck
+lint:      ## check the scripts by ruff or flake8, mypy and shellcheck
 	scripts/lint
 
 ship:      ## make dist/bw of these sources

@@ -1,6 +1,6 @@
 #!/usr/bin/env bash
-# Times the reading and checking of a certificate of 1,048,576 product rows. Run by hand on an idle machine: bench/cert.sh. Each
-# line is the least time of five runs, in microseconds, and the most memory of one, in KiB.
+# Times reading and checking a certificate of 1,048,576 product rows. Run by hand on an idle machine: bench/cert.sh. Each line is
+# the minimum time of five runs, in microseconds. The last line is the peak memory of one run, in KiB.
 set -euo pipefail
 top=$(cd "$(dirname "$0")/.." && pwd)
 . "$top/bench/common.sh"

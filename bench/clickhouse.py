@@ -1,5 +1,5 @@
-"""Asks ClickHouse, with one thread, over a table in its memory: what bench/session times beside its own questions, if Debian's
-clickhouse-server is installed. The server runs in a folder of its own, listens on 127.0.0.1 alone, and ends with the run."""
+"""Queries ClickHouse, with one thread, over a table in its memory. bench/session times it if Debian's clickhouse-server is
+installed. The server runs in its own folder, listens only on 127.0.0.1, and ends with the run."""
 import http.client
 import pathlib
 import shutil
@@ -27,22 +27,28 @@ class Server:
     """A server with one thread, and a connection to it."""
 
     def __init__(self, folder):
+        """Starts a server, whose files are in a folder."""
         program, self.connection = shutil.which("clickhouse-server") or "/usr/sbin/clickhouse-server", None
         for name, text in (("config.xml", CONFIG), ("users.xml", USERS)):
             (folder / name).write_text(text.format(folder=folder), encoding="ascii")
         words = [program, f"--config-file={folder}/config.xml"]
         self.process = subprocess.Popen(words, stdin=subprocess.DEVNULL, stdout=subprocess.DEVNULL, stderr=subprocess.DEVNULL)
+
+    def wait(self):
+        """Waits until the server answers."""
         for _ in range(300):
             try:
                 self.ask("SELECT 1")
                 return
             except OSError:
                 self.connection = None
-                time.sleep(0.1)
+            if self.process.poll() is not None:
+                sys.exit(f"clickhouse-server ended with status {self.process.returncode}")
+            time.sleep(0.1)
         sys.exit("clickhouse-server doesn't answer")
 
     def ask(self, statement, rows=None):
-        """What the server answers, as CSV. Rows are sent after the statement, a part at a time."""
+        """Returns the server's result as CSV. Rows are sent after the statement, a part at a time."""
         if self.connection is None or rows is not None:
             self.connection = http.client.HTTPConnection("127.0.0.1", PORT, timeout=300)
         if rows is None:
@@ -62,21 +68,23 @@ class Server:
 
 
 def lines_of(path):
-    """The rows of a CSV file without its heading, with nulls as ClickHouse spells them, some at a time."""
+    """Yields the rows of a CSV file without its heading, many at a time, with nulls as ClickHouse spells them."""
     with open(path, "rb") as file:
         file.readline()
         while part := file.read(1 << 20):
-            yield (part + file.readline()).replace(b"NULL", b"\\N")
+            # an empty field would be 0 in ClickHouse
+            yield (part + file.readline()).replace(b"NULL", b"\\N").replace(b",\n", b",\\N\n")
 
 
 def in_clickhouse(csv, questions, runs):
-    """For each question the least time of some calls, in milliseconds, and the lines of the answer below a heading. None if
+    """Returns for each question the minimum time of `runs` calls, in milliseconds, and the lines of the result. Returns None if
     ClickHouse isn't installed."""
     if not (shutil.which("clickhouse-server") or pathlib.Path("/usr/sbin/clickhouse-server").exists()):
         return None
     with tempfile.TemporaryDirectory(prefix="clickhouse-") as name:
         server, found = Server(pathlib.Path(name)), {}
         try:
+            server.wait()
             server.ask("CREATE DATABASE IF NOT EXISTS default")
             server.connection.request("POST", "/", TABLE.encode())
             server.connection.getresponse().read()

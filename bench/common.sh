@@ -1,10 +1,11 @@
-# What the scripts of this folder share; they read it by `.`, with `top` set to the repository's folder. Bash 5, GNU time, gcc.
+# The parts that the scripts of this folder share. They source it with `top` set to the repository's folder. Needs Bash 5, GNU
+# time and gcc.
 
 # shellcheck shell=bash disable=SC2154
-# figures and clocks are read with a point
+# numbers and times have a decimal point
 export LC_ALL=C
 
-# builds, and proves, a program of crates/ where it is missing or older than a source
+# proves and builds a program of crates/ if it is missing or older than a source
 built() {
     local program=$top/crates/$1/out/$1
     if [ ! -x "$program" ] || [ -n "$(find "$top/crates.txt" "$top"/crates/*/src -type f -newer "$program" | head -n 1)" ]; then
@@ -15,7 +16,7 @@ built() {
     fi
 }
 
-# writes what a command prints to a file, which is there only once it is whole
+# writes the output of a command to a file, which exists only once it is complete
 kept() {
     local file=$1
     shift
@@ -23,8 +24,8 @@ kept() {
     mv "$file.part" "$file"
 }
 
-# prints a CSV text of so many rows of four columns: a from 0 to 255, b from -10 to 10 with nulls, c from 0 to 1,000,000, d
-# from 0 to 4,294,967,295 with nulls; the same rows each time
+# prints a CSV text of $1 rows of four columns, the same rows each time: a from 0 to 255, b from -10 to 10 with nulls, c from 0 to
+# 1,000,000, d from 0 to 4,294,967,295 with nulls
 four_columns() {
     awk -v rows="$1" 'BEGIN {
         srand(7)

@@ -1,6 +1,6 @@
 #!/usr/bin/env bash
-# Times the filling of a diagram: 65,534 nodes, 65,536 chains and 1,000,000 product rows that follow from the rows of their
-# cofactors. Run by hand on an idle machine: bench/diagram.sh. Each line is the least time of five runs, in microseconds.
+# Times filling a diagram: 65,534 nodes, 65,536 chains, and 1,000,000 product rows that follow from the rows of their cofactors.
+# Run by hand on an idle machine: bench/diagram.sh. Each line is the minimum time of five runs, in microseconds.
 set -euo pipefail
 top=$(cd "$(dirname "$0")/.." && pwd)
 . "$top/bench/common.sh"

@@ -1,7 +1,7 @@
 #!/usr/bin/env bash
-# Times `bw direct` on a count over a million rows of four columns (16 MB), and the csv reader alone on the same file.
-# Run by hand on an idle machine: bench/direct.sh [FOLDER], which keeps the file in FOLDER (else in a new one).
-# Each line has the seconds of wall time, those of the processor, and the most memory in KB, of the best of five runs.
+# Times `bw direct` on a count over a million rows of four columns (16 MB), and only the CSV reader on the same file.
+# Run by hand on an idle machine: bench/direct.sh [FOLDER]. The file is stored in FOLDER (default: a new one).
+# Each line has the wall time and the processor time in seconds and the peak memory in KB, of the best of five runs.
 set -euo pipefail
 top=$(cd "$(dirname "$0")/.." && pwd)
 . "$top/bench/common.sh"

@@ -1,7 +1,6 @@
-/* The same as crates/bench times, in plain C: one byte of each of 512 rows compared with a byte, or one bit of it
- * taken, into a plane of 512 bits; the planes and the byte slices of 512 rows of four columns;
- * and the judging of four columns' blocks (SSE2 for slices). `bench/lanes.sh` builds and
- * runs it. */
+/* The work that crates/bench times, in plain C. It compares one byte of each of 512 rows with a byte, or extracts
+ * one bit of it, into a plane of 512 bits; makes the planes and the byte slices of 512 rows of four columns; and
+ * validates four columns' blocks (SSE2 for slices). `bench/lanes.sh` builds and runs it. */
 #include <emmintrin.h>
 #include <stdint.h>
 #include <stdio.h>
@@ -48,7 +47,7 @@ static uint8_t *append(uint8_t *to, const void *from, size_t size) {
     return to + size;
 }
 
-/* The planes of the rows, or their byte slices, as the crates lay them out. */
+/* The planes of the rows, or their byte slices, in the layout of the crates. */
 __attribute__((noinline)) static size_t build(uint8_t *out, int planes) {
     uint8_t *at = out;
     for (int col = 0; col < 4; col++) {
@@ -80,7 +79,7 @@ __attribute__((noinline)) static size_t build(uint8_t *out, int planes) {
     return at - out;
 }
 
-/* Four columns whose blocks are judged: 8 bits, 5 bits that may be null, 20 bits, and 32 bits that may be null. */
+/* Four columns whose blocks are validated: 8 bits, 5 bits and nullable, 20 bits, and 32 bits and nullable. */
 static const uint64_t SPANS[4] = {255, 20, 1000000, 4294967295u};
 static const int WIDTHS[4] = {8, 5, 20, 32};
 static const int NULLABLE[4] = {0, 1, 0, 1};
@@ -104,7 +103,7 @@ static int is_zero(const plane *p) {
     return any == 0;
 }
 
-/* Whether a block of 512 rows in planes has a fault: a null with a code, or a code above the greatest. */
+/* Whether a block of 512 rows in planes has an error: a null with a code, or a code above the maximum. */
 __attribute__((noinline)) static int judge_planes(const uint8_t *block, int col) {
     int width = WIDTHS[col];
     const uint8_t *planes = block + 64 * NULLABLE[col];
@@ -141,7 +140,7 @@ __attribute__((noinline)) static int judge_planes(const uint8_t *block, int col)
     return !is_zero(&above);
 }
 
-/* The same of a block in slices, 16 rows at a time. */
+/* The same for a block in slices, 16 rows at a time. */
 __attribute__((noinline)) static int judge_slices(const uint8_t *block, int col) {
     int slices = (WIDTHS[col] + 7) / 8;
     const uint8_t *bytes = block + 64 * NULLABLE[col];

@@ -1,7 +1,7 @@
 #!/usr/bin/env bash
-# Times the kernels over bytes, and the building and judging of segments of 512 rows and four columns, and the same in plain C
-# (gcc -O2). Run by hand on an idle machine: bench/lanes.sh [CALLS]. Each line has the nanoseconds of a call; those of
-# the C program also a number to which each call added.
+# Times the kernels over bytes, and building and validating segments of 512 rows and four columns, beside the same in plain C
+# (gcc -O2). Run by hand on an idle machine: bench/lanes.sh [CALLS]. Each line has the nanoseconds of a call. Those of the C
+# program also have a number to which each call added.
 set -euo pipefail
 top=$(cd "$(dirname "$0")/.." && pwd)
 . "$top/bench/common.sh"

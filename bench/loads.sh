@@ -1,9 +1,8 @@
 #!/usr/bin/env bash
-# Times `bw load` in each layout and `bw direct` over tables of 1, 4 and 30 columns beside the csv reader alone, which reads the
-# same file and counts its records. Run by hand on an idle machine: bench/loads.sh [FOLDER], which keeps the CSV files (14 to
-# 24 MB each) in FOLDER (else in a new one). READER=PROGRAM takes another reader than that of crates/bench.
-# Each line has the least wall time of fifteen runs, all calls of a table taken in turn, and how many times as long it takes
-# as the reader.
+# Times `bw load` in each layout and `bw direct` over tables of 1, 4 and 30 columns, beside only the CSV reader, which reads the
+# same file and counts its records. Run by hand on an idle machine: bench/loads.sh [FOLDER]. The CSV files (14 to 24 MB each) are
+# stored in FOLDER (default: a new one). READER=PROGRAM names another reader than that of crates/bench.
+# Each line has the minimum wall time of fifteen runs, and its ratio to the reader's. All calls on a table run in turn.
 set -euo pipefail
 top=$(cd "$(dirname "$0")/.." && pwd)
 . "$top/bench/common.sh"
@@ -17,7 +16,7 @@ else
     reader=("$top/crates/bench/out/bench")
 fi
 
-# the least and the greatest number of each column, and how many rows
+# the minimum and the maximum of each column, and the number of rows
 declare -A spans rows
 spans[1]='0,1000000'
 rows[1]=2000000
@@ -26,7 +25,7 @@ rows[4]=1000000
 spans[30]=$(for _ in 1 2 3 4 5; do printf '%s ' 0,255 -10,10 0,1000000 0,4294967295 0,1 0,99999; done)
 rows[30]=150000
 
-# prints a CSV text of so many rows of columns with these spans, of which 3 in 100 values are null where there is more than one
+# prints a CSV text of $1 rows of columns with these spans; if there are several columns, 3 in 100 values are null
 table() {
     awk -v count="$1" -v spans="$2" 'BEGIN {
         srand(7)
@@ -50,7 +49,7 @@ schema() {
     done
 }
 
-# runs a command, and keeps the least time under its name
+# runs a command, and stores the minimum time under its name
 declare -A least
 run() {
     local name=$1 start end

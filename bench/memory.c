@@ -1,16 +1,16 @@
-// Answers the eight questions that bench/compare asks of C tuned by hand, over a table in memory: the rival that a running
-// `bw session` is measured against. It reads the table file once, and puts all blocks of a column back to back. Each question is
-// a loop by the 128-bit operations of SSE2 over the blocks of the columns that it needs, and of these it reads no more planes or
-// slices than it takes. It judges nothing. So it is faster than any program that doesn't trust its table.
-// It writes each answer to a file of the question's name, and for each question the least time of so many runs, in milliseconds.
+// Answers the eight questions of bench/compare's tuned C over a table in memory. A running `bw session` is compared with it.
+// It reads the table file once, and stores all blocks of a column back to back. Each question is a loop with 128-bit operations
+// (SSE2) over the blocks of the columns that it needs, and reads no more of their planes or slices than necessary. It validates
+// nothing, so it is faster than any program that doesn't trust its table.
+// It writes each result to a file of the question's name, and prints each question's minimum time of RUNS runs, in milliseconds.
 // gcc -O3 -march=x86-64-v2 -o memory bench/memory.c && ./memory RUNS TABLE FOLDER
 #include <time.h>
 
 #include "tuned.h"
 
-// Comparisons from the top bit or byte down, which end as soon as no row's code begins as the other one does.
+// Comparisons from the top bit or byte down. They end as soon as no row's code has the same leading bits as the other code.
 
-// the planes of the leading zeros of the other code are joined first, with no look at whether to end
+// the planes of the other code's leading zeros are combined first, without testing whether to end
 static rows_t planes_above_early(const struct column *c, const unsigned char *codes, uint64_t code) {
     int bit = c->width - 1, last = __builtin_ctzll(~code);
     rows_t found = filled(0);
@@ -28,7 +28,7 @@ static rows_t planes_above_early(const struct column *c, const unsigned char *co
     return found;
 }
 
-// by two slices at once, and then by each further slice for the 16 rows of which one still begins as the other code
+// by two slices at once, and then by each further slice, for 16 rows as long as one of them has the other code's leading bytes
 static rows_t bytes_above_early(const struct column *c, const unsigned char *codes, uint64_t code) {
     uint16_t found[ROWS / 16], same[ROWS / 16];
     int last = 8 * (c->slices - 1), any_same = 0;
@@ -61,7 +61,7 @@ static rows_t below(int which, int64_t value) {
     return without(present(which), at_least_by(codes_above_early, which, value));
 }
 
-// The questions. Each is asked of one segment.
+// The questions, each over one segment.
 
 static void count_a_below_8(void) {
     count += size_of(below(A, 8));
@@ -137,7 +137,7 @@ INLINED void take_ends(uint32_t row) {
     }
 }
 
-// has the processor fetch the first codes of a column some segments further on, which few rows will be compared with
+// prefetches the first codes of a column some segments ahead, since few rows will be compared with them
 static inline void fetch_ahead(int which) {
     const unsigned char *next = codes(which) + 4 * asked[which]->size;
     for (int k = 0; k < 4; k++) _mm_prefetch((const char *)(next + PLANE * k), _MM_HINT_T0);
@@ -170,7 +170,7 @@ static const struct question QUESTION[] = {
 static unsigned char *kept[ASKED];
 static uint32_t segments;
 
-// reads the file's segments, and puts the blocks of the columns that are asked for back to back
+// reads the file's segments, and stores the blocks of each column that the questions use back to back
 static void read_columns(void) {
     segments = (row_count + ROWS - 1) / ROWS;
     for (int which = 0; which < ASKED; which++)

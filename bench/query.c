@@ -1,9 +1,8 @@
-// Answers one of the questions of bench/query.sh over a table file of the columns a, b, c and d, in either layout: what
-// `bw query` is measured against. It reads by pieces of 64 KiB, judges every block as a reader of table files must, and
-// works on 64 rows at a time, a bit each in a word of 64 bits; in slices it compares the bytes of 512 rows in one loop, and
-// makes bits of the outcome. There is no vector code in it but what the compiler makes of its loops. It trusts the header,
-// and wants a machine with the least byte of a number first. The answer is written once the whole file was found good; a
-// fault is its number and its byte, with status 1.
+// Answers one of the questions of bench/query.sh over a table file of the columns a, b, c and d, in either layout. `bw query`
+// is compared with it. It reads pieces of 64 KiB, validates every block as a reader of table files must, and works on 64 rows
+// at a time, as the bits of a word. In slices it compares the bytes of 512 rows in one loop, and makes bits of the outcome. Its
+// only vector code is what the compiler makes of its loops. It trusts the header, and needs a little-endian machine. The result
+// is written once the whole file is valid. An error is its number and its byte, with status 1.
 // gcc -O2 -o query bench/query.c && ./query count_a_below_8 TABLE
 #include <fcntl.h>
 #include <stdarg.h>
@@ -31,7 +30,7 @@ static uint64_t row_count;
 // for each byte, its bit i as byte i of a word, 255 for 1
 static uint64_t spread[256];
 
-// A piece of the file, with what was left of the one before it.
+// A piece of the file, after the rest of the piece before it.
 
 static unsigned char piece[LARGEST + PIECE];
 static size_t at, end;
@@ -42,7 +41,7 @@ static _Noreturn void stop(int fault, uint64_t byte) {
     exit(1);
 }
 
-// reads on until so many bytes are at hand, or the file ends
+// reads until so many bytes are available, or the file ends
 static void gather(int file, size_t size) {
     if (end - at >= size) return;
     memmove(piece, piece + at, end - at);
@@ -57,7 +56,7 @@ static void gather(int file, size_t size) {
     }
 }
 
-// the next bytes, which stay where they are while enough are at hand
+// the next bytes, which aren't moved while enough are available
 static const unsigned char *take(int file, size_t size) {
     gather(file, size);
     if (end - at < size) stop(305, passed + end);
@@ -137,14 +136,14 @@ static rows_t packed(const unsigned char *flags) {
     return set;
 }
 
-// leaves 1 for the rows whose byte is that one, and says whether there are any
+// leaves 1 for the rows that have this byte, and returns whether there are any
 static unsigned char keep_equal(unsigned char *equal, const unsigned char *bytes, unsigned char byte) {
     unsigned char some = 0;
     for (int row = 0; row < ROWS; row++) some |= equal[row] &= bytes[row] == byte;
     return some;
 }
 
-// Columns of a segment: where their codes begin, which rows are null, and the code of one row.
+// Columns of a segment: the start of their codes, their null rows, and the code of one row.
 
 static const unsigned char *codes(const struct column *c, const unsigned char *block) {
     return block + (c->nullable ? PLANE : 0);
@@ -164,8 +163,8 @@ static uint64_t code(const struct column *c, const unsigned char *block, int row
     return made;
 }
 
-// Comparisons of codes, nulls among them as 0, with a number that has as many bits. Each goes from the top down and ends
-// where no row is equal so far.
+// Comparisons of codes, with nulls as 0, with a number of as many bits. Each goes from the top down, and ends as soon as no row
+// is equal so far.
 
 static rows_t planes_below(const struct column *c, const unsigned char *block, uint64_t bound) {
     const unsigned char *p = codes(c, block);
@@ -219,7 +218,7 @@ static rows_t slices_equal(const struct column *c, const unsigned char *block, u
     return packed(equal);
 }
 
-// the rows in which a column is below a number, or is that number: no null is either
+// the rows in which a column is less than a number, or equal to it; null is neither
 static rows_t below(int which, const unsigned char *const *block, int64_t number) {
     const struct column *c = &column[which];
     uint64_t bound = (uint64_t)number - (uint64_t)c->lo;
@@ -257,7 +256,7 @@ static uint64_t sum(const struct column *c, const unsigned char *block, const ro
     return total;
 }
 
-// the greatest code, or the least: of some rows, at least one
+// the maximum or the minimum code of some rows, at least one
 static uint64_t extreme(const struct column *c, const unsigned char *block, rows_t rows, int greatest) {
     const unsigned char *p = codes(c, block);
     uint64_t found = greatest ? 0 : UINT64_MAX;
@@ -279,7 +278,7 @@ static uint64_t extreme(const struct column *c, const unsigned char *block, rows
     return found;
 }
 
-// Judging. A block that isn't good is looked at again, row by row, for its first fault.
+// Validation. An invalid block is searched again, row by row, for its first error.
 
 static _Noreturn void stop_at(const struct column *c, const unsigned char *block, int rows, uint64_t byte) {
     size_t slices_from = in_slices ? (size_t)(codes(c, block) - block) : c->size;
@@ -363,7 +362,7 @@ static int slices_are_good(const struct column *c, const unsigned char *block, i
     return !over;
 }
 
-// The questions. Each is asked of a segment's good blocks, and reported at the end.
+// The questions. Each is evaluated over a segment's valid blocks, and reported at the end.
 
 static uint64_t count, total, least = UINT64_MAX, greatest;
 static int summed, some_least, some_greatest;
@@ -527,7 +526,7 @@ int main(int words, char **word) {
     for (uint64_t left = row_count; left > 0;) {
         int here = left < ROWS ? (int)left : ROWS;
         const unsigned char *block[COLUMNS];
-        // a whole segment where it's there, so that its blocks stand side by side
+        // a whole segment, if available, so that its blocks are contiguous
         gather(file, segment);
         for (int i = 0; i < COLUMNS; i++) {
             block[i] = take(file, column[i].size);

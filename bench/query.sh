@@ -1,13 +1,13 @@
 #!/usr/bin/env bash
 # Times `bw query` over a table file of four columns, in both layouts, beside a plain C program that answers the same
-# questions over the same file (bench/query.c: gcc -O2, reads by pieces of 64 KiB, judges every block). The columns are those
+# questions over the same file (bench/query.c: gcc -O2, reads pieces of 64 KiB, validates every block). The columns are those
 # of bench/table.sh: a from 0 to 255, b from -10 to 10 with nulls, c from 0 to 1,000,000, d from 0 to 4,294,967,295 with nulls.
-# Run by hand on an idle machine: bench/query.sh [--sorted] [ROWS [FOLDER]], by default ten million rows in a new folder, in
-# which the CSV and the table files are kept. With --sorted each question is asked of the rows sorted by the column of its
-# condition, so that a program can skip more.
-# Each line has the least wall time of RUNS runs (5 unless RUNS says otherwise) of each program in turn, and from
-# `bw query --stats` who served, the loads and the skips. Answers that aren't the same end the script. CFLAGS may say how C
-# is compiled: bw itself is built for x86-64-v2, so CFLAGS='-O2 -march=x86-64-v2' gives C the same instructions.
+# Run by hand on an idle machine: bench/query.sh [--sorted] [ROWS [FOLDER]] (default: ten million rows, and a new folder, in which
+# the CSV and the table files are stored). With --sorted, the rows are sorted by the column of each question's condition, so that
+# a program can skip more.
+# Each line has the minimum wall time of RUNS runs (default: 5) of each program in turn, and from `bw query --stats` what served
+# the query, the loads and the skips. It stops if results differ. CFLAGS sets how C is compiled: bw itself is built for
+# x86-64-v2, so CFLAGS='-O2 -march=x86-64-v2' gives C the same instructions.
 set -euo pipefail
 top=$(cd "$(dirname "$0")/.." && pwd)
 . "$top/bench/common.sh"
@@ -23,7 +23,7 @@ mkdir -p "$folder"
 schema=$folder/rows.schema
 csv=$folder/rows-$rows.csv
 
-# name of the question in bench/query.c | column of its condition | what is asked, after SELECT
+# name of the question in bench/query.c | column of its condition | the statement without SELECT
 questions="count_a_below_8|a|COUNT(*) FROM m WHERE a < 8
 sum_d_a_below_8|a|SUM(d) FROM m WHERE a < 8
 count_a_from_250|a|COUNT(*) FROM m WHERE a >= 250
@@ -46,13 +46,13 @@ if [[ $help == *--program* ]]; then
     takes_programs=yes
 fi
 
-# the rows, sorted by the column of this number
+# prints the rows, sorted by column number $1
 sorted_rows() {
     head -n 1 "$csv"
     tail -n +2 "$csv" | sort -s -t , -k "$1,$1n"
 }
 
-# the table file of the rows, sorted by a column where one is named
+# prints the path of the table file of the rows, sorted by a column if one is named
 table_of() {
     local layout=$1 by=$2 from=$csv file=$folder/$1$2-$rows.bw
     if [ ! -s "$file" ]; then
@@ -68,7 +68,7 @@ table_of() {
     printf '%s\n' "$file"
 }
 
-# runs a command, and prints its microseconds; what it writes goes to a file
+# runs a command, and prints its microseconds; its output goes to a file
 time_of() {
     local out=$1 start end
     shift
@@ -78,7 +78,7 @@ time_of() {
     printf '%d\n' $((end - start))
 }
 
-# a line: a question, asked of a table by C and by bw, of which more words may stand before the table
+# prints a line: a question over a table, by C and by bw, which may get more arguments before the table
 compare() {
     local name=$1 shown=$2 layout=$3 table=$4 sql=$5 c=999999999999 ours=999999999999 now
     shift 5

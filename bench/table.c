@@ -1,5 +1,5 @@
-// Reads a table file by pieces of 64 KiB, judges every block as `bw` does, and counts the rows: what the benchmark of
-// table files is measured against. It trusts the header, and stops at the first block that is wrong.
+// Reads a table file in pieces of 64 KiB, validates every block as `bw` does, and counts the rows. The benchmark of table
+// files compares `bw` with it. It trusts the header, and stops at the first invalid block.
 // gcc -O2 -o table bench/table.c
 #include <emmintrin.h>
 #include <fcntl.h>
@@ -14,7 +14,7 @@ enum { PIECE = 64 * 1024, ROWS = 512, PLANE = 64, LANES = PLANE / 16 };
 static unsigned char piece[PIECE];
 static size_t at, end;
 
-// takes bytes whole, or says that they are wanting
+// copies all the bytes, or reports that some are missing
 static int take(int file, unsigned char *to, size_t size) {
     while (size > 0) {
         if (at == end) {

@@ -1,12 +1,12 @@
 #!/usr/bin/env bash
 # Times `bw load`, `bw query`, `bw dump` and `bw direct` over a table of four columns: a from 0 to 255, b from -10 to 10 with
-# nulls, c from 0 to 1,000,000, d from 0 to 4,294,967,295 with nulls. Beside a count without condition stand a plain C loop
-# that reads the same file by pieces of 64 KiB and judges every block (bench/table.c), and dd, which reads it and does
-# nothing; beside the load the csv reader alone; beside `bw direct` mawk.
-# Run by hand on an idle machine: bench/table.sh [ROWS [FOLDER]], by default ten million rows in a new folder. It keeps in
-# FOLDER the CSV of ROWS rows (23 bytes a row) and a table file of each layout.
-# Each line has the least wall time of five runs, the runs of all lines taken in turn; millions of bytes a second, of the CSV
-# or the table file that is read, or of the text that a dump or a listing of half of the rows writes; and the most memory.
+# nulls, c from 0 to 1,000,000, d from 0 to 4,294,967,295 with nulls. A count without condition is compared with a plain C loop
+# that reads the same file in pieces of 64 KiB and validates every block (bench/table.c), and with dd, which only reads it. The
+# load is compared with the CSV reader, and `bw direct` with mawk.
+# Run by hand on an idle machine: bench/table.sh [ROWS [FOLDER]] (default: ten million rows, and a new folder). FOLDER gets the
+# CSV of ROWS rows (23 bytes per row) and a table file of each layout.
+# Each line has the minimum wall time of five runs, those of all lines in turn; the peak memory; and MB per second: of the CSV or
+# the table file that is read, or of the text that a dump or a listing of half of the rows writes.
 set -euo pipefail
 top=$(cd "$(dirname "$0")/.." && pwd)
 . "$top/bench/common.sh"
@@ -27,7 +27,7 @@ gcc -O2 -o "$folder/table" "$top/bench/table.c"
 declare -A least most size
 names=()
 
-# runs a command once more, and keeps the least time and the most memory under its name
+# runs a command once more, and stores the minimum time and the peak memory under its name
 run() {
     local name=$1 bytes=$2 start end memory
     shift 2
@@ -61,7 +61,7 @@ for _ in 1 2 3 4 5; do
         bytes=$(stat -c %s "$file")
         run "$layout: load" "$text" "$bw" load --layout $layout "$schema" "$csv" "$folder/loaded.bw"
         rm "$folder/loaded.bw"
-        # the short ones once more each, since they take hundredths of a second
+        # short calls run more often, since they take hundredths of a second
         for _ in 1 2 3 4; do
             run "$layout: dd" "$bytes" dd if="$file" of=/dev/null bs=64K status=none
             run "$layout: read and judged in C" "$bytes" "$folder/table" "$file"

@@ -1,5 +1,5 @@
-/* The same as crates/bench times, in plain C: SUM, MIN and MAX of a column of 32 bits that takes nulls, over the
- * picked rows of 512, by a loop over the rows' codes, and SUM by planes, word by word. `bench/totals.sh` builds and runs it. */
+/* The work that crates/bench times, in plain C: SUM, MIN and MAX of a nullable column of 32 bits over the selected rows of
+ * 512, by a loop over the rows' codes, and SUM by planes, word by word. `bench/totals.sh` builds and runs it. */
 #include <stdint.h>
 #include <stdio.h>
 #include <time.h>

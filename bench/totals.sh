@@ -1,8 +1,8 @@
 #!/usr/bin/env bash
-# Times SUM, MIN and MAX of a column of 32 bits that takes nulls, over the picked rows of segments in planes and in slices,
-# beside plain C (gcc -O2): a loop over the rows' codes, and SUM by planes, word by word.
-# Run by hand on an idle machine: bench/totals.sh. Each line is the least time of five runs, each the least of thirty
-# rounds: nanoseconds a segment.
+# Times SUM, MIN and MAX of a nullable column of 32 bits over the selected rows of segments, in planes and in slices, beside plain
+# C (gcc -O2): a loop over the rows' codes, and SUM by planes, word by word.
+# Run by hand on an idle machine: bench/totals.sh. Each line is the minimum time of five runs, each the minimum of thirty
+# rounds, in nanoseconds per segment.
 set -euo pipefail
 top=$(cd "$(dirname "$0")/.." && pwd)
 . "$top/bench/common.sh"

@@ -1,9 +1,9 @@
-// Answers one of the eight questions that bench/compare asks of it over a table file, in either layout: the rival that `bw query`
-// is measured against. It is tuned by hand, with the 128-bit operations of SSE2, and does the work that a reader of table files
-// has to do: it reads the file once, by pieces into one buffer, judges the header and every block, and stops at the first fault
-// with its number and its byte and status 1. The answer is written once the whole file was found good.
-// The header says how the columns lie: any table `m` with columns `a`, `b`, `c` and `d` is answered, of any widths, but for a `d`
-// whose sum might not fit into 64 bits. It wants a machine with the least byte of a number first.
+// Answers one of the eight questions of bench/compare over a table file, in either layout. `bw query` is compared with it. It is
+// tuned by hand, with the 128-bit operations of SSE2, and does the work that a reader of table files must do: it reads the file
+// once, in pieces into one buffer, validates the header and every block, and stops at the first error with its number and its
+// byte and status 1. The result is written once the whole file is valid.
+// The header describes the columns: any table `m` with columns `a`, `b`, `c` and `d` of any widths will do, except a `d` whose sum
+// might not fit 64 bits. It needs a little-endian machine.
 // gcc -O3 -march=x86-64-v2 -o tuned bench/tuned.c && ./tuned count_a_below_8 TABLE
 #include "tuned.h"
 
@@ -19,8 +19,8 @@ static int any_codes_above(const struct column *c, const unsigned char *codes, u
     return UNROLLED(any_bytes_above, slices, codes + ROWS * (slices - 1), code >> 8 * low);
 }
 
-// Judging. A block of 512 rows is judged all at once; one that isn't good, or that has fewer rows, is judged again byte by byte
-// and row by row, which finds its first fault.
+// Validation. A block of 512 rows is validated at once. One that is invalid, or has fewer rows, is validated again byte by byte
+// and row by row, which finds its first error.
 
 static int all_rows_are_good(const struct column *c, const unsigned char *block) {
     const unsigned char *codes = block + c->nulls;
@@ -33,7 +33,7 @@ static void judge_by_rows(const struct column *c, const unsigned char *block, ui
     for (size_t i = 0; i < c->size; i++) {
         int of_a_slice = in_slices && i >= c->nulls;
         size_t row = of_a_slice ? (i - c->nulls) % ROWS : 8 * (i % PLANE);
-        // of the rows from this one on, how many bits of the byte are there
+        // how many bits of the byte belong to the rows from this one on
         int there = row >= rows ? 0 : of_a_slice || rows - row >= 8 ? 8 : (int)(rows - row);
         if (block[i] >> there) stop(308, byte + i);
     }
@@ -44,7 +44,7 @@ static void judge_by_rows(const struct column *c, const unsigned char *block, ui
     }
 }
 
-// The questions. Each is asked of a segment whose blocks are good.
+// The questions. Each is evaluated over a segment whose blocks are valid.
 
 static void count_a_below_8(void) {
     count += size_of(without(present(A), at_least(A, 8)));
@@ -103,7 +103,7 @@ static const struct question QUESTION[] = {
     {"rows_c_below_1000", rows_c_below_1000, write_records},
 };
 
-// takes the segments one after the other, and asks the question of each once its blocks were found good
+// reads the segments in order, and evaluates the question over each once its blocks are valid
 static void scan(const struct question *question) {
     for (uint32_t left = row_count, rows; left > 0; left -= rows) {
         rows = left < ROWS ? left : ROWS;

@@ -1,5 +1,5 @@
-// What bench/tuned.c and bench/memory.c share: the header of a table file, which is read by pieces, sets of 512 rows and
-// comparisons by the 128-bit operations of SSE2, totals, and how the answers are written.
+// The parts that bench/tuned.c and bench/memory.c share: the header of a table file, which is read in pieces; sets of 512 rows and
+// comparisons by the 128-bit operations of SSE2; totals; and writing the results.
 #include <ctype.h>
 #include <emmintrin.h>
 #include <fcntl.h>
@@ -16,12 +16,12 @@ enum { PIECE = 128 * 1024, LARGEST = MOST_COLUMNS * (PLANE + 8 * ROWS) };
 struct column {
     char name[256];
     int64_t lo;
-    // the greatest code
+    // the maximum code
     uint64_t span;
     int width, slices;
-    // whether no code that has room in the block is above the greatest one
+    // whether no code that fits the block's bits is above the maximum
     int full;
-    // bytes of the null plane, after which the codes stand, and of the whole block
+    // bytes of the null plane, which the codes follow, and of the whole block
     size_t nulls, size;
 };
 
@@ -40,14 +40,14 @@ static _Noreturn void give_up(const char *why) {
     exit(2);
 }
 
-// The buffer: from `at` to `end` stands what was read and isn't taken yet; `passed` bytes of the file stood before the buffer.
+// The buffer: unread bytes are from `at` to `end`, and `passed` bytes of the file are before the buffer.
 
 static unsigned char buffer[LARGEST + PIECE] __attribute__((aligned(64)));
 static size_t at, end;
 static uint64_t passed;
 static int file;
 
-// moves what isn't taken to the buffer's front, where the blocks of a segment lie at multiples of 64
+// moves the unread bytes to the buffer's front, where the blocks of a segment are at multiples of 64
 static void settle(void) {
     memmove(buffer, buffer + at, end - at);
     passed += at;
@@ -55,7 +55,7 @@ static void settle(void) {
     at = 0;
 }
 
-// how many bytes are at hand, once as many as are wanted were read, or the file has ended
+// how many bytes are available, after reading until there are as many as wanted, or the file ends
 static size_t at_hand(size_t wanted) {
     if (end - at >= wanted) return end - at;
     settle();
@@ -94,7 +94,7 @@ static int is_name(const char *text, size_t size) {
     return 1;
 }
 
-// a name after its length, which is none of the names of the first so many columns
+// a name after its length, which must differ from the names of the columns before it
 static void take_name(char *text, int earlier) {
     uint64_t byte = passed + at;
     size_t size = *take(1);
@@ -192,11 +192,11 @@ static rows_t first(uint32_t count) {
     return plane(bytes);
 }
 
-// Comparisons of the codes with another one, from the least bit or byte up: what was found of the lower ones stands where the
-// next one is equal to that of the other code. Ones at the lower end of the other code change nothing, and aren't looked at. It
-// isn't all ones, as no code can be above that.
+// Comparisons of the codes with another one, from the lowest bit or byte up: the outcome of the lower ones remains if the next one
+// is equal to that of the other code. Ones at the lower end of the other code change nothing, and are skipped. The other code
+// isn't all ones, since no code can be above that.
 
-// where the other code has 1 a row needs 1 too, and where it has 0 a row with 1 is above it
+// if the other code has 1, a row needs 1 too; if it has 0, a row with 1 is above it
 static rows_t planes_above(const struct column *c, const unsigned char *codes, uint64_t code) {
     rows_t set = filled(0);
     for (int bit = __builtin_ctzll(~code); bit < c->width; bit++) {
@@ -213,8 +213,8 @@ static rows_t planes_equal(const struct column *c, const unsigned char *codes, u
     return set;
 }
 
-// What is done with 512 bytes of each of some slices, of which the least is given and the next ones stand before it. UNROLLED
-// calls it with a number of slices that the compiler knows, so that there is no loop over them.
+// The work on 512 bytes of each of some slices. The lowest slice is given, and the others precede it. UNROLLED calls it with a
+// number of slices that the compiler knows, so that there is no loop over them.
 #define INLINED static inline __attribute__((always_inline))
 #define UNROLLED(function, slices, ...) \
     ((slices) == 1 ? function(1, __VA_ARGS__) : (slices) == 2 ? function(2, __VA_ARGS__) \
@@ -225,7 +225,7 @@ INLINED unsigned zeros(__m128i bytes) {
     return (unsigned)_mm_movemask_epi8(_mm_cmpeq_epi8(bytes, _mm_setzero_si128()));
 }
 
-// of 16 rows, bytes that aren't 0 where a row is above the code
+// of 16 rows, bytes that aren't 0 if a row is above the code
 INLINED __m128i above(int slices, const unsigned char *least, uint64_t code) {
     __m128i found = _mm_setzero_si128();
     for (int s = 0; s < slices; s++) {
@@ -263,7 +263,7 @@ static inline rows_t codes_equal(const struct column *c, const unsigned char *co
     return UNROLLED(bytes_equal, c->slices, codes + ROWS * (c->slices - 1), code);
 }
 
-// Totals of the codes in a set of rows. Of 64 rows that have none of the set nothing is read.
+// Totals of the codes in a set of rows. Nothing is read of 64 rows of which none is in the set.
 
 static uint64_t planes_total(const struct column *c, const unsigned char *codes, rows_t rows) {
     uint64_t word[WORDS], total = 0;
@@ -282,7 +282,7 @@ static uint64_t planes_total(const struct column *c, const unsigned char *codes,
     return total;
 }
 
-// for each byte, 255 in byte i of a word where its bit i is 1
+// for each byte, a word whose byte i is 255 if bit i is 1
 static uint64_t spread[256];
 
 static void make_spread(void) {
@@ -325,10 +325,10 @@ static uint64_t code_of(const struct column *c, const unsigned char *codes, uint
     return made;
 }
 
-// What the questions are asked of: the columns in one segment.
+// The columns of one segment, over which the questions are evaluated.
 
 enum { A, B, C, D, ASKED };
-// the columns that are asked for, where their blocks begin in a segment of the file, and the segment's blocks of them
+// the columns that the question uses, the offsets of their blocks in a segment of the file, and the segment's blocks
 static const struct column *asked[ASKED];
 static size_t place[ASKED];
 static const unsigned char *blocks[ASKED];
@@ -344,12 +344,12 @@ static inline const unsigned char *codes(int which) {
     return blocks[which] + asked[which]->nulls;
 }
 
-// the rows that have a number there
+// the rows that aren't null in the column
 static inline rows_t present(int which) {
     return without(here, nulls(which));
 }
 
-// the rows whose code says so, by a function that finds the codes above one; a null's code is 0
+// the rows whose code passes, by a function that finds the codes above one; a null's code is 0
 INLINED rows_t at_least_by(rows_t (*above)(const struct column *, const unsigned char *, uint64_t), int which, int64_t value) {
     const struct column *c = asked[which];
     if (value <= c->lo) return filled(1);
@@ -376,7 +376,7 @@ static void add_up(rows_t rows) {
     total += codes_total + size * (uint64_t)asked[D]->lo;
 }
 
-// hands each row of a set on, in their order: for sets of few rows
+// passes on each row of a set, in order; for sets of few rows
 INLINED void each(rows_t rows, void (*take)(uint32_t)) {
     uint64_t word[WORDS];
     memcpy(word, &rows, PLANE);
@@ -392,7 +392,7 @@ static inline int64_t number_in(int which, uint32_t row) {
     return asked[which]->lo + (int64_t)code_of(asked[which], codes(which), row);
 }
 
-// the least c and the greatest d so far, where there is one
+// the minimum c and the maximum d so far, if there is one
 static int64_t least, greatest;
 static int any_least, any_greatest;
 
@@ -431,7 +431,7 @@ INLINED void take_record(uint32_t row) {
     put_field(D, row, '\n');
 }
 
-// What is written of the answers.
+// Writing the results.
 
 static void write_count(void) {
     printf("COUNT(*)\n%llu\n", (unsigned long long)count);

@@ -1,5 +1,4 @@
-"""The parts that the scripts share which run the built program: which program that is, the calls of a page, and the last
-line.
+"""The parts shared by scripts that run the built program: finding the program, the calls of a page, and the last line.
 
 A page is Markdown. In its blocks, indented by four spaces, sh runs a line that begins with `$ `, which lines that begin with
 `> ` continue; the other lines are its output. An empty line ends a block. `cases/README.md` describes tables too."""
@@ -15,14 +14,14 @@ import tempfile
 
 ROOT = pathlib.Path(__file__).resolve().parent.parent
 
-# the exit status of a fault, by the first digit of its number
+# the exit status of an error, by the first digit of its number
 STATUS = {"1": 3, "2": 3, "3": 3, "4": 3, "5": 3, "6": 4, "7": 5, "8": 6}
 
-# A command and the lines that it prints, at a line of a page, in a section and in one of the page's blocks. Where it's of a
-# table, the block is None.
+# A command and the lines that it prints, with its line, section and block of the page. The block is None if the command is of
+# a table.
 Call = collections.namedtuple("Call", "section block line command prints")
 
-# A script may be started with its standard input closed: then another file mustn't get its number.
+# If a script is started with standard input closed, no other file may get its number.
 try:
     os.fstat(0)
 except OSError:
@@ -37,7 +36,7 @@ def program(path=None):
         path = subprocess.run([ROOT / "bw", "--where"], stdout=subprocess.PIPE, text=True, check=False).stdout.strip()
     path = pathlib.Path(path).resolve()
     if not os.access(path, os.X_OK) or path.is_dir():
-        print(f"{path} is no program")
+        print(f"{path} is not a program")
         sys.exit(2)
     return path
 
@@ -104,7 +103,7 @@ def filled(template, given):
 
 
 def cells_of(line):
-    """The cells of a table's line."""
+    """Returns the cells of a table's line."""
     return [cell.strip().replace("\\|", "|") for cell in re.split(r"(?<!\\)\|", line)[1:-1]]
 
 
@@ -122,7 +121,7 @@ def told(cell):
 
 
 def calls(page):
-    """Yields the calls of a page, in its order. A table's first cell has the commands that are run for each row. A column
+    """Returns the calls of a page, in its order. A table's first cell has the commands that are run for each row. A column
     `prints` has the output of each, a column `why` is for the reader, and the commands get the others."""
     found, section, block, call, table = [], "", 0, None, None
     for number, line in enumerate(page.read_text(encoding="utf-8").splitlines(), 1):

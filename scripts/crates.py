@@ -1,6 +1,6 @@
-"""What prove and mutants share: which crates there are, what each stands on, and rooms, in which one crate is proved beside
-others. `rt` keeps all others out of a crate and of all that it stands on while it works there; in a room there are the crate's
-files and the libraries that it stands on as they were built, under second names, so that nobody waits."""
+"""The parts that prove and mutants share: the crates, the libraries that each uses, and working directories in which crates are
+proved side by side. `rt` locks a crate and all libraries below it while it works there. A working directory has hard links to the
+crate's files and to its libraries as they were built, so that no process waits for another."""
 import os
 import pathlib
 import shutil
@@ -10,7 +10,7 @@ PARTS = ("src", "specs", "proofs")
 
 
 def libraries():
-    """The libraries of the repository that each crate names."""
+    """Returns the libraries of the repository that each crate names."""
     lines = (line.split("#")[0] for line in (ROOT / "crates.txt").read_text(encoding="utf-8").splitlines())
     named = {name: rest.split() for name, found, rest in (line.partition(":") for line in lines) if found}
     return {name: [each for each in below if each in named] for name, below in named.items()}
@@ -25,7 +25,7 @@ def below(name, named):
 
 
 def cost(name):
-    """What a check of a crate costs, roughly: its lines."""
+    """Returns the rough cost of checking a crate: its number of lines."""
     files = (path for part in PARTS for path in (ROOT / "crates" / name / part).rglob("*.*"))
     return sum(path.read_bytes().count(b"\n") for path in files)
 

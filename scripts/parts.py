@@ -11,8 +11,8 @@ COUNTS = re.compile(r"^(?:[\w-]+: )?(\d+) passed, (\d+) failed(?:, (\d+) skipped
 
 
 class Part:
-    """A command and, once it has run, its numbers of passed, failed and skipped tests, by its last line; its other lines; its
-    status; and the seconds that it took, of the clock and of processors."""
+    """A command, and once it has run: its numbers of passed, failed and skipped tests, by its last line; its other lines; its
+    status; and its wall and processor time in seconds."""
 
     def __init__(self, words):
         self.words, self.counts, self.lines = words, (0, 0, 0), []
@@ -42,7 +42,7 @@ class Part:
 
 
 class Tally:
-    """How many tests passed, failed and were skipped, and the names of the parts that failed."""
+    """The numbers of passed, failed and skipped tests, and the names of the parts that failed."""
 
     def __init__(self):
         self.passed, self.failed, self.skipped, self.names = 0, 0, 0, []

@@ -1,6 +1,6 @@
-"""Watches the kit's gate, `rt ci`, while ./check --proof runs it: prints how far it is every minute, and at the end where the time
-went. `rt ci` says when a crate is proved, but not when a mutant was tried, and no times; so this looks at its processes in
-/proc, every two seconds."""
+"""Watches the kit's gate, `rt ci`, while ./check --proof runs it. Prints its progress every minute, and at the end how the time was
+spent. `rt ci` prints when a crate is proved, but no tried mutants and no times, so this inspects its processes in /proc every two
+seconds."""
 import os
 import re
 import tempfile
@@ -17,7 +17,7 @@ ENDED = re.compile(r"rt: (\w+)(: its tests are)? (NOT PROVED|proved)$")
 
 
 def processes():
-    """Each process's parent, its seconds of work, and when it began."""
+    """Returns each process's parent, its processor time in seconds, and when it began."""
     found = {}
     for name in filter(str.isdigit, os.listdir("/proc")):
         try:

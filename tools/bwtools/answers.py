@@ -21,20 +21,23 @@ class Back(dict):
 
     def __init__(self, heading: str, columns: list[Column]) -> None:
         super().__init__()
-        self.turn_many = None
+        self.turn: Callable[[int], str] = str
+        self.turn_many: Callable[[Sequence[int]], list[str]] | None = None
         found = re.fullmatch(r"(?:(COUNT|SUM|MIN|MAX)\()?([^()]+)\)?", heading)
         named = [column for column in columns if found and column.name.lower() == found.group(2).lower()]
-        self.heading, self.null, self.turn, self.is_whole = heading, "", str, True
+        self.heading, self.null, self.is_whole = heading, "", True
         if heading == "COUNT(*)":
             return
-        if not named:
+        if not found or not named:
             raise Refused(f"the result has a column {heading}, which isn't in the columns file")
         column, function = named[0], found.group(1)
         self.heading = f"{function}({column.heading})" if function else column.heading
         self.null, self.is_whole = column.null, column.kind.name == "whole"
-        self.turn = {"COUNT": str, "SUM": column.kind.sum}.get(function, column.kind.text)
-        if self.turn is None:
+        turns: dict[str | None, Callable[[int], str] | None] = {"COUNT": str, "SUM": column.kind.sum}
+        turn = turns.get(function, column.kind.text)
+        if turn is None:
             raise Refused(no_sum(column))
+        self.turn = turn
         self.turn_many = column.kind.spell if function is None else None
 
     def __missing__(self, field: str) -> str:
@@ -42,7 +45,8 @@ class Back(dict):
         return self[field]
 
     def many(self, fields: Sequence[str]) -> list[str]:
-        """Returns the texts of many fields; those that weren't met before are translated at once."""
+        """Returns the texts of many fields of a column; those that weren't met before are translated at once."""
+        assert self.turn_many is not None
         distinct = dict.fromkeys(fields)
         is_mixed = len(distinct) * 2 < len(fields) or "NULL" in distinct
         fresh = [field for field in distinct if field not in self and field != "NULL"] if is_mixed else fields
@@ -101,7 +105,7 @@ def blocks(answer: TextIO, width: int) -> Iterator[tuple[int, Sequence[Sequence[
             break
         yield before, columns
         before += len(columns[0])
-    # what isn't of bw alone is the csv module's
+    # anything that bw doesn't write is left to the csv module
     records = csv.reader(itertools.chain(io.StringIO(text, newline=""), answer))
     first = before
     while True:

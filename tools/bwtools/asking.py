@@ -32,6 +32,6 @@ def answer_all(answer: Callable[[str, str], int]) -> int:
 def pass_on(told: str, turned: str) -> None:
     """Prints what bw wrote to standard error for a translated statement."""
     print(told, end="", file=sys.stderr)
-    # its faults of a statement are those from 401 on
+    # its errors in statements are those from 401 on
     if told.startswith("bw: 4") and " at byte " in told:
         print(f"{command.own_name()}: the byte is one of the translated statement: {turned}", file=sys.stderr)

@@ -34,20 +34,24 @@ class Cluster:
     """Queries shards on the workers of a cluster, which is started or joined for the first statement."""
 
     def __init__(self, workers: int, scheduler: str | None) -> None:
-        self.workers, self.scheduler, self.client = workers, scheduler, None
+        self.workers, self.scheduler = workers, scheduler
+        # Dask's client
+        self.client: Any = None
         self.stack = contextlib.ExitStack()
 
-    def start(self) -> None:
-        # these load slowly, and only here is it known that they're needed
+    def start(self) -> Any:
+        """Starts or joins the cluster, and returns Dask's client."""
+        # these load slowly, and aren't needed before
         import cloudpickle
         import distributed
-        # workers elsewhere have no package of this name: they get its functions themselves
+        # workers on other machines don't have this package: its functions are sent to them
         cloudpickle.register_pickle_by_value(sys.modules[__package__])
         logging.getLogger("distributed").setLevel(logging.CRITICAL)
         try:
             client = self.stack.enter_context(distributed.Client(self.scheduler or self.local(), timeout=SECONDS))
             client.wait_for_workers(1, timeout=SECONDS)
             self.client = client
+            return client
         except Exception as error:
             where = f"the scheduler {self.scheduler}" if self.scheduler else "a cluster of this machine"
             self.stack.close()
@@ -66,25 +70,24 @@ class Cluster:
 
     def replies(self, calls: list[tuple[Any, ...]]) -> Iterator[Reply]:
         """Returns the replies of these calls of ask_shard, in their order. A reply leaves the cluster once it is consumed."""
-        if self.client is None:
-            self.start()
+        client = self.start() if self.client is None else self.client
 
         def asked(*call: Any) -> Reply:
             return ask_shard(*call)
 
-        futures = [self.client.submit(asked, *call, pure=False) for call in calls]
+        futures = [client.submit(asked, *call, pure=False) for call in calls]
         try:
             while futures:
                 yield self.reply(futures[0])
                 futures.pop(0).release()
         finally:
-            self.client.cancel(futures)
+            client.cancel(futures)
 
     def reply(self, future: Any) -> Reply:
         try:
             return future.result()
         except Exception as error:
-            # whatever the cluster can't do; Dask asks three workers at most
+            # whatever fails in the cluster; Dask tries at most three workers
             what = f"{type(error).__name__}: {error}"
             died = "every worker that tried died"
             return 5, f"the cluster returned no result: {died if what.startswith('KilledWorker: ') else what}", b""

@@ -35,7 +35,7 @@ def own_program() -> pathlib.Path | None:
     if is_program(shipped) and not subprocess.run([shipped, "--version"], stdin=subprocess.DEVNULL, stdout=subprocess.DEVNULL,
                                                   stderr=subprocess.DEVNULL, check=False).returncode:
         return shipped
-    return next(filter(is_program, (top / "bw", top.parent.parent / "bin" / "bw")), None)
+    return next((path for path in (top / "bw", top.parent.parent / "bin" / "bw") if is_program(path)), None)
 
 
 def is_program(path: pathlib.Path) -> bool:

@@ -16,7 +16,8 @@ from .source import Chunk, Source
 from .spelling import Moment, Number
 
 NULLS = ("NULL", "null", "NA", "N/A", "nan", "NaN", "-")
-# of a column that isn't one of texts: so many distinct texts are known, and from so many on numbers are looked at together
+# of a column that isn't one of texts: at most so many distinct texts are stored, and above so many, numbers are examined
+# together
 MOST_KNOWN, MANY = 1 << 17, 1 << 11
 
 
@@ -27,29 +28,37 @@ class Seen:
         self.heading, self.separator = heading, separator
         self.is_number, self.keeps_spelling = heading in given.number, given.keep_spelling
         self.wanted = kind_by(given.date[heading]) if heading in given.date else None
-        # the words that are null whatever the column is, and those that are where it isn't one of texts; and how many there are
-        self.always, self.words, self.nulls = {"", *given.null}, list(dict.fromkeys(["", *given.null, *NULLS])), {}
+        # the words that are always null, those that are null unless the column is one of texts, and how many fields have each
+        self.always, self.words = {"", *given.null}, list(dict.fromkeys(["", *given.null, *NULLS]))
+        self.nulls: dict[str, int] = {}
         self.null_codes = frozenset(range(len(self.words)))
-        self.form, self.codes, self.is_varied = None, keeping.Codes(self.words), False
-        # of numbers: the least and the greatest of so many digits, whether one ends in a zero, and the decimal signs
-        self.ends, self.lengths, self.has_zero, self.marks, self.grouped = {}, set(), False, {}, None
+        self.form: str | None = None
+        self.codes, self.is_varied = keeping.Codes(self.words), False
+        # of numbers: the minimum and the maximum of so many digits, whether one ends in a zero, the decimal signs, each with
+        # the first text that has it, and whether all of these may separate thousands
+        self.ends: dict[int, tuple[int, int]] = {}
+        self.lengths, self.has_zero = set[int](), False
+        self.marks: dict[str, str] = {}
+        self.grouped: bool | None = None
         # of dates and times: the formats that all dates may have and the first date, and how the times are spelled
-        self.dates, self.date, self.clocks, self.betweens, self.zones, self.digits = None, "", set(), set(), set(), 0
+        self.dates: list[str] | None = None
+        self.date, self.digits = "", 0
+        self.clocks, self.betweens, self.zones = set[str](), set[str](), set[str]()
         # the first field that was read, and the first with a decimal sign, each with its line
         self.firsts: dict[str, str] = {}
         self.noted: list[str] = []
-        # how fields are spelled, None among them for one that won't come back as it stands, and the first of these
-        self.styles, self.odd = set(), None
+        # how fields are spelled, with None for a field that isn't restored exactly, and the first such field
+        self.styles = set[Hashable]()
+        self.odd: str | None = None
         # why it is a column of texts, whether the codes have all texts, and whether the file has to be read again for it
-        self.why, self.is_all, self.is_read_again = None, True, False
-        if heading in given.text:
-            self.why = "by --text"
+        self.why: str | None = "by --text" if heading in given.text else None
+        self.is_all, self.is_read_again = True, False
 
     def add(self, fields: Sequence[str], chunk: Chunk) -> Coded | Numbered | None:
         """Adds the fields of some rows, and returns them as stored; None if they must be read again."""
-        kept = self.add_plain(fields) if self.is_varied and not self.why else None
-        if kept:
-            return None if self.is_read_again else kept
+        plain = self.add_plain(fields) if self.is_varied and not self.why else None
+        if plain:
+            return None if self.is_read_again else plain
         codes = list(map(self.codes.__getitem__, fields))
         fresh, self.codes.fresh = self.codes.fresh, []
         kept = keeping.coded(codes, len(self.codes))
@@ -124,7 +133,7 @@ class Seen:
 
     def add_times(self, fields: Sequence[str], nulls: bytes) -> Numbered | None:
         found = spelling.plain_times(fields)
-        # the first field says whether such times go with those before them
+        # the first field shows whether such times fit those before them
         if not found or self.judge(fields[0]) is not None:
             return None
         return keeping.numbered(found.numbers, nulls, found.digits, {found.style: len(fields)})
@@ -142,9 +151,11 @@ class Seen:
     def judge(self, text: str) -> str | None:
         """Adds a text. Returns why it makes the column one of texts, if it does."""
         if self.wanted:
-            if not spelling.read_by(self.wanted.form, text):
+            wanted = self.wanted.number(text) if spelling.read_by(self.wanted.form, text) else None
+            if wanted is None:
                 raise Refused(f"column {shown(self.heading)} has {shown(text)}, which isn't of --date's format {self.wanted.form}")
-            return self.spelled(text, "wanted" if self.wanted.text(self.wanted.number(text)) == text else None)
+            self.spelled(text, "wanted" if self.wanted.text(wanted) == text else None)
+            return None
         number, why = spelling.number_of(text)
         if number is None and self.is_number:
             raise Refused(f"column {shown(self.heading)} has {shown(text)}, which isn't a number, as --number states")
@@ -157,7 +168,10 @@ class Seen:
         self.form = form
         if number:
             return self.judge_number(text, number)
-        return self.judge_moment(text, moment) if moment else self.spelled(text, spelling.TRUTH_OF[text][1])
+        if moment:
+            return self.judge_moment(text, moment)
+        self.spelled(text, spelling.TRUTH_OF[text][1])
+        return None
 
     def spelled(self, text: str, style: Hashable) -> None:
         self.styles.add(style)
@@ -180,7 +194,8 @@ class Seen:
             return " doesn't fit 64 bits"
         self.widen(number.digits, number.value, number.value)
         self.has_zero |= number.digits > 0 and number.value % 10 == 0
-        return self.spelled(text, "plain" if number.is_plain else None)
+        self.spelled(text, "plain" if number.is_plain else None)
+        return None
 
     def judge_moment(self, text: str, moment: Moment) -> str | None:
         dates = list(moment.days) if self.dates is None else [form for form in self.dates if form in moment.days]
@@ -193,7 +208,8 @@ class Seen:
         self.zones.add(moment.zone)
         self.clocks.add(moment.clock)
         self.betweens.add(moment.between)
-        return self.spelled(text, (moment.clock, moment.between, moment.digits) if moment.is_plain else None)
+        self.spelled(text, (moment.clock, moment.between, moment.digits) if moment.is_plain else None)
+        return None
 
     def kind(self) -> Whole | None:
         """Returns the kind of the column; None for texts, whose list isn't complete yet."""
@@ -215,10 +231,11 @@ class Seen:
         if self.form == "number":
             return self.numbers()
         if self.form == "truth":
-            words = self.styles if len(self.styles) == 1 else spelling.TRUTHS[:1]
-            return kinds.Truths(next(iter(words)))
-        if self.form != "clock" and len(self.dates) > 1:
-            first, second = self.dates
+            spelled = [words for words in spelling.TRUTHS if words in self.styles]
+            return kinds.Truths(spelled[0] if len(spelled) == 1 else spelling.TRUTHS[0])
+        dates = self.dates or []
+        if self.form != "clock" and len(dates) > 1:
+            first, second = dates
             raise Refused(f"column {shown(self.heading)}: {shown(self.date)} may be day, month and year, or month, day and year: "
                           f"choose by --date '{self.heading}={first}' or --date '{self.heading}={second}', "
                           f"or --text '{self.heading}' to keep texts")
@@ -226,9 +243,9 @@ class Seen:
         if self.form == "clock":
             return kinds.Clocks(clock, self.digits)
         if self.form == "date":
-            return kinds.Dates(self.dates[0])
+            return kinds.Dates(dates[0])
         between = next(iter(self.betweens)) if len(self.betweens) == 1 else "T"
-        return kinds.Times(f"{self.dates[0]}{between}{clock}", self.digits, next(iter(self.zones)))
+        return kinds.Times(f"{dates[0]}{between}{clock}", self.digits, next(iter(self.zones)))
 
     def numbers(self) -> Whole | None:
         digits = max(self.ends)
@@ -308,9 +325,9 @@ def decide(source: Source, given: argparse.Namespace, store: Store | None = None
                 store.append(kept)
             progress.add(chunk.count, source.file.tell())
     decided = [seen.kind() for seen in columns]
-    # beside decimal commas a point may part thousands
-    if any(kind and kind.name == "decimals" and kind.mark == "," for kind in decided):
-        decided = [None if kind and kind.name == "decimals" and seen.may_be_thousands() else kind
+    # beside decimal commas a point may separate thousands
+    if any(isinstance(kind, kinds.Decimals) and kind.mark == "," for kind in decided):
+        decided = [None if isinstance(kind, kinds.Decimals) and seen.may_be_thousands() else kind
                    for seen, kind in zip(columns, decided)]
     gathered = [(seen, place) for place, seen in enumerate(columns) if seen.why and not seen.is_all]
     for chunk in source.chunks() if gathered else ():
@@ -350,14 +367,14 @@ def name_like(heading: str) -> str:
 
 def names_of(headings: list[str]) -> list[str]:
     """Returns a name for each heading: the heading itself, if it is a valid name that no earlier column has."""
-    names, taken = [None] * len(headings), set()
+    names, taken = [""] * len(headings), set()
     for place, heading in enumerate(headings):
         if is_name(heading) and heading.upper() not in taken:
             names[place] = heading
             taken.add(heading.upper())
     for place, heading in enumerate(headings):
         name, number = name_like(heading), 1
-        while names[place] is None:
+        while not names[place]:
             tried = name if number == 1 else f"{name[:63 - len(str(number)) - 1]}_{number}"
             if tried.upper() not in taken:
                 names[place] = tried

@@ -38,7 +38,7 @@ class Codes(dict):
 
     def __init__(self, texts: Iterable[str] = ()) -> None:
         super().__init__((text, code) for code, text in enumerate(texts))
-        self.fresh = []
+        self.fresh: list[str] = []
 
     def __missing__(self, text: str) -> int:
         self.fresh.append(text)

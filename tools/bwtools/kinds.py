@@ -3,18 +3,22 @@ numbers.
 
 A kind has `number`, which returns the number of a text, or None; `text`, which returns the text of a number; and `place`,
 which returns the greatest number that is at most a literal, and whether it is that literal. `sum` returns the text of a sum
-of the column, or is None if a sum has no meaning. `plural` names the values of a column, and `example` is a literal."""
+of the column, or is None if a sum has no meaning. `plural` names the values of a column, and `example` is a literal. `digits`
+is how many digits after the decimal sign the numbers include."""
 from __future__ import annotations
 
 import bisect
 import fractions
 import itertools
 import math
-from typing import Any, Iterable, Sequence
+from typing import Any, Callable, Iterable, Sequence
 
 from . import spelling
 
 LEAST, GREATEST = -1 << 63, (1 << 63) - 1
+ISO_DATE = "%Y-%m-%d"
+# divmod of two integers
+divide: Callable[[int, int], tuple[int, int]] = divmod
 RESERVED = set("AND BETWEEN COUNT FALSE FROM IN IS MAX MIN NOT NULL OR SELECT SUM TRUE UNKNOWN WHERE".split())
 
 
@@ -25,6 +29,7 @@ class Refused(Exception):
 class Whole:
     """Whole numbers, which stay as they are."""
     name, plural, example = "whole", "whole numbers", "5"
+    digits = 0
 
     def number(self, text: str) -> int | None:
         found = spelling.number_of(text)[0]
@@ -33,7 +38,9 @@ class Whole:
     def text(self, number: int) -> str:
         return str(number)
 
-    sum = text
+    @property
+    def sum(self) -> Callable[[int], str] | None:
+        return self.text
 
     def spell(self, numbers: Sequence[int]) -> list[str]:
         return list(map(self.text, numbers))
@@ -76,8 +83,6 @@ class Decimals(Whole):
         text = f"{'-' if number < 0 else ''}{digits[:-self.digits]}{self.mark}{digits[-self.digits:]}"
         return text.rstrip("0").rstrip(self.mark) if self.trimmed else text
 
-    sum = text
-
     def spell(self, numbers: Sequence[int]) -> list[str]:
         if self.trimmed:
             return Whole.spell(self, numbers)
@@ -102,12 +107,12 @@ class Decimals(Whole):
 
 class Dates(Whole):
     """Days since 1970-01-01, which are restored in a format."""
-    name, plural, sum = "dates", "dates", None
+    name, plural = "dates", "dates"
 
-    def __init__(self, form: str = "%Y-%m-%d") -> None:
-        # the format of the date alone, where it's one that is read without being asked for
+    def __init__(self, form: str = ISO_DATE) -> None:
+        # the format of only the date, if it is one that is detected
         self.form, self.date = form, form[:8] if spelling.OWN.fullmatch(form) else None
-        # what is written of a time by its day, and then by its second of the day
+        # the part of the format that a time's day fills, and the part that its second of the day fills
         self.parts = (form[:9], form[9:]) if self.date else (form, "")
         self.example = f"'{spelling.written_by(form, 19844, 45000)}'"
 
@@ -118,7 +123,9 @@ class Dates(Whole):
         if found:
             return found[0] * 86400 + found[1], 0, "%H" in self.form, ""
         moment = spelling.moment_of(text)
-        day = moment and moment.days.get(self.date, moment.days.get("%Y-%m-%d"))
+        if moment is None:
+            return None
+        day = moment.days.get(self.date or ISO_DATE, moment.days.get(ISO_DATE))
         if day is None:
             return None
         return day * 86400 * 10 ** moment.digits + moment.part, moment.digits, bool(moment.clock), moment.zone
@@ -129,6 +136,10 @@ class Dates(Whole):
 
     def text(self, number: int) -> str:
         return spelling.written_by(self.form, number, 0)
+
+    @property
+    def sum(self) -> None:
+        return None
 
     def place(self, literal: Any) -> tuple[int, bool] | None:
         found = self.read(literal) if isinstance(literal, str) else None
@@ -144,7 +155,7 @@ class Dates(Whole):
         return f"dates{self.shown()} as days since 1970"
 
     def shown(self) -> str:
-        return "" if self.form.startswith("%Y-%m-%d") else f" {self.form}"
+        return "" if self.form.startswith(ISO_DATE) else f" {self.form}"
 
 
 class Times(Dates):
@@ -175,7 +186,7 @@ class Times(Dates):
         if not last:
             return Whole.spell(self, numbers)
         power = 10 ** self.digits
-        parts = list(map(divmod, numbers, itertools.repeat(60 * power)))
+        parts = list(map(divide, numbers, itertools.repeat(60 * power)))
         minutes = {minute: f"{spelling.written_by(first, minute // 1440, 0)}{minute // 60 % 24:02}:{minute % 60:02}"
                    for minute in {minute for minute, _ in parts}}
         seconds = {second: f":{second // power:02}{f'.{second % power:0{self.digits}}' if self.digits else ''}{self.zone}"
@@ -192,7 +203,7 @@ class Times(Dates):
         return {"format": self.form, "digits": self.digits, "zone": self.zone}
 
     def alike(self, other: Whole) -> bool:
-        return self.name == other.name and (self.digits, self.zone) == (other.digits, other.zone)
+        return self.name == other.name and isinstance(other, Times) and (self.digits, self.zone) == (other.digits, other.zone)
 
     def told(self) -> str:
         return f"times{self.shown()}{' of UTC' if self.zone else ''} as {self.unit()} since 1970"
@@ -239,8 +250,9 @@ class Truths(Whole):
             raise IndexError
         return self.words[number]
 
-    def sum(self, number: int) -> str:
-        return str(number)
+    @property
+    def sum(self) -> Callable[[int], str]:
+        return str
 
     def place(self, literal: Any) -> tuple[int, bool] | None:
         if isinstance(literal, str) and literal.lower() in spelling.TRUTHS[0]:
@@ -259,7 +271,7 @@ class Truths(Whole):
 
 class Texts(Whole):
     """Texts, as their places in a list that is sorted by code points."""
-    name, plural, example, sum = "texts", "texts", "'this'", None
+    name, plural, example = "texts", "texts", "'this'"
 
     def __init__(self, texts: list[str]) -> None:
         self.texts = texts
@@ -272,6 +284,10 @@ class Texts(Whole):
         if number < 0:
             raise IndexError
         return self.texts[number]
+
+    @property
+    def sum(self) -> None:
+        return None
 
     def spell(self, numbers: Sequence[int]) -> list[str]:
         if numbers and min(numbers) < 0:
@@ -288,7 +304,7 @@ class Texts(Whole):
         return {"texts": self.texts}
 
     def alike(self, other: Whole) -> bool:
-        return self.name == other.name and (self is other or self.texts == other.texts)
+        return isinstance(other, Texts) and (self is other or self.texts == other.texts)
 
     def told(self) -> str:
         return f"texts as places among {len(self.texts)}"

@@ -6,7 +6,7 @@ import os
 import re
 import subprocess
 import sys
-from typing import Any, BinaryIO, NoReturn, Sequence, TextIO
+from typing import IO, Any, BinaryIO, NoReturn, Sequence, TextIO
 
 from . import command
 
@@ -42,13 +42,13 @@ class Answer(io.RawIOBase):
     def readinto(self, buffer: Any) -> int:
         if self.is_ended:
             return 0
-        count = self.session.process.stdout.readinto(buffer)
+        count = self.session.stdout.readinto(buffer)
         if not count:
             self.session.fail()
         text = self.last + bytes(buffer[:count])
         end, self.last = text.find(b"\n\n"), text[-1:]
         self.is_ended = end >= 0
-        # nothing comes after the empty line until the next statement is sent
+        # nothing follows the empty line until the next statement is sent
         if self.is_ended and end + 2 < len(text):
             raise Failed(SURPLUS)
         return count - self.is_ended
@@ -59,11 +59,12 @@ class Session:
     result is written, so that neither waits for the other. Standard error has a short line or two for each result."""
 
     def __init__(self, table: BinaryIO, options: Sequence[str] = ()) -> None:
-        # the very file that was looked at is read, whatever stands at its path by now
+        # bw reads the file that was compared, even if its path has another one by now
         words = [command.program(), "session", *options, f"/dev/fd/{table.fileno()}"]
         self.process = subprocess.Popen(words, bufsize=0, stdin=subprocess.PIPE, stdout=subprocess.PIPE, stderr=subprocess.PIPE,
                                         pass_fds=[table.fileno()])
-        os.set_blocking(self.process.stderr.fileno(), False)
+        self.stdin, self.stdout, self.stderr = map(pipe_of, (self.process.stdin, self.process.stdout, self.process.stderr))
+        os.set_blocking(self.stderr.fileno(), False)
         self.answer: Answer | None = None
         self.has_refused = False
 
@@ -89,7 +90,7 @@ class Session:
         rest = memoryview(data)
         try:
             while rest:
-                rest = rest[self.process.stdin.write(rest):]
+                rest = rest[self.stdin.write(rest):]
         except BrokenPipeError:
             pass
 
@@ -105,15 +106,15 @@ class Session:
     def said(self) -> str:
         """Returns what is on standard error by now. All that belongs to a result is printed before its end."""
         said = b""
-        while part := self.process.stderr.read(AT_ONCE):
+        while part := self.stderr.read(AT_ONCE):
             said += part
         return said.decode("utf-8", "replace")
 
     def end(self) -> int:
         """Ends the session. Returns its status: 0, or that of the first statement that was rejected."""
         self.told()
-        self.process.stdin.close()
-        if self.process.stdout.read():
+        self.stdin.close()
+        if self.stdout.read():
             raise Failed(SURPLUS)
         status = self.process.wait()
         if status < 0 or status and not self.has_refused:
@@ -122,11 +123,17 @@ class Session:
 
     def fail(self) -> NoReturn:
         """Raises what a session printed that has ended by itself."""
-        self.process.stdin.close()
+        self.stdin.close()
         status, told = self.process.wait(), self.said()
         if status < 0:
             raise Failed(f"bw session was ended by signal {-status}", told, 128 - status)
         raise Failed("" if told and status else f"bw session ended with status {status} before a result", told, status or 5)
+
+
+def pipe_of(end: IO[bytes] | None) -> io.FileIO:
+    """Returns this process's end of a pipe without a buffer."""
+    assert isinstance(end, io.FileIO)
+    return end
 
 
 def one_statement(statement: str) -> str:

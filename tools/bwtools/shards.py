@@ -8,7 +8,7 @@ import os
 import pathlib
 import shutil
 import subprocess
-from typing import Any, BinaryIO, Iterable, Sequence
+from typing import Any, BinaryIO, Callable, Iterable, Sequence
 
 from . import pairs
 from .kinds import Column, Refused
@@ -111,7 +111,8 @@ def total(function: str, values: Iterable[int | None]) -> int | None:
     present = [value for value in values if value is not None]
     if not present:
         return None
-    return {"COUNT": sum, "SUM": sum, "MIN": min, "MAX": max}[function](present)
+    totals: dict[str, Callable[[list[int]], int]] = {"COUNT": sum, "SUM": sum, "MIN": min, "MAX": max}
+    return totals[function](present)
 
 
 def refuse_folder(path: str) -> None:

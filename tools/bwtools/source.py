@@ -12,21 +12,32 @@ import stat
 import os
 import sys
 import tempfile
-from typing import Callable, Iterable, Iterator, NoReturn, Sequence, TextIO
+from typing import IO, Callable, Iterable, Iterator, NoReturn, Protocol, Sequence, TextIO
 
 from .kinds import Refused, counted
 
 SEPARATORS = {"comma": ",", "semicolon": ";", "tab": "\t", "bar": "|", "\\t": "\t"}
 MARKS = ((b"\xef\xbb\xbf", "utf-8-sig"), (b"\xff\xfe", "utf-16"), (b"\xfe\xff", "utf-16"))
 MOST_COLUMNS, MOST_ROWS, ROWS_AT_ONCE, CHARACTERS_AT_ONCE = 64, 1 << 24, 8192, 1 << 18
-# stands for a field in quotes while records are parted; what has one is the csv module's
+# stands for a field in quotes while records are split; a text that has one is left to the csv module
 NUL = "\0"
 BREAK = re.compile("\r\n|\r|\n")
 SAID = re.compile('"?sep=(.)"?[\r\n]*', re.IGNORECASE)
 
 csv.field_size_limit(1 << 30)
-# newer Pythons take no number of more than some digits where nothing is said
+# newer Pythons reject numbers of many digits, unless the limit is set
 getattr(sys, "set_int_max_str_digits", int)(0)
+
+
+class Records(Protocol):
+    """The records of a CSV file, as csv.reader returns them, and how many lines were read for them."""
+
+    @property
+    def line_num(self) -> int: ...
+
+    def __iter__(self) -> Iterator[list[str]]: ...
+
+    def __next__(self) -> list[str]: ...
 
 
 class Chunk:
@@ -56,7 +67,8 @@ class Source:
     """The file to read, which can be read more than once."""
 
     def __init__(self, path: str | os.PathLike[str], given: argparse.Namespace, most_rows: int = MOST_ROWS) -> None:
-        self.path, self.file, self.most_rows = path, open(path, "rb"), most_rows
+        self.path, self.most_rows = path, most_rows
+        self.file: IO[bytes] = open(path, "rb")
         if not stat.S_ISREG(os.fstat(self.file.fileno()).st_mode):
             piped, self.file = self.file, tempfile.TemporaryFile()
             shutil.copyfileobj(piped, self.file)
@@ -69,11 +81,11 @@ class Source:
         if self.encoding.lower().replace("_", "-") in ("utf-8", "utf8"):
             self.encoding = "utf-8-sig"
         self.quote, self.escape, self.has_heading = given.quote, given.escape, given.heading is not False
-        # how many empty lines were left out, and how many rows there are
+        # how many empty lines were skipped, how many rows there are, and how many lines are before the heading
         self.empty, self.count, self.skipped = 0, 0, 0
         said = self.said_separator()
         self.separator = SEPARATORS.get(given.separator, given.separator) or said or self.most_frequent()
-        # whether fields may be parted without the csv module
+        # whether fields may be split without the csv module
         self.is_simple = self.escape is None and len({self.separator, self.quote, NUL, "\n", "\r"}) == 5
         self.headings = self.read_headings()
 
@@ -82,7 +94,7 @@ class Source:
         told = os.fstat(self.file.fileno())
         return told.st_size, told.st_mtime_ns
 
-    def decoded(self) -> TextIO:
+    def decoded(self) -> io.TextIOWrapper:
         self.file.seek(0)
         try:
             text = io.TextIOWrapper(self.file, encoding=self.encoding, newline="")
@@ -101,7 +113,7 @@ class Source:
             self.undecoded()
         text.detach()
         self.skipped = int(found is not None)
-        return found and found.group(1)
+        return found.group(1) if found else None
 
     def most_frequent(self) -> str:
         """Returns the separator that is most frequent in the heading, outside of quotes."""
@@ -116,7 +128,7 @@ class Source:
         except UnicodeError:
             self.undecoded()
         text.detach()
-        return max(counts, key=counts.get)
+        return max(counts, key=counts.__getitem__)
 
     def undecoded(self) -> NoReturn:
         """Rejects the file at the first line that isn't in the encoding."""
@@ -127,12 +139,14 @@ class Source:
                 try:
                     line.decode(self.encoding)
                 except UnicodeError as error:
-                    place = f"line {number}, byte {error.start + 1}"
+                    # not every codec names the byte
+                    byte = f", byte {error.start + 1}" if isinstance(error, UnicodeDecodeError) else ""
+                    place = f"line {number}{byte}"
                     break
         raise Refused(f"{self.path}: {place} isn't {self.encoding.removesuffix('-sig')}: "
                       "name the encoding, such as --encoding latin-1 or --encoding cp1252")
 
-    def reader(self, lines: Iterable[str]) -> Iterator[list[str]]:
+    def reader(self, lines: Iterable[str]) -> Records:
         return csv.reader(lines, delimiter=self.separator, quotechar=self.quote, escapechar=self.escape, strict=True)
 
     def records(self) -> Iterator[tuple[int, list[str]]]:
@@ -159,9 +173,9 @@ class Source:
             raise Refused(f"{self.path}: {len(first)} columns: a table has at most {MOST_COLUMNS}")
         return first if self.has_heading else [f"c{place}" for place in range(1, len(first) + 1)]
 
-    def blocks(self) -> Iterator[tuple[int, str, list[list[str]] | None, list[list[str]] | None]]:
+    def blocks(self) -> Iterator[tuple[int, str, list[list[str]] | None, list[list[str]]]]:
         """Yields the text of the file, some complete records at a time: the line at which it begins, the text, and its
-        columns or, if these aren't available at once, its records."""
+        columns or, if these aren't available at once, None and its records."""
         file, line, text = self.decoded(), self.skipped + 1, ""
         try:
             while True:
@@ -178,7 +192,7 @@ class Source:
                         parts = text.split(self.quote)
                     columns = columns_of(parts, self.separator, len(self.headings))
                 try:
-                    records = None if columns else list(self.reader(io.StringIO(text, newline="")))
+                    records = [] if columns else list(self.reader(io.StringIO(text, newline="")))
                 except csv.Error as error:
                     # the text may end inside of a field
                     if more and "end of data" in str(error):
@@ -190,7 +204,7 @@ class Source:
         except UnicodeError:
             self.undecoded()
         except csv.Error:
-            # found once more, record by record, it is refused by its line
+            # reading record by record finds it again, and names its line
             collections.deque(self.records(), 0)
             raise
         finally:
@@ -208,18 +222,20 @@ class Source:
     def chunks(self) -> Iterator[Chunk]:
         """Yields the rows after the heading, many at a time. Each must have as many fields as the heading."""
         self.empty, self.count, left = 0, 0, int(self.has_heading)
+        fields: Sequence[Sequence[str]]
         for line, text, columns, records in self.blocks():
             if columns is None:
                 rows = [record for record in records if record]
                 self.empty += len(records) - len(rows)
                 headings = min(left, len(rows))
                 self.refuse_width(Chunk([], headings, text, line, self.reader), rows)
-                columns = list(zip(*rows[headings:]))
+                fields = list(zip(*rows[headings:]))
             else:
-                headings = left
-                columns = [column[1:] for column in columns] if headings else columns
+                headings, fields = left, columns
+                if headings:
+                    fields = [column[1:] for column in columns]
             left -= headings
-            chunk = Chunk(columns, headings, text, line, self.reader)
+            chunk = Chunk(fields, headings, text, line, self.reader)
             self.count += chunk.count
             if self.count > self.most_rows:
                 line = chunk.line_of(self.most_rows - self.count + chunk.count)

@@ -23,7 +23,7 @@ GROUPED = re.compile(r"[+-]?[1-9][0-9]{0,2}[,.][0-9]{3}")
 LONGEST = 100
 DATE = re.compile(r"([0-9]{1,2}|[0-9]{4})([-./])([0-9]{1,2})\2([0-9]{4}|[0-9]{1,2})")
 CLOCK = re.compile(r"([0-9]{1,2}):([0-9]{2})(?::([0-9]{2})(?:([.,])([0-9]{1,6}))?)?(Z|[+-][0-9]{2}(?::?[0-9]{2})?)?")
-# the formats of dates that are read without being asked for, by their mark and whether the year is first
+# the formats of dates that are detected, by their mark and whether the year is first
 FORMATS = {("-", True): ("%Y-%m-%d",), ("/", True): ("%Y/%m/%d",), (".", False): ("%d.%m.%Y",),
            ("/", False): ("%d/%m/%Y", "%m/%d/%Y"), ("-", False): ("%d-%m-%Y", "%m-%d-%Y")}
 OWN = re.compile("(?:{})(?:[T ]%H:%M(?::%S)?)?".format("|".join(form for forms in FORMATS.values() for form in forms)))
@@ -84,14 +84,16 @@ def number_of(text: str) -> tuple[Number | None, str]:
         (sign == "" or value != 0)
     digits = len(part)
     if power is not None:
-        value, digits = exact(value, digits, int(power))
-        if digits is None:
+        shorter = exact(value, digits, int(power))
+        if shorter is None:
             return None, f" has more than {MOST_DIGITS} digits"
+        value, digits = shorter
     return Number(value, digits, mark, is_plain, has_zeros, GROUPED.fullmatch(text) is not None), ""
 
 
-def exact(value: int, digits: int, power: int) -> tuple[int, int | None]:
-    """Returns a number times a power of ten, without zeros at its end after the point; no digits if it has too many."""
+def exact(value: int, digits: int, power: int) -> tuple[int, int] | None:
+    """Returns a number times a power of ten, without zeros at its end after the point, and its digits there. Returns None if
+    it has too many digits."""
     while value and digits and value % 10 == 0:
         value, digits = value // 10, digits - 1
     digits -= power
@@ -99,7 +101,7 @@ def exact(value: int, digits: int, power: int) -> tuple[int, int | None]:
         return 0, 0
     length = max(len(str(abs(value))), digits) - min(digits, 0)
     if length > MOST_DIGITS:
-        return value, None
+        return None
     return (value, digits) if digits >= 0 else (value * 10 ** -digits, 0)
 
 
@@ -127,7 +129,7 @@ def are_whole(fields: Sequence[str], joined: str) -> bool:
     """Returns whether fields without line feeds, which are joined with one after each, are all whole numbers as they are
     restored."""
     digits = joined.replace("\n", "").replace("-", "")
-    # ASCII alone: other scripts have digits too
+    # only ASCII: other scripts have digits too
     if not digits.isdigit() or not digits.isascii() or "-0" in joined or "--" in joined or "-\n" in joined:
         return False
     if joined.count("-") != joined.count("\n-") + joined.startswith("-") or "" in fields:
@@ -208,7 +210,8 @@ def day_of(year: int, month: int, day: int) -> int | None:
 @functools.lru_cache(1 << 16)
 def date_part(text: str) -> tuple[dict[str, int], bool]:
     """Returns the days that a date may mean, by format, and whether it has all its zeros; no days if it isn't a date."""
-    found, days = DATE.fullmatch(text), {}
+    days: dict[str, int] = {}
+    found = DATE.fullmatch(text)
     if not found:
         return days, False
     first, mark, second, third = found.groups()

@@ -35,8 +35,7 @@ class Loads:
             if end == at:
                 self.load()
                 continue
-            self.begin()
-            self.out.write(text[at:end] if (at, end) != (0, len(text)) else text)
+            self.begin().write(text[at:end] if (at, end) != (0, len(text)) else text)
             self.rows += text.count("\n", at, end)
             self.size += end - at
             at = end
@@ -53,15 +52,17 @@ class Loads:
             end = text.index("\n", end) + 1
         return end
 
-    def begin(self) -> None:
-        """Begins a piece, unless one has begun."""
+    def begin(self) -> TextIO:
+        """Begins a piece, unless one has begun, and returns its file."""
         if self.out is None:
             self.out = open(self.csv, "w", encoding="ascii", newline="")
             self.out.write(self.heading)
             self.rows, self.size = 0, len(self.heading)
+        return self.out
 
     def load(self) -> None:
         """Loads the current piece."""
+        assert self.out is not None
         self.out.close()
         table, schema = shard_file(self.made, len(self.records)), self.room / "schema"
         with open(schema, "wb") as file:
@@ -120,7 +121,7 @@ def load(given: argparse.Namespace) -> None:
         loads.end()
         pairs.write_columns(made / FILE, table.columns, {"name": given.name, "shards": loads.records})
         put_folder(made, path, room / "before")
-    # last, since whoever reads it may stop early, as head does
+    # last, since its reader may stop early, as head does
     table.report()
     print(f"{path} is written, as table {given.name}: {counted(len(loads.records), 'shard')} of up to "
           f"{counted(max(record['rows'] for record in loads.records), 'row')}")

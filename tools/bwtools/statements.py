@@ -9,7 +9,7 @@ from __future__ import annotations
 import fractions
 import operator
 import re
-from typing import Iterable, Iterator, NamedTuple, NoReturn
+from typing import Any, Callable, Iterable, Iterator, NamedTuple, NoReturn
 
 from .answers import no_sum
 from .kinds import GREATEST, LEAST, RESERVED, Column, Refused
@@ -22,7 +22,9 @@ PIECES = re.compile(r"""(?P<gap>[ \t\r\n]+|--[^\n]*)
     |(?P<compare><>|<=|>=|[<>=])
     |(?P<mark>[()*+,;-])""", re.VERBOSE)
 SWAPPED = {"<": ">", ">": "<", "<=": ">=", ">=": "<=", "=": "=", "<>": "<>"}
-MEANING = {"<": operator.lt, ">": operator.gt, "<=": operator.le, ">=": operator.ge, "=": operator.eq, "<>": operator.ne}
+# of two texts or of two numbers
+MEANING: dict[str, Callable[[Any, Any], bool]] = {
+    "<": operator.lt, ">": operator.gt, "<=": operator.le, ">=": operator.ge, "=": operator.eq, "<>": operator.ne}
 UNKNOWN = "NULL = NULL"
 
 
@@ -48,7 +50,8 @@ def pieces_of(statement: str) -> list[Piece]:
         found = PIECES.match(statement, at)
         if not found:
             raise Refused(f"unexpected {statement[at]!r} at character {at} of the statement")
-        kind, text = found.lastgroup, found.group()
+        # each alternative of PIECES has a name
+        kind, text = str(found.lastgroup), found.group()
         if kind == "word" and text.upper() in RESERVED:
             kind, text = "key", text.upper()
         if kind != "gap":
@@ -145,7 +148,8 @@ class Turner:
 
     def __init__(self, statement: str, columns: list[Column], table: str | None) -> None:
         self.pieces = [*pieces_of(statement), Piece("end", "", len(statement))]
-        self.columns, self.table, self.place, self.out = columns, table, 0, []
+        self.columns, self.table, self.place = columns, table, 0
+        self.out: list[str] = []
 
     def next(self) -> Piece:
         return self.pieces[self.place]

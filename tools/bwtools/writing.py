@@ -11,18 +11,21 @@ import signal
 import stat
 import sys
 import tempfile
-from typing import Any, Iterable, Iterator, NoReturn, Sequence
+from typing import Any, Iterable, Iterator, NoReturn, Optional, Sequence
 
 from . import keeping, kinds, processes
 from .deciding import MOST_KNOWN, Seen, decide, names_of, shown
 from .keeping import Coded, Numbered
-from .kinds import Column, Refused, Whole, counted
+from .kinds import Column, Refused, Texts, Whole, counted
 from .progress import Progress
-from .source import MOST_ROWS, Source
+from .source import MOST_ROWS, Chunk, Source
 
 MOST_BYTES = 1 << 30
-# a process of its own writes so many chunks of rows at least
+# a separate process writes at least so many chunks of rows
 CHUNKS_A_PART = 16
+
+# what a process counts of a column: the fields that aren't restored exactly, and the minimum and the maximum
+Counts = tuple[int, Optional[tuple[int, int]]]
 
 
 class Numbers:
@@ -30,25 +33,27 @@ class Numbers:
     restored exactly."""
 
     def __init__(self, kind: Whole, null: str) -> None:
-        self.kind, self.null, self.digits = kind, null, getattr(kind, "digits", 0)
-        self.changed, self.least, self.greatest = 0, None, None
+        self.kind, self.null, self.changed = kind, null, 0
+        # the minimum and the maximum, once there is a number
+        self.span: tuple[int, int] | None = None
 
     def widen(self, *numbers: int) -> None:
-        ends = [*numbers, self.least, self.greatest] if self.least is not None else numbers
-        self.least, self.greatest = min(ends), max(ends)
+        ends = numbers if self.span is None else (*numbers, *self.span)
+        self.span = min(ends), max(ends)
 
-    def counts(self) -> tuple[int, int | None, int | None]:
-        return self.changed, self.least, self.greatest
+    def counts(self) -> Counts:
+        return self.changed, self.span
 
-    def add(self, changed: int, least: int | None, greatest: int | None) -> None:
+    def add(self, counts: Counts) -> None:
         """Adds what another process counted."""
+        changed, span = counts
         self.changed += changed
-        if least is not None:
-            self.widen(least, greatest)
+        if span is not None:
+            self.widen(*span)
 
     def ends(self) -> list[str]:
         """Returns the texts of the minimum and of the maximum."""
-        return [] if self.least is None else [self.kind.text(self.least), self.kind.text(self.greatest)]
+        return [] if self.span is None else list(map(self.kind.text, self.span))
 
 
 class Kept(Numbers):
@@ -56,9 +61,9 @@ class Kept(Numbers):
 
     def __init__(self, kind: Whole, null: str, seen: Seen) -> None:
         Numbers.__init__(self, kind, null)
-        # what is written for each code, and the codes of texts that won't come back
-        self.by_code, self.odd = [null] * len(seen.codes), set()
-        if kind.name == "texts":
+        # what is written for each code, and the codes of texts that aren't restored exactly
+        self.by_code, self.odd = [null] * len(seen.codes), set[int]()
+        if isinstance(kind, Texts):
             for code, place in zip(map(seen.codes.__getitem__, kind.texts), map(str, itertools.count())):
                 self.by_code[code] = place
             if kind.texts:
@@ -67,6 +72,7 @@ class Kept(Numbers):
         for text, code in seen.codes.items():
             if text not in seen.words:
                 number = kind.number(text)
+                assert number is not None, "the column's kind fits all its texts"
                 self.by_code[code] = str(number)
                 self.widen(number)
                 if kind.text(number) != text:
@@ -78,7 +84,7 @@ class Kept(Numbers):
         if isinstance(kept, keeping.Coded):
             self.changed += sum(map(self.odd.__contains__, numbers)) if self.odd else 0
             return list(map(self.by_code.__getitem__, numbers))
-        power = 10 ** (self.digits - kept.digits)
+        power = 10 ** (self.kind.digits - kept.digits)
         self.widen(kept.least * power, kept.greatest * power)
         self.changed += sum(count for style, count in kept.styles.items() if not self.kind.returns(style))
         return keeping.spread(list(map(str, numbers if power == 1 else map(power.__mul__, numbers))), kept.nulls, self.null)
@@ -90,16 +96,15 @@ class Again(Numbers):
 
     def __init__(self, kind: Whole, null: str, heading: str, nulls: Iterable[str]) -> None:
         Numbers.__init__(self, kind, null)
-        self.heading, self.known, self.odd = heading, {}, set()
-        self.nulls = dict.fromkeys(nulls, null)
+        self.heading, self.nulls = heading, dict.fromkeys(nulls, null)
         self.forget()
-        if kind.name == "texts":
+        if isinstance(kind, Texts):
             self.known.update((text, str(place)) for place, text in enumerate(kind.texts))
             if kind.texts:
                 self.widen(0, len(kind.texts) - 1)
 
     def forget(self) -> None:
-        self.odd, self.known = set(), dict(self.nulls)
+        self.odd, self.known = set[str](), dict(self.nulls)
 
     def written(self, fields: Sequence[str]) -> list[str]:
         """Returns what is written for the fields of some rows."""
@@ -133,10 +138,11 @@ class Table:
         self.columns = [kinds.Column(name, seen.heading, kind, seen.null(), seen.null_words(), why=seen.why or "")
                         for name, seen, kind in zip(names_of(self.source.headings), self.seen, found)]
         null = "NULL" if len(self.columns) == 1 else ""
-        self.written = [Again(column.kind, null, column.heading, column.nulls) if seen.is_read_again else
-                        Kept(column.kind, null, seen) for column, seen in zip(self.columns, self.seen)]
+        self.written: list[Again | Kept] = [
+            Again(column.kind, null, column.heading, column.nulls) if seen.is_read_again else Kept(column.kind, null, seen)
+            for column, seen in zip(self.columns, self.seen)]
         for seen in self.seen:
-            seen.codes = None
+            del seen.codes
         self.rows = self.source.count
 
     @property
@@ -145,13 +151,23 @@ class Table:
 
     def chunks(self, first: int = 0, end: int | None = None) -> Iterator[list[list[str]]]:
         """Yields the columns of what is written, for many rows at a time: for all rows, or for a part of the stored ones."""
-        again = self.source.chunks() if self.is_read_again else itertools.repeat(None)
+        again: Iterable[Chunk | None] = itertools.repeat(None)
+        if self.is_read_again:
+            again = self.source.chunks()
         for kept, chunk in zip(self.store.between(first, self.store.count if end is None else end), again):
-            found = [each.written(chunk.columns[place] if isinstance(each, Again) else kept[place])
-                     for place, each in enumerate(self.written)]
+            found = [self.column(place, kept[place], chunk) for place in range(len(self.written))]
             if len(set(map(len, found))) > 1:
                 self.refuse_changed()
             yield found
+
+    def column(self, place: int, kept: Coded | Numbered | None, chunk: Chunk | None) -> list[str]:
+        """Returns what is written for a column of many rows, which are stored or were read again."""
+        each = self.written[place]
+        if isinstance(each, Again):
+            assert chunk is not None
+            return each.written(chunk.columns[place])
+        assert kept is not None
+        return each.written(kept)
 
     def refuse_changed(self) -> NoReturn:
         raise Refused(f"{self.source.path}: the file changed while it was read")
@@ -161,14 +177,14 @@ class Table:
         parts = 1 if self.is_read_again else min(processes.processors(), self.store.count // CHUNKS_A_PART) or 1
         ends = [self.store.count * part // parts for part in range(parts + 1)]
 
-        def write_part(part: int) -> list[tuple[int, int | None, int | None]]:
+        def write_part(part: int) -> list[Counts]:
             with open(f"{path}.{part}" if part else path, "w", encoding="ascii", newline="") as out:
                 self.write_rows(out, self.heading() if part == 0 else "", ends[part], ends[part + 1], MOST_BYTES, part == 0)
             return [each.counts() for each in self.written]
 
         for counts in processes.do_parts(parts, write_part)[1:]:
             for each, count in zip(self.written, counts):
-                each.add(*count)
+                each.add(count)
         with open(path, "ab") as out:
             for part in range(1, parts):
                 with open(f"{path}.{part}", "rb") as rest:
@@ -212,7 +228,7 @@ class Table:
 
     def report(self) -> None:
         """Prints what was done with each column, one line each."""
-        lines = [("COLUMN", "HEADING", "WHAT IT IS", "FROM", "TO", "NULLS", "NOTES")]
+        lines: list[tuple[str, ...]] = [("COLUMN", "HEADING", "WHAT IT IS", "FROM", "TO", "NULLS", "NOTES")]
         for column, seen, each in zip(self.columns, self.seen, self.written):
             ends = [shown(end)[1:-1] for end in column.ends] or ["", ""]
             heading = "" if column.heading == column.name else shown(column.heading)

@@ -14,14 +14,14 @@ from bwtools.source import Chunk, Source
 
 @functools.lru_cache(64)
 def options(*words: str) -> argparse.Namespace:
-    """The options that words on the command line give."""
+    """Returns the options that arguments of the command line give."""
     parser = argparse.ArgumentParser()
     command.add_options(parser)
     return parser.parse_args(list(words))
 
 
 def in_file(data: bytes, work):
-    """What a function gives for the path of a file of these bytes."""
+    """Returns what a function returns for the path of a file of these bytes."""
     with tempfile.TemporaryDirectory(prefix="unittests-") as name:
         path = pathlib.Path(name) / "in.csv"
         path.write_bytes(data)
@@ -29,17 +29,17 @@ def in_file(data: bytes, work):
 
 
 def source_of(data: bytes, *words: str) -> Source:
-    """A source of these bytes, whose file is open though it's gone."""
+    """Returns a source of these bytes, whose file is open though it is deleted."""
     return in_file(data, lambda path: Source(path, options(*words)))
 
 
 def table_of(data: bytes, *words: str) -> writing.Table:
-    """What becomes of a file of these bytes."""
+    """Returns the table of a file of these bytes."""
     return in_file(data, lambda path: writing.Table(path, options(*words)))
 
 
 def numbers_of(data: bytes, *words: str) -> list[list[str]]:
-    """The columns of numbers that a file of these bytes becomes."""
+    """Returns the columns of numbers of a file of these bytes."""
     columns: list[list[str]] = []
     for chunk in table_of(data, *words).chunks():
         columns = [[*first, *then] for first, then in zip(columns or [[] for _ in chunk], chunk)]
@@ -47,7 +47,7 @@ def numbers_of(data: bytes, *words: str) -> list[list[str]]:
 
 
 def seen_of(*fields: str, words: tuple = (), separator: str = ",", is_varied: bool = False) -> Seen:
-    """What is known of a column `a` of these fields, which are looked at one by one, or all together where it's varied."""
+    """Returns the state of a column `a` after these fields, which are examined one by one, or together if it is varied."""
     seen = Seen("a", options(*words), separator)
     seen.is_varied = is_varied
     seen.add(list(fields), Chunk([fields], 0, "\n".join(fields), 2, csv.reader))

@@ -64,7 +64,8 @@ class Kinds(unittest.TestCase):
         self.assertEqual(kind("01/02/2024", words=("--date", "a=%d/%m/%Y")), ("dates", {"format": "%d/%m/%Y"}))
         self.assertEqual(kind("1.5", "2.50", words=("--keep-spelling",)), "one of its fields wouldn't be restored exactly")
         self.assertEqual(kind("+1", words=("--keep-spelling",)), "'+1' wouldn't be restored exactly")
-        for data, words in [(b"a\nx\n", ("--number", "a")), (b"a\n1\n", ("--number", "b")), (b"a\nx\n", ("--date", "a=%Y-%m-%d"))]:
+        for data, words in [(b"a\nx\n", ("--number", "a")), (b"a\n1\n", ("--number", "b")), (b"a\nx\n", ("--date", "a=%Y-%m-%d")),
+                            (b"a\n2024-05-01T12:5\n", ("--date", "a=%Y-%m-%dT%H:%M"))]:
             with self.subTest(words), self.assertRaises(Refused):
                 table_of(data, *words)
 
@@ -77,7 +78,7 @@ class Kinds(unittest.TestCase):
 
 
 class Together(unittest.TestCase):
-    """Fields that are looked at all together become what they do one by one."""
+    """Tests that fields have the same result if they are examined together as one by one."""
 
     FIELDS = ["1", "-5", "0", "1.5", "2.50", "-0.0", "", "NA", "9223372036854775807", "1,5", "x", "007", "1e3", "1000.125", "2.000",
               "2024-05-01 10:00:00", "2024-05-01 10:00:00.5", "2024-05-01T10:00", "2024-05-01T10:00Z", "2024-05-01", "10:00",
@@ -120,7 +121,7 @@ class Together(unittest.TestCase):
 
 
 class Lines:
-    """Stands for a chunk, of which lines are asked."""
+    """Stands for a chunk of which only the lines are needed."""
 
     @staticmethod
     def line_of(place):

@@ -8,7 +8,7 @@ import bwtools
 
 
 def functions():
-    """Every function and method of the package, by its name, but for those that named tuples are given."""
+    """Yields every function and method of the package, by name, without those that named tuples get."""
     for found in pkgutil.iter_modules(bwtools.__path__):
         module = importlib.import_module(f"bwtools.{found.name}")
         owners = [module, *(each for each in vars(module).values() if inspect.isclass(each) and each.__module__ == module.__name__)]

@@ -47,7 +47,7 @@ class Parts(unittest.TestCase):
 
 class Tables(unittest.TestCase):
     def written(self, count):
-        """What so many processes write of a table, and what they count."""
+        """Returns what `count` processes write of a table, and what they count."""
         data = "a,b,c\n" + "".join(f"{number - 40},{number % 7 / 10},t{number * 7 % 501}\n" for number in range(3000))
         with tempfile.TemporaryDirectory() as folder, mock.patch("bwtools.source.CHARACTERS_AT_ONCE", 1 << 10), \
                 mock.patch("bwtools.processes.processors", lambda: count):

@@ -10,7 +10,7 @@ from bwtools.session import AT_ONCE, SURPLUS, Answer, Failed, Session, one_state
 
 
 class Parts(io.RawIOBase):
-    """Gives these parts of bytes, each by a read of its own, and then the end."""
+    """Returns these parts of bytes, one for each read, and then the end."""
 
     def __init__(self, *parts: bytes) -> None:
         super().__init__()
@@ -26,9 +26,9 @@ class Parts(io.RawIOBase):
 
 
 def answer_of(*parts: bytes) -> bytes:
-    """The answer of a session that writes these parts, read by many bytes at a time."""
+    """Returns the result of a session that writes these parts, read many bytes at a time."""
     session = mock.Mock()
-    session.process.stdout = Parts(*parts)
+    session.stdout = Parts(*parts)
     session.fail.side_effect = Failed("ended")
     return io.BufferedReader(Answer(session), AT_ONCE).read()
 
@@ -62,7 +62,7 @@ class Statements(unittest.TestCase):
 
 class Sessions(unittest.TestCase):
     def session_of(self, script):
-        """A session by a shell that runs a script."""
+        """Returns a session of a shell that runs a script."""
         folder = tempfile.TemporaryDirectory(prefix="unittests-")
         self.addCleanup(folder.cleanup)
         program = pathlib.Path(folder.name) / "program"

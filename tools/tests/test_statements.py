@@ -12,7 +12,7 @@ COLUMNS = [Column("n", "n", kinds.Whole(), ends=["1", "9"]), Column("price", "un
 
 
 def where(condition):
-    """What a condition becomes."""
+    """Returns the translation of a condition."""
     turned = statements.turned(f"SELECT n FROM t WHERE {condition}", COLUMNS, "t")
     return turned.partition("WHERE ")[2]
 
