@@ -21,7 +21,7 @@ million() {
 }
 [ -s "$csv" ] || kept "$csv" million
 
-bw=$("$top/bw" --where)
+bw=${BW:-$("$top/bw" --where)}
 built bench
 
 best() {

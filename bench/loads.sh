@@ -8,7 +8,7 @@ top=$(cd "$(dirname "$0")/.." && pwd)
 . "$top/bench/common.sh"
 folder=${1:-$(mktemp -d)}
 mkdir -p "$folder"
-bw=$("$top/bw" --where)
+bw=${BW:-$("$top/bw" --where)}
 if [ -n "${READER:-}" ]; then
     reader=("$READER")
 else

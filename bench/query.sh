@@ -37,7 +37,7 @@ programs="below_8_by_planes below_8_by_bytes"
 printf 'TABLE m\nCOLUMN a 0 255 NOT NULL\nCOLUMN b -10 10\nCOLUMN c 0 1000000 NOT NULL\nCOLUMN d 0 4294967295\n' > "$schema"
 [ -s "$csv" ] || kept "$csv" four_columns "$rows"
 
-bw=$("$top/bw" --where)
+bw=${BW:-$("$top/bw" --where)}
 # shellcheck disable=SC2086
 gcc ${CFLAGS:--O2} -o "$folder/query" "$top/bench/query.c"
 takes_programs=

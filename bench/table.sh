@@ -19,7 +19,7 @@ csv=$folder/rows-$rows.csv
 printf 'TABLE m\nCOLUMN a 0 255 NOT NULL\nCOLUMN b -10 10\nCOLUMN c 0 1000000 NOT NULL\nCOLUMN d 0 4294967295\n' > "$schema"
 [ -s "$csv" ] || kept "$csv" four_columns "$rows"
 
-bw=$("$top/bw" --where)
+bw=${BW:-$("$top/bw" --where)}
 reader=$top/crates/bench/out/bench
 built bench
 gcc -O2 -o "$folder/table" "$top/bench/table.c"
