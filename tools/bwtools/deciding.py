@@ -9,10 +9,9 @@ import unicodedata
 from typing import Hashable, Sequence
 
 from . import keeping, kinds, spelling
-from .keeping import Coded, Numbered, Store
+from .keeping import Coded, Numbered
 from .kinds import Dates, Refused, Whole
-from .progress import Progress
-from .source import Chunk, Source
+from .source import Chunk
 from .spelling import Moment, Number
 
 NULLS = ("NULL", "null", "NA", "N/A", "nan", "NaN", "-")
@@ -305,47 +304,6 @@ def kind_by(form: str) -> Dates:
             return (kinds.Times if "Y" in letters else kinds.Clocks)(form)
         return kinds.Dates(form)
     raise Refused(f"--date: {shown(form)} is not a valid format: use %Y, %m and %d, and %H, %M and %S for a time")
-
-
-def decide(source: Source, given: argparse.Namespace, store: Store | None = None) -> tuple[list[Seen], list[Whole | None]]:
-    """Returns the state of each column after all rows were read, with all texts of the columns of texts, and their kinds.
-    Stores the rows if a store is given."""
-    for option in ("text", "number", "date"):
-        unknown = [each for each in getattr(given, option) if each not in source.headings]
-        if unknown:
-            raise Refused(f"{source.path}: --{option}: no column has the heading {shown(unknown[0])}")
-    columns = [Seen(heading, given, source.separator) for heading in source.headings]
-    with Progress("read") as progress:
-        for chunk in source.chunks():
-            try:
-                kept = [seen.add(fields, chunk) for seen, fields in zip(columns, chunk.columns)]
-            except Refused as refused:
-                raise Refused(f"{source.path}: {refused}") from None
-            if store:
-                store.append(kept)
-            progress.add(chunk.count, source.file.tell())
-    decided = [seen.kind() for seen in columns]
-    # beside decimal commas a point may separate thousands
-    if any(isinstance(kind, kinds.Decimals) and kind.mark == "," for kind in decided):
-        decided = [None if isinstance(kind, kinds.Decimals) and seen.may_be_thousands() else kind
-                   for seen, kind in zip(columns, decided)]
-    gathered = [(seen, place) for place, seen in enumerate(columns) if seen.why and not seen.is_all]
-    for chunk in source.chunks() if gathered else ():
-        for seen, place in gathered:
-            seen.is_read_again = True
-            collections.deque(map(seen.codes.__getitem__, chunk.columns[place]), 0)
-    if source.has_heading and given.heading is None:
-        refuse_heading(source, columns)
-    return columns, decided
-
-
-def refuse_heading(source: Source, columns: list[Seen]) -> None:
-    """Rejects a first line that looks like the rows below it."""
-    for seen in columns:
-        form = seen.heading_form()
-        if form:
-            raise Refused(f"{source.path}: the first line has {shown(seen.heading)} above a column of such fields: "
-                          "use --heading if it is a heading, or --no-heading if it is a row")
 
 
 def shown(text: str) -> str:

@@ -94,8 +94,9 @@ def split_nulls(fields: Sequence[str], words: frozenset[str]) -> tuple[Sequence[
     return list(itertools.compress(fields, map(operator.not_, nulls))), nulls
 
 
-class Store:
-    """The stored fields of many rows at a time: for each column Coded, Numbered, or None if the file must be read again."""
+class Part:
+    """The stored fields of some columns, many rows at a time: for each column Coded, Numbered, or None if the file must be
+    read again."""
 
     def __init__(self, folder: pathlib.Path | None = None) -> None:
         self.file, self.places = tempfile.TemporaryFile(dir=folder), [0]
@@ -113,5 +114,22 @@ class Store:
         for start, stop in zip(self.places[first:end], self.places[first + 1:end + 1]):
             yield pickle.loads(os.pread(self.file.fileno(), stop - start, start))
 
-    def __iter__(self) -> Iterator[list[Coded | Numbered | None]]:
-        return self.between(0, self.count)
+
+class Store:
+    """The stored fields of all columns: with two parts, one has the first column, the third and so on, and the other has the
+    rest."""
+
+    def __init__(self, parts: int, folder: pathlib.Path | None = None) -> None:
+        self.parts = [Part(folder) for _ in range(parts)]
+
+    @property
+    def count(self) -> int:
+        return self.parts[0].count
+
+    def between(self, first: int, end: int) -> Iterator[list[Coded | Numbered | None]]:
+        """Yields the fields of all columns, many rows at a time, as Part.between does."""
+        for found in zip(*(part.between(first, end) for part in self.parts)):
+            kept: list[Coded | Numbered | None] = [None] * sum(map(len, found))
+            for place, each in enumerate(found):
+                kept[place::len(found)] = each
+            yield kept

@@ -12,13 +12,13 @@ import stat
 import os
 import sys
 import tempfile
-from typing import IO, Callable, Iterable, Iterator, NoReturn, Protocol, Sequence, TextIO
+from typing import IO, Any, Callable, Iterable, Iterator, NoReturn, Protocol, Sequence, TextIO
 
 from .kinds import Refused, counted
 
 SEPARATORS = {"comma": ",", "semicolon": ";", "tab": "\t", "bar": "|", "\\t": "\t"}
 MARKS = ((b"\xef\xbb\xbf", "utf-8-sig"), (b"\xff\xfe", "utf-16"), (b"\xfe\xff", "utf-16"))
-MOST_COLUMNS, MOST_ROWS, ROWS_AT_ONCE, CHARACTERS_AT_ONCE = 64, 1 << 24, 8192, 1 << 18
+MOST_COLUMNS, MOST_ROWS, ROWS_AT_ONCE, CHARACTERS_AT_ONCE, BYTES_AT_ONCE = 64, 1 << 24, 8192, 1 << 18, 1 << 18
 # stands for a field in quotes while records are split; a text that has one is left to the csv module
 NUL = "\0"
 BREAK = re.compile("\r\n|\r|\n")
@@ -63,16 +63,44 @@ class Chunk:
         return line
 
 
+class Positioned(io.RawIOBase):
+    """An open file with a position of its own, so that several processes can read it side by side."""
+
+    def __init__(self, file: IO[bytes]) -> None:
+        self.file, self.position = file, 0
+
+    def readable(self) -> bool:
+        return True
+
+    def seekable(self) -> bool:
+        return True
+
+    def fileno(self) -> int:
+        return self.file.fileno()
+
+    def seek(self, offset: int, whence: int = os.SEEK_SET) -> int:
+        bases = {os.SEEK_SET: 0, os.SEEK_CUR: self.position}
+        self.position = offset + (bases[whence] if whence in bases else os.fstat(self.fileno()).st_size)
+        return self.position
+
+    def readinto(self, buffer: Any) -> int:
+        found = os.pread(self.fileno(), len(buffer), self.position)
+        buffer[:len(found)] = found
+        self.position += len(found)
+        return len(found)
+
+
 class Source:
     """The file to read, which can be read more than once."""
 
     def __init__(self, path: str | os.PathLike[str], given: argparse.Namespace, most_rows: int = MOST_ROWS) -> None:
         self.path, self.most_rows = path, most_rows
-        self.file: IO[bytes] = open(path, "rb")
-        if not stat.S_ISREG(os.fstat(self.file.fileno()).st_mode):
-            piped, self.file = self.file, tempfile.TemporaryFile()
-            shutil.copyfileobj(piped, self.file)
-            self.file.seek(0)
+        file: IO[bytes] = open(path, "rb")
+        if not stat.S_ISREG(os.fstat(file.fileno()).st_mode):
+            piped, file = file, tempfile.TemporaryFile()
+            shutil.copyfileobj(piped, file)
+            file.flush()
+        self.file = io.BufferedReader(Positioned(file), BYTES_AT_ONCE)
         begin = self.file.read(4)
         marked = [name for mark, name in MARKS if begin.startswith(mark)]
         if b"\0" in begin and not marked and not given.encoding:

@@ -14,10 +14,11 @@ import tempfile
 from typing import Any, Iterable, Iterator, NoReturn, Optional, Sequence
 
 from . import keeping, kinds, processes
-from .deciding import MOST_KNOWN, Seen, decide, names_of, shown
+from .deciding import MOST_KNOWN, Seen, names_of, shown
 from .keeping import Coded, Numbered
 from .kinds import Column, Refused, Texts, Whole, counted
 from .progress import Progress
+from .reading import decide, parts_of
 from .source import MOST_ROWS, Chunk, Source
 
 MOST_BYTES = 1 << 30
@@ -131,7 +132,8 @@ class Table:
 
     def __init__(self, path: str | os.PathLike[str], given: argparse.Namespace, folder: pathlib.Path | None = None,
                  most_rows: int = MOST_ROWS) -> None:
-        self.source, self.store = Source(path, given, most_rows), keeping.Store(folder)
+        self.source = Source(path, given, most_rows)
+        self.store = keeping.Store(parts_of(self.source), folder)
         self.marks = self.source.marks()
         self.seen, decided = decide(self.source, given, self.store)
         found = [kind or kinds.Texts(seen.texts()) for kind, seen in zip(decided, self.seen)]

@@ -36,10 +36,17 @@ class Kept(unittest.TestCase):
         self.assertEqual(keeping.spread(["1", "2"], b"", "NULL"), ["1", "2"])
 
     def test_store_gives_all_back_more_than_once(self):
-        store = keeping.Store()
-        store.append([keeping.coded([1], 2), None])
-        store.append([keeping.numbered([7], b"", 0, {0: 1}), keeping.coded([0], 2)])
+        part = keeping.Part()
+        part.append([keeping.coded([1], 2), None])
+        part.append([keeping.numbered([7], b"", 0, {0: 1}), keeping.coded([0], 2)])
         for _ in range(2):
-            (first, none), (second, third) = store
+            (first, none), (second, third) = part.between(0, part.count)
             self.assertEqual((first, none, third), (keeping.Coded("B", b"\1"), None, keeping.Coded("B", b"\0")))
             self.assertEqual(second, keeping.Numbered("b", b"\7", b"", 0, 7, 7, {0: 1}))
+
+    def test_parts_of_a_store_are_every_so_many_columns(self):
+        kept = [keeping.coded([code], 4) for code in range(3)]
+        store = keeping.Store(2)
+        store.parts[0].append([kept[0], kept[2]])
+        store.parts[1].append([kept[1]])
+        self.assertEqual((store.count, list(store.between(0, 1))), (1, [kept]))
