@@ -1,4 +1,4 @@
-//! Why the rows of a statement are looked up one by one.
+//! Explains why a query went row by row.
 ghost use Rattle.std.specs.Prelude.{length, IsTrue};
 ghost use Rattle.std.specs.List.{list_all};
 ghost use Rattle.bw_model.specs.Cond.{names_within};
@@ -9,14 +9,14 @@ use bw_sql::parse;
 use std::alloc::{AllocError, Global};
 use std::fmt::{self, Write};
 
-/// How many parts of a condition the planner is asked for at most, and how many operands these may have in all. So
-/// little is told at once, however long the condition is.
+/// The planner is asked for at most so many parts of a condition, which have at most so many
+/// operands in all. So an explanation takes little time, however long the condition is.
 const PARTS: usize = 4;
 
 const OPERANDS: usize = 48;
 
-/// Says which part of a statement's condition has no scan program by itself, and why; nothing where there is no
-/// condition, or the statement is refused.
+/// Returns which part of a statement's condition has no scan program by itself, and why. The text
+/// is empty if there is no condition, or if the statement is rejected.
 pub(crate) fn of_rows(alloc: Global, schema: &Schema, sql: &[u8]) -> Result<String, AllocError> {
     let mut text = String::new(alloc);
     let Ok(query) = parse(alloc, schema, sql) else {
@@ -50,8 +50,8 @@ pub(crate) fn of_rows(alloc: Global, schema: &Schema, sql: &[u8]) -> Result<Stri
     Ok(text)
 }
 
-/// The part of a condition that is to be named: its first comparison of columns whose least values differ, or else its
-/// smallest part without a program.
+/// Returns the part of a condition to name: its first comparison of columns with different
+/// minimums, or else its smallest part without a program.
 fn part_without<'a>(alloc: Global, schema: &Schema, cond: &'a Cond, search: &mut Search) -> &'a Cond
     requires { IsTrue (names_within (length schema.now.columns.items) cond.now) }
 {
@@ -61,17 +61,17 @@ fn part_without<'a>(alloc: Global, schema: &Schema, cond: &'a Cond, search: &mut
     }
 }
 
-/// What the planner may still be asked for.
+/// How much more the planner may be asked for.
 #[derive(Drop)]
 struct Search {
     parts: usize,
     operands: usize,
-    /// How many parts of the last condition it was asked for, if it wasn't asked for all.
+    /// How many parts of the last condition the planner was asked for, if not for all.
     first: Option<usize>,
 }
 
 impl Search {
-    /// Whether the planner may be asked for a part, which is counted then.
+    /// Returns whether the planner may be asked for a part, and counts it if so.
     fn takes(&mut self, part: &Cond) -> bool {
         let operands = operands_in(part);
         if self.parts == 0 || operands > self.operands {
@@ -83,7 +83,7 @@ impl Search {
     }
 }
 
-/// How many operands a condition has, a long list counting as two.
+/// Returns the number of operands of a condition. A long list counts as two.
 #[cycle(operands_in)]
 fn operands_in(cond: &Cond) -> usize {
     match cond {
@@ -98,7 +98,7 @@ fn operands_in(cond: &Cond) -> usize {
     }
 }
 
-/// The same of some conditions.
+/// Returns the number of operands of some conditions.
 #[cycle(operands_in)]
 fn operands_of(parts: &[Cond]) -> usize {
     let mut count: usize = 0;
@@ -108,7 +108,7 @@ fn operands_of(parts: &[Cond]) -> usize {
     count
 }
 
-/// The first comparison within a condition of two columns whose least values differ.
+/// Returns the first comparison in a condition of two columns with different minimums.
 #[cycle(first_apart)]
 fn first_apart<'a>(cond: &'a Cond, columns: &[Column]) -> Option<&'a Cond> {
     match cond {
@@ -120,7 +120,7 @@ fn first_apart<'a>(cond: &'a Cond, columns: &[Column]) -> Option<&'a Cond> {
     }
 }
 
-/// The same within the first of some conditions that has one.
+/// Returns the first such comparison in some conditions.
 #[cycle(first_apart)]
 fn first_apart_of<'a>(parts: &'a [Cond], columns: &[Column]) -> Option<&'a Cond> {
     for part in parts {
@@ -131,15 +131,15 @@ fn first_apart_of<'a>(parts: &'a [Cond], columns: &[Column]) -> Option<&'a Cond>
     None
 }
 
-/// Whether the planner has a program for a condition.
+/// Returns whether the planner has a program for a condition.
 fn has_program(alloc: Global, schema: &Schema, cond: &Cond) -> bool
     requires { IsTrue (names_within (length schema.now.columns.items) cond.now) }
 {
     propose(alloc, schema, cond).is_ok()
 }
 
-/// The smallest part of a condition that has no program by itself: within the first such part, or the condition where
-/// none of its parts that the planner was asked for is one.
+/// Returns the smallest part of a condition without a program of its own: it is inside the first
+/// such part, or is the condition itself if no part that the planner was asked for is one.
 #[tactic(auto, using(bw_model::proofs::CondLemmas::names))]
 #[cycle(smallest)]
 fn smallest<'a>(alloc: Global, schema: &Schema, cond: &'a Cond, search: &mut Search) -> &'a Cond
@@ -154,7 +154,7 @@ fn smallest<'a>(alloc: Global, schema: &Schema, cond: &'a Cond, search: &mut Sea
     }
 }
 
-/// The same within the first of some parts that has no program.
+/// Returns the smallest such part in the first of some parts without a program.
 #[cycle(smallest)]
 fn smallest_of<'a>(
     alloc: Global,
@@ -178,7 +178,7 @@ fn smallest_of<'a>(
     None
 }
 
-/// A condition, as a statement has it but for long lists.
+/// Returns a condition as a statement spells it, with long lists shortened.
 #[derive(Clone, Copy)]
 struct Spelled<'a> {
     part: &'a Cond,
@@ -205,7 +205,7 @@ impl fmt::Display for Spelled<'_> {
     }
 }
 
-/// The sign of a comparison.
+/// Returns the sign of a comparison.
 fn sign(op: Op) -> &'static str {
     match op {
         Op::Eq => "=",
@@ -217,7 +217,7 @@ fn sign(op: Op) -> &'static str {
     }
 }
 
-/// An operand, as a statement has it.
+/// Returns an operand as a statement spells it.
 #[derive(Clone, Copy)]
 struct Named<'a> {
     operand: Operand,
@@ -237,17 +237,17 @@ impl fmt::Display for Named<'_> {
     }
 }
 
-/// A column's name.
+/// Returns a column's name.
 fn text_of(column: &Column) -> &str {
     std::str::from_utf8(column.name.as_bytes()).unwrap_or("")
 }
 
-/// Why a condition that has no smaller part without a program has none.
+/// Why a condition without smaller parts that lack a program has none itself.
 #[derive(Clone, Copy)]
 struct Reason<'a> {
     part: &'a Cond,
     columns: &'a [Column],
-    /// How many of its parts the planner was asked for, if it wasn't asked for all.
+    /// How many of its parts the planner was asked for, if not for all.
     first: Option<usize>,
 }
 
@@ -287,7 +287,7 @@ impl fmt::Display for Reason<'_> {
     }
 }
 
-/// Two columns that a comparison names, whose least values differ.
+/// Two compared columns with different minimums.
 fn apart<'a>(part: &Cond, columns: &'a [Column]) -> Option<(&'a Column, &'a Column)> {
     let pairs = match part {
         Cond::Cmp(_, x, y) => [(*x, *y), (*x, *y)],
@@ -299,7 +299,7 @@ fn apart<'a>(part: &Cond, columns: &'a [Column]) -> Option<(&'a Column, &'a Colu
         .find_map(|(one, other)| both_of(one, other, columns))
 }
 
-/// The columns that two operands name, where both name one, and their least values differ.
+/// Returns the columns that two operands name, if both name one and their minimums differ.
 fn both_of<'a>(
     one: Operand,
     other: Operand,

@@ -1,13 +1,14 @@
-//! What is wrong with a CSV text.
+//! Explains an error of a CSV text.
 use crate::heading::of_heading;
 use crate::record::of_record;
 use crate::unfit::of_columns;
 use bw_model::{Fault, Place, Schema, code};
 use std::alloc::{AllocError, Global};
 
-/// Says what is wrong with a CSV text that is read under a schema, or with none, as `bw infer` reads it: the line of
-/// the file, the column, the field as it stands, and what would have been right; of a heading, which one it is and what
-/// it should be; and for `bw infer` each column that doesn't fit. Faults that stand at no record have nothing to say.
+/// Returns what is wrong with a CSV text that is read under a schema, or without one, as `bw infer`
+/// reads it: of a record, the line of the file, the column, the field, and what was expected; of a
+/// heading, which one it is and what it should be; for `bw infer`, each column that doesn't fit.
+/// The text is empty for errors without a record.
 pub(crate) fn of_csv(
     alloc: Global,
     csv: &[u8],

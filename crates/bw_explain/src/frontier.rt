@@ -1,4 +1,4 @@
-//! What is wrong with a statement, and what could stand at its fault by the grammar.
+//! Explains an error of a statement, and what the grammar expects there.
 use crate::missing::put_missing;
 use crate::names::put_columns;
 use crate::record::Named;
@@ -8,7 +8,7 @@ use bw_sql::parse;
 use std::alloc::{AllocError, Global};
 use std::fmt::Write;
 
-/// A text that may stand in a statement, and what is said of it where it could.
+/// A text that a statement may continue with, and how it is described.
 const CANDIDATES: [(&str, &str); 21] = [
     ("SELECT", "SELECT"),
     ("*", "*"),
@@ -33,8 +33,9 @@ const CANDIDATES: [(&str, &str); 21] = [
     ("", "the end"),
 ];
 
-/// Says what is wrong with a statement that was refused under a schema: which parts of it aren't in the language; what
-/// could stand at a syntax fault; and the name of the table, or of a column, that was meant.
+/// Returns what is wrong with a statement that was rejected under a schema: which parts of it
+/// aren't in the language; what is expected at a syntax error; and which table or column was
+/// probably meant.
 pub(crate) fn of_statement(
     alloc: Global,
     schema: &Schema,
@@ -71,7 +72,7 @@ pub(crate) fn of_statement(
     Ok(text)
 }
 
-/// The word with which a text begins.
+/// Returns the first word of a text.
 fn word_at(text: &[u8]) -> &[u8] {
     match next_token(text) {
         Some((Token::Word(word), _)) => word,
@@ -79,7 +80,7 @@ fn word_at(text: &[u8]) -> &[u8] {
     }
 }
 
-/// Says what could stand after the beginning of a statement.
+/// Returns what is expected after the beginning of a statement.
 fn put_frontier(
     alloc: Global,
     text: &mut String,
@@ -106,8 +107,9 @@ fn put_frontier(
     Ok(())
 }
 
-/// Whether a statement goes on with this text after its beginning, by the parser's own answer: it's read, or refused
-/// for what comes later, or for a name that isn't the table's or a column's.
+/// Returns whether a statement may continue with this text after its beginning. It may if the
+/// parser accepts it, or rejects it for what follows, or for a name that isn't the table's or a
+/// column's.
 fn could_stand(
     alloc: Global,
     schema: &Schema,

@@ -1,4 +1,4 @@
-//! What is wrong with the heading of a CSV text.
+//! Explains an error of the heading of a CSV text.
 use crate::record::{Found, Named, put_open_quote};
 use crate::shown::Shown;
 use bw_csv::without_blanks;
@@ -9,8 +9,9 @@ use std::alloc::{AllocError, Global};
 use std::fmt;
 use std::fmt::Write;
 
-/// Says what is wrong with the heading of a CSV text that is read under a schema, or with none, as `bw infer` does:
-/// which heading, what it is and what it should be; and whether the whole looks like a file of another kind.
+/// Returns what is wrong with the heading of a CSV text that is read under a schema, or without
+/// one, as `bw infer` does: which heading, what it is and what it should be; and whether the text
+/// looks like a file of another kind.
 pub(crate) fn of_heading(
     alloc: Global,
     csv: &[u8],
@@ -32,7 +33,7 @@ pub(crate) fn of_heading(
     Ok(text)
 }
 
-/// Says what is wrong with the names of a heading.
+/// Returns what is wrong with the names of a heading.
 fn put_heading(
     text: &mut String,
     heading: &ByteRecord,
@@ -52,7 +53,7 @@ fn put_heading(
     }
 }
 
-/// Says which heading isn't the name of the schema's column.
+/// Returns which heading differs from the name of the schema's column.
 fn put_other(text: &mut String, heading: &ByteRecord, schema: &Schema) -> Result<(), AllocError> {
     for (at, (field, column)) in heading.iter().zip(schema.columns.iter()).enumerate() {
         if !column.name.is(without_blanks(field)) {
@@ -68,7 +69,7 @@ fn put_other(text: &mut String, heading: &ByteRecord, schema: &Schema) -> Result
     )
 }
 
-/// Says which heading is no name, and why.
+/// Returns which heading is not a valid name, and why.
 fn put_no_name(text: &mut String, heading: &ByteRecord) -> Result<(), AllocError> {
     for (at, field) in heading.iter().enumerate() {
         let name = without_blanks(field);
@@ -80,7 +81,7 @@ fn put_no_name(text: &mut String, heading: &ByteRecord) -> Result<(), AllocError
     writeln!(text, "a heading that is no name")
 }
 
-/// Says why a text is no name of a column.
+/// Returns why a text is not a valid name of a column.
 pub(crate) fn put_reason(text: &mut String, name: &[u8]) -> Result<(), AllocError> {
     if name.is_empty() {
         return writeln!(text, "a name has a letter at least");
@@ -102,7 +103,7 @@ pub(crate) fn put_reason(text: &mut String, name: &[u8]) -> Result<(), AllocErro
     }
 }
 
-/// Says which heading is the name of an earlier one.
+/// Returns which heading repeats the name of an earlier one.
 fn put_twice(text: &mut String, heading: &ByteRecord) -> Result<(), AllocError> {
     for (at, field) in heading.iter().enumerate() {
         let name = without_blanks(field);
@@ -123,7 +124,7 @@ fn put_twice(text: &mut String, heading: &ByteRecord) -> Result<(), AllocError> 
     writeln!(text, "a name that stands twice")
 }
 
-/// Says that the file is none of text with commas, where its first bytes show it.
+/// Returns that the file isn't comma-separated text, if its first bytes show it.
 fn put_kind(text: &mut String, csv: &[u8]) -> Result<bool, AllocError> {
     let kind = match csv {
         [0x1f, 0x8b, ..] => "compressed by gzip: gunzip it",
@@ -136,7 +137,7 @@ fn put_kind(text: &mut String, csv: &[u8]) -> Result<bool, AllocError> {
     Ok(true)
 }
 
-/// Says that a heading of one field looks like one with another separator.
+/// Returns that a heading of one field seems to have another separator.
 fn put_separator(text: &mut String, heading: &ByteRecord) -> Result<(), AllocError> {
     if heading.len() != 1 {
         return Ok(());

@@ -11,7 +11,7 @@ pub(crate) enum Kind {
 }
 
 impl Kind {
-    /// What a file seems to be by its first bytes, if they show it.
+    /// Returns what a file seems to be by its first bytes, if they show it.
     pub(crate) fn of(bytes: &[u8]) -> Option<Self> {
         if bytes.starts_with(b"BWCOLUMN") {
             return Some(Kind::Table);
@@ -37,7 +37,7 @@ impl Kind {
         }
     }
 
-    /// As a sentence names it.
+    /// Returns the kind's name, for a sentence.
     pub(crate) fn name(self) -> &'static str {
         match self {
             Kind::Table => "a table file",

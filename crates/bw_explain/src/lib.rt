@@ -1,15 +1,16 @@
-//! What a person is shown below a fault's line: where the fault stands, what stands there, and what would have been
-//! right.
+//! Explanations that people read below an error's line: where the error is, what is there, and what
+//! was expected.
 //!
-//! The program calls [`explain`] at a terminal, or where it is asked to. It looks once more at the file or the
-//! statement that the fault is of, and prints what is to be said on standard error. [`explain_rows`] says why a
-//! statement was answered row by row. Nothing rests on these lines: what can't be read again, or has no room in memory,
-//! is left out.
+//! The program calls [`explain`] at a terminal, or with `--explain`. It reads the file or the
+//! statement again, and prints on standard error. [`explain_rows`] explains why a query went row by
+//! row. Nothing depends on these lines: what can't be read again, or doesn't fit in memory, is left
+//! out.
 //!
-//! Read `told.rt` first, which finds the text that a fault is of. What is said of it is a text of lines, each ended by
-//! a line feed, and empty where there is nothing to say: `csv_text.rt` has it of a CSV, with `record.rt` for its
-//! records, `heading.rt` for the first one and `unfit.rt` for all columns that `bw infer` can't take; `frontier.rt` has
-//! it of statements, and `lines.rt` of program files.
+//! Read `told.rt` first, which finds the text with the error. Each explanation is a text of lines,
+//! each ended by a line feed; it is empty if there is nothing to explain. `csv_text.rt` explains
+//! errors of CSV texts, with `record.rt` for records, `heading.rt` for the heading and `unfit.rt`
+//! for the columns that `bw infer` rejects; `frontier.rt` explains errors of statements, and
+//! `lines.rt` those of program files.
 #![tactic(auto)]
 
 mod by_rows;

@@ -1,11 +1,11 @@
-//! What a line of a program file says.
+//! Explains a line of a program file.
 use crate::shown::Shown;
 use bw_model::{Fault, Place, code};
 use std::alloc::{AllocError, Global};
 use std::fmt::Write;
 
-/// Says what stands on the line of a program file's fault, and where that is an instruction's line of the certificate,
-/// which instruction it stands for.
+/// Returns the line of a program file's error. If it is an instruction's line of the certificate,
+/// also returns the instruction.
 pub(crate) fn of_program(alloc: Global, file: &[u8], fault: &Fault) -> Result<String, AllocError> {
     let mut text = String::new(alloc);
     let Place::Line(number) = fault.place else {
@@ -25,7 +25,7 @@ pub(crate) fn of_program(alloc: Global, file: &[u8], fault: &Fault) -> Result<St
     Ok(text)
 }
 
-/// Says which instruction the line of this number is wanted for.
+/// Returns the instruction of which the line of this number should be.
 fn put_instruction(text: &mut String, file: &[u8], number: usize) -> Result<(), AllocError> {
     let mut is_certificate = false;
     let mut instruction = 0usize;
@@ -54,14 +54,14 @@ fn put_instruction(text: &mut String, file: &[u8], number: usize) -> Result<(), 
     }
 }
 
-/// Whether a line of a certificate that begins with this word belongs to an instruction.
+/// Returns whether a line of a certificate that begins with this word belongs to an instruction.
 fn is_of_instruction(word: &[u8]) -> bool {
     ["LOAD", "FILL", "OP", "BYTE", "SKIP"]
         .iter()
         .any(|kind| word.eq_ignore_ascii_case(kind.as_bytes()))
 }
 
-/// The first word of a line, between blanks.
+/// Returns the first word of a line, between spaces or tabs.
 fn first_word(line: &[u8]) -> &[u8] {
     let blanks = line.iter().take_while(|byte| is_blank(**byte)).count();
     let line = &line[blanks.min(line.len())..];

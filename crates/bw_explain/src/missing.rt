@@ -1,14 +1,14 @@
-//! Parts of SQL and of other languages that aren't in the language of statements, and what to do instead.
+//! Parts of SQL and of other languages that statements don't have, and what to write instead.
 use crate::tokens::{Token, next_token};
 use bw_model::Schema;
 use bw_text::Keyword;
 use std::alloc::AllocError;
 use std::fmt::Write;
 
-/// So many parts are named at most.
+/// At most so many parts are named.
 const MOST: usize = 3;
 
-/// A part that isn't in the language: what it's called, and what to do instead.
+/// A part that isn't in the language: its name, and what to write instead.
 #[derive(Clone, Copy)]
 struct Missing {
     name: &'static str,
@@ -35,7 +35,7 @@ const FUNCTIONS: &str = "the functions are COUNT, SUM, MIN and MAX";
 
 const CHANGES: &str = "`bw load` writes a table once; load it again from a changed CSV file";
 
-/// Words, in capitals, and what is missing where one stands that is no name of the schema's.
+/// Words, in capitals, and what is missing if one occurs that isn't a name of the schema.
 const WORDS: [(&str, &str, &str); 46] = [
     ("GROUP", "GROUP BY", GROUPS),
     ("HAVING", "HAVING", GROUPS),
@@ -85,7 +85,8 @@ const WORDS: [(&str, &str, &str); 46] = [
     ("ALTER", "ALTER", CHANGES),
 ];
 
-/// Says what of a statement isn't in the language, and what to do instead: the first three such parts, a line each.
+/// Returns what in a statement isn't in the language, and what to write instead: the first three
+/// such parts, a line each.
 pub(crate) fn put_missing(
     text: &mut String,
     schema: &Schema,
@@ -120,7 +121,7 @@ pub(crate) fn put_missing(
     Ok(())
 }
 
-/// What is missing where a token stands, if the language hasn't it.
+/// Returns what is missing if the language doesn't have a token.
 fn missing_of(token: Token<'_>, schema: &Schema, follows_operand: bool) -> Option<Missing> {
     let (name, instead) = match token {
         Token::Word(word) if is_name_of(schema, word) => return None,
@@ -158,12 +159,12 @@ fn missing_of(token: Token<'_>, schema: &Schema, follows_operand: bool) -> Optio
 
 const ARITHMETIC: &str = "compute before loading, or with what is printed";
 
-/// Whether a word is the table's name or a column's, in any case.
+/// Returns whether a word is the table's name or a column's, ignoring case.
 fn is_name_of(schema: &Schema, word: &[u8]) -> bool {
     schema.name.is(word) || schema.columns.iter().any(|column| column.name.is(word))
 }
 
-/// Whether a token ends an operand: after one of these a sign is arithmetic.
+/// Returns whether a token ends an operand. A sign after it is then arithmetic.
 fn is_operand(token: Token<'_>) -> bool {
     match token {
         Token::Word(word) => Keyword::of(word).is_none(),

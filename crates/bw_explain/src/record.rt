@@ -1,4 +1,4 @@
-//! What is wrong with a record of a CSV text.
+//! Explains an error of a record of a CSV text.
 use crate::shown::Shown;
 use bw_csv::{value_of, without_blanks};
 use bw_model::{Column, Fault, MAX_ROWS, Place, Schema, code};
@@ -7,8 +7,8 @@ use std::alloc::{AllocError, Global};
 use std::fmt;
 use std::fmt::Write;
 
-/// Says what is wrong with a record of a CSV text that is read under a schema: the line of the file, from 1, the
-/// column, the field as it stands, and what would have been right.
+/// Returns what is wrong with a record of a CSV text that is read under a schema: the line of the
+/// file, from 1, the column, the field, and what was expected.
 pub(crate) fn of_record(
     alloc: Global,
     csv: &[u8],
@@ -25,7 +25,7 @@ pub(crate) fn of_record(
     Ok(text)
 }
 
-/// A record of a CSV text, and the line of the file on which it begins.
+/// A record of a CSV text, and the line of the file at which it begins.
 #[derive(Drop)]
 pub(crate) struct Found {
     pub(crate) record: ByteRecord,
@@ -33,7 +33,7 @@ pub(crate) struct Found {
 }
 
 impl Found {
-    /// The record of this number, if the reader comes to it. The heading is record 0.
+    /// Returns the record of this number, if the reader reaches it. The heading is record 0.
     pub(crate) fn of(alloc: Global, csv: &[u8], number: u32) -> Option<Self> {
         let mut reader = reader_of(alloc, csv);
         let mut record = ByteRecord::new(alloc);
@@ -46,7 +46,7 @@ impl Found {
         Some(Found { record, line })
     }
 
-    /// Says what is wrong with it.
+    /// Returns what is wrong with the record.
     fn put(
         &self,
         text: &mut String,
@@ -71,7 +71,7 @@ impl Found {
         }
     }
 
-    /// Says what is wrong with the first field that has this fault.
+    /// Returns what is wrong with the first field that has this error.
     fn put_field(
         &self,
         text: &mut String,
@@ -92,7 +92,7 @@ impl Found {
     }
 }
 
-/// Says what a field isn't that it should be.
+/// Returns what was expected of a field.
 fn put_wrong(
     text: &mut String,
     column: &Column,
@@ -110,7 +110,7 @@ fn put_wrong(
     }
 }
 
-/// A name as it is spelled.
+/// Returns a name as it is spelled.
 #[derive(Clone, Copy)]
 pub(crate) struct Named<'a>(pub(crate) &'a [u8]);
 
@@ -123,7 +123,7 @@ impl fmt::Display for Named<'_> {
     }
 }
 
-/// The reader that the calls have of a CSV text.
+/// Returns a reader of a CSV text with the settings of the calls.
 pub(crate) fn reader_of<'a>(alloc: Global, csv: &'a [u8]) -> Reader<&'a [u8]> {
     ReaderBuilder::new()
         .has_headers(false)
@@ -131,7 +131,8 @@ pub(crate) fn reader_of<'a>(alloc: Global, csv: &'a [u8]) -> Reader<&'a [u8]> {
         .from_reader(alloc, csv)
 }
 
-/// The line of the file on which a record begins: the empty lines before it count, and the line feeds within quotes.
+/// Returns the line of the file at which a record begins. Empty lines before it count, and line
+/// feeds in quotes.
 pub(crate) fn line_of(csv: &[u8], record: &ByteRecord) -> u64 {
     let Some(position) = record.position() else {
         return 1;
@@ -148,7 +149,7 @@ pub(crate) fn line_of(csv: &[u8], record: &ByteRecord) -> u64 {
     line
 }
 
-/// Says on which line a quotation mark begins that nothing closes, where there is one.
+/// Returns at which line a quotation mark begins that nothing closes, if there is one.
 pub(crate) fn put_open_quote(text: &mut String, csv: &[u8]) -> Result<(), AllocError> {
     match open_quote(csv) {
         Some(line) => writeln!(
@@ -159,18 +160,19 @@ pub(crate) fn put_open_quote(text: &mut String, csv: &[u8]) -> Result<(), AllocE
     }
 }
 
-/// Where the reader of a CSV text stands in a field.
+/// The position of a CSV reader in a field.
 #[derive(Clone, Copy, PartialEq, Eq)]
 enum At {
     Begin,
     Within,
-    /// In quotation marks, the first of which stood on this line.
+    /// In quotation marks, which began at this line.
     Quoted(u64),
     /// After a quotation mark that may be the first of two.
     Closed(u64),
 }
 
-/// The line on which a quotation mark opens a field that is open at the end of the text.
+/// Returns the line at which a quotation mark opens a field that is still open at the end of the
+/// text.
 fn open_quote(csv: &[u8]) -> Option<u64> {
     let mut at = At::Begin;
     let mut line = 1u64;

@@ -1,10 +1,11 @@
-//! Bytes of a person's file, shown so that each can be seen.
+//! Shows bytes of a file so that each is visible.
 use std::fmt;
 
-/// So many bytes of a field are shown.
+/// At most so many bytes of a field are shown.
 const MOST: usize = 40;
 
-/// Bytes in quotation marks, cut after the first 40, with what isn't a visible character as an escape.
+/// Returns bytes in quotation marks, cut after the first 40. Anything but a visible character is
+/// escaped.
 #[derive(Clone, Copy)]
 pub(crate) struct Shown<'a>(pub(crate) &'a [u8]);
 
@@ -24,7 +25,7 @@ impl fmt::Display for Shown<'_> {
     }
 }
 
-/// The first bytes of some, 40 at most, and no part of a character of UTF-8.
+/// Returns at most the first 40 bytes, without a part of a UTF-8 character.
 fn cut(bytes: &[u8]) -> &[u8] {
     if bytes.len() <= MOST {
         return bytes;

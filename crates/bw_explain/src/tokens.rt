@@ -1,4 +1,4 @@
-//! Tokens of what people write for a statement, other languages' among them.
+//! Tokens of statements in any dialect of SQL.
 use bw_text::{begins_word, goes_on_in_word};
 
 /// A token.
@@ -6,12 +6,12 @@ use bw_text::{begins_word, goes_on_in_word};
 pub(crate) enum Token<'a> {
     Word(&'a [u8]),
     Number { is_fraction: bool },
-    /// What stands in quotation marks of one kind.
+    /// A text in quotation marks of one kind.
     Quoted(u8),
     Mark(&'a [u8]),
 }
 
-/// The first token of a text, and the text after it.
+/// Returns the first token of a text, and the text after it.
 pub(crate) fn next_token(text: &[u8]) -> Option<(Token<'_>, &[u8])> {
     let text = after_blanks(text);
     let first = *text.first()?;
@@ -52,7 +52,7 @@ pub(crate) fn next_token(text: &[u8]) -> Option<(Token<'_>, &[u8])> {
     Some((Token::Mark(mark), rest))
 }
 
-/// A text without the blanks, line ends and comments that it begins with.
+/// Returns a text without its leading spaces, line ends and comments.
 fn after_blanks(text: &[u8]) -> &[u8] {
     let mut text = text;
     for _ in 0..text.len() {
@@ -72,7 +72,8 @@ fn after_blanks(text: &[u8]) -> &[u8] {
     text
 }
 
-/// What follows the text in quotation marks with which a text begins. Two marks in it stand for one; it may be open.
+/// Returns what follows the quoted text at the beginning of a text. Two marks in it mean one. The
+/// closing mark may be missing.
 fn after_quote(text: &[u8], quote: u8) -> &[u8] {
     let mut rest = split_after(text, 1).1;
     for _ in 0..text.len() {
@@ -86,12 +87,12 @@ fn after_quote(text: &[u8], quote: u8) -> &[u8] {
     rest
 }
 
-/// How many of the first bytes of a text are digits.
+/// Returns how many of the first bytes of a text are digits.
 fn digits_of(text: &[u8]) -> usize {
     text.iter().take_while(|byte| byte.is_ascii_digit()).count()
 }
 
-/// So many first bytes of a text, or all, and the others.
+/// Returns at most so many first bytes of a text, and the rest.
 fn split_after(text: &[u8], count: usize) -> (&[u8], &[u8]) {
     text.split_at(count.min(text.len()))
 }

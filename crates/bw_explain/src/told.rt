@@ -1,4 +1,4 @@
-//! The lines below a fault's own line.
+//! The lines below an error's own line.
 use crate::by_rows::of_rows;
 use crate::csv_text::of_csv;
 use crate::frontier::of_statement;
@@ -14,8 +14,8 @@ use std::fmt::{self, Write};
 use std::fs::File;
 use std::io::{self, ErrorKind, Read};
 
-/// The excerpt of a statement has so many columns at most before a fault, and in all: with what stands before it, it
-/// fits a terminal of 80 columns.
+/// The excerpt of a statement has at most so many columns before an error, and in all. With the
+/// text before it, it fits a terminal of 80 columns.
 const BEFORE: usize = 50;
 
 const EXCERPT: usize = 74;
@@ -23,18 +23,19 @@ const EXCERPT: usize = 74;
 /// So many first bytes show what a file seems to be.
 const BEGINNING: usize = 4096;
 
-/// How the reads of a file went.
+/// The outcome of the reads of a file.
 #[derive(Clone, Copy)]
 pub enum Reads {
-    /// None failed.
+    /// No read failed.
     Good,
-    /// One failed, or the file couldn't be opened, for this reason of the system's.
+    /// A read failed, or the file couldn't be opened, for this reason of the system.
     Failed(io::Error),
     /// The file changed meanwhile.
     Changed,
 }
 
-/// What ended a command: its fault; the file whose reads failed, if that is the fault; and why a write failed, if that is.
+/// Why a command failed: its error; the file whose reads failed, if that is the error; and why a
+/// write failed, if that is.
 #[derive(Clone, Copy)]
 pub struct Ended<'a> {
     pub fault: Fault,
@@ -43,7 +44,7 @@ pub struct Ended<'a> {
 }
 
 impl<'a> Ended<'a> {
-    /// A command that one of its files ended, which couldn't be opened.
+    /// Returns the failure of a command that couldn't open one of its files.
     pub fn unread(path: &'a str, error: io::Error) -> Self {
         Ended {
             fault: Fault::new(code::READ_FAILED),
@@ -52,7 +53,8 @@ impl<'a> Ended<'a> {
         }
     }
 
-    /// A command that a fault ended, and the files that it had opened, each with how its reads went.
+    /// Returns the failure of a command, given the files that it had opened and the outcome of
+    /// their reads.
     pub fn of(fault: Fault, files: &[(&'a str, Reads)]) -> Self {
         let failed = files
             .iter()
@@ -64,7 +66,7 @@ impl<'a> Ended<'a> {
         }
     }
 
-    /// The same, where a write failed for a reason of the system's.
+    /// Adds the system's reason for a failed write.
     pub fn unwritten(self, error: Option<io::Error>) -> Self {
         Ended {
             unwritten: error,
@@ -72,7 +74,8 @@ impl<'a> Ended<'a> {
         }
     }
 
-    /// Whether a write failed since nobody reads any more what is written, as in `bw dump t.bw | head`.
+    /// Returns whether a write failed since the reader of a pipe has ended, as in `bw dump t.bw |
+    /// head`.
     pub fn is_closed_pipe(&self) -> bool {
         let is_pipe = self
             .unwritten
@@ -81,9 +84,9 @@ impl<'a> Ended<'a> {
     }
 }
 
-/// Says on standard error what is wrong, where there is something to say of it: the statement's part with a caret under
-/// the byte, and what could stand there; or the line of the file, what stands on it, and what would have been right; or
-/// else the file that the fault is of.
+/// Prints on standard error what is wrong, if there is anything to add: the part of the statement
+/// with a caret under the byte, and what was expected; or the line of the file, its text, and what
+/// was expected; or else the file with the error.
 pub fn explain(rt: &HostRuntime, words: &Words<'_>, ended: &Ended<'_>) {
     let fault = &ended.fault;
     if let (400..500, Some(sql), Place::Byte(byte)) = (fault.code, words.sql(), fault.place) {
@@ -99,7 +102,7 @@ pub fn explain(rt: &HostRuntime, words: &Words<'_>, ended: &Ended<'_>) {
     }
 }
 
-/// What is to be said of a table's name that the command line gave, and that is none.
+/// Returns what is wrong with a table's name from the command line.
 fn said_of_name(rt: &HostRuntime, name: &str, fault: &Fault) -> Option<String> {
     if fault.code != code::SCHEMA_NAME {
         return None;
@@ -112,7 +115,7 @@ fn said_of_name(rt: &HostRuntime, name: &str, fault: &Fault) -> Option<String> {
     Some(text)
 }
 
-/// What is to be said of a file that seems to be of another kind than the command takes in its place.
+/// Returns what is wrong with a file that seems to be of another kind than the command expects.
 fn said_of_kind(rt: &HostRuntime, words: &Words<'_>, file: &str, fault: &Fault) -> Option<String> {
     let wanted = match fault.code {
         100..200 if words.schema() == Some(file) => Kind::Schema,
@@ -136,7 +139,7 @@ fn said_of_kind(rt: &HostRuntime, words: &Words<'_>, file: &str, fault: &Fault) 
     Some(text)
 }
 
-/// The first bytes of a file.
+/// Returns the first bytes of a file.
 fn beginning_of(rt: &HostRuntime, path: &str) -> Option<Vec<u8>> {
     let mut file = regular_file(rt, path)?;
     let mut buffer = [0u8; BEGINNING];
@@ -144,7 +147,7 @@ fn beginning_of(rt: &HostRuntime, path: &str) -> Option<Vec<u8>> {
     Vec::from_slice(rt.alloc(), buffer.get(..count)?).ok()
 }
 
-/// Says on standard error what is wrong with a statement that was refused under a schema.
+/// Prints on standard error what is wrong with a statement that was rejected under a schema.
 pub fn explain_statement(rt: &HostRuntime, schema: &Schema, sql: &[u8], fault: &Fault) {
     if let (400..500, Place::Byte(byte), Ok(text)) = (
         fault.code,
@@ -156,20 +159,19 @@ pub fn explain_statement(rt: &HostRuntime, schema: &Schema, sql: &[u8], fault: &
     say(rt, "", of_statement(rt.alloc(), schema, sql, fault).ok());
 }
 
-/// Says on standard error why the rows that a statement asks for were looked up one by one, where the table can be read
-/// again.
+/// Prints on standard error why a query went row by row, if the table can be read again.
 pub fn explain_rows(rt: &HostRuntime, table: &str, sql: &str) {
     say(rt, "", said_of_rows(rt, table, sql));
 }
 
-/// What is to be said of a statement that was answered row by row.
+/// Returns why a query went row by row.
 fn said_of_rows(rt: &HostRuntime, table: &str, sql: &str) -> Option<String> {
     let mut table = FromRead::new(regular_file(rt, table)?);
     let reader = TableReader::begin(rt.alloc(), &mut table).ok()?;
     of_rows(rt.alloc(), reader.schema(), sql.as_bytes()).ok()
 }
 
-/// Writes what is to be said, a line each, after the name of its file; and tells whether that was something.
+/// Prints an explanation, a line each, after the name of its file. Returns whether there was one.
 fn say(rt: &HostRuntime, file: &str, said: Option<String>) -> bool {
     let Some(said) = said else {
         return false;
@@ -181,7 +183,7 @@ fn say(rt: &HostRuntime, file: &str, said: Option<String>) -> bool {
     !said.is_empty()
 }
 
-/// What is to be said of a statement's fault.
+/// Returns the explanation of a statement's error.
 fn said_of_statement(
     rt: &HostRuntime,
     words: &Words<'_>,
@@ -198,7 +200,7 @@ fn said_of_statement(
     of_statement(alloc, reader.schema(), sql, fault).ok()
 }
 
-/// What is to be said of the fault of a file.
+/// Returns the explanation of a file's error.
 fn said_of_file(rt: &HostRuntime, words: &Words<'_>, file: &str, fault: &Fault) -> Option<String> {
     match fault.code {
         500..651 => of_program(rt.alloc(), &read_again(rt, file)?, fault).ok(),
@@ -216,7 +218,7 @@ fn said_of_file(rt: &HostRuntime, words: &Words<'_>, file: &str, fault: &Fault) 
     }
 }
 
-/// The bytes of a file that was read before.
+/// Returns the bytes of a file that was read before.
 fn read_again(rt: &HostRuntime, path: &str) -> Option<Vec<u8>> {
     let mut source = FromRead::new(regular_file(rt, path)?);
     match read_limited(rt.alloc(), &mut source, MAX_CSV_LEN).ok()? {
@@ -225,13 +227,13 @@ fn read_again(rt: &HostRuntime, path: &str) -> Option<Vec<u8>> {
     }
 }
 
-/// A file that can be read once more: what came of a pipe doesn't come again.
+/// A file that can be read again: what a pipe delivered can't be.
 fn regular_file(rt: &HostRuntime, path: &str) -> Option<File> {
     let file = File::open(rt, path).ok()?;
     file.metadata().ok()?.is_file().then_some(file)
 }
 
-/// Shows the part of a statement about a byte.
+/// Shows the part of a statement around a byte.
 fn explain_byte(rt: &HostRuntime, sql: &str, byte: u64) {
     if let Some(part) = usize::try_from(byte).ok().and_then(|at| Part::of(sql, at)) {
         let _ = eprintln!(rt;
@@ -243,7 +245,7 @@ fn explain_byte(rt: &HostRuntime, sql: &str, byte: u64) {
     }
 }
 
-/// Says where in a file a fault stands, or why the system failed to read or to write it.
+/// Prints where in a file an error is, or why the system failed to read or to write it.
 fn explain_place(rt: &HostRuntime, ended: &Ended<'_>, file: &str) {
     let _ = match (ended.fault.code, ended.fault.place) {
         (code::READ_FAILED, _) => return explain_read(rt, ended, file),
@@ -261,7 +263,7 @@ fn explain_place(rt: &HostRuntime, ended: &Ended<'_>, file: &str) {
     };
 }
 
-/// Says why a file couldn't be read.
+/// Prints why a file couldn't be read.
 fn explain_read(rt: &HostRuntime, ended: &Ended<'_>, file: &str) {
     match ended.unread {
         Some((_, Reads::Changed)) => {
@@ -272,7 +274,7 @@ fn explain_read(rt: &HostRuntime, ended: &Ended<'_>, file: &str) {
     }
 }
 
-/// Says what couldn't be done with a file, and the system's reason if it gave one.
+/// Prints what couldn't be done with a file, and the system's reason if it gave one.
 fn explain_failure(rt: &HostRuntime, file: &str, done: &str, error: Option<io::Error>) {
     let _ = match error {
         Some(error) => eprintln!(rt; "    {} can't be {}: {}", file, done, error),
@@ -280,7 +282,7 @@ fn explain_failure(rt: &HostRuntime, file: &str, done: &str, error: Option<io::E
     };
 }
 
-/// The file that a fault is of, among those that the command line names.
+/// Returns the file with the error, among those that the command line names.
 fn file_of<'a>(words: &Words<'a>, ended: &Ended<'a>) -> Option<&'a str> {
     match ended.fault.code {
         // of `bw infer`: a name that the command line gave, or one of the heading
@@ -300,7 +302,7 @@ fn file_of<'a>(words: &Words<'a>, ended: &Ended<'a>) -> Option<&'a str> {
     }
 }
 
-/// The part of a statement's line about a byte, cut there.
+/// A part of a statement's line around a byte.
 #[derive(Clone, Copy)]
 struct Part<'a> {
     before: &'a str,
@@ -308,7 +310,7 @@ struct Part<'a> {
 }
 
 impl<'a> Part<'a> {
-    /// The part about this byte, where a character begins there or the statement ends.
+    /// Returns the part around this byte, if a character begins there or the statement ends.
     fn of(sql: &'a str, at: usize) -> Option<Self> {
         let before = end_of_line(sql.get(..at)?)?;
         let room = EXCERPT.saturating_sub(columns_of(before));

@@ -1,4 +1,4 @@
-//! The columns of a CSV text that `bw infer` can't take.
+//! Explains which columns of a CSV text `bw infer` rejects.
 use crate::record::{Found, Named, line_of, put_open_quote, reader_of};
 use crate::shown::Shown;
 use bw_csv::{bare_value_of, without_blanks};
@@ -8,8 +8,9 @@ use std::alloc::{AllocError, Global};
 use std::fmt;
 use std::fmt::Write;
 
-/// Says which columns aren't of whole numbers, each with the first field that isn't one, or of numbers too far apart;
-/// which record is the first with another number of fields; and how columns can be made to fit.
+/// Returns which columns aren't of whole numbers, each with its first field that isn't one, or have
+/// numbers too far apart; which record is the first with another number of fields; and how columns
+/// can be made to fit.
 pub(crate) fn of_columns(alloc: Global, csv: &[u8]) -> Result<String, AllocError> {
     match Found::of(alloc, csv, 0) {
         Some(heading) => of_columns_under(alloc, csv, &heading.record),
@@ -17,7 +18,7 @@ pub(crate) fn of_columns(alloc: Global, csv: &[u8]) -> Result<String, AllocError
     }
 }
 
-/// Says so of the columns under a heading.
+/// Returns the same for the columns under a heading.
 fn of_columns_under(alloc: Global, csv: &[u8], heading: &ByteRecord) -> Result<String, AllocError> {
     let mut text = String::new(alloc);
     put_columns(alloc, &mut text, csv, heading)?;
@@ -40,14 +41,15 @@ fn put_columns(
     Ok(())
 }
 
-/// What was seen of a column: whether a field of it is no whole number, and its least and greatest number.
+/// What was read of a column: whether one of its fields is not a whole number, and its minimum and
+/// maximum.
 #[derive(Clone, Copy)]
 struct Seen {
     is_unfit: bool,
     range: Option<(i64, i64)>,
 }
 
-/// What was seen of the columns, and whether a record had another number of fields.
+/// What was read of all columns, and whether a record had another number of fields.
 #[derive(Drop)]
 struct Columns {
     seen: Vec<Seen>,
@@ -68,7 +70,7 @@ impl Columns {
         })
     }
 
-    /// Looks at the records after the heading.
+    /// Reads the records after the heading.
     fn look_at_rows(
         &mut self,
         alloc: Global,
@@ -89,7 +91,7 @@ impl Columns {
         Ok(())
     }
 
-    /// Looks at the fields of a record, and tells of each column's first one that is no whole number.
+    /// Reads the fields of a record, and reports each column's first one that isn't a whole number.
     fn look(
         &mut self,
         text: &mut String,
@@ -116,7 +118,7 @@ impl Columns {
         Ok(())
     }
 
-    /// Tells of the columns whose numbers are too far apart.
+    /// Reports the columns whose numbers are too far apart.
     fn put_ranges(&self, text: &mut String, heading: &ByteRecord) -> Result<(), AllocError> {
         for (seen, name) in self.seen.iter().zip(heading.iter()) {
             if let Some((least, most)) = seen.range {
@@ -133,7 +135,7 @@ impl Columns {
     }
 }
 
-/// A range with a number more.
+/// Returns a range that has one number more.
 fn widened(range: Option<(i64, i64)>, n: i64) -> (i64, i64) {
     match range {
         Some((least, most)) => (least.min(n), most.max(n)),
@@ -141,7 +143,7 @@ fn widened(range: Option<(i64, i64)>, n: i64) -> (i64, i64) {
     }
 }
 
-/// Says that a field isn't what a column takes.
+/// Returns that a field isn't what a column accepts.
 fn put_unfit(
     text: &mut String,
     line: u64,

@@ -23,6 +23,7 @@ mod parse;
 mod query;
 mod row;
 mod row_taker;
+mod same;
 mod schema;
 mod total;
 mod variable;

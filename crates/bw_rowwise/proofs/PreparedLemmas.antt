@@ -1,5 +1,5 @@
 -- The truth of each kind of prepared condition.
-use Rattle.std.proofs.Common.{IfSome, IsSomeAnd, Option, Some, None, ◌≡◌, ◌∙◌, ◌<◌, ◌+◌, ℕ, List, [], ◌∷◌, ◌++◌, get_or, length, map, take, Vec, Box, Global, sym, ap}
+use Rattle.std.proofs.Common.{◌≡◌, ◌∙◌, ◌<◌, ◌+◌, ℕ, zero, suc, arith, List, [], ◌∷◌, ◌++◌, get_or, length, map, take, Vec, Box, Global, sym, ap}
 use Rattle.bw_model.specs.declared.cond.Truth.{Truth}
 use Rattle.bw_model.specs.declared.cond.Truth.TheVariants.{Yes}
 use Rattle.bw_model.specs.declared.cond.Op.{Op}
@@ -11,8 +11,9 @@ use Rattle.bw_rowwise.specs.declared.numbers.Numbers.{Numbers}
 use Rattle.bw_rowwise.specs.declared.prepared.Prepared.{Prepared, Prepared-F, fold-roll-Prepared}
 use Rattle.bw_rowwise.specs.declared.prepared.Prepared.TheVariants.{Always, Cmp, Between, Among, IsNull, And, Or, Not, Test, rolls-Always, rolls-Cmp, rolls-Between, rolls-Among, rolls-IsNull, rolls-And, rolls-Or, rolls-Not, rolls-Test}
 use Rattle.bw_rowwise.specs.Numbers.{among_numbers}
-use Rattle.bw_rowwise.specs.Prepared.{prepared_step, prepared_truth, JoinAlike}
-use Rattle.bw_rowwise.proofs.TruthLemmas.{all_more, all_pushed, any_more, any_pushed, greatest-twice, least-twice}
+use Rattle.bw_rowwise.specs.Prepared.{prepared_step, prepared_truth, Absorbs, JoinAlike}
+use Rattle.bw_rowwise.proofs.LogicLemmas.{greatest_assoc, least_assoc}
+use Rattle.bw_rowwise.proofs.TruthLemmas.{all_more, all_pushed, any_more, any_pushed, greatest-first, least-first}
 
 pub truth-Always : (row : List Value) → prepared_truth row Always ≡ Yes
 unfolding prepared_truth
@@ -53,10 +54,20 @@ truth-Test row part t = ap (prepared_truth row) (sym (rolls-Test part t)) ∙ fo
 
 pub ruleset truths = (truth-Always, truth-Cmp, truth-Between, truth-Among, truth-IsNull, truth-And, truth-Or, truth-Not, truth-Test)
 
--- AND of some truths is the same with one more, and so is OR
-pub record Absorbs (truths : List Truth) (t : Truth) : Type 0 where
-  pub all : least (all_of truths) t ≡ all_of truths
-  pub any : greatest (any_of truths) t ≡ any_of truths
+-- a condition of a list once more changes nothing
+pub member_absorbed : {A : Type 0} (f : A → Truth) (parts : List A) (i : ℕ) (x : A) (t : Truth)
+    → i < length parts → t ≡ f (get_or parts i x) → Absorbs (map f parts) t
+member_absorbed f [] i x t within is = absurd (omega arith)
+member_absorbed f (part ∷ parts) zero x t within is = record {
+  all = ap (least (least (f part) (all_of (map f parts)))) is ∙ least-first (f part) (all_of (map f parts));
+  any = ap (greatest (greatest (f part) (any_of (map f parts)))) is ∙ greatest-first (f part) (any_of (map f parts));
+}
+member_absorbed f (part ∷ parts) (suc i) x t within is =
+    let rest = member_absorbed f parts i x t (omega (arith, within)) is in
+    record {
+      all = least_assoc (f part) (all_of (map f parts)) t ∙ ap (least (f part)) rest.all;
+      any = greatest_assoc (f part) (any_of (map f parts)) t ∙ ap (greatest (f part)) rest.any;
+    }
 
 -- one part more that changes nothing
 pub alike_repeated : {A : Type 0} (f : A → Truth) (those : List Truth) (parts : List A) (i : ℕ) (x : A) (t : Truth)
@@ -75,16 +86,3 @@ alike_pushed g f made parts i x y within is same alike = record {
   all = all_pushed g made y ∙ ap (least (all_of (map g made))) same ∙ ap (λ t. least t (f x)) alike.all ∙ all_more f parts i x within is;
   any = any_pushed g made y ∙ ap (greatest (any_of (map g made))) same ∙ ap (λ t. greatest t (f x)) alike.any ∙ any_more f parts i x within is;
 }
-
--- the last part once more changes nothing
-pub last_absorbed : {A : Type 0} (f : A → Truth) (parts : List A) (i : ℕ) (x : A)
-    → i < length parts → x ≡ get_or parts i x → Absorbs (map f (take (i + 1) parts)) (f x)
-last_absorbed f parts i x within is = record {
-  all = ap (λ t. least t (f x)) (sym (all_more f parts i x within is)) ∙ least-twice (all_of (map f (take i parts))) (f x) ∙ all_more f parts i x within is;
-  any = ap (λ t. greatest t (f x)) (sym (any_more f parts i x within is)) ∙ greatest-twice (any_of (map f (take i parts))) (f x) ∙ any_more f parts i x within is;
-}
-
--- what follows of the value that two statements are about
-pub some_both : {A : Type 0} {P Q : A → Type 0} {R : Type 0} (found : Option A) → IsSomeAnd found P → IfSome found Q → ((a : A) → P a → Q a → R) → R
-some_both (Some a) p q then = then a p q
-some_both None p q then = absurd p

@@ -193,24 +193,24 @@ all_pushed f parts x = ap all_of (map-append f parts (x ∷ [])) ∙ all_of-appe
 pub any_pushed : {A : Type 0} (f : A → Truth) (parts : List A) (x : A) → any_of (map f (parts ++ x ∷ [])) ≡ greatest (any_of (map f parts)) (f x)
 any_pushed f parts x = ap any_of (map-append f parts (x ∷ [])) ∙ any_of-append (map f parts) (f x ∷ []) ∙ ap (greatest (any_of (map f parts))) (greatest-No (f x))
 
--- AND with a truth twice is AND with it once, and so is OR
-pub least-twice : (a b : Truth) → least (least a b) b ≡ least a b
-least-twice No b = refl
-least-twice Yes No = refl
-least-twice Yes Unknown = refl
-least-twice Yes Yes = refl
-least-twice Unknown No = refl
-least-twice Unknown Unknown = refl
-least-twice Unknown Yes = refl
+-- AND with its first truth once more is the same, and so is OR
+pub least-first : (a b : Truth) → least (least a b) a ≡ least a b
+least-first No b = refl
+least-first Yes No = refl
+least-first Yes Unknown = refl
+least-first Yes Yes = refl
+least-first Unknown No = refl
+least-first Unknown Unknown = refl
+least-first Unknown Yes = refl
 
-pub greatest-twice : (a b : Truth) → greatest (greatest a b) b ≡ greatest a b
-greatest-twice Yes b = refl
-greatest-twice No No = refl
-greatest-twice No Unknown = refl
-greatest-twice No Yes = refl
-greatest-twice Unknown No = refl
-greatest-twice Unknown Unknown = refl
-greatest-twice Unknown Yes = refl
+pub greatest-first : (a b : Truth) → greatest (greatest a b) a ≡ greatest a b
+greatest-first Yes b = refl
+greatest-first No No = refl
+greatest-first No Unknown = refl
+greatest-first No Yes = refl
+greatest-first Unknown No = refl
+greatest-first Unknown Unknown = refl
+greatest-first Unknown Yes = refl
 
 -- once one is TRUE so are all
 pub any_true : {A : Type 0} (f : A → Truth) (parts : List A) (i : ℕ) → any_of (map f (take i parts)) ≡ Yes → Yes ≡ any_of (map f parts)

@@ -6,7 +6,7 @@ use Rattle.bw_model.specs.declared.cond.Truth.{Truth}
 use Rattle.bw_model.specs.declared.cond.Truth.TheVariants.{Yes}
 use Rattle.bw_model.specs.Cond.{operand_value, truth_of}
 use Rattle.bw_model.specs.Row.{Value}
-use Rattle.bw_model.specs.Truth.{all_of, among, any_of, between, compared, greatest, is_null, is_truth, negation, truth_from}
+use Rattle.bw_model.specs.Truth.{all_of, among, any_of, between, compared, greatest, is_null, is_truth, least, negation, truth_from}
 use Rattle.bw_rowwise.specs.Numbers.{among_numbers}
 use Rattle.bw_rowwise.specs.declared.prepared.Prepared.{Prepared, Prepared-F, fold-Prepared}
 use Rattle.bw_rowwise.specs.declared.prepared.Prepared.TheOpen.{Always, Cmp, Between, Among, IsNull, And, Or, Not, Test}
@@ -37,6 +37,11 @@ IsPreparedFrom cond prepared = (row : List Value) → prepared_truth row prepare
 pub record JoinAlike (these those : List Truth) : Type 0 where
   pub all : all_of these ≡ all_of those
   pub any : any_of these ≡ any_of those
+
+-- AND of some truths is the same with one more, and so is OR
+pub record Absorbs (truths : List Truth) (t : Truth) : Type 0 where
+  pub all : least (all_of truths) t ≡ all_of truths
+  pub any : greatest (any_of truths) t ≡ any_of truths
 
 -- the row in a lane; past the last row it has no values
 abbrev pub row_at : List (List Value) → ℕ → List Value

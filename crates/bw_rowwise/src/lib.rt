@@ -21,6 +21,7 @@ mod accumulator;
 mod column_lanes;
 mod condition;
 mod filter;
+mod hash;
 mod lanes;
 mod logic;
 mod numbers;

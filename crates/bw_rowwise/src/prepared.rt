@@ -1,15 +1,17 @@
 //! Conditions prepared for many rows: the numbers of each list are sorted.
-ghost use Rattle.std.specs.Prelude.{◌≡◌, List, map, IfOk, IsOkUnless, IsSomeAnd, IsTrue};
+ghost use Rattle.std.specs.Prelude.{◌≡◌, List, map, IfOk, IsOkUnless, IsTrue};
 ghost use Rattle.bw_model.specs.Cond.{operand_value, truth_of};
 ghost use Rattle.bw_model.specs.Fault.{no_memory};
 ghost use Rattle.bw_model.specs.Row.{Value};
 ghost use Rattle.bw_model.specs.Truth.{among, greatest};
 ghost use Rattle.bw_rowwise.specs.Numbers.{among_numbers};
-ghost use Rattle.bw_rowwise.specs.Prepared.{prepared_truth, IsPreparedFrom, JoinAlike};
+ghost use Rattle.bw_rowwise.specs.Prepared.{prepared_truth, Absorbs, IsPreparedFrom, JoinAlike};
 
+use crate::hash::hash_of;
 use crate::numbers::Numbers;
 use bw_model::{Cond, Fault, Op, Operand, Truth};
 use std::alloc::Global;
+use std::collections::HashMap;
 
 /// A condition in the form that tests rows. It has the truth of the original condition on every
 /// row.
@@ -62,8 +64,8 @@ impl Prepared {
     }
 }
 
-/// Prepares conditions, in their order. Of equal comparisons that follow one another, only the
-/// first is kept. AND and OR of the results have the same truths as those of the conditions.
+/// Prepares conditions, in their order. Of equal ones only the first is kept. AND and OR of the
+/// results have the same truths as those of the conditions.
 #[cycle(new)]
 fn all_of(alloc: Global, conds: &[Cond]) -> Result<Vec<Prepared>, Fault>
     ensures prepared { IfOk result (λ prepared. (row : List Value)
@@ -71,42 +73,40 @@ fn all_of(alloc: Global, conds: &[Cond]) -> Result<Vec<Prepared>, Fault>
     ensures only_memory { IsOkUnless result no_memory }
 {
     let mut prepared = Vec::with_capacity(alloc, conds.len())?;
-    let mut last = None;
-    for cond in conds {
-        if !repeats(last, cond) {
+    let mut firsts = HashMap::new(alloc);
+    for place in 0..conds.len() {
+        let cond = &conds[place];
+        if !is_repeated(&mut firsts, &conds[..place], cond)? {
             prepared.push(Prepared::new(alloc, cond)?)?;
         }
-        last = Some(cond);
     }
     Ok(prepared)
 }
 
-/// Returns whether a condition is the same comparison as the one before it.
-#[tactic(auto, using(bw_model::proofs::CondLemmas::truths))]
-fn repeats(last: Option<&Cond>, cond: &Cond) -> bool
-    ensures { IsTrue result → IsSomeAnd last.entry (λ last. (row : List Value)
-        → truth_of row last.now ≡ truth_of row cond.now) }
+/// Returns whether a condition is equal to an earlier one. `firsts` has the place of the first
+/// condition with each hash.
+fn is_repeated(
+    firsts: &mut HashMap<u64, usize>,
+    earlier: &[Cond],
+    cond: &Cond,
+) -> Result<bool, Fault>
+    ensures repeated { IfOk result (λ repeated. IsTrue repeated → (row : List Value)
+        → Absorbs (map (truth_of row) earlier.now) (truth_of row cond.now)) }
+    ensures only_memory { IsOkUnless result no_memory }
 {
-    match (last, cond) {
-        (Some(Cond::Cmp(op, x, y)), Cond::Cmp(other, z, w)) => {
-            is_same(*op, *other) && is_operand(*x, *z) && is_operand(*y, *w)
-        }
-        _ => false,
+    let hash = hash_of(cond);
+    if let Some(first) = firsts.get(&hash) {
+        return Ok(has_at(earlier, *first, cond));
     }
+    firsts.insert(hash, earlier.len())?;
+    Ok(false)
 }
 
-/// Returns whether two comparisons are of the same kind.
-fn is_same(op: Op, other: Op) -> bool
-    ensures { IsTrue result → op ≡ other }
+/// Returns whether a list has an equal condition at this place.
+fn has_at(conds: &[Cond], place: usize, cond: &Cond) -> bool
+    ensures { IsTrue result → (row : List Value) → Absorbs (map (truth_of row) conds.now) (truth_of row cond.now) }
 {
-    op == other
-}
-
-/// Returns whether two operands are the same.
-fn is_operand(x: Operand, y: Operand) -> bool
-    ensures { IsTrue result → x ≡ y }
-{
-    x == y
+    place < conds.len() && conds[place].is_same(cond)
 }
 
 /// Returns the numbers among the items of a list, sorted, and the other items.
