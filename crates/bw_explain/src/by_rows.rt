@@ -34,7 +34,7 @@ pub(crate) fn of_rows(alloc: Global, schema: &Schema, sql: &[u8]) -> Result<Stri
     let part = part_without(alloc, schema, &query.cond, &mut search);
     writeln!(
         text,
-        "each row was looked at: there is no program for {}",
+        "the query went row by row: there is no scan program for {}",
         Spelled { part, columns }
     )?;
     let first = search.first;
@@ -256,7 +256,7 @@ impl fmt::Display for Reason<'_> {
         if let Some((one, other)) = apart(self.part, self.columns) {
             return write!(
                 f,
-                "a program compares columns of one least value, and {} begins at {}, {} at {}",
+                "scan programs can compare two columns only if their minimums are equal: {} starts at {}, {} at {}",
                 text_of(one),
                 one.lo,
                 text_of(other),
@@ -265,12 +265,12 @@ impl fmt::Display for Reason<'_> {
         }
         match (self.part, self.first) {
             (Cond::And(_) | Cond::Or(_), Some(0)) => {
-                return f.write_str("its parts are too long to be looked at one by one");
+                return f.write_str("its parts are too long to be planned one by one");
             }
             (Cond::And(_) | Cond::Or(_), Some(first)) => {
                 return write!(
                     f,
-                    "the planner was only asked for its first parts, {} of them, and has one for each",
+                    "the planner was asked only for its first parts, {} of them, and has a program for each",
                     first
                 );
             }
@@ -278,11 +278,11 @@ impl fmt::Display for Reason<'_> {
         }
         f.write_str(match self.part {
             Cond::Among(..) =>
-                "so long a list is looked up faster, or takes more than 4096 instructions",
+                "so long a list is searched faster, or takes more than 4096 instructions",
             Cond::And(_) | Cond::Or(_) => {
-                "each part has one, but together they take more instructions, registers or nodes than there may be"
+                "each part has a program, but together they take more instructions, registers or nodes than allowed"
             }
-            _ => "it takes more instructions, registers or nodes than there may be",
+            _ => "it takes more instructions, registers or nodes than allowed",
         })
     }
 }

@@ -50,9 +50,9 @@ pub(crate) fn of_statement(
     let (before, after) = sql.split_at(at);
     match fault.code {
         code::STATEMENT_TOO_LONG => text.push_str("a statement has at most 65,536 bytes\n")?,
-        code::NESTING => text.push_str("at most 100 brackets and NOTs stand within one another\n")?,
+        code::NESTING => text.push_str("brackets and NOTs are nested at most 100 deep\n")?,
         code::LITERAL => text.push_str(
-            "a number is from -9223372036854775808 to 9223372036854775807\n",
+            "numbers are from -9223372036854775808 to 9223372036854775807\n",
         )?,
         _ => put_missing(&mut text, schema, sql)?,
     }
@@ -65,7 +65,7 @@ pub(crate) fn of_statement(
         )?,
         code::UNKNOWN_COLUMN if text.is_empty() => put_columns(&mut text, schema, word_at(after))?,
         code::MIXED_ITEMS if text.is_empty() => text.push_str(
-            "the items are columns alone, or COUNT, SUM, MIN and MAX alone\n",
+            "select either columns, or COUNT, SUM, MIN and MAX\n",
         )?,
         _ => {}
     }

@@ -46,7 +46,7 @@ fn put_heading(
         (code::NAME_TWICE, _) => put_twice(text, heading),
         (code::COLUMN_COUNT, _) => writeln!(
             text,
-            "{} headings, and a table has 1 to {MAX_COLUMNS} columns",
+            "{} headings: a table has 1 to {MAX_COLUMNS} columns",
             heading.len()
         ),
         _ => writeln!(text, "the heading"),
@@ -58,12 +58,12 @@ fn put_other(text: &mut String, heading: &ByteRecord, schema: &Schema) -> Result
     for (at, (field, column)) in heading.iter().zip(schema.columns.iter()).enumerate() {
         if !column.name.is(without_blanks(field)) {
             let (shown, name) = (Shown(without_blanks(field)), Named(column.name.as_bytes()));
-            return writeln!(text, "heading {} is {shown}, and should be {name}", at + 1);
+            return writeln!(text, "heading {} is {shown}: expected {name}", at + 1);
         }
     }
     writeln!(
         text,
-        "{} headings, where {} should be",
+        "{} headings: expected {}",
         heading.len(),
         schema.columns.len()
     )
@@ -78,27 +78,27 @@ fn put_no_name(text: &mut String, heading: &ByteRecord) -> Result<(), AllocError
             return put_reason(text, name);
         }
     }
-    writeln!(text, "a heading that is no name")
+    writeln!(text, "a heading is not a valid name")
 }
 
 /// Returns why a text is not a valid name of a column.
 pub(crate) fn put_reason(text: &mut String, name: &[u8]) -> Result<(), AllocError> {
     if name.is_empty() {
-        return writeln!(text, "a name has a letter at least");
+        return writeln!(text, "a name can't be empty");
     }
     if is_word(name) {
         return if name.len() > 63 {
             writeln!(text, "a name has at most 63 bytes")
         } else {
-            writeln!(text, "it's a reserved word")
+            writeln!(text, "it is a reserved word")
         };
     }
     let other = name
         .iter()
         .find(|byte| !byte.is_ascii_alphanumeric() && **byte != b'_');
     match other {
-        Some(b' ') => writeln!(text, "a name has no blanks"),
-        Some(byte) => writeln!(text, "no name has {}", Shown(&[*byte])),
+        Some(b' ') => writeln!(text, "a name must not contain spaces"),
+        Some(byte) => writeln!(text, "a name must not contain {}", Shown(&[*byte])),
         None => writeln!(text, "a name begins with a letter or _"),
     }
 }
@@ -121,7 +121,7 @@ fn put_twice(text: &mut String, heading: &ByteRecord) -> Result<(), AllocError> 
             );
         }
     }
-    writeln!(text, "a name that stands twice")
+    writeln!(text, "a duplicate name")
 }
 
 /// Returns that the file isn't comma-separated text, if its first bytes show it.

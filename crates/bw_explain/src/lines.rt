@@ -17,7 +17,7 @@ pub(crate) fn of_program(alloc: Global, file: &[u8], fault: &Fault) -> Result<St
         .nth(number.saturating_sub(1))
     {
         Some(line) => writeln!(text, "line {number}: {}", Shown(line))?,
-        None => writeln!(text, "line {number} is after the last one")?,
+        None => writeln!(text, "line {number} is past the last one")?,
     }
     if matches!(fault.code, code::INSTRUCTION_LINE | code::REGISTER_UNKNOWN) {
         put_instruction(&mut text, file, number)?;
@@ -47,7 +47,7 @@ fn put_instruction(text: &mut String, file: &[u8], number: usize) -> Result<(), 
     match instructions.nth(instruction) {
         Some(line) => writeln!(
             text,
-            "it's wanted for instruction {instruction}: {}",
+            "expected for instruction {instruction}: {}",
             Shown(line)
         ),
         None => Ok(()),

@@ -18,20 +18,20 @@ struct Missing {
 const GROUPS: &str = "ask once for each group, as docs/COOKBOOK.md shows";
 
 const ORDERS: &str =
-    "rows come in the order of the file; sort what is printed, as docs/COOKBOOK.md shows";
+    "rows are in the order of the file; sort the result, as docs/COOKBOOK.md shows";
 
-const LIMITS: &str = "cut what is printed, as `head` does";
+const LIMITS: &str = "cut the result, as `head` does";
 
 const JOINS: &str = "a statement reads one table; join the CSV files before loading them";
 
 const SETS: &str = "ask two statements";
 
-const NESTED: &str = "a statement has no other one in it; ask two statements";
+const NESTED: &str = "a statement can't contain another; ask two statements";
 
 const PATTERNS: &str =
-    "columns hold whole numbers; tools/ask compares texts that tools/import loaded with = and <, and by IN";
+    "columns store whole numbers; tools/ask compares texts that tools/import loaded with = and <, and by IN";
 
-const FUNCTIONS: &str = "the functions are COUNT, SUM, MIN and MAX";
+const FUNCTIONS: &str = "the only functions are COUNT, SUM, MIN and MAX";
 
 const CHANGES: &str = "`bw load` writes a table once; load it again from a changed CSV file";
 
@@ -66,11 +66,15 @@ const WORDS: [(&str, &str, &str); 46] = [
     ("GLOB", "GLOB", PATTERNS),
     ("REGEXP", "REGEXP", PATTERNS),
     ("SIMILAR", "SIMILAR TO", PATTERNS),
-    ("DISTINCT", "DISTINCT", "send the rows through `sort -u`"),
+    ("DISTINCT", "DISTINCT", "pipe the rows through `sort -u`"),
     ("AVG", "AVG", "ask for SUM and COUNT, and divide"),
-    ("AS", "AS", "a heading is a column's name, or as COUNT(a)"),
+    (
+        "AS",
+        "AS",
+        "a heading is a column's name, or such as COUNT(a)",
+    ),
     ("CASE", "CASE", "ask a statement for each case"),
-    ("CAST", "CAST", "columns hold whole numbers"),
+    ("CAST", "CAST", "columns store whole numbers"),
     ("ABS", "ABS", FUNCTIONS),
     ("COALESCE", "COALESCE", FUNCTIONS),
     ("ROUND", "ROUND", FUNCTIONS),
@@ -138,7 +142,7 @@ fn missing_of(token: Token<'_>, schema: &Schema, follows_operand: bool) -> Optio
         ),
         Token::Quoted(b'\'') => (
             "a text in quotes",
-            "columns hold whole numbers; tools/ask takes texts of a table that tools/import loaded",
+            "columns store whole numbers; tools/ask takes texts of a table that tools/import loaded",
         ),
         Token::Quoted(_) => (
             "a name in quotation marks",
@@ -157,7 +161,7 @@ fn missing_of(token: Token<'_>, schema: &Schema, follows_operand: bool) -> Optio
     Some(Missing { name, instead })
 }
 
-const ARITHMETIC: &str = "compute before loading, or with what is printed";
+const ARITHMETIC: &str = "compute before loading, or from the result";
 
 /// Returns whether a word is the table's name or a column's, ignoring case.
 fn is_name_of(schema: &Schema, word: &[u8]) -> bool {

@@ -58,15 +58,15 @@ impl Found {
         match code {
             code::RECORD_LENGTH => {
                 let (here, wanted) = (self.record.len(), columns.len());
-                writeln!(text, "line {line}: {here} fields, where {wanted} should be")
+                writeln!(text, "line {line}: {here} fields: expected {wanted}")
             }
             code::TOO_MANY_ROWS => {
                 writeln!(
                     text,
-                    "line {line}: row {number}, and a table has at most {MAX_ROWS}"
+                    "line {line}: row {number}: a table has at most {MAX_ROWS}"
                 )
             }
-            code::CSV_FAULT => writeln!(text, "line {line}: the reader can't go on there"),
+            code::CSV_FAULT => writeln!(text, "line {line}: the CSV reader can't continue there"),
             _ => self.put_field(text, columns, code),
         }
     }
@@ -105,7 +105,7 @@ fn put_wrong(
         code::OUT_OF_RANGE => {
             writeln!(text, "{shown} is not from {} to {}", column.lo, column.hi)
         }
-        code::NULL_NOT_ALLOWED => writeln!(text, "{shown} is null, and the column is NOT NULL"),
+        code::NULL_NOT_ALLOWED => writeln!(text, "{shown} is null, but the column is NOT NULL"),
         _ => Ok(()),
     }
 }
@@ -154,7 +154,7 @@ pub(crate) fn put_open_quote(text: &mut String, csv: &[u8]) -> Result<(), AllocE
     match open_quote(csv) {
         Some(line) => writeln!(
             text,
-            "line {line}: a quotation mark opens a field there, and nothing closes it"
+            "line {line}: a quotation mark opens a field there, but none closes it"
         ),
         None => Ok(()),
     }

@@ -110,7 +110,7 @@ fn said_of_name(rt: &HostRuntime, name: &str, fault: &Fault) -> Option<String> {
     let mut text = String::new(rt.alloc());
     write!(text, "--table is {}: ", Shown(name.as_bytes())).ok()?;
     put_reason(&mut text, name.as_bytes()).ok()?;
-    text.push_str("a name is a letter or _, then letters, digits and _, and no word of SQL\n")
+    text.push_str("a name is a letter or _, then letters, digits and _, and not a reserved word\n")
         .ok()?;
     Some(text)
 }
@@ -132,7 +132,7 @@ fn said_of_kind(rt: &HostRuntime, words: &Words<'_>, file: &str, fault: &Fault) 
     let (kind, wanted) = (kind.name(), wanted.name());
     writeln!(
         text,
-        "seems to be {kind}, where {wanted} is wanted: {}",
+        "seems to be {kind}: expected {wanted}: {}",
         words.usage()
     )
     .ok()?;
@@ -255,7 +255,7 @@ fn explain_place(rt: &HostRuntime, ended: &Ended<'_>, file: &str) {
         (_, Place::Rec(0)) => eprintln!(rt; "    the heading of {}", file),
         (_, Place::Rec(record)) => {
             eprintln!(rt;
-                "    record {} of {}: the heading is record 0, and empty lines are none",
+                "    record {} of {}: the heading is record 0; empty lines don't count",
                 record, file
             )
         }

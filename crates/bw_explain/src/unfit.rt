@@ -36,7 +36,7 @@ fn put_columns(
     columns.put_ranges(text, heading)?;
     put_open_quote(text, csv)?;
     if columns.seen.iter().any(|seen| seen.is_unfit) {
-        text.push_str("tools/import loads texts, decimals, dates and the like\n")?;
+        text.push_str("tools/import loads texts, decimals and dates\n")?;
     }
     Ok(())
 }
@@ -102,7 +102,7 @@ impl Columns {
         let (here, wanted) = (record.len(), heading.len());
         if here != wanted && !self.is_ragged {
             self.is_ragged = true;
-            writeln!(text, "line {line}: {here} fields, where {wanted} should be")?;
+            writeln!(text, "line {line}: {here} fields: expected {wanted}")?;
         }
         for ((seen, name), field) in self.seen.iter_mut().zip(heading.iter()).zip(record.iter()) {
             match bare_value_of(field, 0) {
@@ -155,7 +155,7 @@ fn put_unfit(
     if fault.code == code::OUT_OF_RANGE {
         writeln!(
             text,
-            "line {line}, column {name}: {shown} is more than 64 bits hold"
+            "line {line}, column {name}: {shown} doesn't fit 64 bits"
         )
     } else {
         writeln!(

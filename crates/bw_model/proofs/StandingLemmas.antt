@@ -3,9 +3,9 @@ use Rattle.std.proofs.Common.{◌≡◌, ℕ, List, [], ◌∷◌, ◌++◌, Boo
 use Rattle.std.specs.List.{list_any}
 use Rattle.bw_model.specs.declared.fault.Fault.{Fault}
 use Rattle.bw_model.specs.Fault.{◌>>=◌, refused_if, at_line, nowhere}
-use Rattle.bw_model.specs.FaultTable.{standing_of, SCHEMA_FORM, SCHEMA_NAME, SCHEMA_RANGE, NAME_TWICE, COLUMN_COUNT, SCHEMA_TOO_LONG}
+use Rattle.bw_model.specs.FaultTable.{standing_of, SCHEMA_NAME, SCHEMA_RANGE, NAME_TWICE, COLUMN_COUNT, SCHEMA_TOO_LONG}
 use Rattle.bw_model.specs.Name.{is_name}
-use Rattle.bw_model.specs.SchemaText.{ColumnShape, SchemaShape, shape_names, is_range, column_words, table_words, table_on, named_table, column_on, next_column, after_room, columns_on, with_columns, schema_on, schema_of}
+use Rattle.bw_model.specs.SchemaText.{ColumnShape, shape_names, is_range, column_words, table_words, table_on, named_table, column_on, next_column, after_room, columns_on, with_columns, schema_on, schema_of}
 use Rattle.bw_model.specs.Standing.{StandsAsListed, FaultAsListed}
 use Rattle.bw_text.specs.Lines.{NumberedWords, lines_in, end_in, whole, is_empty}
 use Rattle.bw_text.specs.Text.{same_text}

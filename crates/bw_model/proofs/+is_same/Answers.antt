@@ -1,5 +1,5 @@
 -- One more of two equal lists.
-use Rattle.std.proofs.Common.{◌≡◌, ◌∙◌, ◌++◌, ◌<◌, [], ◌∷◌, List, ap, ap₂, sym, length, map, take, rules, arith}
+use Rattle.std.proofs.Common.{◌∙◌, ◌++◌, ◌<◌, [], ◌∷◌, List, ap, ap₂, sym, length, rules}
 use Rattle.std.proofs.lemmas.List.{map_more}
 use Rattle.bw_model.specs.CondTree.{CondTree, tree_of}
 use Rattle.bw_model.proofs.+is_same.Goals as goal
