@@ -38,7 +38,8 @@ pub record TookAsDirect (schema csv sql : List ℕ) (old new : Option (List ℕ)
   pub took : Appends old new text
 
 -- what a load is to write is the file of a table, under whose schema the statement spells a query
-pub record IsAnswerable (layout : Layout) (sql : List ℕ) (given : Result (List ℕ) Fault) : Type 0 where
+pub record IsAnswerable (layout : Layout) (sql : List ℕ) (given : Result (List ℕ) Fault) : Type
+    0 where
   pub bytes : List ℕ
   pub is : given ≡ Ok bytes
   pub schema : Schema

@@ -18,8 +18,10 @@ use bw_csv::rows_are_admitted;
 /// what came has a text for an answer, a load of it is to write a table file, under whose schema the statement spells a
 /// query (`answerable`).
 pub fn what_is_loaded_is_answered_as_direct()
-    ensures texts { (layout : Layout) (schema csv bytes sql : List ℕ) (program old new : Option (List ℕ))
-        → LoadMayWrite layout schema csv bytes → AnswersFile (by_statement program sql) bytes old new
+    ensures texts { (layout : Layout) (schema csv bytes sql : List ℕ)
+        (program old new : Option (List ℕ))
+        → LoadMayWrite layout schema csv bytes
+        → AnswersFile (by_statement program sql) bytes old new
         → TookAsDirect schema csv sql old new }
     ensures came { (layout : Layout) (schema csv : Arrival) (bytes sql : List ℕ)
         (program old new : Option (List ℕ))
@@ -27,12 +29,15 @@ pub fn what_is_loaded_is_answered_as_direct()
         → TookAnswer schema csv sql old new }
     ensures alike { (layout other : Layout) (schema csv bytes others sql : List ℕ)
         (program old new second before after : Option (List ℕ))
-        → LoadMayWrite layout schema csv bytes → AnswersFile (by_statement program sql) bytes old new
-        → LoadMayWrite other schema csv others → AnswersFile (by_statement second sql) others before after
+        → LoadMayWrite layout schema csv bytes
+        → AnswersFile (by_statement program sql) bytes old new
+        → LoadMayWrite other schema csv others
+        → AnswersFile (by_statement second sql) others before after
         → (text : List ℕ) × Appends old new text × Appends before after text }
     ensures answerable { (layout : Layout) (schema csv : Arrival) (sql text : List ℕ)
         (given : Result (List ℕ) Fault)
-        → IsAnswer schema sql csv (Ok text) → IsFile layout schema csv given → IsAnswerable layout sql given }
+        → IsAnswer schema sql csv (Ok text) → IsFile layout schema csv given
+        → IsAnswerable layout sql given }
 {
     rows_are_admitted();
 }

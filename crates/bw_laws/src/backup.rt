@@ -23,20 +23,22 @@ use bw_model::Schema;
 /// the same layout gives the table's file: the same bytes, unless the file was of version 2 without need. The text is
 /// no longer than its columns and rows let it be, and of three columns at most it's never too long to be loaded.
 pub fn a_dump_is_a_backup()
-    ensures text { (bytes : List ℕ) (layout : Layout) (schema : Schema) (rows : List (List Value)) (query : Query)
-        → IsFileBytes bytes layout schema rows → IsEveryRow schema query
+    ensures text { (bytes : List ℕ) (layout : Layout) (schema : Schema) (rows : List (List Value))
+        (query : Query) → IsFileBytes bytes layout schema rows → IsEveryRow schema query
         → csv_text (meaning (names_of schema.columns.items) query rows) ≡ table_text schema rows }
     ensures spells { (bytes : List ℕ) (layout : Layout) (schema : Schema) (rows : List (List Value))
-        → IsFileBytes bytes layout schema rows → rows_of schema.columns.items (table_text schema rows) ≡ Ok rows }
-    ensures loads { (bytes : List ℕ) (layout other : Layout) (schema : Schema) (rows : List (List Value))
         → IsFileBytes bytes layout schema rows
+        → rows_of schema.columns.items (table_text schema rows) ≡ Ok rows }
+    ensures loads { (bytes : List ℕ) (layout other : Layout) (schema : Schema)
+        (rows : List (List Value)) → IsFileBytes bytes layout schema rows
         → file_of other schema (table_text schema rows) ≡ Ok (file_bytes other schema rows) }
     ensures same { (bytes : List ℕ) (layout : Layout) (schema : Schema) (rows : List (List Value))
         → IsFileBytes bytes layout schema rows → IsOfNeededVersion bytes schema
         → file_of layout schema (table_text schema rows) ≡ Ok bytes }
     ensures size { (bytes : List ℕ) (layout : Layout) (schema : Schema) (rows : List (List Value))
         → IsFileBytes bytes layout schema rows
-        → length (table_text schema rows) ≤ longest_dump (length schema.columns.items) (length rows) }
+        → length (table_text schema rows) ≤ longest_dump (length schema.columns.items)
+        (length rows) }
     ensures fits { (bytes : List ℕ) (layout : Layout) (schema : Schema) (rows : List (List Value))
         → IsFileBytes bytes layout schema rows → length schema.columns.items ≤ 3
         → length (table_text schema rows) ≤ longest_csv }
@@ -48,9 +50,10 @@ pub fn a_dump_is_a_backup()
 /// without need.
 pub fn what_is_dumped_is_loaded()
     ensures took { (bytes : List ℕ) (layout : Layout) (schema : Schema) (rows : List (List Value))
-        (old new : Option (List ℕ)) → IsFileBytes bytes layout schema rows → AnswersFile by_dump bytes old new
-        → Appends old new (table_text schema rows) }
-    ensures loaded { (bytes : List ℕ) (layout other : Layout) (schema : Schema) (rows : List (List Value))
+        (old new : Option (List ℕ)) → IsFileBytes bytes layout schema rows
+        → AnswersFile by_dump bytes old new → Appends old new (table_text schema rows) }
+    ensures loaded { (bytes : List ℕ) (layout other : Layout) (schema : Schema)
+        (rows : List (List Value))
         → IsFileBytes bytes layout schema rows → length (table_text schema rows) ≤ longest_csv
         → LoadsUnder other schema (table_text schema rows) (file_bytes other schema rows) }
     ensures same { (bytes : List ℕ) (layout : Layout) (schema : Schema) (rows : List (List Value))
@@ -64,12 +67,18 @@ pub fn what_is_dumped_is_loaded()
 /// it, what a load of the dump is to write in the same layout are the bytes of the file, unless that was of version 2
 /// without need.
 pub fn a_file_is_restored()
-    ensures told { (bytes : List ℕ) (layout : Layout) (schema : Schema) (rows : List (List Value)) (told : List ℕ)
-        → IsFileBytes bytes layout schema rows → IsTold bytes told → IsSchemaText told (schema_shape schema) }
-    ensures same { (bytes : List ℕ) (layout : Layout) (schema : Schema) (rows : List (List Value)) (told : List ℕ)
-        (old new : Option (List ℕ)) → IsFileBytes bytes layout schema rows → IsOfNeededVersion bytes schema
-        → IsTold bytes told → AnswersFile by_dump bytes old new → Appends old new (table_text schema rows)
-        × (length (table_text schema rows) ≤ longest_csv → Loads layout told (table_text schema rows) bytes) }
+    ensures told { (bytes : List ℕ) (layout : Layout) (schema : Schema) (rows : List (List Value))
+        (told : List ℕ)
+        → IsFileBytes bytes layout schema rows → IsTold bytes told
+        → IsSchemaText told (schema_shape schema) }
+    ensures same { (bytes : List ℕ) (layout : Layout) (schema : Schema) (rows : List (List Value))
+        (told : List ℕ)
+        (old new : Option (List ℕ)) → IsFileBytes bytes layout schema rows
+        → IsOfNeededVersion bytes schema
+        → IsTold bytes told → AnswersFile by_dump bytes old new
+        → Appends old new (table_text schema rows)
+        × (length (table_text schema rows) ≤ longest_csv
+        → Loads layout told (table_text schema rows) bytes) }
 {
     what_is_spelled_is_read();
     what_is_dumped_is_loaded();
@@ -78,7 +87,8 @@ pub fn a_file_is_restored()
 /// A law: the file that a load writes of a CSV text is, byte for byte, the one that a load writes of that file's dump,
 /// under the same schema and in the same layout. It looks at each column of the schema.
 pub fn a_load_is_restored(schema: &Schema)
-    ensures { (layout : Layout) (csv bytes : List ℕ) (rows : List (List Value)) (old new : Option (List ℕ))
+    ensures { (layout : Layout) (csv bytes : List ℕ) (rows : List (List Value))
+        (old new : Option (List ℕ))
         → rows_of schema.now.columns.items csv ≡ Ok rows → file_of layout schema.now csv ≡ Ok bytes
         → AnswersFile by_dump bytes old new → Appends old new (table_text schema.now rows)
         × (file_of layout schema.now (table_text schema.now rows) ≡ Ok bytes) }

@@ -12,10 +12,11 @@ ghost use Rattle.bw_file.specs.TableReading.{Found, IsReadAs};
 /// A law: a table file that is cut is refused. Every proper beginning of its bytes is read as 305 at its own length,
 /// and as nothing else.
 pub fn a_cut_file_is_refused()
-    ensures refused { (bytes : List ℕ) (layout : Layout) (schema : Schema) (rows : List (List Value)) (n : ℕ)
-        → IsFileBytes bytes layout schema rows → n < length bytes
+    ensures refused { (bytes : List ℕ) (layout : Layout) (schema : Schema)
+        (rows : List (List Value)) (n : ℕ) → IsFileBytes bytes layout schema rows → n < length bytes
         → IsReadAs (take n bytes) (Err (at_byte TRUNCATED n)) }
-    ensures alone { (bytes : List ℕ) (layout : Layout) (schema : Schema) (rows : List (List Value)) (n : ℕ)
+    ensures alone { (bytes : List ℕ) (layout : Layout) (schema : Schema) (rows : List (List Value))
+        (n : ℕ)
         (read : Result Found Fault) → IsFileBytes bytes layout schema rows → n < length bytes
         → IsReadAs (take n bytes) read → read ≡ Err (at_byte TRUNCATED n) }
 {}

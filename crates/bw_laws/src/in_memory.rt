@@ -22,16 +22,19 @@ use bw_cert::one_verdict;
 /// question, or the same fault (`asked`). So where a statement or its program file is refused over the table, `answer`
 /// refuses it by the same fault, unless a device or memory fails (`refused`).
 pub fn a_table_in_memory_is_answered_as_its_file()
-    ensures text { (bytes sql text : List ℕ) (layout : Layout) (schema : Schema) (rows : List (List Value))
-        (program second old new : Option (List ℕ))
-        → IsFileBytes bytes layout schema rows → RowsText (by_statement program sql) schema rows text
+    ensures text { (bytes sql text : List ℕ) (layout : Layout) (schema : Schema)
+        (rows : List (List Value)) (program second old new : Option (List ℕ))
+        → IsFileBytes bytes layout schema rows
+        → RowsText (by_statement program sql) schema rows text
         → AnswersFile (by_statement second sql) bytes old new → Appends old new text }
     ensures asked { (bytes sql : List ℕ) (layout another : Layout) (schema other : Schema)
-        (rows others : List (List Value)) (program : Option (List ℕ)) (given second : Result Query Fault)
+        (rows others : List (List Value)) (program : Option (List ℕ))
+        (given second : Result Query Fault)
         → IsFileBytes bytes layout schema rows → IsFileBytes bytes another other others
         → by_statement program sql schema given → by_statement program sql other second
         → asked_in given ≡ asked_in second }
-    ensures refused { (bytes sql : List ℕ) (layout : Layout) (schema : Schema) (rows : List (List Value))
+    ensures refused { (bytes sql : List ℕ) (layout : Layout) (schema : Schema)
+        (rows : List (List Value))
         (program : Option (List ℕ)) (failures : ℕ) (now : State) (fault second : Fault)
         → IsFileBytes bytes layout schema rows → by_statement program sql schema (Err fault)
         → TableGave (by_statement program sql) (state (Some bytes) 0 failures) now (Err second)

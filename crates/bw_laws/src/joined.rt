@@ -16,8 +16,10 @@ use bw_sql::schemas_of_one_shape;
 /// program finds them; and what is dumped is every row of it in every column. It's the same text that `direct` writes.
 /// It looks at each column of the schema.
 pub fn what_is_loaded_is_answered(schema: &Schema)
-    ensures answered { (layout : Layout) (csv bytes sql : List ℕ) (program old new : Option (List ℕ))
-        → file_of layout schema.now csv ≡ Ok bytes → AnswersFile (by_statement program sql) bytes old new
+    ensures answered { (layout : Layout) (csv bytes sql : List ℕ)
+        (program old new : Option (List ℕ))
+        → file_of layout schema.now csv ≡ Ok bytes
+        → AnswersFile (by_statement program sql) bytes old new
         → AnswersCsv (λ query. IsReadAs schema.now sql (Ok query)) schema.now csv old new }
     ensures dumped { (layout : Layout) (csv bytes : List ℕ) (old new : Option (List ℕ))
         → file_of layout schema.now csv ≡ Ok bytes → AnswersFile by_dump bytes old new

@@ -38,11 +38,13 @@ pub fn a_kept_plan_is_used()
     ensures each { (text sql plan : List ℕ) (schema : Schema) (query : Query) → IsPlan text sql plan
         → IsSchemaText text (schema_shape schema) → IsReadAs schema sql (Ok query)
         → by_statement (Some plan) sql schema (Ok query) }
-    ensures served { (text sql plan : List ℕ) (schema : Schema) (query : Query) (rows : List (List Value))
+    ensures served { (text sql plan : List ℕ) (schema : Schema) (query : Query)
+        (rows : List (List Value))
         (served : Served) → (kept : IsPlan text sql plan) → IsSchemaText text (schema_shape schema)
         → IsServed (Some plan) schema query rows served
         → ByProgram kept.program schema.columns.items rows served }
-    ensures file { (text sql plan bytes : List ℕ) (layout : Layout) (schema : Schema) (rows : List (List Value))
+    ensures file { (text sql plan bytes : List ℕ) (layout : Layout) (schema : Schema)
+        (rows : List (List Value))
         (old new : Option (List ℕ)) (served : Served) → (kept : IsPlan text sql plan)
         → IsFileBytes bytes layout schema rows → IsSchemaText text (schema_shape schema)
         → (answers : AnswersFile (by_statement (Some plan) sql) bytes old new)

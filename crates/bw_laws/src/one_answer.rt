@@ -13,8 +13,8 @@ ghost use Rattle.bw_laws.specs.OneAnswer.{DirectMayWrite, asked_in};
 /// ask the same, or they are the same fault.
 pub fn one_reading_under_one_shape()
     ensures { (schema other : Schema) (text : List ℕ) (reading second : Result Query Fault)
-        → schema_shape schema ≡ schema_shape other → IsReadAs schema text reading → IsReadAs other text second
-        → asked_in reading ≡ asked_in second }
+        → schema_shape schema ≡ schema_shape other → IsReadAs schema text reading
+        → IsReadAs other text second → asked_in reading ≡ asked_in second }
 {}
 
 /// A law: a schema text, a CSV text and a statement have one answer. By what came of the two sources it is one text or
@@ -24,5 +24,6 @@ pub fn there_is_one_answer()
     ensures came { (schema csv : Arrival) (sql : List ℕ) (given other : Result (List ℕ) Fault)
         → IsAnswer schema sql csv given → IsAnswer schema sql csv other → given ≡ other }
     ensures texts { (schema csv sql answer other : List ℕ)
-        → DirectMayWrite schema csv sql answer → DirectMayWrite schema csv sql other → answer ≡ other }
+        → DirectMayWrite schema csv sql answer → DirectMayWrite schema csv sql other
+        → answer ≡ other }
 {}

@@ -13,5 +13,6 @@ pub fn there_is_one_file()
     ensures came { (layout : Layout) (schema csv : Arrival) (given other : Result (List ℕ) Fault)
         → IsFile layout schema csv given → IsFile layout schema csv other → given ≡ other }
     ensures texts { (layout : Layout) (schema csv bytes other : List ℕ)
-        → LoadMayWrite layout schema csv bytes → LoadMayWrite layout schema csv other → bytes ≡ other }
+        → LoadMayWrite layout schema csv bytes → LoadMayWrite layout schema csv other
+        → bytes ≡ other }
 {}

@@ -10,9 +10,11 @@ ghost use Rattle.bw_query.specs.TableAnswer.{AnswersFile, by_statement};
 /// A law: a table and a statement have one answer. Over two files of one table, what `answer` writes for a statement is
 /// the same text, whatever the layouts and the versions of the files, and whichever programs find the rows.
 pub fn a_table_has_one_answer()
-    ensures { (layout other : Layout) (schema : Schema) (rows : List (List Value)) (bytes others sql : List ℕ)
-        (program old new second before after : Option (List ℕ))
-        → IsFileBytes bytes layout schema rows → AnswersFile (by_statement program sql) bytes old new
-        → IsFileBytes others other schema rows → AnswersFile (by_statement second sql) others before after
+    ensures { (layout other : Layout) (schema : Schema) (rows : List (List Value))
+        (bytes others sql : List ℕ) (program old new second before after : Option (List ℕ))
+        → IsFileBytes bytes layout schema rows
+        → AnswersFile (by_statement program sql) bytes old new
+        → IsFileBytes others other schema rows
+        → AnswersFile (by_statement second sql) others before after
         → (text : List ℕ) × Appends old new text × Appends before after text }
 {}

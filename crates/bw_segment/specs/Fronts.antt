@@ -10,4 +10,5 @@ AreFronts size bytes fronts = (number : ℕ) → 64 * number + 64 ≤ length fro
 
 -- there are as many of these as blocks
 abbrev pub HasFronts : ℕ → List ℕ → List ℕ → Type 0
-HasFronts size bytes fronts = (count : ℕ) × (length fronts ≡ 64 * count) × (length bytes ≡ count * size)
+HasFronts size bytes fronts = (count : ℕ) × (length fronts ≡ 64 * count)
+    × (length bytes ≡ count * size)

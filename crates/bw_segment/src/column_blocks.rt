@@ -72,7 +72,8 @@ impl ColumnBlocks {
         ensures front { IfSome result (λ front. front.now
             ≡ take 64 (take self.now.size (drop (number * self.now.size) self.now.bytes.items))) }
         ensures size { IfSome result (λ front. length front.now ≡ 64) }
-        ensures room { IfSome result (λ _. number * self.now.size + self.now.size ≤ length self.now.bytes.items) }
+        ensures room { IfSome result (λ _. number * self.now.size + self.now.size
+            ≤ length self.now.bytes.items) }
     {
         let fronts: &[u8] = &self.fronts;
         if number >= fronts.len() / 64 {
@@ -84,7 +85,8 @@ impl ColumnBlocks {
 
     /// Returns whether the first 64 bytes of every block are stored apart.
     fn has_all_fronts(&self) -> bool
-        ensures { IsTrue result → HasFronts self.now.size self.now.bytes.items self.now.fronts.items }
+        ensures { IsTrue result → HasFronts self.now.size self.now.bytes.items
+            self.now.fronts.items }
     {
         let count = self.fronts.len() / 64;
         match count.checked_mul(self.size) {

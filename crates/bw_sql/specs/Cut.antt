@@ -19,12 +19,14 @@ spots tokens = map spot tokens
 -- the byte at which no piece begins.
 pub data IsCut : ℕ → List ℕ → List Spot → Option ℕ → Type 0 where
   ended : {at : ℕ} → IsCut at [] [] None
-  stopped : {at : ℕ} {text : List ℕ} → 0 < length text → BeginsNoPiece text → IsCut at text [] (Some at)
+  stopped : {at : ℕ} {text : List ℕ} → 0 < length text → BeginsNoPiece text
+      → IsCut at text [] (Some at)
   gap : {at : ℕ} {text rest : List ℕ} {tokens : List Spot} {stop : Option ℕ} →
       (longest : IsLongest text rest Gap) → IsCut (at + length longest.front) rest tokens stop
       → IsCut at text tokens stop
   token : {at : ℕ} {text rest : List ℕ} {tokens : List Spot} {stop : Option ℕ} → (t : Lexeme) →
-      (longest : IsLongest text rest (Token t)) → IsCut (at + length longest.front) rest tokens stop →
+      (longest : IsLongest text rest (Token t)) →
+      IsCut (at + length longest.front) rest tokens stop →
       IsCut at text (record { token = t; at = at } ∷ tokens) stop
 
 -- a text has nothing but blanks, line ends and comments: it is cut to its end, and has no token

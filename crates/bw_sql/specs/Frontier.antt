@@ -34,18 +34,21 @@ is_sign _ = false
 -- Why a statement is refused, and after how many tokens: at a token with which none goes on, at a sign where none
 -- goes on with it and its digits, and at the end where the tokens are no statement.
 pub data Stands (schema : Schema) (tokens : List Lexeme) : Refusal → ℕ → Type 0 where
-  at_token : {why : Refusal} (before after : List Lexeme) (t : Lexeme) → tokens ≡ before ++ t ∷ after →
-      Begins schema why before → (Begins schema why (before ++ t ∷ []) → ⊥) → Stands schema tokens why (length before)
+  at_token : {why : Refusal} (before after : List Lexeme) (t : Lexeme) →
+      tokens ≡ before ++ t ∷ after →
+      Begins schema why before → (Begins schema why (before ++ t ∷ []) → ⊥)
+      → Stands schema tokens why (length before)
   at_sign : (before after : List Lexeme) (t : Lexeme) (digits : List ℕ) → IsTrue (is_sign t) →
       tokens ≡ before ++ t ∷ Digits digits ∷ after →
       Begins schema Literal before → (Begins schema Literal (before ++ t ∷ Digits digits ∷ []) → ⊥)
       → Stands schema tokens Literal (length before)
   at_end : Begins schema Syntax tokens →
-      ((query : Asked) → StatementIs schema.columns.items (asked_for schema Syntax) tokens query → ⊥) →
-      Stands schema tokens Syntax (length tokens)
+      ((query : Asked) → StatementIs schema.columns.items (asked_for schema Syntax) tokens query →
+      ⊥) → Stands schema tokens Syntax (length tokens)
 
 -- the first place at which a fault stands, and the lowest number there
-pub record IsFirst (schema : Schema) (tokens : List Lexeme) (why : Refusal) (place : ℕ) : Type 0 where
+pub record IsFirst (schema : Schema) (tokens : List Lexeme) (why : Refusal)
+    (place : ℕ) : Type 0 where
   pub stands : Stands schema tokens why place
   pub first : (other : Refusal) (at : ℕ) → Stands schema tokens other at → (place < at)
       ⊎ ((place ≡ at) × (code_of why ≤ code_of other))

@@ -45,5 +45,6 @@ Answers schema text (Err fault) = is_memory fault ≡ false → IsRead schema te
 
 -- the fault of a reader that stopped
 abbrev pub IsFaultOf : List Spot → Option ℕ → ℕ → Stop → Fault → Type 0
-IsFaultOf tokens stop end (Refused why left) fault = fault ≡ fault_at (spot_from left tokens) stop end why
+IsFaultOf tokens stop end (Refused why left) fault = fault
+    ≡ fault_at (spot_from left tokens) stop end why
 IsFaultOf tokens stop end OutOfMemory fault = fault ≡ no_memory

@@ -22,7 +22,7 @@ Reads view (Ok x) reading = reading ≡ Ok (view x)
 Reads view (Err stop) reading = Halts stop reading
 
 -- A reader of some tokens answered what reading them gives: a thing, seen by view, and the tokens after it.
-abbrev pub ReadsFrom : {X A : Type 0} → (X → A) → List Placed → Result (X × Bor (List Placed)) Stop →
-    (List Lexeme → Read A) → Type 0
+abbrev pub ReadsFrom : {X A : Type 0} → (X → A) → List Placed →
+    Result (X × Bor (List Placed)) Stop → (List Lexeme → Read A) → Type 0
 ReadsFrom view tokens result reading = Reads (λ read. (view read.0, lexemes read.1.now)) result
     (reading (lexemes tokens))

@@ -166,8 +166,8 @@ more_after (Some next) tokens one others = do
   xs ← others x.1
   Ok (x.0 ∷ xs.0, xs.1)
 
-unfoldable pub repeated : {A : Type 0} → ℕ → (List Lexeme → Option (List Lexeme)) → (List Lexeme → Read A) →
-    List Lexeme → Read (List A)
+unfoldable pub repeated : {A : Type 0} → ℕ → (List Lexeme → Option (List Lexeme)) →
+    (List Lexeme → Read A) → List Lexeme → Read (List A)
 repeated zero after one tokens = Ok ([], tokens)
 repeated (suc n) after one tokens = more_after (after tokens) tokens one (repeated n after one)
 
@@ -177,7 +177,8 @@ with_front front read = do
   Ok (front ++ xs.0, xs.1)
 
 abbrev pub more_operands : Schema → List Lexeme → Read (List Operand)
-more_operands schema tokens = repeated (length tokens) (after_mark mark.Comma) (operand_at schema) tokens
+more_operands schema tokens = repeated (length tokens) (after_mark mark.Comma)
+    (operand_at schema) tokens
 
 -- what follows an operand: a range after BETWEEN, or a list after IN
 abbrev pub range_at : Schema → Operand → List Lexeme → Read CondTree
@@ -200,12 +201,14 @@ list_at schema x tokens = do
   rest ← mark_at mark.Close items.1
   Ok (Among x items.0, rest)
 
-abbrev pub range_or_list_after : Option (List Lexeme) → Schema → Operand → List Lexeme → Read CondTree
+abbrev pub range_or_list_after : Option (List Lexeme) → Schema → Operand → List Lexeme
+    → Read CondTree
 range_or_list_after (Some next) schema x tokens = range_at schema x next
 range_or_list_after None schema x tokens = list_at schema x tokens
 
 unfoldable pub range_or_list_at : Schema → Operand → List Lexeme → Read CondTree
-range_or_list_at schema x tokens = range_or_list_after (after_keyword word.Between tokens) schema x tokens
+range_or_list_at schema x tokens = range_or_list_after (after_keyword word.Between tokens) schema x
+    tokens
 
 -- [ NOT ] NULL after IS
 abbrev pub null_after : Option (List Lexeme) → Operand → List Lexeme → Read CondTree
@@ -238,7 +241,8 @@ abbrev pub after_is : Schema → Operand → Option (List Lexeme) → List Lexem
 after_is schema x (Some next) tokens = null_test_at x next
 after_is schema x None tokens = after_not schema x (after_keyword word.Not tokens) tokens
 
-abbrev pub predicate_after : Schema → Operand → Option (Op × List Lexeme) → List Lexeme → Read CondTree
+abbrev pub predicate_after : Schema → Operand → Option (Op × List Lexeme) → List Lexeme
+    → Read CondTree
 predicate_after schema x (Some next) tokens = do
   y ← operand_at schema next.1
   Ok (Cmp next.0 x y.0, y.1)
@@ -253,14 +257,16 @@ predicate_at schema tokens = do
   predicate_of schema x.0 x.1
 
 -- a truth value, and a test for it after IS
-abbrev pub after_true : Option (List Lexeme) → Option (List Lexeme) → Option (List Lexeme) → List Lexeme → Read Truth
+abbrev pub after_true : Option (List Lexeme) → Option (List Lexeme) → Option (List Lexeme)
+    → List Lexeme → Read Truth
 after_true (Some rest) second third tokens = Ok (Yes, rest)
 after_true None (Some rest) third tokens = Ok (No, rest)
 after_true None None (Some rest) tokens = Ok (Unknown, rest)
 after_true None None None tokens = refuse Syntax tokens
 
 unfoldable pub truth_value_at : List Lexeme → Read Truth
-truth_value_at tokens = after_true (after_keyword word.True tokens) (after_keyword word.False tokens)
+truth_value_at tokens = after_true (after_keyword word.True tokens)
+    (after_keyword word.False tokens)
     (after_keyword word.Unknown tokens) tokens
 
 abbrev pub value_test_at : CondTree → List Lexeme → Read CondTree
@@ -307,15 +313,15 @@ unfoldable pub factor_in : Schema → Nested → List Lexeme → Read CondTree
 factor_in schema inner tokens = factor_after schema inner (after_keyword word.Not tokens) tokens
 
 -- one part, or two and more that a word joins
-abbrev pub series_after : Keyword → (CondTrees → CondTree) → (List Lexeme → Read CondTree) → CondTree →
-    Option (List Lexeme) → List Lexeme → Read CondTree
+abbrev pub series_after : Keyword → (CondTrees → CondTree) → (List Lexeme → Read CondTree) →
+    CondTree → Option (List Lexeme) → List Lexeme → Read CondTree
 series_after word join one first None tokens = Ok (first, tokens)
 series_after word join one first (Some next) tokens = do
   parts ← with_front (first ∷ []) (repeated (length tokens) (after_keyword word) one tokens)
   Ok (join (trees_of parts.0), parts.1)
 
-abbrev pub series_at : Keyword → (CondTrees → CondTree) → (List Lexeme → Read CondTree) → List Lexeme →
-    Read CondTree
+abbrev pub series_at : Keyword → (CondTrees → CondTree) → (List Lexeme → Read CondTree) →
+    List Lexeme → Read CondTree
 series_at word join one tokens = do
   first ← one tokens
   series_after word join one first.0 (after_keyword word first.1) first.1
@@ -375,8 +381,8 @@ unfoldable pub end_at : List Lexeme → Result (Unit {0}) Halt
 end_at tokens = nothing_left (after_semicolon (after_mark mark.Semicolon tokens) tokens)
 
 -- the aggregates, by their words
-abbrev pub aggregate_after : Option (List Lexeme) → Option (List Lexeme) → Option (List Lexeme) → Option (List Lexeme)
-    → Option (Aggregate × List Lexeme)
+abbrev pub aggregate_after : Option (List Lexeme) → Option (List Lexeme) → Option (List Lexeme)
+    → Option (List Lexeme) → Option (Aggregate × List Lexeme)
 aggregate_after (Some rest) sum min max = Some (aggregate.Count, rest)
 aggregate_after None (Some rest) min max = Some (aggregate.Sum, rest)
 aggregate_after None None (Some rest) max = Some (aggregate.Min, rest)
@@ -384,7 +390,8 @@ aggregate_after None None None (Some rest) = Some (aggregate.Max, rest)
 aggregate_after None None None None = None
 
 unfoldable pub after_aggregate : List Lexeme → Option (Aggregate × List Lexeme)
-after_aggregate tokens = aggregate_after (after_keyword word.Count tokens) (after_keyword word.Sum tokens)
+after_aggregate tokens = aggregate_after (after_keyword word.Count tokens)
+    (after_keyword word.Sum tokens)
     (after_keyword word.Min tokens) (after_keyword word.Max tokens)
 
 abbrev pub column_of : Schema → Aggregate → List Lexeme → Read Item
@@ -419,7 +426,8 @@ aggregate_item schema None tokens = refuse Syntax tokens
 aggregate_item schema (Some found) tokens = argument_at schema found.0 found.1
 
 unfoldable pub item_at : Schema → List Lexeme → Read Item
-item_at schema tokens = if begins_with_name tokens then plain_item schema tokens else aggregate_item schema
+item_at schema tokens = if begins_with_name tokens then plain_item schema tokens
+    else aggregate_item schema
     (after_aggregate tokens) tokens
 
 -- An item of the other kind is refused at its first token, which tells its kind; a column that isn't the
@@ -436,7 +444,8 @@ mixed_aggregate (Some found) tokens = refuse MixedItems tokens
 unfoldable pub of_one_kind : Schema → Bool → List Lexeme → Result (Unit {0}) Halt
 of_one_kind schema true tokens = if begins_with_name tokens then Ok tt else mixed_aggregate
     (after_aggregate tokens) tokens
-of_one_kind schema false tokens = if begins_with_name tokens then mixed_name schema tokens else Ok tt
+of_one_kind schema false tokens = if begins_with_name tokens then mixed_name schema tokens
+    else Ok tt
 
 unfoldable pub next_item_at : Schema → Bool → List Lexeme → Read Item
 next_item_at schema are_columns tokens = do

@@ -37,13 +37,15 @@ pub data IsRefusal (schema : Schema) (text : List ℕ) : Fault → Type 0 where
       IsFirst schema (tokens_of tokens) Syntax (length tokens)
       → IsRefusal schema text (at_byte (code_of Syntax) (length text))
   byte_refused : {tokens : List Spot} {at : ℕ} → IsCut 0 text tokens (Some at) →
-      ((why : Refusal) (place : ℕ) → IsFirst schema (tokens_of tokens) why place → length tokens ≤ place)
-      → IsRefusal schema text (at_byte CHARACTER at)
+      ((why : Refusal) (place : ℕ) → IsFirst schema (tokens_of tokens) why place
+      → length tokens ≤ place) → IsRefusal schema text (at_byte CHARACTER at)
 
 -- the fault of a text: 407 at its first byte past the most, where it is too long
 pub data IsFault (schema : Schema) (text : List ℕ) : Fault → Type 0 where
-  too_long : longest_statement < length text → IsFault schema text (at_byte STATEMENT_TOO_LONG longest_statement)
-  refused : {fault : Fault} → length text ≤ longest_statement → IsRefusal schema text fault → IsFault schema text fault
+  too_long : longest_statement < length text
+      → IsFault schema text (at_byte STATEMENT_TOO_LONG longest_statement)
+  refused : {fault : Fault} → length text ≤ longest_statement → IsRefusal schema text fault
+      → IsFault schema text fault
 
 -- a text is read as the query that it spells, or as its fault
 abbrev pub IsReadAs : Schema → List ℕ → Result Query Fault → Type 0
@@ -57,4 +59,5 @@ Parses schema text (Err fault) = is_memory fault ≡ false → IsReadAs schema t
 
 -- a text spells a query or has a fault
 abbrev pub SpellsOrFails : Schema → List ℕ → Type 0
-SpellsOrFails schema text = ((query : Asked) × Spells schema text query) ⊎ ((fault : Fault) × IsFault schema text fault)
+SpellsOrFails schema text = ((query : Asked) × Spells schema text query)
+    ⊎ ((fault : Fault) × IsFault schema text fault)

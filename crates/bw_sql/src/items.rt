@@ -76,7 +76,8 @@ fn next_item<'t>(schema: &Schema, are_columns: bool, tokens: &'t [Placed<'t>]) -
 /// that isn't the schema's comes before.
 #[tactic(auto, unfolding(crate::specs::Reading::of_one_kind))]
 fn of_one_kind(schema: &Schema, are_columns: bool, tokens: &[Placed<'_>]) -> Result<(), Stop>
-    ensures { Reads (λ same. same) result (of_one_kind schema.now are_columns (lexemes tokens.now)) }
+    ensures { Reads (λ same. same) result
+        (of_one_kind schema.now are_columns (lexemes tokens.now)) }
 {
     if begins_with_name(tokens) {
         if are_columns {

@@ -165,7 +165,8 @@ pub fn query_or_fault()
 
 /// The fault of a reader that stopped: after the last token, the byte that begins no token comes first.
 fn refusal(stop: Stop, lexed: &Lexed<'_>, text: &[u8]) -> Fault
-    ensures is { IsFaultOf (spots lexed.now.tokens.items) lexed.now.stopped (length text.now) stop result }
+    ensures is { IsFaultOf (spots lexed.now.tokens.items) lexed.now.stopped
+        (length text.now) stop result }
     ensures fault { IsStatementFault result }
 {
     let Stop::Refused { why, left } = stop else {

@@ -88,7 +88,8 @@ impl<T: Drop> From<AllocFailed<T>> for Stop {
 /// The tokens after a keyword, where it comes first.
 #[tactic(auto, unfolding(crate::specs::Reading::after_keyword))]
 pub fn after_keyword<'t>(word: Keyword, tokens: &'t [Placed<'t>]) -> Option<&'t [Placed<'t>]>
-    ensures is { option_map (λ rest. lexemes rest.now) result ≡ after_keyword word (lexemes tokens.now) }
+    ensures is { option_map (λ rest. lexemes rest.now) result
+        ≡ after_keyword word (lexemes tokens.now) }
     ensures shorter { IfSome result (λ rest. length rest.now < length tokens.now) }
 {
     if let Some((first, rest)) = tokens.split_first()
@@ -103,7 +104,8 @@ pub fn after_keyword<'t>(word: Keyword, tokens: &'t [Placed<'t>]) -> Option<&'t 
 /// The tokens after a mark, where it comes first.
 #[tactic(auto, unfolding(crate::specs::Reading::after_mark))]
 pub fn after_mark<'t>(mark: Mark, tokens: &'t [Placed<'t>]) -> Option<&'t [Placed<'t>]>
-    ensures is { option_map (λ rest. lexemes rest.now) result ≡ after_mark mark (lexemes tokens.now) }
+    ensures is { option_map (λ rest. lexemes rest.now) result
+        ≡ after_mark mark (lexemes tokens.now) }
     ensures shorter { IfSome result (λ rest. length rest.now < length tokens.now) }
 {
     if let Some((first, rest)) = tokens.split_first()
