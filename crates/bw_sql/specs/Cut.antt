@@ -15,8 +15,8 @@ spot placed = record { token = lexeme placed.token; at = placed.at }
 abbrev pub spots : List Placed → List Spot
 spots tokens = map spot tokens
 
--- A text that begins at a byte is cut into tokens piece by piece, the longest first, up to its end or to
--- the byte at which no piece begins.
+-- A text that begins at this byte is cut into tokens piece by piece, the longest first, up to its
+-- end or to the first byte that begins no piece.
 pub data IsCut : ℕ → List ℕ → List Spot → Option ℕ → Type 0 where
   ended : {at : ℕ} → IsCut at [] [] None
   stopped : {at : ℕ} {text : List ℕ} → 0 < length text → BeginsNoPiece text

@@ -1,6 +1,6 @@
--- The grammar of statements, by cases: the tokens of the first list spell the thing, up to the tokens of the
--- second, which follow it. What a statement has to meet beside the productions is asked of `met`: where it
--- says that a demand is met, the tokens are spelled as if it were. A grammar that knows no parser.
+-- The grammar of statements, as a relation by cases: the tokens of the first list spell the thing,
+-- up to the second list, which follows it. Demands beyond the productions are tested by `met`:
+-- tokens are spelled as if every demand for which it is true were met.
 use Rattle.std.specs.Prelude.{ℕ, suc, Bool, true, false, List, [], ◌∷◌, IsTrue}
 use Rattle.bw_model.specs.declared.column.Column.{Column}
 use Rattle.bw_model.specs.declared.cond.Operand.{Operand}
@@ -28,7 +28,7 @@ pub data TruthIs : List Lexeme → List Lexeme → Truth → Type 0 where
   false_word : {rest : List Lexeme} → TruthIs (Reserved word.False ∷ rest) rest No
   unknown_word : {rest : List Lexeme} → TruthIs (Reserved word.Unknown ∷ rest) rest Unknown
 
--- one part alone is that part, and several are joined
+-- a single part is itself, and several are joined
 abbrev pub joined : (CondTrees → CondTree) → CondTree → List CondTree → CondTree
 joined join first [] = first
 joined join first (c ∷ others) = join (trees_of (first ∷ c ∷ others))
@@ -56,7 +56,7 @@ pub data CommaList {A : Type 0} (Is : List Lexeme → List Lexeme → A → Type
       Is tokens others x → CommaList Is others rest xs →
       CommaList Is (Punct mark.Comma ∷ tokens) rest (x ∷ xs)
 
--- BETWEEN operand AND operand | IN ( operand { , operand } ), said of an operand x
+-- BETWEEN operand AND operand | IN ( operand { , operand } ), for an operand x
 pub data RangeIs (columns : List Column) (met : Demand → Bool) (x : Operand) : List Lexeme
     → List Lexeme → CondTree → Type 0 where
   between : {low high rest : List Lexeme} {y z : Operand} →
@@ -98,9 +98,10 @@ pub data TestedIs (c : CondTree) : List Lexeme → List Lexeme → CondTree → 
   is_not : {tokens rest : List Lexeme} {t : Truth} → TruthIs tokens rest t →
       TestedIs c (Reserved word.Is ∷ Reserved word.Not ∷ tokens) rest (Not (Test c t))
 
--- Conditions, inside of so many brackets and NOTs.
+-- Conditions, inside this many brackets and NOTs.
 mutual
-  -- cond = term { OR term }, and term = factor { AND factor }: a part, alone or joined with those that follow
+  -- cond = term { OR term }, and term = factor { AND factor }: a part, alone or joined with further
+  -- parts
   pub data JoinedIs (columns : List Column) (met : Demand → Bool) : Connective → ℕ → List Lexeme
       → List Lexeme → CondTree → Type 0 where
     parts : {by : Connective} {depth : ℕ} {tokens others rest : List Lexeme} {c : CondTree}

@@ -1,4 +1,4 @@
--- The pieces of a text: blanks and comments, which are gaps, and tokens. The longest piece is taken.
+-- The pieces of a text: gaps, which are blanks and comments, and tokens. The longest piece counts.
 use Rattle.std.specs.Prelude.{◌≡◌, ◌≤◌, ℕ, Bool, false, List, [], ◌∷◌, ◌++◌, length, Some, None, IsTrue, ◌&&◌, ◌||◌, ◌==◌, not, codes}
 use Rattle.std.specs.List.{list_all}
 use Rattle.bw_model.specs.declared.cond.Op.{Op}
@@ -68,7 +68,7 @@ IsPiece bytes (Token (Reserved word)) = IsTrue (is_word bytes) × (keyword_of by
 IsPiece bytes (Token (Compare op)) = IsDelimiter bytes (Compare op)
 IsPiece bytes (Token (Punct mark)) = IsDelimiter bytes (Punct mark)
 
--- the text is a thing's bytes and then the rest, and no longer thing begins the text
+-- the text is a thing's bytes followed by the rest, and no longer thing begins the text
 pub record IsLongestOf {A : Type 0} (Is : List ℕ → A → Type 0) (text rest : List ℕ)
     (thing : A) : Type 0 where
   pub front : List ℕ

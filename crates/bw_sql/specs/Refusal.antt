@@ -1,4 +1,4 @@
--- The numbers of a statement's faults.
+-- The numbers of a statement's errors.
 use Rattle.std.specs.Prelude.{ℕ, Bool, IsTrue, ◌&&◌, ◌||◌, nat_le}
 use Rattle.bw_model.specs.FaultTable.{CHARACTER, SYNTAX, UNKNOWN_TABLE, UNKNOWN_COLUMN, LITERAL, MIXED_ITEMS, NESTING}
 use Rattle.bw_sql.specs.declared.reader.Refusal.{Refusal}
