@@ -25,7 +25,8 @@ pub record CameOf (limit : ℕ) (text : List ℕ) (came : Arrival) : Type 0 wher
   pub after : ℕ
   pub is : Came limit (Some text) left before after came
 
--- over sources of this schema text and of this CSV text, `direct` may write this answer to the statement
+-- over sources of this schema text and of this CSV text, `direct` may write this answer to the
+-- statement
 pub record DirectMayWrite (schema csv sql answer : List ℕ) : Type 0 where
   pub schema_came : Arrival
   pub csv_came : Arrival

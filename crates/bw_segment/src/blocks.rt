@@ -17,8 +17,8 @@ pub trait Blocks {
         requires { IsTrue (holds self.now col start end) }
         ensures { result.now ≡ slice_range (bytes self.now) start end };
 
-    /// Returns the first 64 bytes of the block of a column, which is between these two places of the
-    /// bytes, if they are stored apart too.
+    /// Returns the first 64 bytes of the block of a column, which is between these two places of
+    /// the bytes, if they are stored apart too.
     fn front(&self, col: usize, start: usize, end: usize) -> Option<&[u8]>
         requires { IsTrue (holds self.now col start end) }
         ensures front { IfSome result (λ front. front.now

@@ -4,8 +4,8 @@ ghost use Rattle.bw_segment.specs.Fronts.{AreFronts};
 use bw_model::Fault;
 use std::alloc::Global;
 
-/// The blocks of one column, those of all segments back to back. If they are long, their null planes
-/// are stored a second time, back to back, to be read without the codes between them.
+/// The blocks of one column, those of all segments back to back. If they are long, their null
+/// planes are stored a second time, back to back, to be read without the codes between them.
 #[derive(Drop)]
 pub struct ColumnBlocks {
     pub(crate) size: usize,
@@ -35,8 +35,8 @@ impl ColumnBlocks {
     }
 
     /// Adds a block, and its first 64 bytes apart, if those of all earlier blocks are stored apart.
-    /// Memory grows by the block, or by a sixteenth of the bytes so far if that is more. Errors: 801
-    /// if memory is refused.
+    /// Memory grows by the block, or by a sixteenth of the bytes so far if that is more. Errors:
+    /// 801 if memory is refused.
     #[tactic(auto, using(crate::proofs::FrontLemmas::fronts_kept))]
     pub(crate) fn push(&mut self, block: &[u8]) -> Result<(), Fault>
         ensures size { self.new.size ≡ self.old.size }

@@ -159,7 +159,8 @@ mutual
         JoinedIs columns met connective.Or (suc depth) tokens (Punct mark.Close ∷ rest) c →
         PrimaryIs columns met depth (Punct mark.Open ∷ tokens) rest c
 
--- item = name | COUNT ( * ) | ( COUNT | SUM | MIN | MAX ) ( name ), and whether it is a plain column
+-- item = name | COUNT ( * ) | ( COUNT | SUM | MIN | MAX ) ( name ), and whether it is a plain
+-- column
 pub data ItemIs (columns : List Column) (met : Demand → Bool) : Bool → List Lexeme → List Lexeme
     → Item → Type 0 where
   plain : {rest : List Lexeme} {text : List ℕ} → IsTrue (met (NamesColumn text)) →
