@@ -1,4 +1,4 @@
-//! What is timed: a segment with a program that its schema has all the columns and bits of.
+//! What is timed: a segment, and a program whose columns and bits its schema has.
 ghost use Rattle.std.specs.Prelude.{◌≡◌, IsTrue};
 ghost use Rattle.bw_model.specs.Code.{width_at};
 ghost use Rattle.bw_program.specs.Program.{fits};
@@ -10,7 +10,7 @@ use bw_program::Program;
 use bw_segment::is_group;
 use std::alloc::Global;
 
-/// How many planes the first column has, one a bit, the top one first.
+/// The number of planes of the first column, one for each bit, the top one first.
 pub(crate) const PLANES: u32 = 8;
 
 /// A segment and a program over it. The segment's first planes are those of a column of eight bits.

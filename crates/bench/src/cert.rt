@@ -1,5 +1,6 @@
-//! A certificate of 1,048,576 product rows, each of which but two follows from two earlier ones, read and checked.
-//! Standard output says what was accepted, and standard error how long each part took, in microseconds.
+//! Reads and checks a certificate of 1,048,576 product rows, each of which but two follows from two
+//! earlier ones. Standard output says what was accepted, and standard error how long each part
+//! took, in microseconds.
 use crate::failure::Failure;
 use bw_cert::{Certificate, check};
 use bw_model::{Cond, Fault, Schema};
@@ -22,7 +23,7 @@ pub(crate) fn measure(rt: &(impl AllocGlobal + Print + Eprint + Clock)) -> Resul
     measure_text(rt, &schema, text.as_bytes())
 }
 
-/// Reads the certificate, and has it checked.
+/// Reads and checks the certificate.
 fn measure_text(
     rt: &(impl AllocGlobal + Print + Eprint + Clock),
     schema: &Schema,
@@ -33,7 +34,7 @@ fn measure_text(
     measure_check(rt, schema, start, &certificate)
 }
 
-/// Checks the certificate, which was begun to be read at this time.
+/// Checks the certificate, whose reading began at this time.
 fn measure_check(
     rt: &(impl AllocGlobal + Print + Eprint + Clock),
     schema: &Schema,
@@ -52,7 +53,7 @@ fn measure_check(
     Ok(())
 }
 
-/// The fault of the certificate's first line that breaks a rule, if one does.
+/// Returns the error of the certificate's first line that breaks a rule, if there is one.
 #[tactic(auto, using(bw_model::proofs::CondLemmas::names))]
 fn fault_of(
     alloc: Global,
@@ -66,7 +67,8 @@ fn fault_of(
     }
 }
 
-/// Node 2 tests variable 0, and each row but the first two says of it, by the first two, that its XOR with itself is 0.
+/// Node 2 tests variable 0. Each row but the first two states, by these two, that its XOR with
+/// itself is 0.
 fn certificate_text(alloc: Global) -> Result<String, AllocError> {
     let mut text = String::new(alloc);
     text.push_str("NODE 2 0 0 1\nROW 0 XOR 0 0 0 S\nROW 1 XOR 1 1 0 S\n")?;

@@ -1,6 +1,6 @@
-//! Fills a diagram: every node, every chain and a million product rows that follow from the rows of their
-//! cofactors. Standard output says how many lines were accepted, and standard error how long each kind took, in
-//! microseconds.
+//! Fills a diagram with every node, every chain, and a million product rows that follow from the
+//! rows of their cofactors. Standard output says how many lines were accepted, and standard error
+//! how long each kind took, in microseconds.
 use crate::failure::Failure;
 use bw_diagram::{ChainColumns, ChainKind, Connective, Diagram, Reason};
 use bw_model::{Fault, Schema};
@@ -8,7 +8,7 @@ use std::alloc::Global;
 use std::rt::Clock;
 use std::time::Instant;
 
-/// Columns of eight bits, of which the last is the one that the chains name.
+/// Columns of eight bits; the chains name the last one.
 const SCHEMA: &[u8] =
     b"TABLE t\nCOLUMN a 0 255 NOT NULL\nCOLUMN b 0 255 NOT NULL\nCOLUMN c 0 255 NOT NULL\nCOLUMN d 0 255 NOT NULL\n";
 
@@ -17,7 +17,7 @@ const NODES: u64 = 65_536;
 
 const CHAINS: u64 = 65_536;
 
-/// The rows that the others cite, and all rows.
+/// The rows that the others reference, and all rows.
 const CITED_ROWS: u64 = 48_576;
 
 const ROWS: u64 = 1_048_576;

@@ -1,7 +1,7 @@
-//! Numbers that look drawn by chance, the same ones each time, and short times.
+//! Pseudo-random numbers, the same in every run, and short times.
 use std::time::Duration;
 
-/// The next number.
+/// Returns the next number.
 pub(crate) fn drawn(state: &mut u64) -> u32 {
     *state = state
         .wrapping_mul(6364136223846793005)

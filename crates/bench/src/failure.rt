@@ -1,4 +1,4 @@
-//! Why a benchmark couldn't be run to its end.
+//! Why a benchmark failed.
 use bw_model::Fault;
 use std::alloc::{AllocError, AllocFailed};
 use std::io;

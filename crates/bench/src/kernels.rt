@@ -1,5 +1,5 @@
-//! The kernels of scans in two ways: as the compiler fuses them into the loop around them, and each as a function of
-//! its own.
+//! The kernels of scans in two forms: fused by the compiler into the loop around them, and each as
+//! a function of its own.
 ghost use Rattle.std.specs.Prelude.{◌<◌};
 
 use crate::case::{Case, PLANES};
@@ -53,7 +53,8 @@ impl Kernels for Fused {
     }
 }
 
-/// Called one by one: each reads its planes from memory and leaves its result there, as an instruction does.
+/// Called one by one: each reads its planes from memory and leaves its result there, as an
+/// instruction does.
 pub(crate) struct Called;
 
 impl Kernels for Called {

@@ -1,5 +1,5 @@
-//! The kernels over bytes, and the building and judging of segments, in nanoseconds a call. Standard output has for
-//! each a number to which each call added.
+//! Times the kernels over bytes, and building and validating segments, in nanoseconds a call.
+//! Standard output has, for each, a number to which each call added.
 ghost use Rattle.std.specs.Prelude.{◌≤◌};
 ghost use Rattle.bw_model.specs.Groups.{group_size};
 ghost use Rattle.bw_segment.specs.Meaning.{meaning_of, IsGroup};
@@ -16,11 +16,11 @@ use std::rc::Rc;
 use std::rt::Clock;
 use std::time::Instant;
 
-/// Four columns: 8 bits, 5 bits that may be null, 17 bits and 10 bits.
+/// Four columns: 8 bits, 5 nullable bits, 17 bits and 10 bits.
 const SCHEMA: &[u8] =
     b"TABLE m\nCOLUMN a 0 255 NOT NULL\nCOLUMN b -10 10\nCOLUMN c 0 99999 NOT NULL\nCOLUMN d 0 999 NOT NULL\n";
 
-/// Times so many calls of each kernel, and fewer of what takes longer.
+/// Times this many calls of each kernel, and fewer of slower ones.
 pub(crate) fn time_calls(rt: &HostRuntime, calls: &str) -> Result<(), Failure> {
     let Ok(calls) = calls.parse::<u32>() else {
         return Err(Failure::Word);
@@ -128,7 +128,7 @@ fn time_builds<R: Print + Eprint + Clock, L: CodeLayout>(
     tell(rt, name, builds, start, seen)
 }
 
-/// Four columns whose blocks are judged: 8 bits, 5 bits that may be null, 20 bits, and 32 bits that may be null.
+/// Four columns whose blocks are validated: 8 bits, 5 nullable bits, 20 bits, and 32 nullable bits.
 const JUDGED: &[u8] =
     b"TABLE w\nCOLUMN a 0 255 NOT NULL\nCOLUMN b -10 10\nCOLUMN c 0 1000000 NOT NULL\nCOLUMN d 0 4294967295\n";
 
@@ -150,7 +150,7 @@ fn drawn_rows(alloc: Global) -> Result<Vec<Row>, Failure> {
     Ok(rows)
 }
 
-/// The faults of all blocks in planes, joined; none is 0.
+/// Returns the errors of all blocks in planes, combined by OR; 0 is none.
 fn judged_planes(placement: &Placement, rows: u32, bytes: &[u8]) -> u64
     requires { rows ≤ group_size }
 {
@@ -168,7 +168,7 @@ fn judged_planes(placement: &Placement, rows: u32, bytes: &[u8]) -> u64
     faults
 }
 
-/// The faults of all blocks in slices, joined; none is 0.
+/// Returns the errors of all blocks in slices, combined by OR; 0 is none.
 fn judged_slices(placement: &Placement, rows: u32, bytes: &[u8]) -> u64
     requires { rows ≤ group_size }
 {

@@ -1,4 +1,4 @@
-//! What is timed by hand, one benchmark after the other: `bench WORD ..`, where a word is
+//! Benchmarks run by hand, one after another: `bench WORD ..`, where a word is
 //!
 //! - `lanes=CALLS`: the kernels over bytes, and the building and judging of segments, with so many calls;
 //! - `run`: runs of scan programs over segments, beside straight loops over the same kernels;
@@ -7,8 +7,8 @@
 //! - `cert`: a certificate of a million product rows, read and checked;
 //! - `reader=FILE`: the records of a file, counted by the `csv` crate alone.
 //!
-//! Standard output says what came of it, which is the same each time, and standard error how long it took. The scripts
-//! of `bench/` run it, beside plain C where there is the same in C.
+//! Standard output has the results, which are the same in every run, and standard error the times.
+//! The scripts of `bench/` run it, beside plain C if there is the same in C.
 #![tactic(auto)]
 
 mod case;
@@ -38,7 +38,7 @@ fn main(rt: HostRuntime) -> ExitCode {
     }
 }
 
-/// Times what the words of the command line name, in their order.
+/// Runs the benchmarks that the arguments name, in their order.
 fn time_words(rt: &HostRuntime) -> Result<(), Failure> {
     let words: Vec<String> = env::args(rt)?.collect(rt.alloc())?;
     for word in words.iter().skip(1) {

@@ -1,5 +1,4 @@
-//! The records of a file, counted by the `csv` crate alone: what the calls of `bw` over the same file are measured
-//! against.
+//! Counts the records of a file by the `csv` crate alone, to compare with `bw` over the same file.
 use crate::failure::Failure;
 use csv::{ByteRecord, Error, ReaderBuilder};
 use std::alloc::Global;
@@ -14,7 +13,7 @@ pub(crate) fn count_records(rt: &HostRuntime, path: &str) -> Result<(), Failure>
     Ok(())
 }
 
-/// How many records a text has.
+/// Returns the number of records of a text.
 fn records_in(alloc: Global, text: &[u8]) -> Result<u64, Error> {
     let mut reader = ReaderBuilder::new()
         .has_headers(false)

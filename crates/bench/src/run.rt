@@ -1,8 +1,9 @@
-//! Runs of scan programs over 10,000 segments in planes against straight loops over the same kernels, fused by
-//! the compiler and called one by one, the cost of an instruction, and the reading of a program text of 4,096 lines.
-//! Standard output says how many rows each way selects, and standard error the least times.
+//! Times scan programs over 10,000 segments in planes beside straight loops over the same kernels,
+//! fused by the compiler and called one by one; the cost of an instruction; and reading a program
+//! text of 4,096 lines. Standard output says how many rows each way selects, and standard error the
+//! minimal times.
 //!
-//! Read `ways.rt` first, for what is timed.
+//! `ways.rt` has what is timed; read it first.
 use crate::case::Case;
 use crate::drawn::nanos;
 use crate::failure::Failure;
@@ -38,7 +39,7 @@ const COMPARISON: &[u8] = b"FILL r0 0\nFILL r1 1\n\
 /// Distinct segments: a number of which 10,000 is a multiple.
 const CASES: u16 = 8;
 
-/// Times that all cases are gone through in a round: 10,000 segments.
+/// Passes over all cases in a round of 10,000 segments.
 const PASSES: usize = 1_250;
 
 const ROUNDS: usize = 30;
@@ -70,7 +71,7 @@ fn time_conditions(
     time_way::<ByProgram>(rt, &cases, values, "a < 8, program")
 }
 
-/// Times programs of no instruction, and of a hundred times one.
+/// Times a program without instructions, and one of a hundred equal ones.
 fn time_instructions(
     rt: &(impl AllocGlobal + Print + Eprint + Clock),
     schema: &Schema,
@@ -96,7 +97,7 @@ fn time_instructions(
     Ok(())
 }
 
-/// Tells the least time of a way to select, in tenths of nanoseconds a segment.
+/// Prints the minimal time of a way to select, in tenths of nanoseconds a segment.
 fn time_way<W: Way>(
     rt: &(impl Print + Eprint + Clock),
     cases: &[Case],

@@ -1,4 +1,4 @@
-//! The totals that are timed: of the first column, over the rows of a segment that are picked.
+//! The timed totals: of the first column, over the selected rows of a segment.
 ghost use Rattle.std.specs.Prelude.{IsTrue};
 ghost use Rattle.bw_model.specs.Total.{is_aggregate, item_within};
 
@@ -7,7 +7,7 @@ use bw_lanes::{Plane, and, mask};
 use bw_model::Item;
 use bw_segment::Segment;
 
-/// A total of a segment's picked rows.
+/// A total of a segment's selected rows.
 pub(crate) trait Way {
     fn total<S: Segment>(segment: &S, picked: &Plane) -> Option<i128>;
 }

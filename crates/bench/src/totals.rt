@@ -1,8 +1,8 @@
-//! SUM, MIN and MAX of a column of 32 bits that takes nulls, in planes and in slices, over the rows of segments
-//! that are picked: about half of them, and about one in 64. Standard output says the totals, and standard error the
-//! least times.
+//! Times SUM, MIN and MAX of a nullable column of 32 bits, in planes and in slices, over the
+//! selected rows of segments: about half of them, and about one in 64. Standard output has the
+//! totals, and standard error the minimal times.
 //!
-//! Read `total_ways.rt` first, for what is timed.
+//! `total_ways.rt` has what is timed; read it first.
 use crate::drawn::{drawn, nanos, or_null};
 use crate::failure::Failure;
 use crate::total_ways::{Greatest, Least, Sum, Way};
@@ -20,7 +20,7 @@ const SCHEMA: &[u8] = b"TABLE t\nCOLUMN a 0 4294967295\n";
 /// Distinct segments: a number of which 10,000 is a multiple.
 const CASES: usize = 8;
 
-/// Times that all segments are gone through in a round: 10,000 segments.
+/// Passes over all segments in a round of 10,000 segments.
 const PASSES: usize = 1_250;
 
 const ROUNDS: usize = 30;
@@ -38,7 +38,7 @@ pub(crate) fn time_all(rt: &(impl AllocGlobal + Print + Eprint + Clock)) -> Resu
     time_cases(rt, &cases, &mut state)
 }
 
-/// Times totals over half of the rows, and over few.
+/// Times totals over half of the rows, and over one in 64.
 fn time_cases(
     rt: &(impl Print + Eprint + Clock),
     cases: &Cases,
@@ -97,7 +97,7 @@ fn time_layout<S: Segment>(
     time_way::<Greatest, S>(rt, segments, picked, "MAX", layout, name)
 }
 
-/// Tells the least time of a total, in tenths of nanoseconds a segment.
+/// Prints the minimal time of a total, in tenths of nanoseconds a segment.
 fn time_way<W: Way, S: Segment>(
     rt: &(impl Print + Eprint + Clock),
     segments: &[S],

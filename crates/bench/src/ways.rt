@@ -1,5 +1,6 @@
-//! The ways to select a segment's rows that are timed: a run of the case's program, and straight loops that call the
-//! same kernels over the same segment, skip where the program skips, and mask the rows as a run does.
+//! The timed ways to select a segment's rows: a run of the case's program, and straight loops that
+//! call the same kernels over the same segment, skip where the program skips, and mask the rows as
+//! a run does.
 use crate::case::{Case, PLANES};
 use crate::kernels::{Called, Fused, Kernels};
 use bw_lanes::{Plane, and, mask, or};
@@ -48,8 +49,9 @@ fn top_bits<K: Kernels>(case: &Case) -> (Plane, usize) {
     (in_rows(case, &both), 2)
 }
 
-/// `a < 8`, by two planes that say which rows are less so far and which are equal so far, from the top plane down to
-/// the first after which none is equal. The count of loads keeps the compiler from leaving out the last planes.
+/// `a < 8`, by two planes, the rows that are less so far and those that are equal so far, from the
+/// top plane down to the first after which none is equal. The count of loads keeps the compiler
+/// from omitting the last planes.
 pub(crate) struct FusedComparison;
 
 impl Way for FusedComparison {
@@ -87,7 +89,7 @@ fn comparison<K: Kernels>(case: &Case) -> (Plane, usize) {
     (in_rows(case, &less), PLANES as usize)
 }
 
-/// What a plane has of the segment's rows: a full segment needs no mask.
+/// Returns a plane masked to the segment's rows; a full segment needs no mask.
 fn in_rows(case: &Case, plane: &Plane) -> Plane {
     let rows = case.segment.rows_in();
     if rows == 512 {

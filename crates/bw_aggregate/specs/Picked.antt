@@ -15,11 +15,13 @@ IsWithin rows lanes = (row : ℕ) → rows ≤ row → slice_index_or lanes row 
 
 -- the selected lanes whose row isn't null in a column
 unfoldable pub present_lanes : Meaning → ℕ → List Bool → List Bool
-present_lanes meaning column lanes = zip2 (λ a b. a && b) lanes (map not (null_bits meaning.rows column))
+present_lanes meaning column lanes = zip2 (λ a b. a && b) lanes
+    (map not (null_bits meaning.rows column))
 
 -- the values of a column's codes in the lanes that are 1
 abbrev pub values_in : Meaning → ℕ → List Bool → List ℤ
-values_in meaning column lanes = map (value_at meaning.columns column) (codes_in meaning column lanes)
+values_in meaning column lanes = map (value_at meaning.columns column)
+    (codes_in meaning column lanes)
 
 -- the selected rows of a segment
 abbrev pub picked_rows : Meaning → List Bool → List (List Value)
@@ -28,4 +30,5 @@ picked_rows meaning lanes = picked lanes meaning.rows
 -- a tally with these selected rows more: if there are none, it stays as it is
 abbrev pub with_picked : Tally → List (List Value) → Tally
 with_picked tally [] = tally
-with_picked tally (row ∷ rows) = tally_joined tally (length (row ∷ rows)) (total tally.item (row ∷ rows))
+with_picked tally (row ∷ rows) = tally_joined tally (length (row ∷ rows))
+    (total tally.item (row ∷ rows))

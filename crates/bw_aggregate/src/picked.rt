@@ -19,13 +19,15 @@ use bw_segment::Segment;
 /// is read.
 pub fn add_picked<S: Segment>(total: &mut Accumulator, segment: &S, selection: &Selection)
     requires column { IsTrue (item_within (length (S.meaning segment.now).columns) total.old.item) }
-    requires selection { IsWithin (length (S.meaning segment.now).rows) (lanes_of_words selection.now) }
+    requires selection { IsWithin (length (S.meaning segment.now).rows)
+        (lanes_of_words selection.now) }
     requires room { total.old.count + length (S.meaning segment.now).rows ≤ most_rows }
     ensures step { total.new ≡ with_picked total.old
         (picked_rows (S.meaning segment.now) (lanes_of_words selection.now)) }
     ensures item { total.new.item ≡ total.old.item }
     ensures count { total.new.count
-        ≡ total.old.count + length (picked_rows (S.meaning segment.now) (lanes_of_words selection.now)) }
+        ≡ total.old.count + length
+        (picked_rows (S.meaning segment.now) (lanes_of_words selection.now)) }
     ensures total { (rows : List (List Value)) → total.old ≡ tally_of total.old.item rows
         → total.new ≡ tally_of total.old.item
         (rows ++ picked_rows (S.meaning segment.now) (lanes_of_words selection.now)) }
@@ -41,7 +43,8 @@ pub fn add_picked<S: Segment>(total: &mut Accumulator, segment: &S, selection: &
 /// totals may need planes, which would be cleared for it too.
 fn total_of<S: Segment>(item: Item, segment: &S, selection: &Selection) -> Option<i128>
     requires column { IsTrue (item_within (length (S.meaning segment.now).columns) item) }
-    requires selection { IsWithin (length (S.meaning segment.now).rows) (lanes_of_words selection.now) }
+    requires selection { IsWithin (length (S.meaning segment.now).rows)
+        (lanes_of_words selection.now) }
     ensures total { result
         ≡ total item (picked_rows (S.meaning segment.now) (lanes_of_words selection.now)) }
     ensures small { IsTotalOfRows 1 result }
@@ -56,7 +59,8 @@ fn total_of<S: Segment>(item: Item, segment: &S, selection: &Selection) -> Optio
 #[inline(never)]
 fn total_by_columns<S: Segment>(item: Item, segment: &S, selection: &Selection) -> Option<i128>
     requires column { IsTrue (item_within (length (S.meaning segment.now).columns) item) }
-    requires selection { IsWithin (length (S.meaning segment.now).rows) (lanes_of_words selection.now) }
+    requires selection { IsWithin (length (S.meaning segment.now).rows)
+        (lanes_of_words selection.now) }
     ensures total { result
         ≡ total item (picked_rows (S.meaning segment.now) (lanes_of_words selection.now)) }
     ensures small { IsTotalOfRows 1 result }

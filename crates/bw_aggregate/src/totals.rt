@@ -54,13 +54,15 @@ impl Totals {
     /// this segment there must be at most 2^24 rows.
     #[tactic(auto, using(crate::proofs::PickedLemmas::few_picked))]
     pub fn add<S: Segment>(&mut self, segment: &S, selection: &Selection)
-        requires column { IsTrue (item_within (length (S.meaning segment.now).columns) self.old.picked.item) }
-        requires selection { IsWithin (length (S.meaning segment.now).rows) (lanes_of_words selection.now) }
+        requires column { IsTrue
+            (item_within (length (S.meaning segment.now).columns) self.old.picked.item) }
+        requires selection { IsWithin (length (S.meaning segment.now).rows)
+            (lanes_of_words selection.now) }
         requires room { self.old.rows + length (S.meaning segment.now).rows ≤ most_rows }
         ensures item { self.new.picked.item ≡ self.old.picked.item }
         ensures rows { self.new.rows ≡ self.old.rows + length (S.meaning segment.now).rows }
-        ensures total { (rows : List (List Value)) → self.old.picked ≡ tally_of self.old.picked.item rows
-            → self.new.picked ≡ tally_of self.old.picked.item
+        ensures total { (rows : List (List Value)) → self.old.picked
+            ≡ tally_of self.old.picked.item rows → self.new.picked ≡ tally_of self.old.picked.item
             (rows ++ picked_rows (S.meaning segment.now) (lanes_of_words selection.now)) }
     {
         let mut picked = self.picked;

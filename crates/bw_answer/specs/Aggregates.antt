@@ -37,4 +37,5 @@ aggregates_of items = each_once (filter is_aggregate items)
 -- the result of the first tally of an item; null if there is none
 unfoldable pub answer_for : List Tally → Item → Option ℤ
 answer_for [] item = None
-answer_for (tally ∷ tallies) item = if is_same tally.item item then tally.answer else answer_for tallies item
+answer_for (tally ∷ tallies) item = if is_same tally.item item then tally.answer
+    else answer_for tallies item

@@ -53,7 +53,8 @@ abbrev pub totalled : Query → List (List Value) → List (List ℕ)
 totalled query rows = map (λ item. value_text (total item (kept query.cond rows))) query.items.items
 
 abbrev pub records_of : Query → List (List Value) → List (List (List ℕ))
-records_of query rows = if lists_rows query.items.items then listed query rows else totalled query rows ∷ []
+records_of query rows = if lists_rows query.items.items then listed query rows
+    else totalled query rows ∷ []
 
 -- the meaning of a query over rows of columns of these names: a heading record, and then a record
 -- for each matching row, or one record of totals over them

@@ -18,11 +18,13 @@ text_over names query rows =
 
 -- the text and the totals are those of a query over these rows, of a table of columns of these
 -- names
-pub record AreOver (names : List (List ℕ)) (query : Query) (rows : List (List Value)) (text : List ℕ)
+pub record AreOver (names : List (List ℕ)) (query : Query) (rows : List (List Value))
+    (text : List ℕ)
     (totals : List Tally) : Type 0 where
   pub written : text ≡ text_over names query rows
   pub totalled : lists_rows query.items.items ≡ false
-      → totals ≡ map (λ item. tally_of item (kept query.cond rows)) (aggregates_of query.items.items)
+      → totals ≡ map (λ item. tally_of item (kept query.cond rows))
+      (aggregates_of query.items.items)
 
 -- every row matches the query, and it only counts rows
 pub record CountsRows (query : Query) : Type 0 where

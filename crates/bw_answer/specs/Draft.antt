@@ -13,9 +13,11 @@ is_begun [] = false
 is_begun (field ∷ fields) = true
 
 -- the writer has these bytes of finished records, and then these fields of the current one
-pub record Drafts (writer : Writer (Vec ℕ Global)) (ended : List ℕ) (fields : List (List ℕ)) : Type 0 where
+pub record Drafts (writer : Writer (Vec ℕ Global)) (ended : List ℕ)
+    (fields : List (List ℕ)) : Type 0 where
   pub setup : writer_setup writer ≡ answer_writer
-  pub bytes : text_written (λ bytes. Some bytes.items) writer ≡ Some (ended ++ join_with_byte 44 fields)
+  pub bytes : text_written (λ bytes. Some bytes.items) writer
+      ≡ Some (ended ++ join_with_byte 44 fields)
   pub shown : has_written writer ≡ is_begun fields
   pub begun : (fields_written writer == 0) ≡ not (is_begun fields)
 

@@ -15,7 +15,8 @@ value_in_lane lanes number column = slice_index_or (values_in lanes column) numb
 
 -- a lane's values in these columns, as fields
 abbrev pub fields_in_lane : List ColumnValues → List ℕ → ℕ → List (List ℕ)
-fields_in_lane lanes columns number = map (λ column. value_text (value_in_lane lanes number column)) columns
+fields_in_lane lanes columns number = map (λ column. value_text (value_in_lane lanes number column))
+    columns
 
 -- a lane has the values of this row in these columns
 abbrev pub HasRow : List Value → List ℕ → ℕ → List ColumnValues → Type 0
@@ -24,7 +25,8 @@ HasRow row columns number lanes = (i : ℕ) → i < length columns
 
 -- the lanes whose bit is 1 have the values of their rows in these columns
 abbrev pub HasPicked : List (List Value) → List Bool → List ℕ → List ColumnValues → Type 0
-HasPicked rows bits columns lanes = (number : ℕ) → number < length rows → slice_index_or bits number false ≡ true
+HasPicked rows bits columns lanes = (number : ℕ) → number < length rows
+    → slice_index_or bits number false ≡ true
     → HasRow (slice_index_or rows number []) columns number lanes
 
 -- the positions of the bits that are 1, from position `first` up to `past`

@@ -6,4 +6,5 @@ use Rattle.bw_answer.specs.declared.listing.Listing.{Listing}
 
 -- a listing is of the items' columns, over rows of `width` columns
 abbrev pub IsListing : Listing → ℕ → List Item → Type 0
-IsListing listing width items = (listing.columns.items ≡ columns_of items) × (vec_len listing.lanes ≡ width)
+IsListing listing width items = (listing.columns.items ≡ columns_of items)
+    × (vec_len listing.lanes ≡ width)

@@ -13,8 +13,8 @@ IsOver names query rows answer = (answer.query.now ≡ query)
 -- a result of the same query is over these rows after those that it was over, whichever they were
 pub record GoesOver (start : Answer) (rows : List (List Value)) (now : Answer) : Type 0 where
   pub same : now.query.now ≡ start.query.now
-  pub over : (names : List (List ℕ)) (query : Query) (before : List (List Value)) → IsOver names query before start
-      → IsOver names query (before ++ rows) now
+  pub over : (names : List (List ℕ)) (query : Query) (before : List (List Value))
+      → IsOver names query before start → IsOver names query (before ++ rows) now
 
 -- the query of a result
 abbrev pub asked_by : Answer → Query

@@ -64,12 +64,15 @@ impl<'a> Answer<'a> {
     /// or all aggregates, and the schema must have each column among them. Errors: 801 if memory is
     /// refused.
     pub fn new(alloc: Global, schema: &Schema, query: &'a Query) -> Result<Self, Fault>
-        requires items { IsTrue (list_all (item_within (vec_len schema.now.columns)) query.now.items.items) }
+        requires items { IsTrue (list_all (item_within (vec_len schema.now.columns))
+            query.now.items.items) }
         requires some { 1 ≤ length query.now.items.items }
         requires kinds { AreOfOneKind query.now.items.items }
-        ensures over { IfOk result (λ answer. IsOver (names_of schema.now.columns.items) query.now [] answer) }
+        ensures over { IfOk result
+            (λ answer. IsOver (names_of schema.now.columns.items) query.now [] answer) }
         ensures starts { IfOk result (λ answer. GoesOver answer [] answer) }
-        ensures takes { IfOk result (λ answer. (row : List Value) → IsTrue (admits_values schema.now.columns.items row)
+        ensures takes { IfOk result (λ answer. (row : List Value)
+            → IsTrue (admits_values schema.now.columns.items row)
             → IsTrue (length row == answer.width)) }
         ensures width { IfOk result (λ answer. answer.width ≡ vec_len schema.now.columns) }
         ensures rows { IfOk result (λ answer. answer.rows ≡ 0) }
@@ -145,11 +148,13 @@ impl<'a> Answer<'a> {
             ++ replicate (group_size - length (S.meaning segment.now).rows) false }
         requires wide { length (S.meaning segment.now).columns ≡ self.old.width }
         requires room { self.old.rows + length (S.meaning segment.now).rows ≤ most_rows }
-        ensures over { OnOk result ((start : Answer) (before : List (List Value)) → GoesOver start before self.old
+        ensures over { OnOk result ((start : Answer) (before : List (List Value))
+            → GoesOver start before self.old
             → GoesOver start (before ++ (S.meaning segment.now).rows) self.new) }
         ensures asked { OnOk result (asked_by self.new ≡ asked_by self.old) }
         ensures width { OnOk result (self.new.width ≡ self.old.width) }
-        ensures rows { OnOk result (self.new.rows ≡ self.old.rows + length (S.meaning segment.now).rows) }
+        ensures rows { OnOk result (self.new.rows
+            ≡ self.old.rows + length (S.meaning segment.now).rows) }
         ensures only_memory { IfErr result (λ fault. fault ≡ no_memory) }
     {
         put_picked(
@@ -171,11 +176,13 @@ impl<'a> Answer<'a> {
     pub fn take_segment<S: Segment>(&mut self, segment: &S) -> Result<(), Fault>
         requires wide { length (S.meaning segment.now).columns ≡ self.old.width }
         requires room { self.old.rows + length (S.meaning segment.now).rows ≤ most_rows }
-        ensures over { OnOk result ((start : Answer) (before : List (List Value)) → GoesOver start before self.old
+        ensures over { OnOk result ((start : Answer) (before : List (List Value))
+            → GoesOver start before self.old
             → GoesOver start (before ++ (S.meaning segment.now).rows) self.new) }
         ensures asked { OnOk result (asked_by self.new ≡ asked_by self.old) }
         ensures width { OnOk result (self.new.width ≡ self.old.width) }
-        ensures rows { OnOk result (self.new.rows ≡ self.old.rows + length (S.meaning segment.now).rows) }
+        ensures rows { OnOk result (self.new.rows
+            ≡ self.old.rows + length (S.meaning segment.now).rows) }
         ensures only_memory { IfErr result (λ fault. fault ≡ no_memory) }
     {
         let kept = self.filter.rows_kept(segment);
@@ -187,7 +194,8 @@ impl<'a> Answer<'a> {
     fn take_row(&mut self, row: &Row) -> Result<(), Fault>
         requires wide { length (values_of row.now) ≡ self.old.width }
         requires room { self.old.rows < most_rows }
-        ensures over { OnOk result ((start : Answer) (before : List (List Value)) → GoesOver start before self.old
+        ensures over { OnOk result ((start : Answer) (before : List (List Value))
+            → GoesOver start before self.old
             → GoesOver start (before ++ values_of row.now ∷ []) self.new) }
         ensures width { OnOk result (self.new.width ≡ self.old.width) }
         ensures rows { OnOk result (self.new.rows ≡ self.old.rows + 1) }
@@ -209,8 +217,10 @@ impl<'a> Answer<'a> {
     /// Returns the text of the result over the rows that were consumed. Errors: 801 if memory is
     /// refused.
     pub fn into_text(self) -> Result<Vec<u8>, Fault>
-        ensures text { IfOk result (λ text. (names : List (List ℕ)) → (query : Query) → (rows : List (List Value))
-            → IsOver names query rows self.entry → text.items ≡ csv_text (meaning names query rows)) }
+        ensures text { IfOk result (λ text. (names : List (List ℕ)) → (query : Query)
+            → (rows : List (List Value))
+            → IsOver names query rows self.entry
+            → text.items ≡ csv_text (meaning names query rows)) }
         ensures only_memory { IfErr result (λ fault. fault ≡ no_memory) }
     {
         let Answer {
@@ -256,14 +266,17 @@ fn put_row(
     row: &Row,
 ) -> Result<(), Fault>
     requires prepared { IsPreparedFrom query.now.cond cond.now }
-    requires items { IsTrue (list_all (item_within (length (values_of row.now))) query.now.items.items) }
+    requires items { IsTrue (list_all (item_within (length (values_of row.now)))
+        query.now.items.items) }
     requires lists { lists ≡ lists_rows query.now.items.items }
-    requires names { lists ≡ true → IsListing records.old (length (values_of row.now)) query.now.items.items }
+    requires names { lists ≡ true
+        → IsListing records.old (length (values_of row.now)) query.now.items.items }
     requires room { IsTrue (list_all (has_room (length (values_of row.now))) totals.old) }
     ensures over { OnOk result ((names : List (List ℕ)) → (rows : List (List Value))
         → AreOver names query.now rows text.old.items totals.old
         → AreOver names query.now (rows ++ values_of row.now ∷ []) text.new.items totals.new) }
-    ensures counts { OnOk result ((rows : ℕ) → IsTrue (list_all (is_of (length (values_of row.now)) rows) totals.old)
+    ensures counts { OnOk result ((rows : ℕ)
+        → IsTrue (list_all (is_of (length (values_of row.now)) rows) totals.old)
         → IsTrue (list_all (is_of (length (values_of row.now)) (rows + 1)) totals.new)) }
     ensures left { IfErr result (λ _. totals.new ≡ totals.old) }
     ensures names { (width : ℕ) (items : List Item) → IsListing records.old width items
@@ -290,18 +303,22 @@ fn put_picked<S: Segment>(
     segment: &S,
     selection: &Selection,
 ) -> Result<(), Fault>
-    requires picks { lanes_of_words selection.now ≡ selected_by query.now.cond (S.meaning segment.now).rows
+    requires picks { lanes_of_words selection.now
+        ≡ selected_by query.now.cond (S.meaning segment.now).rows
         ++ replicate (group_size - length (S.meaning segment.now).rows) false }
-    requires items { IsTrue (list_all (item_within (length (S.meaning segment.now).columns)) query.now.items.items) }
+    requires items { IsTrue (list_all (item_within (length (S.meaning segment.now).columns))
+        query.now.items.items) }
     requires lists { lists ≡ lists_rows query.now.items.items }
     requires names { lists ≡ true
         → IsListing records.old (length (S.meaning segment.now).columns) query.now.items.items }
-    requires columns { All (λ tally. IsTrue (item_within (length (S.meaning segment.now).columns) tally.item))
+    requires columns { All (λ tally. IsTrue
+        (item_within (length (S.meaning segment.now).columns) tally.item)) totals.old }
+    requires room { All (λ tally. tally.count + length (S.meaning segment.now).rows ≤ most_rows)
         totals.old }
-    requires room { All (λ tally. tally.count + length (S.meaning segment.now).rows ≤ most_rows) totals.old }
     ensures over { OnOk result ((names : List (List ℕ)) → (rows : List (List Value))
         → AreOver names query.now rows text.old.items totals.old
-        → AreOver names query.now (rows ++ (S.meaning segment.now).rows) text.new.items totals.new) }
+        → AreOver names query.now (rows ++ (S.meaning segment.now).rows) text.new.items
+        totals.new) }
     ensures counts { OnOk result ((width rows : ℕ) → IsTrue (list_all (is_of width rows) totals.old)
         → IsTrue (list_all (is_of width (rows + length (S.meaning segment.now).rows)) totals.new)) }
     ensures left { IfErr result (λ _. totals.new ≡ totals.old) }

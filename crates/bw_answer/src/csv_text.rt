@@ -29,8 +29,8 @@ impl CsvText {
     /// Adds a field to the current record.
     pub fn push_field(&mut self, field: &[u8]) -> Result<(), Fault>
         requires { IsTrue (needs_no_quotes field.now) }
-        ensures field { OnOk result ((ended : List ℕ) → (fields : List (List ℕ)) → Holds self.old ended fields
-            → Holds self.new ended (fields ++ field.now ∷ [])) }
+        ensures field { OnOk result ((ended : List ℕ) → (fields : List (List ℕ))
+            → Holds self.old ended fields → Holds self.new ended (fields ++ field.now ∷ [])) }
         ensures only_memory { IfErr result (λ fault. fault ≡ no_memory) }
     {
         write_field(&mut self.writer, field)
@@ -39,7 +39,8 @@ impl CsvText {
     /// Adds a number, or null, to the current record.
     #[tactic(auto, using(crate::proofs::PlainFields::plain_numbers), unfolding(crate::specs::Field::needs_no_quotes))]
     pub fn push_number(&mut self, number: Option<i128>) -> Result<(), Fault>
-        ensures field { OnOk result ((ended : List ℕ) → (fields : List (List ℕ)) → Holds self.old ended fields
+        ensures field { OnOk result ((ended : List ℕ) → (fields : List (List ℕ))
+            → Holds self.old ended fields
             → Holds self.new ended (fields ++ value_text number ∷ [])) }
         ensures only_memory { IfErr result (λ fault. fault ≡ no_memory) }
     {
@@ -51,7 +52,8 @@ impl CsvText {
 
     /// Ends the current record, which must have a field.
     pub fn end_record(&mut self) -> Result<(), Fault>
-        ensures ended { OnOk result ((ended : List ℕ) → (fields : List (List ℕ)) → IsTrue (is_begun fields)
+        ensures ended { OnOk result ((ended : List ℕ) → (fields : List (List ℕ))
+            → IsTrue (is_begun fields)
             → Holds self.old ended fields → Holds self.new (ended ++ record_text fields) []) }
         ensures only_memory { IfErr result (λ fault. fault ≡ no_memory) }
     {
@@ -63,7 +65,8 @@ impl CsvText {
 
     /// Returns the text of the records.
     pub fn into_bytes(self) -> Result<Vec<u8>, Fault>
-        ensures text { IfOk result (λ text. (ended : List ℕ) → Holds self ended [] → text.items ≡ ended) }
+        ensures text { IfOk result (λ text. (ended : List ℕ) → Holds self ended []
+            → text.items ≡ ended) }
         ensures only_memory { IfErr result (λ fault. fault ≡ no_memory) }
     {
         match self.writer.into_inner() {
@@ -76,8 +79,8 @@ impl CsvText {
 /// Adds a field to the current record.
 fn write_field(writer: &mut Writer<Vec<u8>>, field: &[u8]) -> Result<(), Fault>
     requires { IsTrue (needs_no_quotes field.now) }
-    ensures field { OnOk result ((ended : List ℕ) → (fields : List (List ℕ)) → Drafts writer.old ended fields
-        → Drafts writer.new ended (fields ++ field.now ∷ [])) }
+    ensures field { OnOk result ((ended : List ℕ) → (fields : List (List ℕ))
+        → Drafts writer.old ended fields → Drafts writer.new ended (fields ++ field.now ∷ [])) }
     ensures only_memory { IfErr result (λ fault. fault ≡ no_memory) }
 {
     match writer.write_field(field) {

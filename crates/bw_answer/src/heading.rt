@@ -40,7 +40,8 @@ fn push_heading(
     requires columns { IsTrue (list_all (item_within (length columns.now)) items.now) }
     requires some { 1 ≤ length items.now }
     ensures heading { OnOk result ((ended : List ℕ) → Holds text.old ended []
-        → Holds text.new (ended ++ record_text (map (heading_of (names_of columns.now)) items.now)) []) }
+        → Holds text.new (ended ++ record_text (map (heading_of (names_of columns.now)) items.now))
+        []) }
     ensures only_memory { IfErr result (λ fault. fault ≡ no_memory) }
 {
     let mut heading = Vec::new(alloc);

@@ -43,7 +43,8 @@ impl ColumnValues {
         requires { number < 512 }
         ensures same { slice_index_or self.new.values number None ≡ value }
         ensures others { (other : ℕ) → other ≢ number
-            → slice_index_or self.new.values other None ≡ slice_index_or self.old.values other None }
+            → slice_index_or self.new.values other None
+            ≡ slice_index_or self.old.values other None }
     {
         self.values[number] = value;
     }
@@ -92,7 +93,8 @@ pub(crate) fn fetch_picked<S: Segment>(
 )
     requires lanes { length lanes.old ≡ length (S.meaning segment.now).columns }
     requires columns { All (λ column. column < length lanes.old) columns.now }
-    ensures { HasPicked (S.meaning segment.now).rows (lanes_of_words selection.now) columns.now lanes.new }
+    ensures { HasPicked (S.meaning segment.now).rows (lanes_of_words selection.now) columns.now
+        lanes.new }
 {
     if count(selection) >= MANY {
         fetch_columns(lanes, columns, segment);
@@ -106,7 +108,8 @@ fn fetch_columns<S: Segment>(lanes: &mut [ColumnValues], columns: &[usize], segm
     requires lanes { length lanes.old ≡ length (S.meaning segment.now).columns }
     requires columns { All (λ column. column < length lanes.old) columns.now }
     ensures { (number : ℕ) → number < length (S.meaning segment.now).rows
-        → HasRow (slice_index_or (S.meaning segment.now).rows number []) columns.now number lanes.new }
+        → HasRow (slice_index_or (S.meaning segment.now).rows number []) columns.now number
+        lanes.new }
 {
     for column in columns {
         lanes[*column].fetch(segment, *column);
@@ -123,7 +126,8 @@ fn fetch_rows<S: Segment>(
 )
     requires lanes { length lanes.old ≡ length (S.meaning segment.now).columns }
     requires columns { All (λ column. column < length lanes.old) columns.now }
-    ensures { HasPicked (S.meaning segment.now).rows (lanes_of_words selection.now) columns.now lanes.new }
+    ensures { HasPicked (S.meaning segment.now).rows (lanes_of_words selection.now) columns.now
+        lanes.new }
 {
     let mut number = segment.rows_in() as usize;
     while let Some(last) = last_between(selection, 0, number) {
@@ -137,7 +141,8 @@ fn fetch_row<S: Segment>(lanes: &mut [ColumnValues], columns: &[usize], segment:
     requires lanes { length lanes.old ≡ length (S.meaning segment.now).columns }
     requires columns { All (λ column. column < length lanes.old) columns.now }
     requires number { number < length (S.meaning segment.now).rows }
-    ensures row { HasRow (slice_index_or (S.meaning segment.now).rows number []) columns.now number lanes.new }
+    ensures row { HasRow (slice_index_or (S.meaning segment.now).rows number []) columns.now number
+        lanes.new }
     ensures others { (other column : ℕ) → other ≢ number
         → value_in_lane lanes.new other column ≡ value_in_lane lanes.old other column }
 {

@@ -46,7 +46,8 @@ impl Listing {
     pub(crate) fn new(alloc: Global, width: usize, items: &[Item]) -> Result<Self, Fault>
         requires { IsTrue (list_all (item_within width) items.now) }
         ensures columns { IfOk result (λ listing. listing.columns.items ≡ columns_of items.now) }
-        ensures lanes { IfOk result (λ listing. 1 ≤ vec_len listing.columns → vec_len listing.lanes ≡ width) }
+        ensures lanes { IfOk result (λ listing. 1 ≤ vec_len listing.columns → vec_len listing.lanes
+            ≡ width) }
         ensures only_memory { IfErr result (λ fault. fault ≡ no_memory) }
     {
         let columns = columns_of(alloc, items)?;
@@ -77,7 +78,8 @@ impl Listing {
         requires some { 1 ≤ vec_len self.old.columns }
         requires wide { vec_len self.old.lanes ≡ length (values_of row.now) }
         ensures record { OnOk result (text.new.items
-            ≡ text.old.items ++ record_text (fields_of self.old.columns.items (values_of row.now))) }
+            ≡ text.old.items ++ record_text
+            (fields_of self.old.columns.items (values_of row.now))) }
         ensures columns { self.new.columns.items ≡ self.old.columns.items }
         ensures lanes { vec_len self.new.lanes ≡ vec_len self.old.lanes }
         ensures only_memory { IfErr result (λ fault. fault ≡ no_memory) }
@@ -96,7 +98,8 @@ impl Listing {
     ) -> Result<(), Fault>
         requires some { 1 ≤ vec_len self.old.columns }
         requires wide { vec_len self.old.lanes ≡ length (S.meaning segment.now).columns }
-        requires selection { IsWithin (length (S.meaning segment.now).rows) (lanes_of_words selection.now) }
+        requires selection { IsWithin (length (S.meaning segment.now).rows)
+            (lanes_of_words selection.now) }
         ensures records { OnOk result (text.new.items ≡ text.old.items
             ++ csv_text (map (fields_of self.old.columns.items)
             (picked_rows (S.meaning segment.now) (lanes_of_words selection.now)))) }

@@ -16,10 +16,12 @@ pub(crate) fn total_picked<S: Segment>(
     segment: &S,
     selection: &Selection,
 )
-    requires columns { All (λ tally. IsTrue (item_within (length (S.meaning segment.now).columns) tally.item))
+    requires columns { All (λ tally. IsTrue
+        (item_within (length (S.meaning segment.now).columns) tally.item)) totals.old }
+    requires room { All (λ tally. tally.count + length (S.meaning segment.now).rows ≤ most_rows)
         totals.old }
-    requires room { All (λ tally. tally.count + length (S.meaning segment.now).rows ≤ most_rows) totals.old }
-    requires selection { IsWithin (length (S.meaning segment.now).rows) (lanes_of_words selection.now) }
+    requires selection { IsWithin (length (S.meaning segment.now).rows)
+        (lanes_of_words selection.now) }
     ensures { totals.new ≡ map (λ tally. with_picked tally
         (picked_rows (S.meaning segment.now) (lanes_of_words selection.now))) totals.old }
 {

@@ -26,7 +26,8 @@ pub(crate) fn push_records(
     requires rows { (1 ≤ rows) × (rows ≤ 512) }
     requires room { 21 * length columns.now * rows ≤ length draft.old }
     ensures records { OnOk result (text.new.items ≡ text.old.items
-        ++ csv_text (map (fields_in_lane lanes.now columns.now) (positions_of (lanes_of_words selection.now)))) }
+        ++ csv_text (map (fields_in_lane lanes.now columns.now)
+        (positions_of (lanes_of_words selection.now)))) }
     ensures only_memory { IfErr result (λ fault. fault ≡ no_memory) }
 {
     let mut first = 0;

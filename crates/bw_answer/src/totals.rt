@@ -110,11 +110,13 @@ fn column_in(item: Item) -> usize
 pub(crate) fn add_kept(totals: &mut [Accumulator], query: &Query, cond: &Prepared, row: &Row)
     requires prepared { IsPreparedFrom query.now.cond cond.now }
     requires room { IsTrue (list_all (has_room (length (values_of row.now))) totals.old) }
-    ensures counts { (rows : ℕ) → IsTrue (list_all (is_of (length (values_of row.now)) rows) totals.old)
+    ensures counts { (rows : ℕ)
+        → IsTrue (list_all (is_of (length (values_of row.now)) rows) totals.old)
         → IsTrue (list_all (is_of (length (values_of row.now)) (rows + 1)) totals.new) }
     ensures totals { (items : List Item) → (rows : List (List Value)) → totals.old
         ≡ map (λ item. tally_of item rows) items
-        → totals.new ≡ map (λ item. tally_of item (rows ++ kept query.now.cond (values_of row.now ∷ []))) items }
+        → totals.new ≡ map (λ item. tally_of item
+        (rows ++ kept query.now.cond (values_of row.now ∷ []))) items }
 {
     if !is_kept(cond, row) {
         return;
@@ -125,7 +127,8 @@ pub(crate) fn add_kept(totals: &mut [Accumulator], query: &Query, cond: &Prepare
 /// Adds a row to each total.
 fn add_row(totals: &mut [Accumulator], row: &Row)
     requires { IsTrue (list_all (has_room (length (values_of row.now))) totals.old) }
-    ensures counts { (rows : ℕ) → IsTrue (list_all (is_of (length (values_of row.now)) rows) totals.old)
+    ensures counts { (rows : ℕ)
+        → IsTrue (list_all (is_of (length (values_of row.now)) rows) totals.old)
         → IsTrue (list_all (is_of (length (values_of row.now)) (rows + 1)) totals.new) }
     ensures totals { (items : List Item) → (rows : List (List Value)) → totals.old
         ≡ map (λ item. tally_of item rows) items
@@ -154,7 +157,8 @@ pub(crate) fn with_totals(
 ) -> Result<Vec<u8>, Fault>
     requires { 1 ≤ length items.now }
     ensures record { IfOk result (λ text. text.items
-        ≡ bytes.items ++ record_text (map (λ item. value_text (answer_for totals.now item)) items.now)) }
+        ≡ bytes.items ++ record_text
+        (map (λ item. value_text (answer_for totals.now item)) items.now)) }
     ensures only_memory { IfErr result (λ fault. fault ≡ no_memory) }
 {
     let mut text = CsvText::onto(bytes);
@@ -166,7 +170,8 @@ pub(crate) fn with_totals(
 fn push_totals(text: &mut CsvText, totals: &[Accumulator], items: &[Item]) -> Result<(), Fault>
     requires { 1 ≤ length items.now }
     ensures record { OnOk result ((ended : List ℕ) → Holds text.old ended []
-        → Holds text.new (ended ++ record_text (map (λ item. value_text (answer_for totals.now item)) items.now)) []) }
+        → Holds text.new (ended ++ record_text
+        (map (λ item. value_text (answer_for totals.now item)) items.now)) []) }
     ensures only_memory { IfErr result (λ fault. fault ≡ no_memory) }
 {
     for item in items {

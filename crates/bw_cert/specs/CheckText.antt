@@ -29,6 +29,7 @@ pub data IsCheckFault (text sql file : List ℕ) : Fault → Type 0 where
   schema_refused : {fault : Fault} → schema_of text ≡ Err fault → IsCheckFault text sql file fault
   statement_refused : {schema : Schema} {fault : Fault} → IsSchemaText text (schema_shape schema) →
       IsReadAs schema sql (Err fault) → IsCheckFault text sql file fault
-  file_refused : {schema : Schema} (query : Query) {fault : Fault} → IsSchemaText text (schema_shape schema) →
+  file_refused : {schema : Schema} (query : Query) {fault : Fault} →
+      IsSchemaText text (schema_shape schema) →
       IsReadAs schema sql (Ok query) → IsFileFault schema.columns.items query.cond file fault
       → IsCheckFault text sql file fault

@@ -26,17 +26,20 @@ NoKeep (line ∷ lines) = keep_in line.entry ≡ None
 abbrev pub KeepsAreAll : List Part → List BodyLine → Type 0
 KeepsAreAll parts rest =
     (place : ℕ) (part : Part) (join : JoinLines)
-    → suc place ≡ length parts → slice_get parts place ≡ Some part → part.join ≡ Some join → NoKeep rest
+    → suc place ≡ length parts → slice_get parts place ≡ Some part → part.join ≡ Some join
+    → NoKeep rest
 
 -- The line of an instruction is expected. The next line is another, or breaks its rule, whatever
 -- follows it; or there is none, and the error is at END (607).
 abbrev pub WrongLine : Facts → ℕ → Known → Instr → List BodyLine → Fault → Type 0
 WrongLine facts end known instr [] fault = fault ≡ at_line INSTRUCTION_LINE end
-WrongLine facts end known instr (line ∷ lines) fault = instruction_on facts known instr line line.entry ≡ Err fault
+WrongLine facts end known instr (line ∷ lines) fault = instruction_on facts known instr line
+    line.entry ≡ Err fault
 
 -- After lines KEEP that are true, of registers that ascend from the least, follows one that isn't,
 -- whatever follows it (608).
-pub record WrongKeep (facts : Facts) (through : Known) (edges : List Edge) (least : ℕ) (lines : List BodyLine)
+pub record WrongKeep (facts : Facts) (through : Known) (edges : List Edge) (least : ℕ)
+    (lines : List BodyLine)
     (fault : Fault) : Type 0 where
   pub keeps : List KeepLine
   pub wrong : KeepLine
@@ -56,7 +59,8 @@ WrongJoin facts end place through edges (line ∷ lines) fault =
 
 -- The next line is the instruction's and satisfies its rule. Skips lead to the place after it, but
 -- the next lines aren't that place's join.
-pub record WrongPlace (facts : Facts) (end place : ℕ) (known : Known) (edges : List Edge) (instr : Instr)
+pub record WrongPlace (facts : Facts) (end place : ℕ) (known : Known) (edges : List Edge)
+    (instr : Instr)
     (lines : List BodyLine) (fault : Fault) : Type 0 where
   pub line : ℕ
   pub entry : InstructionEntry
@@ -105,4 +109,5 @@ pub record StandsOn (facts : Facts) (instrs : List Instr) (end : ℕ) (lines : L
   pub others : List BodyLine
   pub spelled : lines ≡ upto ++ line ∷ others
   pub stands : fault ≡ at_line fault.code line.line
-  pub alike : (further : List BodyLine) → judged facts instrs end (upto ++ line ∷ further) ≡ Err fault
+  pub alike : (further : List BodyLine) → judged facts instrs end (upto ++ line ∷ further)
+      ≡ Err fault

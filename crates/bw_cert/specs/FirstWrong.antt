@@ -21,7 +21,8 @@ use Rattle.bw_cert.specs.Valid.{end_on}
 
 -- Of lines that state something, one after the other, this is the first that breaks its rule: those
 -- before it satisfy theirs.
-pub record WrongStated (Line : Type 0) (add : Facts → Line → Result Facts Fault) (facts : Facts) (lines : List Line)
+pub record WrongStated (Line : Type 0) (add : Facts → Line → Result Facts Fault) (facts : Facts)
+    (lines : List Line)
     (fault : Fault) : Type 0 where
   pub upto : List Line
   pub line : Line
@@ -42,17 +43,20 @@ WrongFact columns certificate fault =
 
 -- after a condition's lines, the first error in the lines of the program's instructions and joins;
 -- or after these, END
-abbrev pub WrongProgram : Facts → ProgramShape → CertificateShape → Pair → List BodyLine → Fault → Type 0
+abbrev pub WrongProgram : Facts → ProgramShape → CertificateShape → Pair → List BodyLine → Fault
+    → Type 0
 WrongProgram facts program certificate pair lines fault =
     FirstFault facts program.instrs certificate.end.line lines fault
     ⊎ ((taken : Taken) × Accepts facts program.instrs lines taken
-    × (end_on facts certificate.end.line taken program.result pair.yes certificate.end.row ≡ Err fault))
+    × (end_on facts certificate.end.line taken program.result pair.yes certificate.end.row
+    ≡ Err fault))
 
 -- a line of the condition's steps; or after all of these, one of the program's
 abbrev pub WrongBody : List Column → Facts → Cond → ProgramShape → CertificateShape → Fault → Type 0
 WrongBody columns facts cond program certificate fault =
     (pair_of columns facts certificate.end.line cond certificate.body ≡ Err fault)
-    ⊎ ((pair : Pair) × (rest : List BodyLine) × (pair_of columns facts certificate.end.line cond certificate.body
+    ⊎ ((pair : Pair) × (rest : List BodyLine)
+    × (pair_of columns facts certificate.end.line cond certificate.body
     ≡ Ok (pair, rest))
     × WrongProgram facts program certificate pair rest fault)
 

@@ -29,7 +29,8 @@ after_divider (line ∷ lines) = if divides line then lines else after_divider l
 -- the first of these lines has number `number`
 unfoldable pub number_after : ℕ → List (List ℕ) → ℕ
 number_after number [] = number
-number_after number (line ∷ lines) = if divides line then number + 1 else number_after (number + 1) lines
+number_after number (line ∷ lines) = if divides line then number + 1
+    else number_after (number + 1) lines
 
 -- a file is cut into a program text and a certificate text, whose first line has this number in the
 -- file

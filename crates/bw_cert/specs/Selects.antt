@@ -23,7 +23,8 @@ Selects columns cond program =
 -- by the segment machine on the group's lanes
 abbrev pub selection_in : List Column → ProgramShape → List (List Value) → List Bool
 selection_in columns program group =
-    take (length group) ((end_state columns (lanes_of columns group) program).registers program.result)
+    take (length group) ((end_state columns (lanes_of columns group) program).registers
+    program.result)
 
 -- for each row of a table, in groups of 512, whether the program selects it
 abbrev pub selection_by : List Column → ProgramShape → List (List Value) → List Bool

@@ -21,15 +21,16 @@ with_node_line facts line = on_line line.line (with_node facts line.n
     (record { v = line.v; low = line.low; high = line.high }))
 
 abbrev pub with_chain_line : Facts → ChainLine → Result Facts Fault
-with_chain_line facts line = on_line line.line (with_chain facts line.n (chain_named facts.columns line.columns))
+with_chain_line facts line = on_line line.line
+    (with_chain facts line.n (chain_named facts.columns line.columns))
 
 abbrev pub with_product_line : Facts → ProductLine → Result Facts Fault
 with_product_line facts line = on_line line.line (with_product facts line.n
     (record { op = line.op; a = line.a; b = line.b; c = line.c }) line.reason)
 
 -- the facts after these lines, each of which must satisfy its rule after those before it
-unfoldable pub with_lines : {Line : Type 0} → (Facts → Line → Result Facts Fault) → Facts → List Line
-    → Result Facts Fault
+unfoldable pub with_lines : {Line : Type 0} → (Facts → Line → Result Facts Fault) → Facts
+    → List Line → Result Facts Fault
 with_lines add facts [] = Ok facts
 with_lines add facts (line ∷ lines) = add facts line >>= λ more. with_lines add more lines
 

@@ -41,7 +41,8 @@ pub record Valid (columns : List Column) (cond : Cond) (program : ProgramShape)
   -- at the end the result register's node is known, and END references a product row by which its
   -- XOR with the first node of the pair is 0
   pub node : ℕ
-  pub known : node_of (before facts program.instrs parts (length program.instrs)) program.result ≡ Some node
+  pub known : node_of (before facts program.instrs parts (length program.instrs)) program.result
+      ≡ Some node
   pub ended : IsTrue (is_zero (cited facts Xor node pair.yes certificate.end.row))
 
 -- END: no line is left over (610), the result register's node is known (609), and by the product

@@ -40,8 +40,8 @@ pub fn certify(
     // What is accepted spells a program and a valid certificate. What spells them is accepted, even
     // if they are valid for another condition of the same tree.
     ensures valid { IfOk result (λ found. (certificate : CertificateShape)
-        × Certifies schema.now.columns.items condition.now file.now found.certified.program certificate
-        × (found.accepted ≡ counted found.certified.program certificate)) }
+        × Certifies schema.now.columns.items condition.now file.now found.certified.program
+        certificate × (found.accepted ≡ counted found.certified.program certificate)) }
     ensures accepted { (same : Cond) (program : ProgramShape) (certificate : CertificateShape)
         → tree_of same ≡ tree_of condition.now
         → Certifies schema.now.columns.items same file.now program certificate
@@ -73,8 +73,8 @@ fn judge_file(
 ) -> Result<CertifiedFile, Fault>
     requires { IsTrue (names_within (length schema.now.columns.items) condition.now) }
     ensures valid { IfOk result (λ found. (certificate : CertificateShape)
-        × Certifies schema.now.columns.items condition.now file.now found.certified.program certificate
-        × (found.accepted ≡ counted found.certified.program certificate)) }
+        × Certifies schema.now.columns.items condition.now file.now found.certified.program
+        certificate × (found.accepted ≡ counted found.certified.program certificate)) }
     ensures fault { IfErr result (λ fault. is_memory fault ≡ false
         → IsFileFault schema.now.columns.items condition.now file.now fault) }
     ensures code { IfErr result (λ fault. IsTrue (is_file_fault fault)) }

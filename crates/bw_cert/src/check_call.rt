@@ -38,7 +38,8 @@ pub fn check_text(alloc: Global, schema: &[u8], sql: &[u8], file: &[u8]) -> Resu
 /// Returns the numbers of a program file that is certified for the condition.
 fn numbers(alloc: Global, schema: &Schema, condition: &Cond, file: &[u8]) -> Result<Accepted, Fault>
     requires { IsTrue (names_within (length schema.now.columns.items) condition.now) }
-    ensures valid { IfOk result (λ numbers. (program : ProgramShape) × (certificate : CertificateShape)
+    ensures valid { IfOk result (λ numbers. (program : ProgramShape)
+        × (certificate : CertificateShape)
         × Certifies schema.now.columns.items condition.now file.now program certificate
         × (numbers ≡ counted program certificate)) }
     ensures accepted { (same : Cond) (program : ProgramShape) (certificate : CertificateShape)

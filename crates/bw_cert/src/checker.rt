@@ -92,11 +92,11 @@ fn check_end(
 ) -> Result<(), Fault>
     requires { answer < 64 }
     ensures right { OnOk result (end_on diagram.now end.line
-        (record { known = at_end.now.known; rest = body_lines at_end.now.rest }) answer first end.row
-        ≡ Ok diagram.now) }
+        (record { known = at_end.now.known; rest = body_lines at_end.now.rest }) answer first
+        end.row ≡ Ok diagram.now) }
     ensures fault { IfErr result (λ fault. end_on diagram.now end.line
-        (record { known = at_end.now.known; rest = body_lines at_end.now.rest }) answer first end.row
-        ≡ Err fault) }
+        (record { known = at_end.now.known; rest = body_lines at_end.now.rest }) answer first
+        end.row ≡ Err fault) }
     ensures code { IfErr result (λ fault. IsTrue (is_check_fault fault)) }
 {
     if let Some((line, _)) = at_end.rest.next() {

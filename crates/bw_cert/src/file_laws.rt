@@ -16,16 +16,20 @@ use bw_program::programs_are_read_as_spelled;
 /// A law: a file spells at most one program, and all certificates for it have the same content. It
 /// has at most one error, and none if it is certified, even for another condition of the same tree.
 pub fn one_verdict()
-    ensures certified { (columns : List Column) (cond same : Cond) (file : List ℕ) (program other : ProgramShape)
-        (certificate another : CertificateShape)
-        → Certifies columns cond file program certificate → Certifies columns same file other another
+    ensures certified { (columns : List Column) (cond same : Cond) (file : List ℕ)
+        (program other : ProgramShape) (certificate another : CertificateShape)
+        → Certifies columns cond file program certificate
+        → Certifies columns same file other another
         → (program ≡ other) × (certificate_fields certificate ≡ certificate_fields another) }
-    ensures none_certified { (columns : List Column) (cond same : Cond) (file : List ℕ) (program : ProgramShape)
+    ensures none_certified { (columns : List Column) (cond same : Cond) (file : List ℕ)
+        (program : ProgramShape)
         (certificate : CertificateShape) (fault : Fault) → tree_of cond ≡ tree_of same
-        → Certifies columns cond file program certificate → IsFileFault columns same file fault → ⊥ }
+        → Certifies columns cond file program certificate → IsFileFault columns same file fault
+        → ⊥ }
     ensures fault { (columns : List Column) (cond same : Cond) (file : List ℕ) (fault other : Fault)
         → tree_of cond ≡ tree_of same
-        → IsFileFault columns cond file fault → IsFileFault columns same file other → fault ≡ other }
+        → IsFileFault columns cond file fault → IsFileFault columns same file other
+        → fault ≡ other }
 {
     programs_are_read_as_spelled();
     certificates_are_read_as_spelled();

@@ -30,7 +30,8 @@ pub(crate) fn diagram_of<'a>(
 
 /// Adds the nodes of the lines.
 fn add_nodes(diagram: &mut Diagram<'_>, lines: &[NodeLine]) -> Result<(), Fault>
-    ensures stated { Gives (λ _. diagram.new) result (with_lines with_node_line diagram.old lines.now) }
+    ensures stated { Gives (λ _. diagram.new) result
+        (with_lines with_node_line diagram.old lines.now) }
     ensures code { IfErr result (λ fault. IsTrue (is_diagram_fault fault)) }
 {
     for line in lines {
@@ -44,7 +45,8 @@ fn add_nodes(diagram: &mut Diagram<'_>, lines: &[NodeLine]) -> Result<(), Fault>
 
 /// Adds the chains of the lines.
 fn add_chains(diagram: &mut Diagram<'_>, lines: &[ChainLine]) -> Result<(), Fault>
-    ensures stated { Gives (λ _. diagram.new) result (with_lines with_chain_line diagram.old lines.now) }
+    ensures stated { Gives (λ _. diagram.new) result
+        (with_lines with_chain_line diagram.old lines.now) }
     ensures code { IfErr result (λ fault. IsTrue (is_diagram_fault fault)) }
 {
     for line in lines {
@@ -66,7 +68,8 @@ fn add_chain(diagram: &mut Diagram<'_>, line: &ChainLine) -> Result<(), Fault>
 
 /// Adds the product rows of the lines.
 fn add_products(diagram: &mut Diagram<'_>, lines: &[ProductLine]) -> Result<(), Fault>
-    ensures stated { Gives (λ _. diagram.new) result (with_lines with_product_line diagram.old lines.now) }
+    ensures stated { Gives (λ _. diagram.new) result
+        (with_lines with_product_line diagram.old lines.now) }
     ensures code { IfErr result (λ fault. IsTrue (is_diagram_fault fault)) }
 {
     for line in lines {

@@ -35,7 +35,8 @@ keep_line k = record { line = k.line; entry = line_of.Keep k.keep }
 
 abbrev pub join_lines : ℕ → Option JoinLines → List BodyLine
 join_lines place None = []
-join_lines place (Some join) = record { line = join.line; entry = line_of.Join place } ∷ map keep_line join.keeps
+join_lines place (Some join) = record { line = join.line; entry = line_of.Join place }
+    ∷ map keep_line join.keeps
 
 -- the lines of parts, the first of which has this number
 unfoldable pub lines_of : ℕ → List Part → List BodyLine
@@ -73,7 +74,8 @@ known_past facts known None part = nothing_known
 unfoldable pub before : Facts → List Instr → List Part → ℕ → Known
 before facts instrs parts zero = nothing_known
 before facts instrs parts (suc place) =
-    known_past facts (before facts instrs parts place) (slice_get instrs place) (slice_get parts place)
+    known_past facts (before facts instrs parts place) (slice_get instrs place)
+    (slice_get parts place)
 
 -- the edge of the skip at a place, if there is one
 abbrev pub edge_at : Known → Option Instr → Option Edge
@@ -91,7 +93,8 @@ edges_before facts instrs parts (suc place) =
 unfoldable pub are_kept : Facts → Known → List Edge → ℕ → List KeepLine → Bool
 are_kept facts through edges least [] = true
 are_kept facts through edges least (k ∷ keeps) =
-    is_kept facts through edges least k.keep && are_kept facts through edges (suc k.keep.register) keeps
+    is_kept facts through edges least k.keep
+    && are_kept facts through edges (suc k.keep.register) keeps
 
 -- There is a join exactly if skips lead to the place, and what it keeps is true on fall-through and
 -- by each skip.
@@ -99,7 +102,8 @@ abbrev pub obeys_join : Facts → Known → List Edge → Option JoinLines → B
 obeys_join facts through [] None = true
 obeys_join facts through [] (Some join) = false
 obeys_join facts through (edge ∷ edges) None = false
-obeys_join facts through (edge ∷ edges) (Some join) = are_kept facts through (edge ∷ edges) 0 join.keeps
+obeys_join facts through (edge ∷ edges) (Some join) = are_kept facts through
+    (edge ∷ edges) 0 join.keeps
 
 -- Parts, one for each instruction, satisfy their rules: each instruction's line its own, and each
 -- place's join its own.
@@ -109,14 +113,16 @@ pub record Obeys (facts : Facts) (instrs : List Instr) (parts : List Part) : Typ
       → slice_get parts place ≡ Some part
       → after facts (before facts instrs parts place) part.line instr part.entry
       ≡ Ok (fallen facts (before facts instrs parts place) instr part)
-  pub join : (place : ℕ) (instr : Instr) (part : Part) → slice_get instrs place ≡ Some instr → slice_get parts place
+  pub join : (place : ℕ) (instr : Instr) (part : Part) → slice_get instrs place ≡ Some instr
+      → slice_get parts place
       ≡ Some part
       → IsTrue (obeys_join facts (fallen facts (before facts instrs parts place) instr part)
       (edges_into (suc place) (edges_before facts instrs parts (suc place))) part.join)
 
 -- The lines state what is known at the end of a program, and others follow: they are those of parts
 -- that satisfy their rules.
-pub record Accepts (facts : Facts) (instrs : List Instr) (lines : List BodyLine) (taken : Taken) : Type 0 where
+pub record Accepts (facts : Facts) (instrs : List Instr) (lines : List BodyLine)
+    (taken : Taken) : Type 0 where
   pub parts : List Part
   pub obeys : Obeys facts instrs parts
   pub spelled : lines ≡ lines_of 0 parts ++ taken.rest

@@ -67,7 +67,8 @@ bound_of Ne d = record { kind = Equal; limit = d; negated = true }
 abbrev pub terminal_of : ChainKind → ℤ → ℕ → Option ℕ
 terminal_of Less limit width =
     if int_le limit (pos 0) then Some 0 else if int_le (pos (2 ^ width)) limit then Some 1 else None
-terminal_of Equal limit width = if int_lt limit (pos 0) || int_le (pos (2 ^ width)) limit then Some 0 else None
+terminal_of Equal limit width = if int_lt limit (pos 0) || int_le (pos (2 ^ width)) limit
+    then Some 0 else None
 
 -- a terminal, if there is one and the line has `-`; else the node that the line references
 abbrev pub terminal_or_cited : Option ℕ → (ℕ → Option ℕ) → Option ℕ → Option ℕ
@@ -81,7 +82,8 @@ abbrev pub bound_node : List Column → Facts → ℕ → Bound → Option ℕ �
 bound_node columns facts col bound chain =
     let width = width_at columns col in
     let terminal = terminal_of bound.kind bound.limit width in
-    terminal_or_cited terminal (chain_cited facts bound.kind col 0 width (unsigned_abs bound.limit)) chain
+    terminal_or_cited terminal (chain_cited facts bound.kind col 0 width (unsigned_abs bound.limit))
+    chain
 
 -- CMP: a column and a literal, which compares the column's code with the literal's distance from
 -- the column's minimum
@@ -126,11 +128,13 @@ with_column columns facts op c d (CompareColumns chain left right both p q) =
     let right_value = value_node facts (null_variable columns d) right in
     let m = both_node facts left_value right_value both in
     let e = order_node columns facts order chain in
-    if int_eq (lo_at columns c) (lo_at columns d) then turned_if order.negated (split facts m e p q) else None
+    if int_eq (lo_at columns c) (lo_at columns d) then turned_if order.negated (split facts m e p q)
+    else None
 with_column columns facts op c d _ = None
 
 -- The truth pair of a comparison by its line. A comparison with NULL is UNKNOWN on every row.
-unfoldable pub comparison : List Column → Facts → Op → Operand → Operand → ConditionEntry → Option Pair
+unfoldable pub comparison : List Column → Facts → Op → Operand → Operand → ConditionEntry
+    → Option Pair
 comparison columns facts op (Col c) (Lit n) entry = with_literal columns facts op c n entry
 comparison columns facts op (Lit n) (Col c) entry = with_literal columns facts (turned op) c n entry
 comparison columns facts op (Col c) (Col d) entry = with_column columns facts op c d entry

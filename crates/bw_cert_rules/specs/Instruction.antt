@@ -103,7 +103,8 @@ byte_node facts kind column slice k None =
     if nat_le (2 ^ bits_in_slice facts.columns column slice) k then Some (past_node kind) else None
 byte_node facts kind column slice k (Some chain) =
     if nat_le (2 ^ bits_in_slice facts.columns column slice) k then None
-    else chain_cited facts kind column (8 * slice) (bits_in_slice facts.columns column slice) k chain
+    else chain_cited facts kind column (8 * slice) (bits_in_slice facts.columns column slice) k
+    chain
 
 -- a byte comparison, of a slice that exists
 abbrev pub byte_on : Facts → ℕ → ChainKind → Bool → ℕ → ℕ → ℕ → InstructionEntry → Result ℕ Fault
@@ -118,12 +119,14 @@ put known register given = given >>= λ node. Ok (with_node known register node)
 
 -- the register gets the node of a constant, if the line is a constant's
 abbrev pub fill : Known → ℕ → ℕ → Bool → InstructionEntry → Result Known Fault
-fill known line register bit given = refused_if (not (is_fill given)) (at_line INSTRUCTION_LINE line)
+fill known line register bit given = refused_if (not (is_fill given))
+    (at_line INSTRUCTION_LINE line)
     (Ok (with_node known register (terminal bit)))
 
 -- the register that a skip reads must have a node, and the line must be a skip's
 abbrev pub look : Known → ℕ → ℕ → InstructionEntry → Result Known Fault
-look known line register given = refused_if (not (is_skip_line given)) (at_line INSTRUCTION_LINE line)
+look known line register given = refused_if (not (is_skip_line given))
+    (at_line INSTRUCTION_LINE line)
     (read_on known line register >>= λ node. Ok known)
 
 -- What is known after an instruction, by its line: the register that it writes has the node that
@@ -137,12 +140,17 @@ after facts known line (Nulls r column) given =
     put known r (plane_on facts line (instr_fits facts.columns (Nulls r column))
     (first_variable facts.columns column) given)
 after facts known line (Fill r bit) given = fill known line r bit given
-after facts known line (And r x y) given = put known r (joined_on facts known line connective.And x y given)
-after facts known line (Or r x y) given = put known r (joined_on facts known line connective.Or x y given)
-after facts known line (Xor r x y) given = put known r (joined_on facts known line connective.Xor x y given)
+after facts known line (And r x y) given = put known r
+    (joined_on facts known line connective.And x y given)
+after facts known line (Or r x y) given = put known r
+    (joined_on facts known line connective.Or x y given)
+after facts known line (Xor r x y) given = put known r
+    (joined_on facts known line connective.Xor x y given)
 after facts known line (Not r x) given = put known r (opposite_on facts known line x given)
 after facts known line (ByteLt r column slice k) given =
-    put known r (byte_on facts line Less (instr_fits facts.columns (ByteLt r column slice k)) column slice k given)
+    put known r (byte_on facts line Less (instr_fits facts.columns (ByteLt r column slice k)) column
+    slice k given)
 after facts known line (ByteEq r column slice k) given =
-    put known r (byte_on facts line Equal (instr_fits facts.columns (ByteEq r column slice k)) column slice k given)
+    put known r (byte_on facts line Equal (instr_fits facts.columns (ByteEq r column slice k))
+    column slice k given)
 after facts known line (Skip x target) given = look known line x given

@@ -32,7 +32,8 @@ with_edge edges (Some edge) = edges ++ edge ∷ []
 -- the edges into a place, in the order of their skips
 unfoldable pub edges_into : ℕ → List Edge → List Edge
 edges_into place [] = []
-edges_into place (edge ∷ edges) = if edge.target == place then edge ∷ edges_into place edges else edges_into place edges
+edges_into place (edge ∷ edges) = if edge.target == place then edge ∷ edges_into place edges
+    else edges_into place edges
 
 -- the node is the terminal 0
 abbrev pub is_zero : Option ℕ → Bool
@@ -41,7 +42,8 @@ is_zero (Some node) = node == 0
 
 -- On fall-through, the register's node equals the kept one: their XOR is 0 by the product row.
 abbrev pub keeps_through : Facts → Known → Keep → Bool
-keeps_through facts through keep = is_zero (option_and_then (λ f. cited facts connective.Xor f keep.node keep.through)
+keeps_through facts through keep = is_zero
+    (option_and_then (λ f. cited facts connective.Xor f keep.node keep.through)
     (node_of through keep.register))
 
 -- By a skip, the register's node there differs from the kept one only if the skip's register is 1:
@@ -51,7 +53,8 @@ abbrev pub keeps_by_skip : Facts → Keep → Edge → EdgeProducts → Bool
 keeps_by_skip facts keep edge rows =
     is_zero (option_and_then (λ differs. option_and_then (λ skipped.
     cited facts connective.Diff differs skipped rows.within) (node_of edge.known edge.register))
-    (option_and_then (λ g. cited facts connective.Xor g keep.node rows.differs) (node_of edge.known keep.register)))
+    (option_and_then (λ g. cited facts connective.Xor g keep.node rows.differs)
+    (node_of edge.known keep.register)))
 
 -- so it is by each skip, with one pair of product rows each
 unfoldable pub keeps_by_skips : Facts → Keep → List Edge → List EdgeProducts → Bool

@@ -23,4 +23,5 @@ with_node known register node = slice_set known register (Some node)
 
 -- the error is one of 607 to 609, or out of memory
 abbrev pub is_known_fault : Fault → Bool
-is_known_fault fault = (nat_le INSTRUCTION_LINE fault.code && nat_le fault.code REGISTER_UNKNOWN) || is_memory fault
+is_known_fault fault = (nat_le INSTRUCTION_LINE fault.code && nat_le fault.code REGISTER_UNKNOWN)
+    || is_memory fault

@@ -13,5 +13,7 @@ use Rattle.bw_cert_rules.specs.declared.nodes.Pair.{Pair}
 pub record Tells (nodes : List Node) (truth : Assignment → Truth) (pair : Pair) : Type 0 where
   pub yes_node : IsNode nodes pair.yes
   pub no_node : IsNode nodes pair.no
-  pub yes : (assignment : Assignment) → node_value nodes assignment pair.yes ≡ is_truth (truth assignment) Yes
-  pub no : (assignment : Assignment) → node_value nodes assignment pair.no ≡ is_truth (truth assignment) No
+  pub yes : (assignment : Assignment) → node_value nodes assignment pair.yes
+      ≡ is_truth (truth assignment) Yes
+  pub no : (assignment : Assignment) → node_value nodes assignment pair.no
+      ≡ is_truth (truth assignment) No

@@ -104,7 +104,8 @@ with_opposite facts node number = if_both (Some node) (cited facts connective.Di
 
 -- a part is UNKNOWN if neither of its nodes is 1
 abbrev pub unknown_pair : Facts → Option ℕ → ℕ → Option Pair
-unknown_pair facts (Some known) number = if_both (cited facts connective.Diff 1 known number) (Some known)
+unknown_pair facts (Some known) number = if_both (cited facts connective.Diff 1 known number)
+    (Some known)
 unknown_pair facts None number = None
 
 -- IS TRUE, IS FALSE and IS UNKNOWN
@@ -130,7 +131,8 @@ module _ (columns : List Column) (facts : Facts) (end : ℕ) where
   -- the lines of one or more parts that are combined by AND or OR
   abbrev pub joined_parts : Junction → List (List BodyLine → Reading) → List BodyLine → Reading
   joined_parts junction [] lines = taken end None lines
-  joined_parts junction (part ∷ parts) lines = part lines >>= λ first. more_parts junction parts first
+  joined_parts junction (part ∷ parts) lines = part lines
+      >>= λ first. more_parts junction parts first
 
   -- the lines of the equations that IN means
   abbrev pub equations : Operand → List Operand → List (List BodyLine → Reading)
@@ -148,7 +150,8 @@ module _ (columns : List Column) (facts : Facts) (end : ℕ) where
   pair_step (layer.IsNull x) lines = by_line end (is_null_test columns facts x) lines
   pair_step (layer.And parts) lines = joined_parts All parts.items lines
   pair_step (layer.Or parts) lines = joined_parts Any parts.items lines
-  pair_step (layer.Not part) lines = part.value lines >>= λ read. by_line end (negated_pair read.0) read.1
+  pair_step (layer.Not part) lines = part.value lines
+      >>= λ read. by_line end (negated_pair read.0) read.1
   pair_step (layer.Test part t) lines =
       part.value lines >>= λ read. by_line end (tested_pair facts t read.0) read.1
 

@@ -32,5 +32,6 @@ null_cited facts variable number = option_and_then
 -- else that of the null test that the line references.
 abbrev pub value_node : Facts → Option ℕ → Option ℕ → Option ℕ
 value_node facts None None = Some 1
-value_node facts (Some variable) (Some number) = option_map (λ pair. pair.no) (null_cited facts variable number)
+value_node facts (Some variable) (Some number) = option_map (λ pair. pair.no)
+    (null_cited facts variable number)
 value_node facts _ _ = None

@@ -30,15 +30,19 @@ told (Err fault) = Err fault
 -- the line of an instruction is expected: any other is wrong (607), and if the lines have run out,
 -- END is
 abbrev pub instruction_on : Facts → Known → Instr → BodyLine → Entry → Result Known Fault
-instruction_on facts known instr line (line_of.Instruction given) = after facts known line.line instr given
-instruction_on facts known instr line (line_of.Condition given) = Err (at_line INSTRUCTION_LINE line.line)
-instruction_on facts known instr line (line_of.Join place) = Err (at_line INSTRUCTION_LINE line.line)
+instruction_on facts known instr line (line_of.Instruction given) = after facts known line.line
+    instr given
+instruction_on facts known instr line (line_of.Condition given) = Err
+    (at_line INSTRUCTION_LINE line.line)
+instruction_on facts known instr line (line_of.Join place) = Err
+    (at_line INSTRUCTION_LINE line.line)
 instruction_on facts known instr line (line_of.Keep keep) = Err (at_line INSTRUCTION_LINE line.line)
 
 abbrev pub instruction_taken : Facts → ℕ → Known → Instr → List BodyLine → Result Taken Fault
 instruction_taken facts end known instr [] = Err (at_line INSTRUCTION_LINE end)
 instruction_taken facts end known instr (line ∷ lines) =
-    instruction_on facts known instr line line.entry >>= λ through. Ok (record { known = through; rest = lines })
+    instruction_on facts known instr line line.entry
+    >>= λ through. Ok (record { known = through; rest = lines })
 
 -- the line JOIN of a place
 abbrev pub is_join : ℕ → Entry → Bool
@@ -49,7 +53,8 @@ is_join place (line_of.Keep keep) = false
 
 abbrev pub join_taken : ℕ → ℕ → List BodyLine → Result (List BodyLine) Fault
 join_taken end place [] = Err (at_line JOIN end)
-join_taken end place (line ∷ lines) = refused_if (not (is_join place line.entry)) (at_line JOIN line.line) (Ok lines)
+join_taken end place (line ∷ lines) = refused_if (not (is_join place line.entry))
+    (at_line JOIN line.line) (Ok lines)
 
 abbrev pub keep_in : Entry → Option Keep
 keep_in (line_of.Keep keep) = Some keep
@@ -64,18 +69,21 @@ by_keep (Some keep) other kept = kept keep
 
 -- All KEEP lines that follow, of ascending registers from the least on: only those registers then
 -- have nodes. A line that breaks its rule is 608.
-unfoldable pub keeps_taken : Facts → Known → List Edge → ℕ → Known → List BodyLine → Result Taken Fault
+unfoldable pub keeps_taken : Facts → Known → List Edge → ℕ → Known → List BodyLine
+    → Result Taken Fault
 keeps_taken facts through edges least kept [] = Ok (record { known = kept; rest = [] })
 keeps_taken facts through edges least kept (line ∷ lines) =
     by_keep (keep_in line.entry) (Ok (record { known = kept; rest = line ∷ lines }))
     (λ keep. refused_if (not (is_kept facts through edges least keep)) (at_line JOIN line.line)
-    (keeps_taken facts through edges (suc keep.register) (with_node kept keep.register keep.node) lines))
+    (keeps_taken facts through edges (suc keep.register) (with_node kept keep.register keep.node)
+    lines))
 
 -- if skips lead to a place, its join is expected; else what falls through is known
 abbrev pub joined : Facts → ℕ → ℕ → List Edge → Taken → Result Taken Fault
 joined facts end place [] taken = Ok taken
 joined facts end place (edge ∷ edges) taken =
-    join_taken end place taken.rest >>= λ lines. keeps_taken facts taken.known (edge ∷ edges) 0 nothing_known lines
+    join_taken end place taken.rest >>= λ lines. keeps_taken facts taken.known
+    (edge ∷ edges) 0 nothing_known lines
 
 -- the lines of instructions from a place on, to which these edges lead from before it, with what is
 -- known there
@@ -83,10 +91,12 @@ unfoldable pub walked : Facts → ℕ → ℕ → List Edge → List Instr → T
 walked facts end place edges [] taken = Ok taken
 walked facts end place edges (instr ∷ instrs) taken =
     instruction_taken facts end taken.known instr taken.rest >>= λ through.
-    joined facts end (suc place) (edges_into (suc place) (with_edge edges (edge_of taken.known instr))) through
+    joined facts end (suc place)
+    (edges_into (suc place) (with_edge edges (edge_of taken.known instr))) through
     >>= λ joined.
     walked facts end (suc place) (with_edge edges (edge_of taken.known instr)) instrs joined
 
 -- the lines of all of a program's instructions; END has the number `end`
 abbrev pub judged : Facts → List Instr → ℕ → List BodyLine → Result Taken Fault
-judged facts instrs end lines = walked facts end 0 [] instrs (record { known = nothing_known; rest = lines })
+judged facts instrs end lines = walked facts end 0 [] instrs
+    (record { known = nothing_known; rest = lines })

@@ -51,11 +51,12 @@ impl Judge<'_> {
         lines: BodyLines<'a>,
     ) -> Result<BodyLines<'a>, Fault>
         ensures taken { IfOk result (λ rest.
-            keeps_taken self.entry.diagram.now known.old edges.now 0 nothing_known (body_lines lines.entry)
+            keeps_taken self.entry.diagram.now known.old edges.now 0 nothing_known
+            (body_lines lines.entry)
             ≡ Ok (record { known = known.new; rest = body_lines rest })) }
         ensures fault { IfErr result (λ fault.
-            keeps_taken self.entry.diagram.now known.old edges.now 0 nothing_known (body_lines lines.entry)
-            ≡ Err fault) }
+            keeps_taken self.entry.diagram.now known.old edges.now 0 nothing_known
+            (body_lines lines.entry) ≡ Err fault) }
         ensures code { IfErr result (λ fault. IsTrue (is_known_fault fault)) }
     {
         let through = *known;

@@ -35,7 +35,8 @@ pub fn skip_soundness()
 
 /// A law: lines that are accepted are those of parts that satisfy their rules.
 pub fn judged_lines_obey()
-    ensures { (facts : Facts) (instrs : List Instr) (end : ℕ) (lines : List BodyLine) (taken : Taken)
+    ensures { (facts : Facts) (instrs : List Instr) (end : ℕ) (lines : List BodyLine)
+        (taken : Taken)
         → judged facts instrs end lines ≡ Ok taken → Accepts facts instrs lines taken }
 {}
 

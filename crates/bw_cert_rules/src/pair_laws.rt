@@ -33,5 +33,6 @@ pub fn pairs_are_of_trees()
     ensures { (columns : List Column) (facts : Facts) (end : ℕ) (cond same : Cond)
         (lines others : List BodyLine)
         → tree_of cond ≡ tree_of same → map body_fields lines ≡ map body_fields others
-        → told (pair_of columns facts end cond lines) ≡ told (pair_of columns facts end same others) }
+        → told (pair_of columns facts end cond lines)
+        ≡ told (pair_of columns facts end same others) }
 {}

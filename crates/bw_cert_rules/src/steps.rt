@@ -77,7 +77,8 @@ fn joined<'a>(
 ) -> Read<'a>
     requires { IsTrue (list_all (names_within (length schema.now.columns.items)) parts.now) }
     ensures pair { Answers result (joined_parts schema.now.columns.items diagram.now end junction
-        (map (pair_of schema.now.columns.items diagram.now end) parts.now) (body_lines lines.entry)) }
+        (map (pair_of schema.now.columns.items diagram.now end) parts.now)
+        (body_lines lines.entry)) }
     ensures code { IfErr result (λ fault. fault.code ≡ CONDITION_LINE) }
 {
     let Some((first, others)) = parts.split_first() else {
@@ -131,7 +132,8 @@ fn one_more<'a>(
     requires operand { IsTrue (is_within (length schema.now.columns.items) x) }
     requires item { IsTrue (is_within (length schema.now.columns.items) item) }
     ensures pair { Answers result (one_more schema.now.columns.items diagram.now end Any
-        (by_line end (comparison schema.now.columns.items diagram.now Eq x item)) (made, (body_lines lines.entry))) }
+        (by_line end (comparison schema.now.columns.items diagram.now Eq x item))
+        (made, (body_lines lines.entry))) }
     ensures code { IfErr result (λ fault. fault.code ≡ CONDITION_LINE) }
 {
     let (next, rest) = compared(schema, diagram, Op::Eq, x, item, lines, end)?;
@@ -153,7 +155,8 @@ fn between<'a>(
     requires z { IsTrue (is_within (length schema.now.columns.items) z) }
     ensures pair { Answers result (joined_parts schema.now.columns.items diagram.now end All
         (by_line end (comparison schema.now.columns.items diagram.now Ge x y)
-        ∷ by_line end (comparison schema.now.columns.items diagram.now Le x z) ∷ []) (body_lines lines.entry)) }
+        ∷ by_line end (comparison schema.now.columns.items diagram.now Le x z) ∷ [])
+        (body_lines lines.entry)) }
     ensures code { IfErr result (λ fault. fault.code ≡ CONDITION_LINE) }
 {
     let (lower, rest) = compared(schema, diagram, Op::Ge, x, y, lines, end)?;
@@ -175,7 +178,8 @@ fn compared<'a>(
     requires left { IsTrue (is_within (length schema.now.columns.items) x) }
     requires right { IsTrue (is_within (length schema.now.columns.items) y) }
     ensures pair { Answers result
-        (by_line end (comparison schema.now.columns.items diagram.now op x y) (body_lines lines.entry)) }
+        (by_line end (comparison schema.now.columns.items diagram.now op x y)
+        (body_lines lines.entry)) }
     ensures code { IfErr result (λ fault. fault.code ≡ CONDITION_LINE) }
 {
     let made = match next_entry(lines) {
@@ -209,7 +213,8 @@ fn null_tested<'a>(
 ) -> Read<'a>
     requires { IsTrue (is_within (length schema.now.columns.items) x) }
     ensures pair { Answers result
-        (by_line end (is_null_test schema.now.columns.items diagram.now x) (body_lines lines.entry)) }
+        (by_line end (is_null_test schema.now.columns.items diagram.now x)
+        (body_lines lines.entry)) }
     ensures code { IfErr result (λ fault. fault.code ≡ CONDITION_LINE) }
 {
     let made = match next_entry(lines) {

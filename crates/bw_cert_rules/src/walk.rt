@@ -78,7 +78,8 @@ impl Judge<'_> {
             instruction_taken self.entry.diagram.now end known.old instr (body_lines lines.entry)
             ≡ Ok (record { known = known.new; rest = body_lines rest })) }
         ensures fault { IfErr result (λ fault.
-            instruction_taken self.entry.diagram.now end known.old instr (body_lines lines.entry) ≡ Err fault) }
+            instruction_taken self.entry.diagram.now end known.old instr (body_lines lines.entry)
+            ≡ Err fault) }
         ensures code { IfErr result (λ fault. IsTrue (is_known_fault fault)) }
     {
         let Some((line, rest)) = lines.next() else {

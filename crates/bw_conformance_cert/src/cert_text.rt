@@ -1,4 +1,5 @@
-//! Certificates that are read and printed. What is refused, and where, is in `cases/certificate_lines.md`.
+//! Certificates that are read and printed. `cases/certificate_lines.md` has what is rejected, and
+//! where.
 use bw_cert::Certificate;
 use bw_model::Schema;
 use std::test::Fail;

@@ -1,4 +1,4 @@
-//! Lines of nodes that a diagram refuses: none of them changes it.
+//! Lines of nodes that a diagram rejects: none of them changes it.
 use bw_diagram::Diagram;
 use bw_model::{Fault, Schema};
 use std::test::Fail;

@@ -105,7 +105,8 @@ pub(crate) const SAME_SKIP_TWICE: &str = "\
     END 8\n\
     ";
 
-/// `a >= 224` by its three top bits, with a skip after the first and one after the second, which go to one place.
+/// `a >= 224` by its three top bits, with a skip after the first and one after the second, both to
+/// the same place.
 pub(crate) const TWO_SKIPS: &str = "\
     LOAD r0 a 7\n\
     SKIP r0 7\n\

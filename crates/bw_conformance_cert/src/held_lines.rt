@@ -1,5 +1,6 @@
-//! Whatever a diagram holds, with memory at hand it takes each line that obeys its rule, and refuses each other one by
-//! its own number. No clause can say so, since out of memory is set aside in all of them.
+//! Whatever a diagram contains, if there is memory it accepts each line that satisfies its rule,
+//! and rejects any other by that line's own number. No clause can say so, since all exempt running
+//! out of memory.
 use bw_diagram::{ChainColumns, ChainKind, Connective, Diagram, Reason};
 use bw_model::{Fault, Schema};
 use std::alloc::Global;
@@ -17,10 +18,10 @@ enum Kind {
     Row,
 }
 
-/// The kinds, and the number by which a line is refused that breaks its rule.
+/// The kinds, and the number by which a line that breaks its rule is rejected.
 const KINDS: [(Kind, u16); 3] = [(Kind::Node, 601), (Kind::Chain, 603), (Kind::Row, 602)];
 
-/// How many lines of each kind a diagram holds.
+/// The number of lines of each kind in a diagram.
 #[derive(Clone, Copy, Debug)]
 struct Held {
     nodes: u64,
@@ -38,8 +39,8 @@ impl Held {
     }
 }
 
-/// Adds the line after so many others of its kind: one that obeys its rule whatever else is held, or one that breaks
-/// it.
+/// Adds a line after this many others of its kind: one that satisfies its rule whatever else the
+/// diagram contains, or one that breaks it.
 fn add(
     alloc: Global,
     diagram: &mut Diagram<'_>,
@@ -71,7 +72,7 @@ fn add(
     }
 }
 
-/// The next line of a kind is refused by its own number where it breaks its rule, and else taken.
+/// The next line of a kind is rejected by its own number if it breaks its rule, and else accepted.
 fn check_next(
     rt: &(impl AllocGlobal + Abort),
     diagram: &mut Diagram<'_>,

@@ -1,10 +1,10 @@
-//! Tests of certificates and of program files: texts that are read and printed, diagrams, which a refused line doesn't
-//! change, accepted program files, what they select and which skips they take, conditions and totals over rows in
-//! memory, and lines with numbers that no call comes to. What the checker says of program files is in
-//! `cases/certificates.md` and `cases/certificate_lines.md`, and what queries answer by program files in
-//! `cases/programs.md`. Nothing stands on this crate.
+//! Tests of certificates and program files: texts that are read and printed; diagrams, which a
+//! rejected line doesn't change; accepted program files, what they select and which skips they
+//! take; conditions and totals over rows in memory; and lines with numbers that no call reaches.
+//! `cases/certificates.md` and `cases/certificate_lines.md` have what the checker says of program
+//! files, `cases/programs.md` what queries return by them. No crate depends on this one.
 //!
-//! Read `selections.rt`, which is a table of segments with the skips that are taken on them.
+//! Read `selections.rt`: a table of segments with the skips that are taken on them.
 #![tactic(auto)]
 
 #[cfg(test)]

@@ -1,5 +1,5 @@
-//! Lines that no call of the program comes to: numbers as great as they may be, and the fault of which no example is
-//! known.
+//! Lines that no call of the program reaches: with maximal numbers, and with the error of which no
+//! example is known.
 use bw_io::ToWrite;
 use bw_model::{Fault, Place};
 use bw_report::{Accepted, By, Served, accepted_line, report, stats_line};
@@ -23,7 +23,7 @@ fn faults_are_reported(rt: HostRuntime) -> Result<(), Fail> {
     Ok(())
 }
 
-/// A fault is shown as its line has it: by its number, its words and its place.
+/// An error is shown as its line has it: by its number, its text and its place.
 #[test]
 fn faults_are_shown_as_reported(rt: HostRuntime) -> Result<(), Fail> {
     let alloc = rt.alloc();

@@ -1,4 +1,5 @@
-//! Statements read by `bw_sql`, and their conditions and totals over rows in memory, without a CSV text.
+//! Statements read by `bw_sql`, and their conditions and totals over rows in memory, without a CSV
+//! text.
 ghost use Rattle.std.specs.Prelude.{◌≡◌, All, IsTrue, IfOk, length};
 ghost use Rattle.std.specs.List.{list_all};
 ghost use Rattle.bw_model.specs.Cond.{names_within};
@@ -45,7 +46,8 @@ fn query(rt: &(impl Abort + AllocGlobal), sql: &str) -> Result<Query, Fail>
     Ok(parse(rt.alloc(), &schema, sql.as_bytes())?)
 }
 
-/// Checks the truth of a condition on each row of the table, and that the rows are kept on which it is TRUE.
+/// Checks the truth of a condition on each row of the table, and that the rows on which it is TRUE
+/// are selected.
 fn check_truth(
     rt: &(impl Abort + AllocGlobal),
     condition: &str,
@@ -123,7 +125,8 @@ fn totals_drop_nulls(rt: HostRuntime) -> Result<(), Fail> {
     Ok(())
 }
 
-/// The columns of the table have fourteen variables: the eight bits of `a`, and of `b` its null and five bits.
+/// The columns of the table have fourteen variables: the eight bits of `a`, and of `b` its null and
+/// five bits.
 #[test]
 fn variables_are_numbered_over_the_schema(rt: HostRuntime) -> Result<(), Fail> {
     let schema = Schema::parse(rt.alloc(), SCHEMA.as_bytes())?;

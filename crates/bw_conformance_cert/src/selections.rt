@@ -1,4 +1,5 @@
-//! What accepted programs select, and which skips they take, beside the truth of the condition row by row.
+//! What accepted programs select, and which skips they take, compared with the condition's truth
+//! row by row.
 ghost use Rattle.std.specs.Prelude.{IsTrue, length};
 ghost use Rattle.bw_model.specs.Cond.{names_within};
 
@@ -27,7 +28,8 @@ fn rows_of(alloc: Global, values: &[u8]) -> Result<Vec<Row>, Fail> {
     Ok(rows)
 }
 
-/// Ends the test where a plane isn't the truth of the condition on each of the rows, and 0 after them.
+/// Ends the test unless a plane is the truth of the condition on each of the rows, and 0 after
+/// them.
 fn assert_truth(rt: &impl Abort, schema: &Schema, cond: &Cond, rows: &[Row], plane: &Plane)
     requires { IsTrue (names_within (length schema.now.columns.items) cond.now) }
 {
@@ -42,7 +44,8 @@ fn assert_truth(rt: &impl Abort, schema: &Schema, cond: &Cond, rows: &[Row], pla
     }
 }
 
-/// Runs an accepted program over rows in planes and in slices, which select what the condition does, with one count.
+/// Runs an accepted program over rows in planes and in slices: both select the matching rows, with
+/// equal counts.
 fn run(
     rt: &impl Abort,
     alloc: Global,

@@ -1,4 +1,4 @@
-//! How program files are cut.
+//! How program files are split.
 use bw_cert::split_file;
 use std::test::Fail;
 

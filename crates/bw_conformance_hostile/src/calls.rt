@@ -1,4 +1,5 @@
-//! Calls over one table: its texts, its file in either layout, and program files for its conditions.
+//! Calls over one table: its texts, its file in either layout, and program files for its
+//! conditions.
 ghost use Rattle.std.specs.Prelude.{◌<◌, ◌-◌, ◌^◌};
 
 use crate::devices::{Calls, Pieces, Taker};
@@ -19,7 +20,7 @@ pub const COUNT: &str = "SELECT COUNT(*) FROM t WHERE a < 8";
 
 pub const COUNTED: &str = "COUNT(*)\n3\n";
 
-/// What is reported of its file in bit planes, whose header has 56 bytes.
+/// The header facts of its file in bit planes, whose header has 56 bytes.
 pub const INFO: &str = "TABLE t\nCOLUMN a 0 255 NOT NULL\nCOLUMN b -10 10\n\
                         # rows 5\n# segments 1\n# layout planes\n# version 1\n# bytes 952\n";
 
@@ -27,7 +28,8 @@ pub const HEADER_LEN: u64 = 56;
 
 pub const LAYOUTS: [Layout; 2] = [Layout::Planes, Layout::Slices];
 
-/// A call over the table's texts, or over its file, with a statement, and a program file where there is one.
+/// A call over the table's texts, or over its file, with a statement, and a program file if there
+/// is one.
 #[derive(Clone, Copy)]
 pub enum Call<'a> {
     Direct(&'a str),
@@ -40,8 +42,8 @@ pub enum Call<'a> {
     Plan(&'a str),
 }
 
-/// How many bytes a read gives at most, and at which read, from 1, the sources of the schema, of the CSV text and of
-/// the table file fail (0 for never).
+/// The most bytes that a read yields, and the read, from 1, at which the source of the schema, of
+/// the CSV text and of the table file fails (0 for never).
 #[derive(Clone, Copy)]
 pub struct Reads {
     pub piece: usize,
@@ -57,7 +59,7 @@ impl Reads {
 }
 
 impl Call<'_> {
-    /// Makes the call, and gives what it answered: by whom an answer was found, where that is reported.
+    /// Makes the call, and returns its result: also what served the query, if that is reported.
     pub fn make(
         self,
         alloc: Global,
@@ -98,7 +100,7 @@ impl Call<'_> {
         Ok(by)
     }
 
-    /// By whom the answer of the call is to be found, where that is reported.
+    /// What is to serve the call's query, if that is reported.
     pub fn served_by(self) -> Option<By> {
         match self {
             Call::Answer(_, _) => Some(By::Program),

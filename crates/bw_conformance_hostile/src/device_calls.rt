@@ -1,4 +1,4 @@
-//! Calls over sources and sinks that give or take little at a time, fail at a given call, or never end.
+//! Calls over sources and sinks that move little at a time, fail at a given call, or never end.
 ghost use Rattle.std.specs.Prelude.{◌≡◌};
 
 use crate::calls::{
@@ -15,8 +15,8 @@ use bw_shell::{
 use std::process::Abort;
 use std::test::Fail;
 
-/// A call through a sink of one byte takes a write for each byte of its text; where a write fails, the bytes before it
-/// went out, and the call answers so.
+/// A call through a sink of one byte makes a write for each byte of its text. If a write fails, the
+/// bytes before it went out, and the call says so.
 fn check_writes(
     rt: &(impl Abort + AllocGlobal),
     call: Call<'_>,
@@ -67,8 +67,8 @@ fn each_write_may_fail(rt: HostRuntime) -> Result<(), Fail> {
     Ok(())
 }
 
-/// A call whose source, the one of this number, gives one byte a read: it reads its bytes and the end, and where a read
-/// fails, the call answers so and has written nothing.
+/// A call whose source, the one of this number, gives one byte a read: it reads its bytes and the
+/// end, and where a read fails, the call answers so and has written nothing.
 fn check_reads(
     rt: &(impl Abort + AllocGlobal),
     call: Call<'_>,
@@ -145,8 +145,8 @@ fn facts_need_the_header_alone(rt: HostRuntime) -> Result<(), Fail> {
     Ok(())
 }
 
-/// A statement is refused once the header was read, whatever the segments would be: its fault comes where the header's
-/// 56 bytes come, and a failed read before.
+/// A statement is refused once the header was read, whatever the segments would be: its fault comes
+/// where the header's 56 bytes come, and a failed read before.
 #[test]
 fn a_statement_comes_before_the_segments(rt: HostRuntime) -> Result<(), Fail> {
     let file = table_file(rt.alloc(), Layout::Planes)?;
@@ -274,7 +274,8 @@ enum Line {
 }
 
 impl Line {
-    /// Writes the line, and tells whether the call says that a write failed, which a report never does.
+    /// Writes the line, and tells whether the call says that a write failed, which a report never
+    /// does.
     fn write(self, rt: &impl Abort, sink: &mut Taker) -> bool
         requires { sink.old.calls.failures ≡ 0 }
     {

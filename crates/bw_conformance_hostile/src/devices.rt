@@ -3,7 +3,8 @@ ghost use Rattle.std.specs.Prelude.{◌≡◌, None, []};
 
 use bw_io::{Failed, SharedBytes, Sink, Source};
 
-/// What one call may move, at which call the device fails (from 1; 0 for never), and what has happened.
+/// What one call may move, at which call the device fails (from 1; 0 for never), and what has
+/// happened.
 #[derive(Drop)]
 pub struct Calls {
     pub piece: usize,

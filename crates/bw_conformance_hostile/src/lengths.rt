@@ -58,8 +58,8 @@ fn long_statements_are_refused_alike(rt: HostRuntime) -> Result<(), Fail> {
     Ok(())
 }
 
-/// A statement answers the same over texts and over the files that are loaded from them; a plan of it is accepted, or
-/// there is none.
+/// A statement answers the same over texts and over the files that are loaded from them; a plan of
+/// it is accepted, or there is none.
 fn check_answer(
     rt: &(impl Abort + AllocGlobal),
     schema: &str,
@@ -139,7 +139,8 @@ fn sixty_four_columns_of_63_bits_are_answered(rt: HostRuntime) -> Result<(), Fai
 #[test]
 fn long_records_and_fields_are_judged(rt: HostRuntime) -> Result<(), Fail> {
     let sql = b"SELECT COUNT(*) FROM t WHERE a = 7".as_slice();
-    // what the text begins with, what is repeated a million times, what it ends with, and the fault at the first record
+    // what the text begins with, what is repeated a million times, what it ends with, and the fault
+    // at the first record
     for (start, part, end, fault) in [
         ("a,b\n0", ",0", "\n", Some(code::RECORD_LENGTH)),
         ("a,b\n", "9", ",0\n", Some(code::OUT_OF_RANGE)),

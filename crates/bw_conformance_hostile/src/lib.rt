@@ -1,7 +1,7 @@
-//! Tests of hostile use that cross crates: memory that is refused, devices that give or take little, fail or never end,
-//! and texts that are as long or as deep as they may be. Nothing stands on this crate.
+//! Tests of hostile use across crates: refused memory; devices that move little, fail or never end;
+//! and texts of maximal length or depth. No crate depends on this one.
 //!
-//! Read `calls.rt`, which has the calls that are made, and `devices.rt`, through which.
+//! Read `calls.rt` for the calls, and `devices.rt` for the devices.
 #![tactic(auto)]
 
 #[cfg(test)]

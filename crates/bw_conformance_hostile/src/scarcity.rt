@@ -1,4 +1,5 @@
-//! Memory that is refused: a call is made again and again with a little more memory, until it has all that it needs.
+//! Refused memory: a call is repeated with a little more memory each time, until it has all that it
+//! needs.
 use crate::calls::{
     COUNT, COUNTED, Call, DUMP, INFO, LAYOUTS, Reads, SCHEMA, plan_file, table_file,
 };
@@ -8,21 +9,22 @@ use std::alloc::Global;
 use std::process::Abort;
 use std::test::Fail;
 
-/// How much memory is left in all, in bytes: several times what a call takes, since pieces of it that are given back
-/// are not all joined again.
+/// The memory that is left in all, in bytes: several times what a call uses, since freed pieces
+/// aren't all joined again.
 const LEFT: usize = 512 * 1024;
 
-/// How much more of it a call may use than the one before.
+/// The additional memory of each call, in bytes.
 const STEP: usize = 16;
 
-/// How many blocks are taken at most: the largest have 8 GiB, of an address space of 2^47 bytes.
+/// The maximal number of allocated blocks: the largest have 8 GiB, of an address space of 2^47
+/// bytes.
 const MAX_BLOCKS: usize = 32_768;
 
-/// Takes blocks of memory, the largest first, until none is left but for a hole.
+/// Allocates blocks of memory, the largest first, until nothing but a hole is left.
 fn take_all(alloc: Global) -> Result<Vec<Vec<u8>>, Fail> {
     let mut blocks = Vec::with_capacity(alloc, MAX_BLOCKS)?;
-    // The C library has blocks of the hole's size from the system, one by one, until the first is given back; the next
-    // is of its own heap, and stays there for the calls.
+    // The C library has blocks of the hole's size from the system, one by one, until the first is
+    // given back; the next is of its own heap, and stays there for the calls.
     let given_back: Vec<u8> = Vec::with_capacity(alloc, LEFT)?;
     drop(given_back);
     let hole: Vec<u8> = Vec::with_capacity(alloc, LEFT)?;
@@ -38,8 +40,8 @@ fn take_all(alloc: Global) -> Result<Vec<Vec<u8>>, Fail> {
     Ok(blocks)
 }
 
-/// A call whose memory is refused answers so, and has written nothing, whichever of its growths it was; with enough
-/// memory it gives the answer, by a program where it is reported by whom.
+/// A call whose memory is refused says so, and has written nothing, whichever of its allocations it
+/// was. With enough memory it returns the result, by a program if that is reported.
 fn check_with_all_memory_taken(
     rt: &(impl Abort + AllocGlobal),
     call: Call<'_>,
@@ -77,7 +79,7 @@ fn check_with_all_memory_taken(
     Ok(())
 }
 
-/// Statements and what they answer.
+/// Statements and their results.
 const STATEMENTS: [(&str, &str); 3] = [
     (COUNT, COUNTED),
     (

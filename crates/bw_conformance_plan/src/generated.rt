@@ -1,4 +1,4 @@
-//! Conditions of every kind, made up by a source of numbers.
+//! Generated conditions of every kind.
 use crate::rows::{Numbers, cost_of, rows_of};
 use bw_model::Schema;
 use std::alloc::{AllocError, Global};
@@ -104,7 +104,7 @@ fn predicate(alloc: Global, numbers: &mut Numbers) -> Result<String, AllocError>
     }
 }
 
-/// A condition of parts that nest so deep.
+/// A condition whose parts nest this deep.
 pub(crate) fn condition(
     alloc: Global,
     numbers: &mut Numbers,
@@ -137,7 +137,7 @@ pub(crate) fn condition(
     }
 }
 
-/// So many conditions, each of which has a program that picks the right rows.
+/// This many conditions: each has a program that selects the right rows.
 fn pick(rt: &(impl Abort + AllocGlobal), seed: u64, count: u32) -> Result<(), Fail> {
     let alloc = rt.alloc();
     let schema = Schema::parse(alloc, COLUMNS_TABLE.as_bytes())?;

@@ -1,9 +1,9 @@
-//! Tests of the planner that cross crates: proposals for made-up conditions, which the checker judges and whose
-//! programs run over segments in both layouts, with the rows that the condition's truth selects, row by row. Nothing
-//! stands on this crate.
+//! Tests of the planner across crates: the checker validates proposals for generated conditions,
+//! and their programs run over segments in both layouts, compared with the condition's truth row by
+//! row. No crate depends on this one.
 //!
-//! Read `rows.rt` first, which judges a condition over rows. `scripts/conditions` has the program answer many more from
-//! table files, and `cases/plans.md` says how much is read.
+//! Read `rows.rt` first, which tests a condition over rows. `scripts/conditions` has the program
+//! answer many more from table files, and `cases/plans.md` says how much is read.
 #![tactic(auto)]
 
 #[cfg(test)]

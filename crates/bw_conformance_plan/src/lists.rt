@@ -1,4 +1,4 @@
-//! Lists of numbers: what fits into a program, and the rows that it picks.
+//! Lists of numbers: what fits into a program, and the rows that it selects.
 use crate::rows::{Numbers, cost_of, judged, rows_of};
 use bw_model::{Row, Schema, code};
 use std::alloc::Global;
@@ -15,7 +15,8 @@ const WIDTHS: &str = "\
     COLUMN e 0 4294967295\n\
     ";
 
-/// Scattered numbers of so many bits, of which the first and the last bytes are often all zeros or ones.
+/// Scattered numbers of so many bits, of which the first and the last bytes are often all zeros or
+/// ones.
 fn scattered(alloc: Global, count: u64, bits: u32) -> Result<Vec<i64>, Fail> {
     let mut numbers = Numbers::new(u64::from(bits));
     let mut made = Vec::new(alloc);
@@ -42,7 +43,7 @@ fn among(alloc: Global, column: &str, numbers: &[i64]) -> Result<String, Fail> {
     Ok(text)
 }
 
-/// Ends the test where lists of so many numbers aren't served, negated and joined too.
+/// Ends the test unless lists of this many numbers have a program, negated and combined too.
 fn assert_served(
     rt: &(impl Abort + AllocGlobal),
     column: &str,
@@ -85,7 +86,7 @@ fn lists_over_four_bytes_are_served(rt: HostRuntime) -> Result<(), Fail> {
     assert_served(&rt, "e", 32, &[100])
 }
 
-/// Ends the test where a list of so many numbers isn't served, or the one of one more is.
+/// Ends the test unless a list of this many numbers has a program, and one of one more has none.
 fn assert_longest(
     rt: &impl Abort,
     alloc: Global,

@@ -41,7 +41,7 @@ fn alike(alloc: Global, top: i64) -> Result<Vec<Row>, Fail> {
     Ok(rows)
 }
 
-/// Ends the test where a condition's program takes no skip over rows, or more than so many loads.
+/// Ends the test if a condition's program takes no skip over rows, or more than this many loads.
 fn assert_early(
     rt: &(impl Abort + AllocGlobal),
     schema: &Schema,
@@ -55,8 +55,8 @@ fn assert_early(
     Ok(())
 }
 
-/// What stands before and after a comparison: it alone, negated, tested, and joined with another one that doesn't
-/// settle it.
+/// What stands before and after a comparison: it alone, negated, tested, and joined with another
+/// one that doesn't settle it.
 const FORMS: [(&str, &str); 12] = [
     ("", ""),
     ("NOT (", ")"),
@@ -126,8 +126,8 @@ fn ranges_and_lists_of_columns_end_early(rt: HostRuntime) -> Result<(), Fail> {
     Ok(())
 }
 
-/// The columns `c0`, `c1` and so on of a table, from 0 to a greatest number, and the condition that each is less than
-/// the next.
+/// The columns `c0`, `c1` and so on of a table, from 0 to a greatest number, and the condition that
+/// each is less than the next.
 fn chain(alloc: Global, count: usize, most: i64) -> Result<(Schema, String), Fail> {
     let mut table = String::from_str(alloc, "TABLE t\n")?;
     let mut text = String::from_str(alloc, "c0 < c1")?;
@@ -143,7 +143,8 @@ fn chain(alloc: Global, count: usize, most: i64) -> Result<(Schema, String), Fai
     Ok((Schema::parse(alloc, table.as_bytes())?, text))
 }
 
-/// Ends the test where a chain of so many comparisons isn't served, or the one of one more is.
+/// Ends the test unless a chain of this many comparisons has a program, and one of one more has
+/// none.
 fn assert_longest(rt: &(impl Abort + AllocGlobal), count: usize, most: i64) -> Result<(), Fail> {
     let alloc = rt.alloc();
     let (schema, text) = chain(alloc, count, most)?;

@@ -1,4 +1,5 @@
-//! A condition judged over rows: its proposal is checked and run, and compared with the condition's truth.
+//! Tests a condition over rows: its proposal is checked and run, and compared with the condition's
+//! truth.
 ghost use Rattle.std.specs.Prelude.{◌≡◌, IfOk, IsTrue, length};
 ghost use Rattle.bw_model.specs.Cond.{names_within};
 ghost use Rattle.bw_segment.specs.Meaning.{IsGroup, meaning_of};
@@ -15,7 +16,7 @@ use std::alloc::Global;
 use std::process::Abort;
 use std::test::Fail;
 
-/// A source of numbers that look random, and are the same in every run.
+/// A source of pseudo-random numbers, the same in every run.
 #[derive(Drop)]
 pub(crate) struct Numbers(u64);
 
@@ -89,7 +90,7 @@ pub(crate) fn rows_of(
     Ok(rows)
 }
 
-/// Ends the test where the rows are no group of the table.
+/// Ends the test unless the rows are a group of the table.
 fn assert_group(rt: &impl Abort, schema: &Schema, rows: &[Row])
     ensures { IsGroup (meaning_of schema.now rows.now) }
 {
@@ -100,7 +101,8 @@ fn assert_group(rt: &impl Abort, schema: &Schema, rows: &[Row])
     }
 }
 
-/// The certified program of a condition, or the fault of `propose`. The checker has to accept what is proposed.
+/// Returns the certified program of a condition, or the error of `propose`. The checker must accept
+/// what is proposed.
 pub(crate) fn planned(
     rt: &impl Abort,
     alloc: Global,
@@ -118,7 +120,8 @@ pub(crate) fn planned(
     }
 }
 
-/// What a program picks from a group of rows in both layouts, which has to be where the condition is TRUE.
+/// Returns what a program selects from a group of rows in both layouts, which must be the rows on
+/// which the condition is TRUE.
 fn picked(
     rt: &impl Abort,
     alloc: Global,

@@ -1,8 +1,8 @@
-//! Tests of scans and what they stand on: lanes, segments in both layouts, runs of programs, and totals, with outcomes
-//! that were worked out by hand. Nothing stands on this crate.
+//! Tests of scans and what they depend on: lanes, segments in both layouts, runs of programs, and
+//! totals, with results worked out by hand. No crate depends on this one.
 //!
-//! Read `runs.rt`, which is a table of programs with what they select, and `totals.rt`, which is one of aggregates with
-//! their totals.
+//! Read `runs.rt`, a table of programs with what they select, and `totals.rt`, one of aggregates
+//! with their totals.
 #![tactic(auto)]
 
 #[cfg(test)]

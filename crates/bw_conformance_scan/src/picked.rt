@@ -1,4 +1,4 @@
-//! What an aggregate makes of picked rows, in segments of both layouts.
+//! Aggregates of selected rows, in segments of both layouts.
 ghost use Rattle.std.specs.Prelude.{◌≡◌, IsTrue, length};
 ghost use Rattle.bw_lanes.specs.Lanes.{lanes_of_words};
 ghost use Rattle.bw_model.specs.Total.{is_aggregate, item_within};
@@ -15,7 +15,7 @@ use std::alloc::Global;
 use std::process::Abort;
 use std::test::Fail;
 
-/// Ends the test where a lane past the first so many is 1.
+/// Ends the test if a lane past the first ones is 1.
 fn assert_within(rt: &impl Abort, rows: u32, plane: &Plane)
     ensures { IsWithin rows (lanes_of_words plane.now) }
 {
@@ -24,7 +24,7 @@ fn assert_within(rt: &impl Abort, rows: u32, plane: &Plane)
     }
 }
 
-/// Ends the test where the item is none of the first so many columns' aggregates.
+/// Ends the test unless the item is an aggregate of one of the first columns.
 fn assert_aggregate(rt: &impl Abort, item: &Item, columns: usize)
     ensures aggregate { IsTrue (is_aggregate item.now) }
     ensures column { IsTrue (item_within columns item.now) }
@@ -38,7 +38,7 @@ fn assert_aggregate(rt: &impl Abort, item: &Item, columns: usize)
     }
 }
 
-/// The totals of these and of the picked rows of one more segment.
+/// Returns the totals of these and of the selected rows of one more segment.
 fn added<S: Segment>(
     rt: &impl Abort,
     mut totals: Totals,
@@ -60,14 +60,14 @@ fn added<S: Segment>(
     totals
 }
 
-/// A group of rows, and which of them are picked.
+/// A group of rows, and which of them are selected.
 #[derive(Clone, Copy)]
 pub(crate) struct Picked<'a> {
     pub rows: &'a [[Value; 2]],
     pub plane: Plane,
 }
 
-/// The total over two groups of rows, in planes and in slices, which is the same.
+/// Returns the total over two groups of rows, which is the same in planes and in slices.
 pub(crate) fn total(
     rt: &impl Abort,
     alloc: Global,

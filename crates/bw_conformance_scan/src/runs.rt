@@ -11,7 +11,7 @@ use std::alloc::Global;
 use std::process::Abort;
 use std::test::Fail;
 
-/// Runs a program over rows in planes and in slices, which gives one answer.
+/// Runs a program over rows in planes and in slices, with the same result.
 fn run(
     rt: &impl Abort,
     alloc: Global,

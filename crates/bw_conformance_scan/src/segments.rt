@@ -7,7 +7,8 @@ use bw_slices::SliceSegment;
 use std::alloc::Global;
 use std::test::Fail;
 
-/// A table with a column of 8 bits, from 0 to 255, that takes no null, and one of 5 bits, from -10 to 10, that does.
+/// A table with a column of 8 bits, from 0 to 255, that takes no null, and one of 5 bits, from -10
+/// to 10, that does.
 pub(crate) const SCHEMA: &[u8] = b"TABLE t\nCOLUMN a 0 255 NOT NULL\nCOLUMN b -10 10\n";
 
 /// Five rows of it.
@@ -55,7 +56,8 @@ pub(crate) fn compared(
     }
 }
 
-/// What a segment answers for every variable, and for every byte of its codes and every constant.
+/// Returns what a segment says of every variable, and of every byte of its codes and every
+/// constant.
 fn answers<S: Segment>(alloc: Global, segment: &S) -> Result<Vec<Plane>, Fail> {
     let mut planes = Vec::new(alloc);
     let schema = segment.schema();
@@ -86,7 +88,8 @@ fn layouts_answer_alike(rt: HostRuntime) -> Result<(), Fail> {
     assert_eq!(rt; answers_of_planes.len(), 14 + 1024);
     assert!(rt; answers_of_planes.as_slice() == answers(alloc, &slices)?.as_slice());
     assert!(rt; answers_of_planes.len() >= 14);
-    // the top plane of a, its last one, the nulls of b and b's least bit: one bit a row, the first row's least
+    // the top plane of a, its last one, the nulls of b and b's least bit: one bit a row, the first
+    // row's least
     for (variable, word) in [(0, 0b00010), (7, 0b01110), (8, 0b01100), (13, 0b00000)] {
         assert_eq!(rt; answers_of_planes[variable][0], word, "variable {variable}");
     }

@@ -50,7 +50,7 @@ fn segment_answers(rt: HostRuntime) -> Result<(), Fail> {
 /// Where each column's block begins in the worked segment.
 const STARTS: [usize; 2] = [0, 512];
 
-/// What is judged of a column's block in which two bytes are other ones.
+/// Returns the error of a column's block in which two bytes are replaced, if there is one.
 fn judged(
     alloc: Global,
     segment: &SliceSegment,

@@ -15,7 +15,8 @@ fn common_table_is_totalled(rt: HostRuntime) -> Result<(), Fail> {
     let alloc = rt.alloc();
     let schema = Schema::parse(alloc, SCHEMA)?;
     let other = [[Some(9), Some(9)]];
-    // which rows are picked, and the totals of all five and of the one more row after them, which isn't picked
+    // which rows are picked, and the totals of all five and of the one more row after them, which
+    // isn't picked
     for (name, word, item, expected) in [
         ("all", 0b11111, Item::CountAll, Some(5)),
         ("all", 0b11111, Item::Count(0), Some(5)),
@@ -144,7 +145,8 @@ const FOUR: &str = "TABLE f\nCOLUMN a 0 4294967295\nCOLUMN b 0 9 NOT NULL\n";
 fn least_and_greatest_are_found_among_ties(rt: HostRuntime) -> Result<(), Fail> {
     let alloc = rt.alloc();
     let schema = Schema::parse(alloc, FOUR.as_bytes())?;
-    // rows that agree in their first bytes, twice the same ones, and rows with a greater byte further down
+    // rows that agree in their first bytes, twice the same ones, and rows with a greater byte
+    // further down
     let table = [
         [Some(0x0102_FFFF), Some(1)],
         [Some(0x0102_0304), Some(1)],

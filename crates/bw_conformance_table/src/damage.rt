@@ -1,4 +1,4 @@
-//! Table files that were damaged.
+//! Damaged table files.
 use crate::files::{again, planes_file, put, slices_file, wide_file, worked_files};
 use bw_file::{Layout, TableReader, decode};
 use bw_io::Source;
@@ -7,7 +7,7 @@ use std::alloc::Global;
 use std::process::Abort;
 use std::test::Fail;
 
-/// The first fault of a file, if it has one.
+/// Returns the first error of a file, if it has one.
 fn fault_of(alloc: Global, file: &[u8]) -> Option<Fault> {
     decode(alloc, file).err()
 }
@@ -28,14 +28,15 @@ fn each_front_of_a_file_is_truncated(rt: HostRuntime) -> Result<(), Fail> {
     Ok(())
 }
 
-/// Changes a bit of a byte, where there is one.
+/// Changes a bit of a byte, if there is one.
 pub(crate) fn flip(bytes: &mut Vec<u8>, at: usize, bit: u32) {
     if at < bytes.len() && bit < 8 {
         bytes[at] ^= 1 << bit;
     }
 }
 
-/// Whether a file is of a table whose file is the same again; another file is refused at a place in it.
+/// Returns whether a file is that of the table it is read as; any other file is rejected at a place
+/// in it.
 fn is_a_table(rt: &impl Abort, alloc: Global, file: &[u8]) -> Result<bool, Fail> {
     match decode(alloc, file) {
         Ok(table) => {
@@ -50,7 +51,7 @@ fn is_a_table(rt: &impl Abort, alloc: Global, file: &[u8]) -> Result<bool, Fail>
     }
 }
 
-/// Each change of one bit is refused, or makes the file of another table; some do.
+/// Each change of one bit is rejected, or makes the file of another table; some do.
 fn check_bits(rt: &impl Abort, alloc: Global, mut file: Vec<u8>) -> Result<(), Fail> {
     let mut accepted = 0u32;
     for at in 0..file.len() {

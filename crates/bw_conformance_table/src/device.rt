@@ -1,5 +1,5 @@
-//! Sources and sinks over memory and over a reader that fails: pieces, failures that are counted, and whole inputs and
-//! texts.
+//! Sources and sinks over memory and over a reader that fails: pieces, counted failures, and whole
+//! inputs and texts.
 use bw_io::{Failed, FromRead, Input, Sink, Source, ToWrite, read_limited, write_whole};
 use std::io;
 use std::io::{Read, Write};
@@ -43,7 +43,7 @@ fn an_interrupted_read_counts(rt: HostRuntime) {
     assert!(rt; once);
 }
 
-/// Is interrupted once, and then takes all.
+/// Is interrupted once, and then accepts everything.
 struct InterruptedWriter {
     once: bool,
 }

@@ -1,4 +1,4 @@
-//! Worked table files, and the tables that they are of.
+//! Table files worked out byte by byte, and their tables.
 ghost use Rattle.std.specs.Prelude.{◌≡◌, All, IfOk, length, map};
 ghost use Rattle.bw_file.specs.FileBytes.{AreRows};
 ghost use Rattle.bw_model.specs.Row.{values_of};
@@ -34,7 +34,7 @@ const PLANES: [u8; 14] = [
     0x02, 0x02, 0x02, 0x02, 0x12, 0x0E, 0x0E, 0x0E, 0x0C, 0x02, 0x10, 0x02, 0x10, 0x00,
 ];
 
-/// A file of this many bytes, of which these stand after a header and the others are 0.
+/// Returns a file of this many bytes: these after a header, and zeros elsewhere.
 fn file(alloc: Global, layout: u8, len: usize, parts: &[(usize, u8)]) -> Result<Vec<u8>, Fail> {
     let mut bytes = Vec::from_slice(alloc, &HEADER)?;
     bytes.resize(len, 0)?;
@@ -45,7 +45,7 @@ fn file(alloc: Global, layout: u8, len: usize, parts: &[(usize, u8)]) -> Result<
     Ok(bytes)
 }
 
-/// Changes a byte, where there is one.
+/// Changes a byte, if there is one.
 pub(crate) fn put(bytes: &mut Vec<u8>, at: usize, byte: u8) {
     if at < bytes.len() {
         bytes[at] = byte;
@@ -128,7 +128,7 @@ fn rows_of(alloc: Global, table: &[[Value; 2]]) -> Result<Vec<Row>, Fault>
     Ok(rows)
 }
 
-/// Ends the test where the schema doesn't admit the rows, or where they are too many.
+/// Ends the test if the schema doesn't admit the rows, or if there are too many.
 fn assert_rows(rt: &impl Abort, schema: &Schema, rows: &[Row])
     ensures { AreRows schema.now.columns.items (map values_of rows.now) }
 {

@@ -1,7 +1,7 @@
-//! Tests of sources and sinks over memory, and of those that fail or give little; and of table files that come from
-//! them, whole and damaged. Nothing stands on this crate.
+//! Tests of sources and sinks over memory, and of those that fail or move little; and of table
+//! files read and written through them, whole and damaged. No crate depends on this one.
 //!
-//! Read `files.rt`, which has worked table files byte by byte, and then `damage.rt`.
+//! Read `files.rt`, which has table files worked out byte by byte, then `damage.rt`.
 #![tactic(auto)]
 
 #[cfg(test)]

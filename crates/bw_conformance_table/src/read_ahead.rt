@@ -1,4 +1,4 @@
-//! Table files from a source that reads ahead and shares what it keeps.
+//! Table files from a source that reads ahead and shares its buffer.
 ghost use Rattle.std.specs.Prelude.{◌<◌};
 
 use crate::damage::flip;
@@ -12,7 +12,8 @@ use std::io;
 use std::io::Read;
 use std::test::Fail;
 
-/// The first fault of a file of at most two segments, if it has one, by a source that asks for so many bytes at a time.
+/// Returns the first error of a file of at most two segments, if it has one, from a source that
+/// requests this many bytes at a time.
 fn fault_ahead(alloc: Global, file: &[u8], piece: usize) -> Result<(), Fault>
     requires { 0 < piece }
 {
@@ -89,7 +90,8 @@ fn first_values(alloc: Global, file: &[u8], piece: usize) -> Result<Vec<Value>, 
     Ok(values)
 }
 
-/// Rows 0, 1, 2 and so on to 1,199, in three segments: whatever is read after a segment leaves its bytes as they are.
+/// Rows 0, 1, 2 and so on to 1,199, in three segments: whatever is read after a segment leaves its
+/// bytes as they are.
 #[test]
 fn segments_that_are_held_keep_their_bytes(rt: HostRuntime) -> Result<(), Fail> {
     let alloc = rt.alloc();
@@ -107,7 +109,7 @@ fn segments_that_are_held_keep_their_bytes(rt: HostRuntime) -> Result<(), Fail> 
     Ok(())
 }
 
-/// Fails at its second read, and gives a byte at each other one.
+/// Fails at its second read, and yields a byte at each other one.
 #[derive(Drop)]
 struct FailsOnce {
     reads: u32,

@@ -1,4 +1,4 @@
-//! Table files from sources that give little, or fail.
+//! Table files from sources that yield little, or fail.
 ghost use Rattle.std.specs.Prelude.{None, []};
 
 use crate::files::worked_files;
@@ -8,7 +8,7 @@ use bw_model::{Fault, code};
 use std::alloc::Global;
 use std::test::Fail;
 
-/// Gives a byte a read, and fails at one of the reads.
+/// Yields a byte a read, and fails at one of the reads.
 #[derive(Drop)]
 struct Drops<'a> {
     rest: &'a [u8],
@@ -50,7 +50,8 @@ impl Source for Drops<'_> {
     }
 }
 
-/// How many rows a file has, by a source that fails after so many reads: each is one byte's, and one is the end's.
+/// How many rows a file has, by a source that fails after so many reads: each is one byte's, and
+/// one is the end's.
 fn rows_after(alloc: Global, file: &[u8], reads: usize) -> Result<u32, Fault> {
     let mut source = Drops {
         rest: file,
@@ -84,7 +85,7 @@ fn a_read_that_fails_is_reported(rt: HostRuntime) -> Result<(), Fail> {
     Ok(())
 }
 
-/// Gives its bytes, and then zeros without end.
+/// Yields its bytes, and then zeros without end.
 #[derive(Drop)]
 struct Endless<'a> {
     rest: &'a [u8],

@@ -21,12 +21,14 @@ within_64_bits number (Some n) = Ok (Some n)
 
 -- the number that a sign and digits spell: there is at least one digit, and the number fits 64 bits
 abbrev pub bare_number : ℕ → Bool → List ℕ → Result Value Fault
-bare_number number is_negative digits = refused_if (not (are_digits digits)) (at_record NOT_A_NUMBER number)
+bare_number number is_negative digits = refused_if (not (are_digits digits))
+    (at_record NOT_A_NUMBER number)
     (within_64_bits number (number_of is_negative digits))
 
 -- the value that a text without blanks spells: null, or an optional sign and then a number
 abbrev pub bare_text : ℕ → List ℕ → Result Value Fault
-bare_text number text = if is_null_text text then Ok None else bare_number number (is_minus text) (unsigned text)
+bare_text number text = if is_null_text text then Ok None else bare_number number (is_minus text)
+    (unsigned text)
 
 -- the value of a field, or its error at the record of this number
 unfoldable pub bare_value : ℕ → List ℕ → Result Value Fault

@@ -31,9 +31,11 @@ IsCutAfter count whole cut = (cut ≡ whole) ⊎ IsCutRecord count whole cut
 -- first of them.
 abbrev pub HasMoreFields : ℕ → List ℕ → ℕ → Type 0
 HasMoreFields count text end = (1 ≤ end) × (end ≤ length text)
-    × IsCutRecord count (records_in st.StartRecord (Some text)) (records_in st.StartRecord (Some (take end text)))
+    × IsCutRecord count (records_in st.StartRecord (Some text))
+    (records_in st.StartRecord (Some (take end text)))
 
 -- the first of these records has more than `count` fields
 abbrev pub IsLonger : ℕ → List (List (List ℕ)) → Type 0
-IsLonger count records = (fields : List (List ℕ)) × (more : List (List (List ℕ))) × (records ≡ fields ∷ more)
+IsLonger count records = (fields : List (List ℕ)) × (more : List (List (List ℕ)))
+    × (records ≡ fields ∷ more)
     × (count < length fields)

@@ -17,8 +17,8 @@ IsMadeOf make (Failed fault) outcome = outcome ≡ Err fault
 
 -- The same for a call that takes another step first: if that step fails, the call fails by its
 -- error, and doesn't reach the CSV.
-abbrev pub IsMadeAfter : {A B : Type 0} → Result B Fault → (B → List ℕ → Result A Fault) → Arrival → Result A Fault
-    → Type 0
+abbrev pub IsMadeAfter : {A B : Type 0} → Result B Fault → (B → List ℕ → Result A Fault) → Arrival
+    → Result A Fault → Type 0
 IsMadeAfter (Ok x) make csv outcome = IsMadeOf (make x) csv outcome
 IsMadeAfter (Err fault) make csv outcome = (csv ≡ NotReached) × (outcome ≡ Err fault)
 

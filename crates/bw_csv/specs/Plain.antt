@@ -46,7 +46,8 @@ state_of Quoted = st.InQuoted
 state_of Closed = st.AfterQuote
 
 -- A text's first record has a row of these values, and `rest` is the text after the record.
-pub record HasRow (number : ℕ) (columns : List Column) (text rest : List ℕ) (values : List Value) : Type 0 where
+pub record HasRow (number : ℕ) (columns : List Column) (text rest : List ℕ)
+    (values : List Value) : Type 0 where
   pub fields : List (List ℕ)
   pub first : records_in st.StartRecord (Some text) ≡ fields ∷ records_in st.StartRecord (Some rest)
   pub row : row_of_record number columns fields ≡ Ok values

@@ -36,7 +36,8 @@ IsOpenReader reader = (reader.config ≡ default_config) × (reader.trim ≡ tri
 -- to read
 unfoldable pub IsOpen : Records → Type 0
 IsOpen records = IsOpenReader records.reader
-    × (records.is_followed ≡ true → records_in st.StartRecord (Some records.text.now) ≡ left_in records.reader)
+    × (records.is_followed ≡ true → records_in st.StartRecord (Some records.text.now)
+    ≡ left_in records.reader)
 
 -- the fields of the last record
 abbrev pub fields_in : Records → List (List ℕ)

@@ -9,7 +9,8 @@ use Rattle.bw_csv.specs.declared.rest.Rest.{Rest}
 
 -- the records that are still unread
 unfoldable pub to_come : Rest → List (List (List ℕ))
-to_come rest = if rest.reads_text then records_in st.StartRecord (Some rest.text.now) else coming rest.records
+to_come rest = if rest.reads_text then records_in st.StartRecord (Some rest.text.now)
+    else coming rest.records
 
 -- the text begins with a line's end or has ended; or the reader is open
 unfoldable pub IsReadable : Rest → Type 0

@@ -64,7 +64,8 @@ is_null_text text = (length text == 0) || same_text text (codes "NULL")
 -- and then a number
 abbrev pub text_value : ℕ → Column → List ℕ → Result Value Fault
 text_value number column text =
-    if is_null_text text then refused_if (not column.nullable) (at_record NULL_NOT_ALLOWED number) (Ok None)
+    if is_null_text text then refused_if (not column.nullable) (at_record NULL_NOT_ALLOWED number)
+    (Ok None)
     else number_value number column (is_minus text) (unsigned text)
 
 -- the value of a field in a column, or its error at the record of this number
@@ -88,14 +89,16 @@ row_of_record number columns fields =
     (values_of_fields number columns fields))
 
 -- a row, followed by the rows after it
-abbrev pub with_row : List Value → Result (List (List Value)) Fault → Result (List (List Value)) Fault
+abbrev pub with_row : List Value → Result (List (List Value)) Fault
+    → Result (List (List Value)) Fault
 with_row row more = more >>= λ rows. Ok (row ∷ rows)
 
 -- the rows of the records, the first of which has this number
 unfoldable pub rows_from : List Column → ℕ → List (List (List ℕ)) → Result (List (List Value)) Fault
 rows_from columns number [] = Ok []
 rows_from columns number (fields ∷ more) =
-    row_of_record number columns fields >>= λ row. with_row row (rows_from columns (number + 1) more)
+    row_of_record number columns fields
+    >>= λ row. with_row row (rows_from columns (number + 1) more)
 
 -- the fields are the names of the columns in order, ignoring case
 unfoldable pub is_heading : List Column → List (List ℕ) → Bool
@@ -108,7 +111,8 @@ is_heading (column ∷ columns) (field ∷ fields) = same_text column.name (with
 -- the rows of the records, the first of which is the heading and has number 0
 unfoldable pub rows_after : List Column → List (List (List ℕ)) → Result (List (List Value)) Fault
 rows_after columns [] = Err (at_record NO_HEADING 0)
-rows_after columns (heading ∷ more) = refused_if (not (is_heading columns heading)) (at_record HEADING 0)
+rows_after columns (heading ∷ more) = refused_if (not (is_heading columns heading))
+    (at_record HEADING 0)
     (rows_from columns 1 more)
 
 -- the rows that a text spells, without the byte order mark at its start, if it has one, or its
@@ -139,7 +143,8 @@ is_aside fault = is_memory fault || is_reader_fault fault
 
 -- the error is one of 201 to 208, or exempt
 abbrev pub is_rows_fault : Fault → Bool
-is_rows_fault fault = (nat_le NO_HEADING fault.code && nat_le fault.code CSV_TOO_LONG) || is_aside fault
+is_rows_fault fault = (nat_le NO_HEADING fault.code && nat_le fault.code CSV_TOO_LONG)
+    || is_aside fault
 
 abbrev pub IsRowsFault : Fault → Type 0
 IsRowsFault fault = IsTrue (is_rows_fault fault)
@@ -155,7 +160,8 @@ stands_after rows fault = stands_at 0 fault || stands_at (rows + 1) fault
 
 -- The records begin with some that have rows, the first of which has number 1. The error is one of
 -- the reader's own, at the record after them.
-pub record StopsAfter (rows_from_number : ℕ → List (List (List ℕ)) → Result (List (List Value)) Fault)
+pub record StopsAfter (rows_from_number : ℕ → List (List (List ℕ))
+    → Result (List (List Value)) Fault)
     (records : List (List (List ℕ))) (fault : Fault) : Type 0 where
   pub done : List (List (List ℕ))
   pub rest : List (List (List ℕ))
@@ -166,7 +172,8 @@ pub record StopsAfter (rows_from_number : ℕ → List (List (List ℕ)) → Res
 
 -- An error of the reader's own is at the heading, or at a record after a right heading and records
 -- that have rows.
-abbrev pub Stops : (List (List ℕ) → List (List (List ℕ)) → Fault → Type 0) → List (List (List ℕ)) → Fault → Type 0
+abbrev pub Stops : (List (List ℕ) → List (List (List ℕ)) → Fault → Type 0) → List (List (List ℕ))
+    → Fault → Type 0
 Stops after records fault =
     (fault ≡ at_record CSV_FAULT 0) ⊎ ((heading : List (List ℕ)) × (more : List (List (List ℕ)))
     × (records ≡ heading ∷ more) × after heading more fault)
@@ -183,7 +190,7 @@ GivesButAside view (Err fault) expected = is_aside fault ≡ false → expected 
 
 -- A consumer was led through the expected rows; or the call failed by the expected error, except
 -- for exempt errors.
-abbrev pub Hands : {K : Type 0} → (K → List (List Value) → K → Type 0) → Result (List (List Value)) Fault → K → K
-    → Result (Unit {0}) Fault → Type 0
+abbrev pub Hands : {K : Type 0} → (K → List (List Value) → K → Type 0)
+    → Result (List (List Value)) Fault → K → K → Result (Unit {0}) Fault → Type 0
 Hands led expected old new (Ok x) = IsOkAnd expected (λ rows. led old rows new)
 Hands led expected old new (Err fault) = is_aside fault ≡ false → expected ≡ Err fault

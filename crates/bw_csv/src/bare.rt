@@ -35,9 +35,10 @@ pub fn read_bare_row(
         × (bare_row number width fields ≡ Ok (values_of row.new))) }
     ensures open { IfOk result (λ found. found ≡ true → IsOpen records.new × (number ≤ most_rows)
         × (length (values_of row.new) ≡ width)) }
-    ensures none { IfOk result (λ found. found ≡ false → bare_rows width number (coming records.old) ≡ Ok []) }
-    ensures row { IfErr result (λ fault. is_aside fault ≡ false → bare_rows width number (coming records.old)
-        ≡ Err fault) }
+    ensures none { IfOk result (λ found. found ≡ false → bare_rows width number (coming records.old)
+        ≡ Ok []) }
+    ensures row { IfErr result (λ fault. is_aside fault ≡ false
+        → bare_rows width number (coming records.old) ≡ Err fault) }
     ensures fault { IfErr result IsRowsFault }
     ensures place { IfErr result (λ fault. IsTrue (stands_at number fault)) }
 {
@@ -54,9 +55,10 @@ pub fn read_bare_row(
 /// Writes the row of a record into `row`.
 #[tactic(auto, unfolding(crate::specs::Bare::bare_row))]
 fn read_record(fields: &ByteRecord, width: usize, number: u32, row: &mut Row) -> Result<(), Fault>
-    ensures row { OnOk result (bare_row number width (fields_of fields.now) ≡ Ok (values_of row.new)) }
-    ensures first { IfErr result (λ fault. is_aside fault ≡ false → bare_row number width (fields_of fields.now)
-        ≡ Err fault) }
+    ensures row { OnOk result (bare_row number width (fields_of fields.now)
+        ≡ Ok (values_of row.new)) }
+    ensures first { IfErr result (λ fault. is_aside fault ≡ false
+        → bare_row number width (fields_of fields.now) ≡ Err fault) }
     ensures within { OnOk result ((number ≤ most_rows) × (length (values_of row.new) ≡ width)) }
     ensures fault { IfErr result IsRowsFault }
     ensures place { IfErr result (λ fault. IsTrue (stands_at number fault)) }
@@ -72,7 +74,8 @@ fn read_record(fields: &ByteRecord, width: usize, number: u32, row: &mut Row) ->
 
 /// Writes the values of the fields into `row`.
 fn read_values(fields: &ByteRecord, number: u32, row: &mut Row) -> Result<(), Fault>
-    ensures values { GivesButAside (λ _. values_of row.new) result (bare_values number (fields_of fields.now)) }
+    ensures values { GivesButAside (λ _. values_of row.new) result
+        (bare_values number (fields_of fields.now)) }
     ensures many { OnOk result (length (values_of row.new) ≡ length (fields_of fields.now)) }
     ensures fault { IfErr result IsRowsFault }
     ensures place { IfErr result (λ fault. IsTrue (stands_at number fault)) }
@@ -110,7 +113,9 @@ pub fn bare_value_of(field: &[u8], number: u32) -> Result<Value, Fault>
 /// A law: if columns admit the rows that are read without a schema, these are the rows of the same
 /// records under the columns.
 pub fn bare_rows_are_rows()
-    ensures { (columns : List Column) (number : ℕ) (records : List (List (List ℕ))) (rows : List (List Value))
-        → bare_rows (length columns) number records ≡ Ok rows → IsTrue (list_all (admits_values columns) rows)
+    ensures { (columns : List Column) (number : ℕ) (records : List (List (List ℕ)))
+        (rows : List (List Value))
+        → bare_rows (length columns) number records ≡ Ok rows
+        → IsTrue (list_all (admits_values columns) rows)
         → rows_from columns number records ≡ Ok rows }
 {}

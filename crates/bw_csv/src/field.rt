@@ -13,7 +13,8 @@ use bw_text::{is_same_text, number_in};
 /// column isn't nullable, 205 if the number is outside the column's bounds.
 #[tactic(auto, unfolding(crate::specs::Rows::value_of_field))]
 pub fn value_of(column: &Column, field: &[u8], number: u32) -> Result<Value, Fault>
-    ensures value { GivesButAside (λ value. value) result (value_of_field number column.now field.now) }
+    ensures value { GivesButAside (λ value. value) result
+        (value_of_field number column.now field.now) }
     ensures fault { IfErr result IsRowsFault }
     ensures place { IfErr result (λ fault. IsTrue (stands_at number fault)) }
 {
@@ -41,7 +42,8 @@ fn value_of_text(column: &Column, text: &[u8], number: u32) -> Result<Value, Fau
 
 /// Returns the number that a sign and digits spell in a column.
 fn number_of(column: &Column, is_negative: bool, digits: &[u8], number: u32) -> Result<Value, Fault>
-    ensures value { GivesButAside (λ value. value) result (number_value number column.now is_negative digits.now) }
+    ensures value { GivesButAside (λ value. value) result
+        (number_value number column.now is_negative digits.now) }
     ensures fault { IfErr result IsRowsFault }
     ensures place { IfErr result (λ fault. IsTrue (stands_at number fault)) }
 {
@@ -53,7 +55,8 @@ fn number_of(column: &Column, is_negative: bool, digits: &[u8], number: u32) -> 
 
 /// Returns a number if it fits 64 bits and is within the column's bounds.
 fn within_bounds(column: &Column, spelled: Option<i64>, number: u32) -> Result<Value, Fault>
-    ensures value { GivesButAside (λ value. value) result (within_bounds number column.now spelled) }
+    ensures value { GivesButAside (λ value. value) result
+        (within_bounds number column.now spelled) }
     ensures fault { IfErr result IsRowsFault }
     ensures place { IfErr result (λ fault. IsTrue (stands_at number fault)) }
 {

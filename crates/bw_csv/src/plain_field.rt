@@ -39,8 +39,8 @@ pub(crate) struct Found {
 #[inline(always)]
 pub(crate) fn value_at(column: &Column, text: &[u8], number: u32) -> Option<Found>
     ensures plain { IfSome result (λ found. IsPlainField text.now found.len) }
-    ensures value { IfSome result (λ found. value_of_field number column.now (take found.len text.now)
-        ≡ Ok found.value) }
+    ensures value { IfSome result
+        (λ found. value_of_field number column.now (take found.len text.now) ≡ Ok found.value) }
 {
     match number_at(column, text) {
         Some(found) => Some(found),
@@ -52,8 +52,8 @@ pub(crate) fn value_at(column: &Column, text: &[u8], number: u32) -> Option<Foun
 #[inline(always)]
 fn number_at(column: &Column, text: &[u8]) -> Option<Found>
     ensures plain { IfSome result (λ found. IsPlainField text.now found.len) }
-    ensures value { IfSome result (λ found. (number : ℕ) → value_of_field number column.now (take found.len text.now)
-        ≡ Ok found.value) }
+    ensures value { IfSome result (λ found. (number : ℕ)
+        → value_of_field number column.now (take found.len text.now) ≡ Ok found.value) }
 {
     let Some(spelled) = spelled_at(text) else {
         return None;
@@ -73,8 +73,8 @@ fn number_at(column: &Column, text: &[u8]) -> Option<Found>
 #[inline(never)]
 fn other_at(column: &Column, text: &[u8], number: u32) -> Option<Found>
     ensures plain { IfSome result (λ found. IsPlainField text.now found.len) }
-    ensures value { IfSome result (λ found. value_of_field number column.now (take found.len text.now)
-        ≡ Ok found.value) }
+    ensures value { IfSome result
+        (λ found. value_of_field number column.now (take found.len text.now) ≡ Ok found.value) }
 {
     let len = plain_len(text);
     if !is_field_end(after(text, len)) {
@@ -91,7 +91,8 @@ fn other_at(column: &Column, text: &[u8], number: u32) -> Option<Found>
 #[inline(always)]
 fn spelled_at(text: &[u8]) -> Option<Spelled>
     ensures within { IfSome result (λ spelled. spelled.len < length text.now) }
-    ensures digits { IfSome result (λ spelled. are_digits (after_minus (take spelled.len text.now)) ≡ true) }
+    ensures digits { IfSome result (λ spelled. are_digits (after_minus (take spelled.len text.now))
+        ≡ true) }
     ensures number { IfSome result (λ spelled. number_of (is_minus (take spelled.len text.now))
         (after_minus (take spelled.len text.now)) ≡ Some spelled.number) }
 {
@@ -111,7 +112,8 @@ fn spelled_at(text: &[u8]) -> Option<Spelled>
 fn digits_at(text: &[u8]) -> Option<Digits>
     ensures within { IfSome result (λ digits. digits.count < length text.now) }
     ensures digits { IfSome result (λ digits. are_digits (take digits.count text.now) ≡ true) }
-    ensures magnitude { IfSome result (λ digits. digits.magnitude ≡ digits_value (take digits.count text.now)) }
+    ensures magnitude { IfSome result (λ digits. digits.magnitude
+        ≡ digits_value (take digits.count text.now)) }
     ensures small { IfSome result (λ digits. digits.magnitude < 2 ^ 63) }
 {
     let mut magnitude: u64 = 0;

@@ -20,7 +20,8 @@ pub(crate) fn plain_row<'a>(
     number: u32,
     row: &mut Row,
 ) -> Option<&'a [u8]>
-    ensures row { IfSome result (λ rest. HasRow number columns.now text.now rest.now (values_of row.new)) }
+    ensures row { IfSome result
+        (λ rest. HasRow number columns.now text.now rest.now (values_of row.new)) }
     ensures end { IfSome result (λ rest. is_line_end rest.now ≡ true) }
 {
     let record = after_line_ends(text);
@@ -33,7 +34,8 @@ pub(crate) fn plain_row<'a>(
 /// Returns a text without the line ends at its start, of which most have one or two.
 #[inline(always)]
 fn after_line_ends(text: &[u8]) -> &[u8]
-    ensures { records_in st.StartRecord (Some text.now) ≡ records_in st.StartRecord (Some result.now) }
+    ensures { records_in st.StartRecord (Some text.now)
+        ≡ records_in st.StartRecord (Some result.now) }
 {
     let mut rest = text;
     while !rest.is_empty() && ends_line(rest[0]) {
@@ -47,7 +49,8 @@ fn after_line_ends(text: &[u8]) -> &[u8]
 fn row_at<'a>(columns: &[Column], text: &'a [u8], number: u32, row: &mut Row) -> Option<&'a [u8]>
     requires few { number ≤ most_rows }
     requires record { is_line_end text.now ≡ false }
-    ensures row { IfSome result (λ rest. HasRow number columns.now text.now rest.now (values_of row.new)) }
+    ensures row { IfSome result
+        (λ rest. HasRow number columns.now text.now rest.now (values_of row.new)) }
     ensures end { IfSome result (λ rest. is_line_end rest.now ≡ true) }
 {
     row.values.clear();

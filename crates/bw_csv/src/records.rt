@@ -52,7 +52,8 @@ impl<'a> Records<'a> {
     /// read.
     pub fn next(&mut self, number: u32) -> Result<bool, Fault>
         requires { IsOpen self.old }
-        ensures some { IfOk result (λ found. found ≡ true → coming self.old ≡ fields_in self.new ∷ coming self.new) }
+        ensures some { IfOk result (λ found. found ≡ true → coming self.old ≡ fields_in self.new
+            ∷ coming self.new) }
         ensures open { IfOk result (λ found. found ≡ true → IsOpen self.new) }
         ensures none { IfOk result (λ found. found ≡ false → coming self.old ≡ []) }
         ensures aside { IfErr result (λ fault. is_aside fault ≡ true) }
@@ -150,7 +151,8 @@ fn read_fields(
     number: u32,
 ) -> Result<bool, Fault>
     requires { IsOpenReader reader.old }
-    ensures some { IfOk result (λ found. found ≡ true → left_in reader.old ≡ fields_of fields.new ∷ left_in reader.new) }
+    ensures some { IfOk result (λ found. found ≡ true → left_in reader.old ≡ fields_of fields.new
+        ∷ left_in reader.new) }
     ensures open { IfOk result (λ found. found ≡ true → IsOpenReader reader.new) }
     ensures none { IfOk result (λ found. found ≡ false → left_in reader.old ≡ []) }
     ensures aside { IfErr result (λ fault. is_aside fault ≡ true) }

@@ -57,12 +57,12 @@ impl<'a> Rest<'a> {
         ensures some { IfOk result (λ found. found ≡ true → (fields : List (List ℕ))
             × (to_come self.old ≡ fields ∷ to_come self.new)
             × (row_of_record number columns.now fields ≡ Ok (values_of row.new))) }
-        ensures readable { IfOk result (λ found. found ≡ true → IsReadable self.new × (number ≤ most_rows)
-            × IsTrue (admits_values columns.now (values_of row.new))) }
-        ensures none { IfOk result (λ found. found ≡ false → rows_from columns.now number (to_come self.old)
-            ≡ Ok []) }
-        ensures row { IfErr result (λ fault. is_aside fault ≡ false → rows_from columns.now number (to_come self.old)
-            ≡ Err fault) }
+        ensures readable { IfOk result (λ found. found ≡ true → IsReadable self.new
+            × (number ≤ most_rows) × IsTrue (admits_values columns.now (values_of row.new))) }
+        ensures none { IfOk result (λ found. found ≡ false
+            → rows_from columns.now number (to_come self.old) ≡ Ok []) }
+        ensures row { IfErr result (λ fault. is_aside fault ≡ false
+            → rows_from columns.now number (to_come self.old) ≡ Err fault) }
         ensures fault { IfErr result IsRowsFault }
         ensures place { IfErr result (λ fault. IsTrue (stands_at number fault)) }
     {

@@ -18,10 +18,11 @@ use csv::ByteRecord;
 pub(crate) fn read_heading(columns: &[Column], records: &mut Records<'_>) -> Result<(), Fault>
     requires { IsOpen records.old }
     ensures open { OnOk result (IsOpen records.new) }
-    ensures heading_read { OnOk result ((heading : List (List ℕ)) × (coming records.old ≡ heading ∷ coming records.new)
+    ensures heading_read { OnOk result ((heading : List (List ℕ))
+        × (coming records.old ≡ heading ∷ coming records.new)
         × (is_heading columns.now heading ≡ true)) }
-    ensures heading { IfErr result (λ fault. is_aside fault ≡ false → rows_after columns.now (coming records.old)
-        ≡ Err fault) }
+    ensures heading { IfErr result (λ fault. is_aside fault ≡ false
+        → rows_after columns.now (coming records.old) ≡ Err fault) }
     ensures fault { IfErr result IsRowsFault }
     ensures place { IfErr result (λ fault. IsTrue (stands_at 0 fault)) }
 {
@@ -70,9 +71,10 @@ pub(crate) fn read_row(
         × (row_of_record number columns.now fields ≡ Ok (values_of row.new))) }
     ensures open { IfOk result (λ found. found ≡ true → IsOpen records.new × (number ≤ most_rows)
         × IsTrue (admits_values columns.now (values_of row.new))) }
-    ensures none { IfOk result (λ found. found ≡ false → rows_from columns.now number (coming records.old) ≡ Ok []) }
-    ensures row { IfErr result (λ fault. is_aside fault ≡ false → rows_from columns.now number (coming records.old)
-        ≡ Err fault) }
+    ensures none { IfOk result (λ found. found ≡ false
+        → rows_from columns.now number (coming records.old) ≡ Ok []) }
+    ensures row { IfErr result (λ fault. is_aside fault ≡ false
+        → rows_from columns.now number (coming records.old) ≡ Err fault) }
     ensures fault { IfErr result IsRowsFault }
     ensures place { IfErr result (λ fault. IsTrue (stands_at number fault)) }
 {
@@ -94,7 +96,8 @@ fn read_record(
     number: u32,
     row: &mut Row,
 ) -> Result<(), Fault>
-    ensures row { OnOk result (row_of_record number columns.now (fields_of fields.now) ≡ Ok (values_of row.new)) }
+    ensures row { OnOk result (row_of_record number columns.now (fields_of fields.now)
+        ≡ Ok (values_of row.new)) }
     ensures first { IfErr result (λ fault. is_aside fault ≡ false
         → row_of_record number columns.now (fields_of fields.now) ≡ Err fault) }
     ensures within { OnOk result (number ≤ most_rows) }

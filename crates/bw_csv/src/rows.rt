@@ -47,7 +47,8 @@ pub fn read_rows<K: RowTaker>(
         → IsTrue (K.takes taker.old row) }
     requires fresh { K.rows taker.old ≡ 0 }
     requires starts { K.led taker.old [] taker.old }
-    ensures handed { Hands K.led (rows_of schema.now.columns.items text.now) taker.old taker.new result }
+    ensures handed { Hands K.led (rows_of schema.now.columns.items text.now) taker.old taker.new
+        result }
     ensures fault { IfErr result IsRowsFault }
     ensures place { IfErr result (λ fault. IsTrue (stands_after (K.rows taker.new) fault)) }
     // An error of the reader's own is at the heading, or at the record after those that have rows.
@@ -73,10 +74,12 @@ fn hand_rows<K: RowTaker>(
     taker: &mut K,
 ) -> Result<(), Fault>
     requires readable { IsReadable rest.old }
-    requires takes { (row : List Value) → IsTrue (admits_values columns.now row) → IsTrue (K.takes taker.old row) }
+    requires takes { (row : List Value) → IsTrue (admits_values columns.now row)
+        → IsTrue (K.takes taker.old row) }
     requires fresh { K.rows taker.old ≡ 0 }
     requires starts { K.led taker.old [] taker.old }
-    ensures handed { Hands K.led (rows_from columns.now 1 (to_come rest.old)) taker.old taker.new result }
+    ensures handed { Hands K.led (rows_from columns.now 1 (to_come rest.old)) taker.old taker.new
+        result }
     ensures fault { IfErr result IsRowsFault }
     ensures place { IfErr result (λ fault. IsTrue (stands_at (K.rows taker.new + 1) fault)) }
     ensures reader { IfErr result (λ fault. is_reader_fault fault ≡ true
@@ -101,6 +104,6 @@ pub fn rows_are_admitted()
 /// A law: an error of a CSV text is where the table of errors lists it: at a record.
 #[tactic(auto, using(crate::proofs::StandingLemmas::fault_listed))]
 pub fn faults_stand_as_listed()
-    ensures { (columns : List Column) (text : List ℕ) (fault : Fault) → rows_of columns text ≡ Err fault
-        → StandsAsListed fault }
+    ensures { (columns : List Column) (text : List ℕ) (fault : Fault) → rows_of columns text
+        ≡ Err fault → StandsAsListed fault }
 {}

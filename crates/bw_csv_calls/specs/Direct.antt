@@ -22,13 +22,15 @@ is_before_csv fault = (nat_le SCHEMA_FORM fault.code && nat_le fault.code SCHEMA
 
 -- the text of a query's result over the rows that a CSV text spells, or the text's first error
 abbrev pub answer_of : List Column → Query → List ℕ → Result (List ℕ) Fault
-answer_of columns query csv = rows_of columns csv >>= λ rows. Ok (csv_text (meaning (names_of columns) query rows))
+answer_of columns query csv = rows_of columns csv
+    >>= λ rows. Ok (csv_text (meaning (names_of columns) query rows))
 
 -- The text of the result, by what the schema was read as, or the first error in the order of the
 -- schema, the statement and the CSV. If the schema or the statement is rejected, the CSV isn't
 -- reached.
 abbrev pub IsAnswerUnder : Result Schema Fault → List ℕ → Arrival → Result (List ℕ) Fault → Type 0
-IsAnswerUnder (Ok schema) sql csv given = (statement : Result Query Fault) × IsReadAs schema sql statement
+IsAnswerUnder (Ok schema) sql csv given = (statement : Result Query Fault)
+    × IsReadAs schema sql statement
     × IsMadeAfter statement (answer_of schema.columns.items) csv given
 IsAnswerUnder (Err fault) sql csv given = (csv ≡ NotReached) × (given ≡ Err fault)
 

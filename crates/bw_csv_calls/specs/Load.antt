@@ -12,10 +12,12 @@ use Rattle.bw_csv_calls.specs.Arrived.{IsSchemaFrom}
 
 -- the table file of the rows that a CSV text spells, or the text's first error
 abbrev pub file_of : Layout → Schema → List ℕ → Result (List ℕ) Fault
-file_of layout schema csv = rows_of schema.columns.items csv >>= λ rows. Ok (file_bytes layout schema rows)
+file_of layout schema csv = rows_of schema.columns.items csv
+    >>= λ rows. Ok (file_bytes layout schema rows)
 
 -- The table file, or the first error in the order of the schema and the CSV. If the schema is
 -- rejected, the CSV isn't reached.
 abbrev pub IsFile : Layout → Arrival → Arrival → Result (List ℕ) Fault → Type 0
 IsFile layout came csv given =
-    (schema : Result Schema Fault) × IsSchemaFrom came schema × IsMadeAfter schema (file_of layout) csv given
+    (schema : Result Schema Fault) × IsSchemaFrom came schema
+    × IsMadeAfter schema (file_of layout) csv given

@@ -51,14 +51,16 @@ pub fn direct<S: Source, C: Source, K: Sink>(
         × Came longest_csv (C.to_come csv_source.old) (C.to_come csv_source.new)
         (C.failures csv_source.old) (C.failures csv_source.new) csv
         × IsAnswer schema sql.now csv given
-        × Wrote is_aside (K.taken sink.old) (K.taken sink.new) (K.failures sink.old) (K.failures sink.new)
-        given result }
+        × Wrote is_aside (K.taken sink.old) (K.taken sink.new) (K.failures sink.old)
+        (K.failures sink.new) given result }
 
     // If the CSV's reader has an error of its own, the schema and the statement were accepted, the
     // CSV was read completely, and the error is at the heading, or at the record after those that
     // have rows.
-    ensures reader { IfErr result (λ fault. is_reader_fault fault ≡ true → (schema : Schema) × (query : Query)
-        × SchemaCame (Came longest_schema (S.to_come schema_source.old) (S.to_come schema_source.new)
+    ensures reader { IfErr result (λ fault. is_reader_fault fault ≡ true → (schema : Schema)
+        × (query : Query)
+        × SchemaCame (Came longest_schema (S.to_come schema_source.old)
+        (S.to_come schema_source.new)
         (S.failures schema_source.old) (S.failures schema_source.new)) schema
         × IsReadAs schema sql.now (Ok query)
         × CsvStopped (Came longest_csv (C.to_come csv_source.old) (C.to_come csv_source.new)
@@ -66,15 +68,20 @@ pub fn direct<S: Source, C: Source, K: Sink>(
 
     // Of a source at most one byte past its limit is read. The call fails by a failed read if and
     // only if the count of one source rose.
-    ensures schema { TookAtMost (longest_schema + 1) (S.to_come schema_source.old) (S.to_come schema_source.new) }
-    ensures csv { TookAtMost (longest_csv + 1) (C.to_come csv_source.old) (C.to_come csv_source.new) }
-    ensures failed { TellsFailureOfEither (S.failures schema_source.old) (S.failures schema_source.new)
+    ensures schema { TookAtMost (longest_schema + 1) (S.to_come schema_source.old)
+        (S.to_come schema_source.new) }
+    ensures csv { TookAtMost (longest_csv + 1) (C.to_come csv_source.old)
+        (C.to_come csv_source.new) }
+    ensures failed { TellsFailureOfEither (S.failures schema_source.old)
+        (S.failures schema_source.new)
         (C.failures csv_source.old) (C.failures csv_source.new) result }
 
     // If the schema's source failed, or the schema or the statement is rejected, the CSV's source
     // is as it was.
-    ensures unread { S.failures schema_source.old < S.failures schema_source.new → csv_source.new ≡ csv_source.old }
-    ensures unneeded { IfErr result (λ fault. IsTrue (is_before_csv fault) → csv_source.new ≡ csv_source.old) }
+    ensures unread { S.failures schema_source.old < S.failures schema_source.new → csv_source.new
+        ≡ csv_source.old }
+    ensures unneeded { IfErr result (λ fault. IsTrue (is_before_csv fault) → csv_source.new
+        ≡ csv_source.old) }
 {
     let text = direct_text(alloc, schema_source, csv_source, sql)?;
     write_whole(sink, &text)
@@ -98,18 +105,25 @@ fn direct_text<S: Source, C: Source>(
         × IsAnswer schema sql.now csv given
         × GivesButAside (λ text. text.items) result given }
     ensures fault { IfErr result (λ fault. is_write_fault fault ≡ false) }
-    ensures reader { IfErr result (λ fault. is_reader_fault fault ≡ true → (schema : Schema) × (query : Query)
-        × SchemaCame (Came longest_schema (S.to_come schema_source.old) (S.to_come schema_source.new)
+    ensures reader { IfErr result (λ fault. is_reader_fault fault ≡ true → (schema : Schema)
+        × (query : Query)
+        × SchemaCame (Came longest_schema (S.to_come schema_source.old)
+        (S.to_come schema_source.new)
         (S.failures schema_source.old) (S.failures schema_source.new)) schema
         × IsReadAs schema sql.now (Ok query)
         × CsvStopped (Came longest_csv (C.to_come csv_source.old) (C.to_come csv_source.new)
         (C.failures csv_source.old) (C.failures csv_source.new)) schema fault) }
-    ensures schema { TookAtMost (longest_schema + 1) (S.to_come schema_source.old) (S.to_come schema_source.new) }
-    ensures csv { TookAtMost (longest_csv + 1) (C.to_come csv_source.old) (C.to_come csv_source.new) }
-    ensures failed { TellsFailureOfEither (S.failures schema_source.old) (S.failures schema_source.new)
+    ensures schema { TookAtMost (longest_schema + 1) (S.to_come schema_source.old)
+        (S.to_come schema_source.new) }
+    ensures csv { TookAtMost (longest_csv + 1) (C.to_come csv_source.old)
+        (C.to_come csv_source.new) }
+    ensures failed { TellsFailureOfEither (S.failures schema_source.old)
+        (S.failures schema_source.new)
         (C.failures csv_source.old) (C.failures csv_source.new) result }
-    ensures unread { S.failures schema_source.old < S.failures schema_source.new → csv_source.new ≡ csv_source.old }
-    ensures unneeded { IfErr result (λ fault. IsTrue (is_before_csv fault) → csv_source.new ≡ csv_source.old) }
+    ensures unread { S.failures schema_source.old < S.failures schema_source.new → csv_source.new
+        ≡ csv_source.old }
+    ensures unneeded { IfErr result (λ fault. IsTrue (is_before_csv fault) → csv_source.new
+        ≡ csv_source.old) }
 {
     let schema = read_schema(alloc, schema_source)?;
     let query = parse(alloc, &schema, sql)?;
@@ -119,10 +133,12 @@ fn direct_text<S: Source, C: Source>(
 
 /// Returns the text of the result over the rows of a CSV text. Errors: those of [`read_rows`].
 fn answer_text(alloc: Global, schema: &Schema, query: &Query, csv: &[u8]) -> Result<Vec<u8>, Fault>
-    requires items { IsTrue (list_all (item_within (vec_len schema.now.columns)) query.now.items.items) }
+    requires items { IsTrue (list_all (item_within (vec_len schema.now.columns))
+        query.now.items.items) }
     requires some { 1 ≤ length query.now.items.items }
     requires kinds { AreOfOneKind query.now.items.items }
-    ensures text { GivesButAside (λ text. text.items) result (answer_of schema.now.columns.items query.now csv.now) }
+    ensures text { GivesButAside (λ text. text.items) result
+        (answer_of schema.now.columns.items query.now csv.now) }
     ensures fault { IfErr result IsRowsFault }
     ensures reader { IfErr result (λ fault. is_reader_fault fault ≡ true
         → StopsUnder schema.now.columns.items (records_of csv.now) fault) }

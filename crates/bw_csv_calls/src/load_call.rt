@@ -44,27 +44,33 @@ pub fn load<S: Source, C: Source, K: Sink>(
         × Came longest_csv (C.to_come csv_source.old) (C.to_come csv_source.new)
         (C.failures csv_source.old) (C.failures csv_source.new) csv
         × IsFile layout schema csv given
-        × Wrote is_aside (K.taken sink.old) (K.taken sink.new) (K.failures sink.old) (K.failures sink.new)
-        given result }
+        × Wrote is_aside (K.taken sink.old) (K.taken sink.new) (K.failures sink.old)
+        (K.failures sink.new) given result }
 
     // If the CSV's reader has an error of its own, the schema was accepted, the CSV was read
     // completely, and the error is at the heading, or at the record after those that have rows.
     ensures reader { IfErr result (λ fault. is_reader_fault fault ≡ true → (schema : Schema)
-        × SchemaCame (Came longest_schema (S.to_come schema_source.old) (S.to_come schema_source.new)
+        × SchemaCame (Came longest_schema (S.to_come schema_source.old)
+        (S.to_come schema_source.new)
         (S.failures schema_source.old) (S.failures schema_source.new)) schema
         × CsvStopped (Came longest_csv (C.to_come csv_source.old) (C.to_come csv_source.new)
         (C.failures csv_source.old) (C.failures csv_source.new)) schema fault) }
 
     // Of a source at most one byte past its limit is read. The call fails by a failed read if and
     // only if the count of one source rose.
-    ensures schema { TookAtMost (longest_schema + 1) (S.to_come schema_source.old) (S.to_come schema_source.new) }
-    ensures csv { TookAtMost (longest_csv + 1) (C.to_come csv_source.old) (C.to_come csv_source.new) }
-    ensures failed { TellsFailureOfEither (S.failures schema_source.old) (S.failures schema_source.new)
+    ensures schema { TookAtMost (longest_schema + 1) (S.to_come schema_source.old)
+        (S.to_come schema_source.new) }
+    ensures csv { TookAtMost (longest_csv + 1) (C.to_come csv_source.old)
+        (C.to_come csv_source.new) }
+    ensures failed { TellsFailureOfEither (S.failures schema_source.old)
+        (S.failures schema_source.new)
         (C.failures csv_source.old) (C.failures csv_source.new) result }
 
     // If the schema's source failed, or the schema is rejected, the CSV's source is as it was.
-    ensures unread { S.failures schema_source.old < S.failures schema_source.new → csv_source.new ≡ csv_source.old }
-    ensures unneeded { IfErr result (λ fault. IsTrue (is_before_csv fault) → csv_source.new ≡ csv_source.old) }
+    ensures unread { S.failures schema_source.old < S.failures schema_source.new → csv_source.new
+        ≡ csv_source.old }
+    ensures unneeded { IfErr result (λ fault. IsTrue (is_before_csv fault) → csv_source.new
+        ≡ csv_source.old) }
 {
     let file = loaded(alloc, schema_source, csv_source, layout)?;
     write_whole(sink, &file)
@@ -89,16 +95,22 @@ fn loaded<S: Source, C: Source>(
         × GivesButAside (λ file. file.items) result given }
     ensures fault { IfErr result (λ fault. is_write_fault fault ≡ false) }
     ensures reader { IfErr result (λ fault. is_reader_fault fault ≡ true → (schema : Schema)
-        × SchemaCame (Came longest_schema (S.to_come schema_source.old) (S.to_come schema_source.new)
+        × SchemaCame (Came longest_schema (S.to_come schema_source.old)
+        (S.to_come schema_source.new)
         (S.failures schema_source.old) (S.failures schema_source.new)) schema
         × CsvStopped (Came longest_csv (C.to_come csv_source.old) (C.to_come csv_source.new)
         (C.failures csv_source.old) (C.failures csv_source.new)) schema fault) }
-    ensures schema { TookAtMost (longest_schema + 1) (S.to_come schema_source.old) (S.to_come schema_source.new) }
-    ensures csv { TookAtMost (longest_csv + 1) (C.to_come csv_source.old) (C.to_come csv_source.new) }
-    ensures failed { TellsFailureOfEither (S.failures schema_source.old) (S.failures schema_source.new)
+    ensures schema { TookAtMost (longest_schema + 1) (S.to_come schema_source.old)
+        (S.to_come schema_source.new) }
+    ensures csv { TookAtMost (longest_csv + 1) (C.to_come csv_source.old)
+        (C.to_come csv_source.new) }
+    ensures failed { TellsFailureOfEither (S.failures schema_source.old)
+        (S.failures schema_source.new)
         (C.failures csv_source.old) (C.failures csv_source.new) result }
-    ensures unread { S.failures schema_source.old < S.failures schema_source.new → csv_source.new ≡ csv_source.old }
-    ensures unneeded { IfErr result (λ fault. IsTrue (is_before_csv fault) → csv_source.new ≡ csv_source.old) }
+    ensures unread { S.failures schema_source.old < S.failures schema_source.new → csv_source.new
+        ≡ csv_source.old }
+    ensures unneeded { IfErr result (λ fault. IsTrue (is_before_csv fault) → csv_source.new
+        ≡ csv_source.old) }
 {
     let schema = read_schema(alloc, schema_source)?;
     let csv = read_csv(alloc, csv_source)?;

@@ -44,20 +44,23 @@ end_of (Two kind left right len node prev) = len
 
 -- the number that bits 0 to len - 1 of a column spell; those from its width on are 0
 abbrev pub padded_number : List Column → ℕ → ℕ → Assignment → ℕ
-padded_number columns col len assignment = number_spelled columns col 0 (min len (width_at columns col)) assignment
+padded_number columns col len assignment = number_spelled columns col 0
+    (min len (width_at columns col)) assignment
 
 -- the comparison of a chain, under an assignment
 abbrev pub comparison : List Column → Chain → Assignment → Bool
 comparison columns (One kind col start len bound node prev) assignment =
     compares kind (number_spelled columns col start len assignment) bound
 comparison columns (Two kind left right len node prev) assignment =
-    compares kind (padded_number columns left len assignment) (padded_number columns right len assignment)
+    compares kind (padded_number columns left len assignment)
+    (padded_number columns right len assignment)
 
 -- What a chain claims: its node is a node, and under every assignment it is 1 exactly if the
 -- comparison is true.
 pub record IsChain (columns : List Column) (nodes : List Node) (chain : Chain) : Type 0 where
   pub chain_node : IsNode nodes (node_of chain)
-  pub claim : (assignment : Assignment) → node_value nodes assignment (node_of chain) ≡ comparison columns chain
+  pub claim : (assignment : Assignment) → node_value nodes assignment (node_of chain)
+      ≡ comparison columns chain
       assignment
 
 -- The node of a comparison of numbers with these top bits, if e is the node of the comparison of
@@ -79,7 +82,8 @@ first_node Equal = 1
 -- two columns.
 abbrev pub is_within : List Column → Chain → Bool
 is_within columns (One kind col start len bound node prev) =
-    nat_lt col (length columns) && nat_le (start + len) (width_at columns col) && nat_lt bound (2 ^ len)
+    nat_lt col (length columns) && nat_le (start + len) (width_at columns col)
+    && nat_lt bound (2 ^ len)
 is_within columns (Two kind left right len node prev) =
     nat_lt left (length columns) && nat_lt right (length columns) && not (left == right)
     && nat_le len (max (width_at columns left) (width_at columns right))
@@ -106,7 +110,8 @@ node_of_two kind left right len (Two k l r n node prev) =
 -- the node of another chain, if it is the same comparison over the `lower` bits below a chain's top
 -- bit, with the bound without its top bits
 abbrev pub node_of_lower : Chain → ℕ → Chain → Option ℕ
-node_of_lower (One kind col start len bound node prev) lower = node_of_one kind col start lower (bound % 2 ^ lower)
+node_of_lower (One kind col start len bound node prev) lower = node_of_one kind col start lower
+    (bound % 2 ^ lower)
 node_of_lower (Two kind left right len node prev) lower = node_of_two kind left right lower
 
 -- the node of a chain's previous chain, if it has one and that compares the lower bits
@@ -122,7 +127,8 @@ tests v low high (Some node) = node.v == v && node.low == low && node.high == hi
 -- a node chooses by a variable: it tests the variable and has these children, or they are the same
 -- node, and it is that node
 abbrev pub is_choice : List Node → ℕ → ℕ → ℕ → ℕ → Bool
-is_choice nodes v low high node = tests v low high (node_at nodes node) || (low == high && node == low)
+is_choice nodes v low high node = tests v low high (node_at nodes node)
+    || (low == high && node == low)
 
 -- the variable of a column's bit, if the bit is below the column's width
 abbrev pub variable_at : List Column → ℕ → ℕ → Option ℕ
@@ -142,7 +148,8 @@ step nodes (Some v) bit node = cofactor nodes v bit node
 -- if both bits can occur, they lead from the node to their outcome, given e
 abbrev pub leads : List Node → ChainKind → Option ℕ → Option ℕ → ℕ → ℕ → Bool → Bool → Bool
 leads nodes kind left right e node x y =
-    not (occurs left x && occurs right y) || (step nodes right y (step nodes left x node) == outcome kind x y e)
+    not (occurs left x && occurs right y)
+    || (step nodes right y (step nodes left x node) == outcome kind x y e)
 
 -- all bits that can occur lead from the node to their outcome, given e
 abbrev pub leads_always : List Node → ChainKind → Option ℕ → Option ℕ → ℕ → ℕ → Bool
@@ -157,7 +164,8 @@ chooses columns nodes (One kind col start len bound node prev) place e =
     is_choice nodes (bit_variable columns col (start + place))
     (outcome kind false (has_bit bound place) e) (outcome kind true (has_bit bound place) e) node
 chooses columns nodes (Two kind left right len node prev) place e =
-    leads_always nodes kind (variable_at columns left place) (variable_at columns right place) e node
+    leads_always nodes kind (variable_at columns left place) (variable_at columns right place) e
+    node
 
 -- there is a node of the bits below, and the chain's node chooses between the nodes that follow
 -- from it
@@ -169,8 +177,10 @@ chooses_from columns nodes chain place (Some e) = chooses columns nodes chain pl
 -- follows from the chain over the bits below its top bit.
 unfoldable pub is_step : List Column → List Node → List Chain → Chain → Bool
 is_step columns nodes chains chain =
-    if length_of chain == 0 then is_none (prev_of chain) && node_of chain == first_node (kind_of chain)
-    else chooses_from columns nodes chain (length_of chain - 1) (node_before chains chain (length_of chain - 1))
+    if length_of chain == 0 then is_none (prev_of chain)
+    && node_of chain == first_node (kind_of chain)
+    else chooses_from columns nodes chain (length_of chain - 1)
+    (node_before chains chain (length_of chain - 1))
 
 -- the previous chain, if there is one, is in the list
 abbrev pub is_earlier : List Chain → Option ℕ → Bool
@@ -189,12 +199,14 @@ if_in_range false chain = None
 -- the chain that a line names, if its fields are in range
 abbrev pub in_range : List Column → List Node → List Chain → Option Chain → Option Chain
 in_range columns nodes chains None = None
-in_range columns nodes chains (Some chain) = if_in_range (is_in_range columns nodes chains chain) chain
+in_range columns nodes chains (Some chain) = if_in_range (is_in_range columns nodes chains chain)
+    chain
 
 -- A chain of this number is valid as the next one.
 unfoldable pub obeys_chain : List Column → List Node → List Chain → ℕ → Chain → Bool
 obeys_chain columns nodes chains number chain =
-    (number == length chains) && is_in_range columns nodes chains chain && is_step columns nodes chains chain
+    (number == length chains) && is_in_range columns nodes chains chain
+    && is_step columns nodes chains chain
 
 -- the chain of a line's fields, if its words are columns' names
 abbrev pub one_named : List Column → ChainKind → List ℕ → ℕ → ℕ → ℕ → ℕ → Option ℕ → Option Chain

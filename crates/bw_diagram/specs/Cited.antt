@@ -14,7 +14,8 @@ use Rattle.bw_diagram.specs.Facts.{Facts}
 
 -- the third node of a product row, if its connective and its first two nodes are these
 abbrev pub third_node : Connective → ℕ → ℕ → Product → Option ℕ
-third_node op a b row = if same_connective row.op op && row.a == a && row.b == b then Some row.c else None
+third_node op a b row = if same_connective row.op op && row.a == a && row.b == b then Some row.c
+    else None
 
 -- the node that the product row of this number states to be the connective of two nodes
 unfoldable pub cited : Facts → Connective → ℕ → ℕ → ℕ → Option ℕ
@@ -23,7 +24,8 @@ cited facts op a b number = option_and_then (third_node op a b) (slice_get facts
 -- the node by which the chain of this number compares `len` bits of a column, from the bit `start`
 -- upwards, with a bound
 unfoldable pub chain_cited : Facts → ChainKind → ℕ → ℕ → ℕ → ℕ → ℕ → Option ℕ
-chain_cited facts kind col start len bound number = option_and_then (node_of_one kind col start len bound)
+chain_cited facts kind col start len bound number = option_and_then
+    (node_of_one kind col start len bound)
     (slice_get facts.chains number)
 
 -- the node by which the chain of this number compares the low `len` bits of two columns
@@ -46,15 +48,18 @@ pub record AreWorth (facts : Facts) : Type 0 where
   pub one : (assignment : Assignment) → node_value facts.nodes assignment 1 ≡ true
   pub terminal : (n : ℕ) → (n ≡ 0) ⊎ (n ≡ 1) → IsNode facts.nodes n
   pub variable : (v n : ℕ) → is_variable facts v n ≡ true
-      → IsNode facts.nodes n × ((assignment : Assignment) → node_value facts.nodes assignment n ≡ assignment v)
+      → IsNode facts.nodes n × ((assignment : Assignment) → node_value facts.nodes assignment n
+      ≡ assignment v)
   pub row : (op : Connective) (a b number c : ℕ) → cited facts op a b number ≡ Some c
       → IsNode facts.nodes c × ((assignment : Assignment) → node_value facts.nodes assignment c
       ≡ joined op (node_value facts.nodes assignment a) (node_value facts.nodes assignment b))
-  pub chain : (kind : ChainKind) (col start len bound number n : ℕ) → chain_cited facts kind col start len bound number
+  pub chain : (kind : ChainKind) (col start len bound number n : ℕ)
+      → chain_cited facts kind col start len bound number
       ≡ Some n
       → IsNode facts.nodes n × ((assignment : Assignment) → node_value facts.nodes assignment n
       ≡ compares kind (number_spelled facts.columns col start len assignment) bound)
-  pub two : (kind : ChainKind) (left right len number n : ℕ) → two_cited facts kind left right len number ≡ Some n
+  pub two : (kind : ChainKind) (left right len number n : ℕ)
+      → two_cited facts kind left right len number ≡ Some n
       → IsNode facts.nodes n × ((assignment : Assignment) → node_value facts.nodes assignment n
       ≡ compares kind (padded_number facts.columns left len assignment)
       (padded_number facts.columns right len assignment))

@@ -35,8 +35,10 @@ most_products = 1048576
 -- assignment.
 pub record AreTrue (facts : Facts) : Type 0 where
   pub ordered : AreOrdered facts.nodes
-  pub chains : (k : ℕ) (chain : Chain) → slice_get facts.chains k ≡ Some chain → IsChain facts.columns facts.nodes chain
-  pub products : (k : ℕ) (row : Product) → slice_get facts.products k ≡ Some row → IsProduct facts.nodes row
+  pub chains : (k : ℕ) (chain : Chain) → slice_get facts.chains k ≡ Some chain
+      → IsChain facts.columns facts.nodes chain
+  pub products : (k : ℕ) (row : Product) → slice_get facts.products k ≡ Some row
+      → IsProduct facts.nodes row
 
 -- the facts before any line
 abbrev pub no_facts : List Column → Facts
@@ -47,7 +49,8 @@ no_facts columns = record { columns = columns; nodes = []; chains = []; products
 unfoldable pub judged_node : Facts → ℕ → Node → Result Node Fault
 judged_node facts number node =
     refused_if (nat_le most_nodes (length facts.nodes)) (nowhere LIMIT)
-    (refused_if (not (obeys_node (variables_of facts.columns) facts.nodes number node)) (nowhere NODE) (Ok node))
+    (refused_if (not (obeys_node (variables_of facts.columns) facts.nodes number node))
+    (nowhere NODE) (Ok node))
 
 -- the facts after the line of a node
 abbrev pub with_node : Facts → ℕ → Node → Result Facts Fault
@@ -59,29 +62,34 @@ with_node facts number node =
 abbrev pub judged_if_named : Facts → ℕ → Option Chain → Result Chain Fault
 judged_if_named facts number None = Err (nowhere CHAIN_ROW)
 judged_if_named facts number (Some chain) =
-    refused_if (not (obeys_chain facts.columns facts.nodes facts.chains number chain)) (nowhere CHAIN_ROW) (Ok chain)
+    refused_if (not (obeys_chain facts.columns facts.nodes facts.chains number chain))
+    (nowhere CHAIN_ROW) (Ok chain)
 
 unfoldable pub judged_chain : Facts → ℕ → Option Chain → Result Chain Fault
 judged_chain facts number named =
-    refused_if (nat_le most_chains (length facts.chains)) (nowhere LIMIT) (judged_if_named facts number named)
+    refused_if (nat_le most_chains (length facts.chains)) (nowhere LIMIT)
+    (judged_if_named facts number named)
 
 -- the facts after the line of a chain
 abbrev pub with_chain : Facts → ℕ → Option Chain → Result Facts Fault
 with_chain facts number named =
-    judged_chain facts number named >>= λ chain. Ok (record facts { chains = facts.chains ++ chain ∷ [] })
+    judged_chain facts number named
+    >>= λ chain. Ok (record facts { chains = facts.chains ++ chain ∷ [] })
 
 -- A product row that is valid as the next one, under this number. At the limit it is 604, else 602
 -- if it breaks its rule.
 unfoldable pub judged_product : Facts → ℕ → Product → Reason → Result Product Fault
 judged_product facts number row reason =
     refused_if (nat_le most_products (length facts.products)) (nowhere LIMIT)
-    (refused_if (not (obeys_product (variables_of facts.columns) facts.nodes facts.products number row reason))
+    (refused_if (not (obeys_product (variables_of facts.columns) facts.nodes facts.products number
+    row reason))
     (nowhere PRODUCT_ROW) (Ok row))
 
 -- the facts after the line of a product row
 abbrev pub with_product : Facts → ℕ → Product → Reason → Result Facts Fault
 with_product facts number row reason =
-    judged_product facts number row reason >>= λ row. Ok (record facts { products = facts.products ++ row ∷ [] })
+    judged_product facts number row reason
+    >>= λ row. Ok (record facts { products = facts.products ++ row ∷ [] })
 
 -- the error is one of 601 to 604, or out of memory
 abbrev pub is_diagram_fault : Fault → Bool

@@ -27,12 +27,14 @@ chosen assignment before node = slice_index_or before (child (assignment node.v)
 -- these values, followed by those of the next nodes
 abbrev pub values_from : Assignment → List Bool → List Node → List Bool
 values_from assignment before [] = before
-values_from assignment before (node ∷ nodes) = values_from assignment (before ++ chosen assignment before node
+values_from assignment before (node ∷ nodes) = values_from assignment
+    (before ++ chosen assignment before node
     ∷ []) nodes
 
 -- The value of a node under an assignment. The terminals have the values 0 and 1.
 unfoldable pub node_value : List Node → Assignment → ℕ → Bool
-node_value nodes assignment number = slice_index_or (values_from assignment (false ∷ true ∷ []) nodes) number false
+node_value nodes assignment number = slice_index_or
+    (values_from assignment (false ∷ true ∷ []) nodes) number false
 
 -- the child of a node for a variable's bit, if the node tests that variable, else the node itself
 abbrev pub child_if_tested : ℕ → Bool → ℕ → Option Node → ℕ
@@ -46,8 +48,10 @@ cofactor nodes v bit number = child_if_tested v bit number (node_at nodes number
 -- have smaller numbers.
 unfoldable pub obeys_node : ℕ → List Node → ℕ → Node → Bool
 obeys_node variables nodes number node =
-    (number == 2 + length nodes) && nat_lt node.v variables && nat_lt node.low number && nat_lt node.high number
+    (number == 2 + length nodes) && nat_lt node.v variables && nat_lt node.low number
+    && nat_lt node.high number
 
 -- each node's children have smaller numbers than the node
 abbrev pub AreOrdered : List Node → Type 0
-AreOrdered nodes = (k : ℕ) (node : Node) (bit : Bool) → slice_get nodes k ≡ Some node → child bit node < 2 + k
+AreOrdered nodes = (k : ℕ) (node : Node) (bit : Bool) → slice_get nodes k ≡ Some node
+    → child bit node < 2 + k

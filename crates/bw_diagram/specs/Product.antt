@@ -31,11 +31,14 @@ pub record IsProduct (nodes : List Node) (row : Product) : Type 0 where
 -- (x,0,x) (x,x,0) (x,1,0).
 unfoldable pub is_shortcut : Connective → ℕ → ℕ → ℕ → Bool
 is_shortcut And a b c =
-    (a == 0 && c == 0) || (b == 0 && c == 0) || (a == 1 && c == b) || (b == 1 && c == a) || (a == b && c == a)
+    (a == 0 && c == 0) || (b == 0 && c == 0) || (a == 1 && c == b) || (b == 1 && c == a)
+    || (a == b && c == a)
 is_shortcut Or a b c =
-    (a == 0 && c == b) || (b == 0 && c == a) || (a == 1 && c == 1) || (b == 1 && c == 1) || (a == b && c == a)
+    (a == 0 && c == b) || (b == 0 && c == a) || (a == 1 && c == 1) || (b == 1 && c == 1)
+    || (a == b && c == a)
 is_shortcut Xor a b c = (a == 0 && c == b) || (b == 0 && c == a) || (a == b && c == 0)
-is_shortcut Diff a b c = (a == 0 && c == 0) || (b == 0 && c == a) || (a == b && c == 0) || (b == 1 && c == 0)
+is_shortcut Diff a b c = (a == 0 && c == 0) || (b == 0 && c == a) || (a == b && c == 0)
+    || (b == 1 && c == 0)
 
 abbrev pub same_connective : Connective → Connective → Bool
 same_connective And And = true
@@ -56,7 +59,8 @@ same_connective Diff Or = false
 same_connective Diff Xor = false
 
 abbrev pub same_product : Product → Product → Bool
-same_product row other = same_connective row.op other.op && row.a == other.a && row.b == other.b && row.c == other.c
+same_product row other = same_connective row.op other.op && row.a == other.a && row.b == other.b
+    && row.c == other.c
 
 -- there is a product row of this number, and it is this one
 abbrev pub is_product : Product → Option Product → Bool

@@ -119,7 +119,8 @@ impl<'a> Diagram<'a> {
     /// Returns the node of these fields, if it is valid as the next one.
     #[tactic(auto, unfolding(crate::specs::Facts::judged_node, crate::specs::Node::obeys_node))]
     fn accepted_node(&self, n: u64, v: u64, low: u64, high: u64) -> Result<Node, Fault>
-        ensures judged { result ≡ judged_node self.now n (record { v = v; low = low; high = high }) }
+        ensures judged { result ≡ judged_node self.now n
+            (record { v = v; low = low; high = high }) }
         ensures code { IfErr result (λ fault. IsTrue (is_diagram_fault fault)) }
     {
         if self.nodes.len() >= MAX_NODES {
@@ -142,7 +143,8 @@ impl<'a> Diagram<'a> {
     /// Returns the chain of a line, if it is valid as the next one.
     #[tactic(auto, unfolding(crate::specs::Facts::judged_chain, crate::specs::Chain::obeys_chain))]
     fn accepted_chain(&self, n: u64, columns: &ChainColumns) -> Result<Chain, Fault>
-        ensures judged { result ≡ judged_chain self.now n (chain_named self.now.columns columns.now) }
+        ensures judged { result ≡ judged_chain self.now n
+            (chain_named self.now.columns columns.now) }
         ensures code { IfErr result (λ fault. IsTrue (is_diagram_fault fault)) }
     {
         if self.chains.len() >= MAX_CHAINS {
@@ -165,7 +167,8 @@ impl<'a> Diagram<'a> {
         c: u64,
         reason: Reason,
     ) -> Result<Product, Fault>
-        ensures judged { result ≡ judged_product self.now n (record { op = op; a = a; b = b; c = c }) reason }
+        ensures judged { result ≡ judged_product self.now n
+            (record { op = op; a = a; b = b; c = c }) reason }
         ensures code { IfErr result (λ fault. IsTrue (is_diagram_fault fault)) }
     {
         if self.products.len() >= MAX_PRODUCTS {

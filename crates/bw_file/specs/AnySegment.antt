@@ -11,9 +11,11 @@ use Rattle.bw_file.specs.declared.layout.Layout.TheVariants as layouts
 
 unfoldable pub any_meaning : AnySegment → Meaning
 any_meaning (Planes segment) =
-    meaning_spelled plane_packing segment.placement.value.schema segment.rows (bytes_in segment.bytes)
+    meaning_spelled plane_packing segment.placement.value.schema segment.rows
+    (bytes_in segment.bytes)
 any_meaning (Slices segment) =
-    meaning_spelled slice_packing segment.placement.value.schema segment.rows (bytes_in segment.bytes)
+    meaning_spelled slice_packing segment.placement.value.schema segment.rows
+    (bytes_in segment.bytes)
 
 -- which is the rows of one group
 pub any_is_group : (segment : AnySegment) → IsGroup (any_meaning segment)

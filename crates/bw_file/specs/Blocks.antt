@@ -25,7 +25,8 @@ bytes_before layout columns column = kept.bytes_before (form_of layout) columns 
 
 -- the block of a column that begins at this place among the bytes
 abbrev pub block_from : Layout → List Column → ℕ → ℕ → List ℕ → List ℕ
-block_from layout columns column start bytes = slice_range bytes start (start + block_size layout columns column)
+block_from layout columns column start bytes = slice_range bytes start
+    (start + block_size layout columns column)
 
 abbrev pub segment_size : Layout → List Column → ℕ
 segment_size layout columns = kept.segment_size (form_of layout) columns

@@ -21,7 +21,8 @@ rows_in encoder = encoder.rows
 -- these are the bytes of these rows, except that the header still states no rows
 abbrev pub IsBytesOf : Layout → Schema → List ℕ → List (List Value) → Type 0
 IsBytesOf layout schema bytes rows =
-    bytes ≡ header_bytes (version_for schema.columns.items) layout schema.name schema.columns.items 0
+    bytes ≡ header_bytes (version_for schema.columns.items) layout schema.name schema.columns.items
+    0
     ++ segments_bytes layout schema.columns.items rows
 
 -- The encoder contains these rows, which the columns admit. The bytes are a header that still

@@ -86,7 +86,8 @@ found_so_far reader groups =
 -- Each proper prefix of the bytes ends too early: a file of only these bytes is rejected by 305, at
 -- its own end. So reading depends on each byte.
 abbrev pub FrontsEndEarly : List ℕ → Type 0
-FrontsEndEarly bytes = (n : ℕ) → n < length bytes → IsReadAs (take n bytes) (Err (at_byte TRUNCATED n))
+FrontsEndEarly bytes = (n : ℕ) → n < length bytes
+    → IsReadAs (take n bytes) (Err (at_byte TRUNCATED n))
 
 -- all bytes were read, each of which reading depends on, with no failed read, and they spell this
 -- table
@@ -120,7 +121,8 @@ pub record HasFirstFault (now : State) (bytes : List ℕ) (fault : Fault) : Type
 -- and a byte after them would be an error
 abbrev pub AreUnfinished : List ℕ → Type 0
 AreUnfinished bytes =
-    IsReadAs bytes (Err (at_byte TRUNCATED (length bytes))) ⊎ ((found : Found) × IsReadAs bytes (Ok found))
+    IsReadAs bytes (Err (at_byte TRUNCATED (length bytes)))
+    ⊎ ((found : Found) × IsReadAs bytes (Ok found))
 
 -- Since the start of the file, bytes were read, each of which reading depends on, and an error was
 -- returned: that of a failed read, if another byte or the end was needed; out of memory; or the
@@ -149,7 +151,8 @@ pub record IsSegmentOf (reader : TableReader) (segment : AnySegment) : Type 0 wh
   pub count : length (any_meaning segment).rows ≡ min group_size (reader.rows - reader.given)
 
 -- A call returned the next segment.
-pub record GaveSegment (old now : State) (reader next : TableReader) (segment : AnySegment) : Type 0 where
+pub record GaveSegment (old now : State) (reader next : TableReader)
+    (segment : AnySegment) : Type 0 where
   -- it is a segment of the reader's table, of the next rows
   pub of_table : IsSegmentOf reader segment
   -- its rows follow the groups so far
@@ -224,7 +227,8 @@ pub record Repeated {S : Type 0} (source next_source : S) (reader next : TableRe
 -- What a call for the next segment did, and how it left the reader and the source. It returned the
 -- segment; it found the end of a complete file; it failed by the first error; or it repeated the
 -- result of an earlier call.
-pub data GivesNext {S : Type 0} (source next_source : S) (old now : State) (reader next : TableReader) :
+pub data GivesNext {S : Type 0} (source next_source : S) (old now : State)
+    (reader next : TableReader) :
     Result (Option AnySegment) Fault → Type 0 where
   gives : {segment : AnySegment} → settled reader ≡ None → GaveSegment old now reader next segment →
       GivesNext source next_source old now reader next (Ok (Some segment))
@@ -232,7 +236,8 @@ pub data GivesNext {S : Type 0} (source next_source : S) (old now : State) (read
       GivesNext source next_source old now reader next (Ok None)
   refuses : {fault : Fault} → settled reader ≡ None → Refused old now reader next fault →
       GivesNext source next_source old now reader next (Err fault)
-  repeats : {result : Result (Option AnySegment) Fault} → Repeated source next_source reader next result →
+  repeats : {result : Result (Option AnySegment) Fault} →
+      Repeated source next_source reader next result →
       GivesNext source next_source old now reader next result
 
 -- The reader states this layout, schema and number of rows, and these groups are the first ones of

@@ -70,7 +70,8 @@ nullable_says bytes =
 -- a name that follows these; an invalid one, or one of these, ignoring case, is 304
 unfoldable pub name_says : List (List ℕ) → List ℕ → Result (List ℕ) ℕ
 name_says before text =
-    if not (is_name text) || list_any (λ name. same_text name text) before then Err HEADER else Ok text
+    if not (is_name text) || list_any (λ name. same_text name text) before then Err HEADER
+    else Ok text
 
 -- a name, preceded by a byte for its length, at which its error is once all its bytes are there
 unfoldable pub name : List (List ℕ) → Reading (List ℕ)
@@ -245,7 +246,8 @@ IsReadAs bytes read = IsReadAfter (header (tail 0 bytes)) read
 
 -- the errors of calls that read a table file: 301 to 310, a failed read, or out of memory
 abbrev pub is_table_fault : Fault → Bool
-is_table_fault fault = (nat_le MAGIC fault.code && nat_le fault.code ROW_COUNT) || is_input_fault fault
+is_table_fault fault = (nat_le MAGIC fault.code && nat_le fault.code ROW_COUNT)
+    || is_input_fault fault
 
 abbrev pub IsTableFault : Fault → Type 0
 IsTableFault fault = IsTrue (is_table_fault fault)

@@ -44,7 +44,8 @@ pub(crate) fn read_segment<S: Source>(
         (state (S.to_come source.new) offset.new (S.failures source.new)) result }
     ensures counted { OnOk result (offset.new ≤ offset.old + 2 ^ 19) }
     ensures layout { IfOk result (λ found. any_layout found ≡ layout) }
-    ensures name { IfOk result (λ found. (any_meaning found).name ≡ placement.now.value.schema.name) }
+    ensures name { IfOk result (λ found. (any_meaning found).name
+        ≡ placement.now.value.schema.name) }
     ensures columns { IfOk result
         (λ found. (any_meaning found).columns ≡ placement.now.value.schema.columns.items) }
     ensures count { IfOk result (λ found. length (any_meaning found).rows ≡ rows) }
@@ -68,14 +69,17 @@ fn read_blocks<S: Source>(
     requires countable { S.failures source.old < 2 ^ 64 - 1 }
     requires room { offset.old < 2 ^ 62 }
     requires rows { rows ≤ group_size }
-    requires size { length (bytes_held bytes.old) ≡ segment_size layout placement.now.schema.columns.items }
+    requires size { length (bytes_held bytes.old)
+        ≡ segment_size layout placement.now.schema.columns.items }
     requires next { AreNext bytes.old 0 (S.kept source.old) }
-    ensures reads { Reads (λ _. bytes_held bytes.new) (blocks layout placement.now.schema.columns.items rows 0
+    ensures reads { Reads (λ _. bytes_held bytes.new)
+        (blocks layout placement.now.schema.columns.items rows 0
         (length placement.now.schema.columns.items) [])
         (state (S.to_come source.old) offset.old (S.failures source.old))
         (state (S.to_come source.new) offset.new (S.failures source.new)) result }
     ensures counted { OnOk result (offset.new ≤ offset.old + 2 ^ 19) }
-    ensures sound { OnOk result (IsSound layout placement.now.schema.columns.items rows (bytes_held bytes.new)) }
+    ensures sound { OnOk result
+        (IsSound layout placement.now.schema.columns.items rows (bytes_held bytes.new)) }
 {
     let mut start = 0;
     for col in 0..placement.schema.columns.len() {
@@ -109,16 +113,18 @@ fn read_block<S: Source>(
     requires room { offset.old < 2 ^ 63 }
     requires column { col < length placement.now.schema.columns.items }
     requires rows { rows ≤ group_size }
-    requires within { start + block_size layout placement.now.schema.columns.items col ≤ length (bytes_held bytes.old) }
+    requires within { start + block_size layout placement.now.schema.columns.items col
+        ≤ length (bytes_held bytes.old) }
     requires next { AreNext bytes.old start (S.kept source.old) }
-    ensures reads { Reads (λ _. block_from layout placement.now.schema.columns.items col start (bytes_held bytes.new))
-        (one_block layout placement.now.schema.columns.items rows col)
+    ensures reads { Reads (λ _. block_from layout placement.now.schema.columns.items col start
+        (bytes_held bytes.new)) (one_block layout placement.now.schema.columns.items rows col)
         (state (S.to_come source.old) offset.old (S.failures source.old))
         (state (S.to_come source.new) offset.new (S.failures source.new)) result }
     ensures counted { OnOk result
         (offset.new ≡ offset.old + block_size layout placement.now.schema.columns.items col) }
     ensures good { OnOk result (block_fault layout placement.now.schema.columns.items col rows
-        (block_from layout placement.now.schema.columns.items col start (bytes_held bytes.new)) ≡ None) }
+        (block_from layout placement.now.schema.columns.items col start (bytes_held bytes.new))
+        ≡ None) }
     ensures next { OnOk result (AreNext bytes.new
         (start + block_size layout placement.now.schema.columns.items col) (S.kept source.new)) }
     ensures before { take start (bytes_held bytes.new) ≡ take start (bytes_held bytes.old) }

@@ -17,7 +17,8 @@ ghost use Rattle.bw_file.specs.declared.table_reader.TableReader.{TableReader};
 pub fn bytes_were_taken()
     ensures { (start now : State) (reader : TableReader) (groups : List (List (List Value)))
         → SoFar start now reader groups
-        → ((bytes : List ℕ) × Took start now bytes × FrontsEndEarly bytes) × (now.failures ≡ start.failures) }
+        → ((bytes : List ℕ) × Took start now bytes × FrontsEndEarly bytes)
+        × (now.failures ≡ start.failures) }
 {}
 
 /// A law: if the unread bytes spell a table, a reader returns that table's header and its groups,

@@ -47,8 +47,8 @@ impl SegmentBytes {
         requires room { offset.old + size < 2 ^ 64 }
         requires within { start + size ≤ length (bytes_held self.old) }
         requires next { AreNext self.old start (S.kept source.old) }
-        ensures reads { Reads (λ _. slice_range (bytes_held self.new) start (start + size)) (field size)
-            (state (S.to_come source.old) offset.old (S.failures source.old))
+        ensures reads { Reads (λ _. slice_range (bytes_held self.new) start (start + size))
+            (field size) (state (S.to_come source.old) offset.old (S.failures source.old))
             (state (S.to_come source.new) offset.new (S.failures source.new)) result }
         ensures counted { OnOk result (offset.new ≡ offset.old + size) }
         ensures next { OnOk result (AreNext self.new (start + size) (S.kept source.new)) }

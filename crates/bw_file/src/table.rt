@@ -52,7 +52,8 @@ pub fn encode(
 /// format, 301 to 304, 310, and 305 to 309; 801 if memory is refused.
 pub fn decode(alloc: Global, bytes: &[u8]) -> Result<Table, Fault>
     ensures table { IfOk result
-        (λ table. IsFileBytes bytes.now table.layout table.schema (map values_of table.rows.items)) }
+        (λ table. IsFileBytes bytes.now table.layout table.schema
+        (map values_of table.rows.items)) }
     ensures accepted { (layout : Layout) (schema : Schema) (rows : List (List Value))
         → IsFileBytes bytes.now layout schema rows
         → Gives found_of result (Ok (found_as layout (schema_shape schema) rows)) }

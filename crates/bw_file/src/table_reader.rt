@@ -202,7 +202,8 @@ impl TableReader {
 
     /// Returns how many bytes a segment has.
     pub fn segment_size(&self) -> usize
-        ensures size { result ≡ segment_size (layout_in self.now) (schema_in self.now).columns.items }
+        ensures size { result ≡ segment_size (layout_in self.now)
+            (schema_in self.now).columns.items }
         ensures small { result ≤ 266240 }
     {
         segment_size(self.layout, &self.placement)

@@ -31,7 +31,8 @@ pub data Wrote {T : Type 0} (aside : Fault → Bool) (old new : Option (List ℕ
       Wrote aside old new before after given (Ok x)
   beginning : (text : List ℕ) → given ≡ Ok text → TookPart old new text → after ≡ before + 1 →
       Wrote aside old new before after given (Err (nowhere WRITE_FAILED))
-  nothing : {fault : Fault} → is_write_fault fault ≡ false → (aside fault ≡ false → given ≡ Err fault) →
+  nothing : {fault : Fault} → is_write_fault fault ≡ false →
+      (aside fault ≡ false → given ≡ Err fault) →
       new ≡ old → after ≡ before → Wrote aside old new before after given (Err fault)
 
 -- no error is exempt

@@ -58,8 +58,10 @@ TookAtMost most old new = (bytes : List ℕ) × Consumes old new bytes × (lengt
 
 -- How a call leaves its source: it consumed at most `most` of the unread bytes, and failed by a
 -- failed read if and only if the count of failures rose.
-abbrev pub LeavesSource : {T : Type 0} → ℕ → Option (List ℕ) → Option (List ℕ) → ℕ → ℕ → Result T Fault → Type 0
-LeavesSource most old new before after result = TookAtMost most old new × TellsFailure before after result
+abbrev pub LeavesSource : {T : Type 0} → ℕ → Option (List ℕ) → Option (List ℕ) → ℕ → ℕ
+    → Result T Fault → Type 0
+LeavesSource most old new before after result = TookAtMost most old new
+    × TellsFailure before after result
 
 -- A source's count of failures rises from `before` to `after`: by one if it yielded a failed read,
 -- else by none. A source that wasn't reached is as it was, as far as its unread bytes and its count

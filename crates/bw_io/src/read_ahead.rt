@@ -99,7 +99,8 @@ impl<R: Read> ReadAhead<R> {
         requires countable { read_failures self.old < 2 ^ 64 - 1 }
         requires empty { self.old.start ≡ self.old.end }
         ensures bound { ReadsAtMost result buffer.new }
-        ensures bytes { ReadConsumes (coming R.remaining self.old) (coming R.remaining self.new) result buffer.new }
+        ensures bytes { ReadConsumes (coming R.remaining self.old)
+            (coming R.remaining self.new) result buffer.new }
         ensures count { read_failures self.new ≡ failures_after result (read_failures self.old) }
     {
         match self.inner.read(buffer) {
@@ -168,7 +169,8 @@ impl<R: Read> Source for ReadAhead<R> {
 fn read_piece<R: Read>(inner: &mut R, memory: &mut [u8]) -> Result<usize, Error>
     requires { FRONT ≤ length memory.old }
     ensures bound { ReadsAtMost result (drop FRONT memory.new) }
-    ensures bytes { ReadConsumes (R.remaining inner.old) (R.remaining inner.new) result (drop FRONT memory.new) }
+    ensures bytes { ReadConsumes (R.remaining inner.old) (R.remaining inner.new) result
+        (drop FRONT memory.new) }
     ensures long { length memory.new ≡ length memory.old }
 {
     inner.read(&mut memory[FRONT..])

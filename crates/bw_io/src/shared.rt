@@ -39,7 +39,8 @@ impl SharedBytes {
     pub(crate) fn part(memory: &Rc<Vec<u8>>, start: usize, end: usize) -> Option<Self>
         requires ordered { start ≤ end }
         requires within { end ≤ vec_len memory.now.value }
-        ensures { IfSome result (λ shared. bytes_in shared ≡ slice_range memory.now.value.items start end) }
+        ensures { IfSome result (λ shared. bytes_in shared
+            ≡ slice_range memory.now.value.items start end) }
     {
         match memory.clone() {
             Ok(memory) => Some(SharedBytes { memory, start, end }),

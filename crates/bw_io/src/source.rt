@@ -35,7 +35,8 @@ pub trait Source {
     /// Consumes the next `count` bytes, all of which it must buffer.
     fn pass(&mut self, count: usize)
         requires { count ≤ length (kept self.old) }
-        ensures bytes { Consumes (to_come self.old) (to_come self.new) (take count (kept self.old)) }
+        ensures bytes { Consumes (to_come self.old) (to_come self.new)
+            (take count (kept self.old)) }
         ensures kept { kept self.new ≡ drop count (kept self.old) }
         ensures count { failures self.new ≡ failures self.old };
 

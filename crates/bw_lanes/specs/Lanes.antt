@@ -37,4 +37,5 @@ bytes_of_lanes lanes = bytes_from 64 lanes
 -- the bytes of a row are 0 in each of the first `count` slices, which have 512 bytes each
 abbrev pub are_zero : List ℕ → ℕ → ℕ → Bool
 are_zero bytes row zero = true
-are_zero bytes row (suc slices) = are_zero bytes row slices && (slice_index bytes (512 * slices + row) == 0)
+are_zero bytes row (suc slices) = are_zero bytes row slices
+    && (slice_index bytes (512 * slices + row) == 0)

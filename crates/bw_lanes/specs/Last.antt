@@ -3,7 +3,8 @@ use Rattle.std.specs.Prelude.{◌≡◌, ℕ, ◌<◌, ◌≤◌, Bool, true, fa
 
 -- the lanes from this one up to another are 0
 abbrev pub AreClear : List Bool → ℕ → ℕ → Type 0
-AreClear lanes first end = (lane : ℕ) → first ≤ lane → lane < end → slice_index_or lanes lane false ≡ false
+AreClear lanes first end = (lane : ℕ) → first ≤ lane → lane < end → slice_index_or lanes lane false
+    ≡ false
 
 -- a lane of the range is 1, and those after it are 0
 pub record IsLast (lanes : List Bool) (first end lane : ℕ) : Type 0 where

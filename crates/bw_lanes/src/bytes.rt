@@ -69,7 +69,8 @@ pub fn bytes_none(slices: &[u8], count: usize) -> Plane
 #[inline(always)]
 pub fn bytes_any(slices: &[u8], count: usize, rows: &Plane) -> bool
     requires { 512 * count ≤ length slices.now }
-    ensures { result ≡ list_any (λ lane. lane) (zip2 (λ among row. among && not (are_zero slices.now row count))
+    ensures { result ≡ list_any (λ lane. lane)
+        (zip2 (λ among row. among && not (are_zero slices.now row count))
         (lanes_of_words rows.now) (range_with_len 0 512)) }
 {
     let mut any = false;
@@ -84,7 +85,8 @@ pub fn bytes_any(slices: &[u8], count: usize, rows: &Plane) -> bool
 fn any_of_word(slices: &[u8], count: usize, first: usize, rows: u64) -> bool
     requires slices { 512 * count ≤ length slices.now }
     requires rows { first + 64 ≤ 512 }
-    ensures { result ≡ list_any (λ lane. lane) (zip2 (λ among row. among && not (are_zero slices.now row count))
+    ensures { result ≡ list_any (λ lane. lane)
+        (zip2 (λ among row. among && not (are_zero slices.now row count))
         (bits_from_least 64 rows) (range_with_len first 64)) }
 {
     rows != 0 && rows & !eq(joined(slices, count, first), 0) != 0

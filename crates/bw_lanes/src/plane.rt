@@ -102,8 +102,8 @@ const NUMBERS: [u64; 8] = [0, 1, 2, 3, 4, 5, 6, 7];
 /// Returns a plane whose first `whole` words are 1 in all lanes, the next one is `last`, and those
 /// after it are 0.
 fn ones_and_last(whole: u64, last: u64) -> u64x8
-    ensures { result ≡ map (λ word. if nat_lt word whole then 2 ^ 64 - 1 else if word == whole then last else 0)
-        (range_with_len 0 8) }
+    ensures { result ≡ map (λ word. if nat_lt word whole then 2 ^ 64 - 1 else if word == whole
+        then last else 0) (range_with_len 0 8) }
 {
     let numbers = u64x8::from_array(NUMBERS);
     let whole = u64x8::splat(whole);

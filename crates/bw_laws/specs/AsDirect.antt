@@ -1,4 +1,4 @@
--- What is answered over the table file that a load wrote, beside what is answered straight from the CSV text.
+-- Answers over the table file that a load wrote, compared with answers straight from the CSV text.
 use Rattle.std.specs.Prelude.{◌≡◌, ℕ, List, Option, Result, Ok}
 use Rattle.std.specs.Io.KnownBytes.{Appends}
 use Rattle.bw_model.specs.declared.fault.Fault.{Fault}
@@ -22,7 +22,8 @@ pub record LoadMayWrite (layout : Layout) (schema csv bytes : List ℕ) : Type 0
   pub csv_source : CameOf longest_csv csv csv_came
   pub is : IsFile layout schema_came csv_came (Ok bytes)
 
--- a sink took the text of the answer by what came of the schema's source and of the CSV's, which has no other answer
+-- a sink received the text of the one answer that follows from what was read of the schema's source
+-- and of the CSV's
 pub record TookAnswer (schema csv : Arrival) (sql : List ℕ)
     (old new : Option (List ℕ)) : Type 0 where
   pub text : List ℕ
@@ -30,15 +31,17 @@ pub record TookAnswer (schema csv : Arrival) (sql : List ℕ)
   pub only : (given : Result (List ℕ) Fault) → IsAnswer schema sql csv given → given ≡ Ok text
   pub took : Appends old new text
 
--- a sink took a text that `direct` may write over sources of this schema text and of this CSV text, and the only one
+-- a sink received the one text that `direct` may write over sources of this schema text and of this
+-- CSV text
 pub record TookAsDirect (schema csv sql : List ℕ) (old new : Option (List ℕ)) : Type 0 where
   pub text : List ℕ
   pub may : DirectMayWrite schema csv sql text
   pub only : (other : List ℕ) → DirectMayWrite schema csv sql other → other ≡ text
   pub took : Appends old new text
 
--- what a load is to write is the file of a table, under whose schema the statement spells a query
-pub record IsAnswerable (layout : Layout) (sql : List ℕ) (given : Result (List ℕ) Fault) : Type 0 where
+-- a load yields the file of a table under whose schema the statement spells a query
+pub record IsAnswerable (layout : Layout) (sql : List ℕ) (given : Result (List ℕ) Fault) : Type
+    0 where
   pub bytes : List ℕ
   pub is : given ≡ Ok bytes
   pub schema : Schema

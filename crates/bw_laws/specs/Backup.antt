@@ -19,38 +19,39 @@ use Rattle.bw_laws.specs.OneAnswer.{CameOf}
 abbrev pub table_text : Schema → List (List Value) → List ℕ
 table_text schema rows = csv_text (names_of schema.columns.items ∷ map (map value_text) rows)
 
--- the most bytes that the CSV text of a table of so many columns and rows can have: 63 for each name, 20 for each
--- value, and one after each
+-- the maximal length of the CSV text of a table of so many columns and rows: 63 bytes for each
+-- name, 20 for each value, and one after each
 abbrev pub longest_dump : ℕ → ℕ → ℕ
 longest_dump columns rows = columns * 64 + rows * (columns * 21)
 
--- the version that a table file tells: the byte after the eight of the magic
+-- a table file's version: the byte after the eight of the magic
 abbrev pub version_told : List ℕ → ℕ
 version_told bytes = slice_index bytes 8
 
--- a table file is of version 1; or version 1 has no room for a column of its table, so that it's of version 2 by need
+-- a table file is of version 1; or version 1 can't hold a column of its table, so that it needs
+-- version 2
 abbrev pub IsOfNeededVersion : List ℕ → Schema → Type 0
 IsOfNeededVersion bytes schema = (version_told bytes ≡ 1) ⊎ (version_for schema.columns.items ≡ 2)
 
--- this is what info writes of a source that has these bytes to give
+-- info writes this of a source that has these bytes
 pub record IsTold (bytes text : List ℕ) : Type 0 where
   pub failures : ℕ
   pub now : State
   pub header : TellsHeader (state (Some bytes) 0 failures) now text
 
--- what a call is to write is this file, unless a read fails or memory runs out
+-- a call yields this file, unless a read fails or memory runs out
 abbrev pub IsThatFile : List ℕ → Result (List ℕ) Fault → Type 0
 IsThatFile file (Ok bytes) = bytes ≡ file
 IsThatFile file (Err fault) = IsTrue (is_input_fault fault)
 
--- what a load is to write, whose sources have a schema text and a CSV text to give, is this file
+-- a load yields this file, if its sources have a schema text and a CSV text
 abbrev pub Loads : Layout → List ℕ → List ℕ → List ℕ → Type 0
 Loads layout schema csv file =
     (schema_came csv_came : Arrival) (given : Result (List ℕ) Fault)
     → CameOf longest_schema schema schema_came → CameOf longest_csv csv csv_came
     → IsFile layout schema_came csv_came given → IsThatFile file given
 
--- so it is under every schema text that spells this schema
+-- the same under every schema text that spells this schema
 abbrev pub LoadsUnder : Layout → Schema → List ℕ → List ℕ → Type 0
 LoadsUnder layout schema csv file = (text : List ℕ) → IsSchemaText text (schema_shape schema)
     → Loads layout text csv file

@@ -1,4 +1,4 @@
--- What a schema text, a CSV text and a statement determine.
+-- A schema text, a CSV text and a statement determine the answer.
 use Rattle.std.specs.Prelude.{ℕ, List, Option, Some, Result, Ok}
 use Rattle.bw_model.specs.declared.fault.Fault.{Fault}
 use Rattle.bw_model.specs.declared.query.Query.{Query}
@@ -10,22 +10,23 @@ use Rattle.bw_io.specs.Source.{Arrival, Came}
 use Rattle.bw_sql.specs.Asked.{Asked, asked}
 use Rattle.bw_csv_calls.specs.Direct.{IsAnswer}
 
--- what the query asks that a statement is read as, or its fault
+-- the query that a statement is read as, or its error
 abbrev pub asked_in : Result Query Fault → Result Asked Fault
 asked_in reading = reading >>= λ query. Ok (asked query)
 
--- the name and the columns of the schema that a text is read as, or its fault
+-- the name and the columns of the schema that a text is read as, or its error
 abbrev pub shape_in : Result Schema Fault → Result SchemaShape Fault
 shape_in reading = reading >>= λ schema. Ok (schema_shape schema)
 
--- what can come of a source of this text, up to a limit, whether its reads fail or not
+-- what can be read of a source of this text, up to a limit, whether its reads fail or not
 pub record CameOf (limit : ℕ) (text : List ℕ) (came : Arrival) : Type 0 where
   pub left : Option (List ℕ)
   pub before : ℕ
   pub after : ℕ
   pub is : Came limit (Some text) left before after came
 
--- over sources of this schema text and of this CSV text, `direct` may write this answer to the statement
+-- over sources of this schema text and of this CSV text, `direct` may write this answer to the
+-- statement
 pub record DirectMayWrite (schema csv sql answer : List ℕ) : Type 0 where
   pub schema_came : Arrival
   pub csv_came : Arrival

@@ -1,4 +1,4 @@
-//! A dump is a backup: a load of it gives the table's file again.
+//! A dump is a backup: loading it yields the table's file again.
 ghost use Rattle.std.specs.Prelude.{◌≡◌, ◌≤◌, ℕ, List, Option, Ok, length};
 ghost use Rattle.std.specs.Io.KnownBytes.{Appends};
 ghost use Rattle.bw_model.specs.declared.query.Query.{Query};
@@ -19,38 +19,42 @@ use bw_csv::rows_are_admitted;
 use bw_file::{a_file_is_of_one_table, what_is_spelled_is_read};
 use bw_model::Schema;
 
-/// A law: what a dump writes of a table is the table as a CSV text, which spells the table's rows. So a load of it in
-/// the same layout gives the table's file: the same bytes, unless the file was of version 2 without need. The text is
-/// no longer than its columns and rows let it be, and of three columns at most it's never too long to be loaded.
+/// A theorem: what a dump writes of a table is the table as a CSV text, which spells the table's
+/// rows. So loading it in the same layout yields the table's file: the same bytes, unless the file
+/// was of version 2 without need. The text is at most as long as its columns and rows allow, and
+/// with at most three columns it is never too long to be loaded.
 pub fn a_dump_is_a_backup()
-    ensures text { (bytes : List ℕ) (layout : Layout) (schema : Schema) (rows : List (List Value)) (query : Query)
-        → IsFileBytes bytes layout schema rows → IsEveryRow schema query
+    ensures text { (bytes : List ℕ) (layout : Layout) (schema : Schema) (rows : List (List Value))
+        (query : Query) → IsFileBytes bytes layout schema rows → IsEveryRow schema query
         → csv_text (meaning (names_of schema.columns.items) query rows) ≡ table_text schema rows }
     ensures spells { (bytes : List ℕ) (layout : Layout) (schema : Schema) (rows : List (List Value))
-        → IsFileBytes bytes layout schema rows → rows_of schema.columns.items (table_text schema rows) ≡ Ok rows }
-    ensures loads { (bytes : List ℕ) (layout other : Layout) (schema : Schema) (rows : List (List Value))
         → IsFileBytes bytes layout schema rows
+        → rows_of schema.columns.items (table_text schema rows) ≡ Ok rows }
+    ensures loads { (bytes : List ℕ) (layout other : Layout) (schema : Schema)
+        (rows : List (List Value)) → IsFileBytes bytes layout schema rows
         → file_of other schema (table_text schema rows) ≡ Ok (file_bytes other schema rows) }
     ensures same { (bytes : List ℕ) (layout : Layout) (schema : Schema) (rows : List (List Value))
         → IsFileBytes bytes layout schema rows → IsOfNeededVersion bytes schema
         → file_of layout schema (table_text schema rows) ≡ Ok bytes }
     ensures size { (bytes : List ℕ) (layout : Layout) (schema : Schema) (rows : List (List Value))
         → IsFileBytes bytes layout schema rows
-        → length (table_text schema rows) ≤ longest_dump (length schema.columns.items) (length rows) }
+        → length (table_text schema rows) ≤ longest_dump (length schema.columns.items)
+        (length rows) }
     ensures fits { (bytes : List ℕ) (layout : Layout) (schema : Schema) (rows : List (List Value))
         → IsFileBytes bytes layout schema rows → length schema.columns.items ≤ 3
         → length (table_text schema rows) ≤ longest_csv }
 {}
 
-/// A law, which joins `dump` to `load`: of a table file a dump writes the table as a CSV text. Where this is no longer
-/// than a CSV text may be, what a load of it is to write, under a schema text that spells the schema, is the table's
-/// file in the layout that is asked for; and in the same layout the same bytes, unless the file was of version 2
-/// without need.
+/// A theorem about `dump` and `load`: a dump of a table file writes the table as a CSV text. If
+/// this isn't longer than a CSV text may be, then loading it under a schema text that spells the
+/// schema yields the table's file in the requested layout; in the same layout the same bytes,
+/// unless the file was of version 2 without need.
 pub fn what_is_dumped_is_loaded()
     ensures took { (bytes : List ℕ) (layout : Layout) (schema : Schema) (rows : List (List Value))
-        (old new : Option (List ℕ)) → IsFileBytes bytes layout schema rows → AnswersFile by_dump bytes old new
-        → Appends old new (table_text schema rows) }
-    ensures loaded { (bytes : List ℕ) (layout other : Layout) (schema : Schema) (rows : List (List Value))
+        (old new : Option (List ℕ)) → IsFileBytes bytes layout schema rows
+        → AnswersFile by_dump bytes old new → Appends old new (table_text schema rows) }
+    ensures loaded { (bytes : List ℕ) (layout other : Layout) (schema : Schema)
+        (rows : List (List Value))
         → IsFileBytes bytes layout schema rows → length (table_text schema rows) ≤ longest_csv
         → LoadsUnder other schema (table_text schema rows) (file_bytes other schema rows) }
     ensures same { (bytes : List ℕ) (layout : Layout) (schema : Schema) (rows : List (List Value))
@@ -60,25 +64,33 @@ pub fn what_is_dumped_is_loaded()
     a_file_is_of_one_table();
 }
 
-/// A law, which joins `info`, `dump` and `load`: what `info` writes of a table file spells the table's schema. Under
-/// it, what a load of the dump is to write in the same layout are the bytes of the file, unless that was of version 2
-/// without need.
+/// A theorem about `info`, `dump` and `load`: what `info` writes of a table file spells the table's
+/// schema. Under it, loading the dump in the same layout yields the bytes of the file, unless that
+/// was of version 2 without need.
 pub fn a_file_is_restored()
-    ensures told { (bytes : List ℕ) (layout : Layout) (schema : Schema) (rows : List (List Value)) (told : List ℕ)
-        → IsFileBytes bytes layout schema rows → IsTold bytes told → IsSchemaText told (schema_shape schema) }
-    ensures same { (bytes : List ℕ) (layout : Layout) (schema : Schema) (rows : List (List Value)) (told : List ℕ)
-        (old new : Option (List ℕ)) → IsFileBytes bytes layout schema rows → IsOfNeededVersion bytes schema
-        → IsTold bytes told → AnswersFile by_dump bytes old new → Appends old new (table_text schema rows)
-        × (length (table_text schema rows) ≤ longest_csv → Loads layout told (table_text schema rows) bytes) }
+    ensures told { (bytes : List ℕ) (layout : Layout) (schema : Schema) (rows : List (List Value))
+        (told : List ℕ)
+        → IsFileBytes bytes layout schema rows → IsTold bytes told
+        → IsSchemaText told (schema_shape schema) }
+    ensures same { (bytes : List ℕ) (layout : Layout) (schema : Schema) (rows : List (List Value))
+        (told : List ℕ)
+        (old new : Option (List ℕ)) → IsFileBytes bytes layout schema rows
+        → IsOfNeededVersion bytes schema
+        → IsTold bytes told → AnswersFile by_dump bytes old new
+        → Appends old new (table_text schema rows)
+        × (length (table_text schema rows) ≤ longest_csv
+        → Loads layout told (table_text schema rows) bytes) }
 {
     what_is_spelled_is_read();
     what_is_dumped_is_loaded();
 }
 
-/// A law: the file that a load writes of a CSV text is, byte for byte, the one that a load writes of that file's dump,
-/// under the same schema and in the same layout. It looks at each column of the schema.
+/// A theorem: the file that a load writes of a CSV text is, byte for byte, the one that a load
+/// writes of that file's dump, under the same schema and in the same layout. At run time it looks
+/// at each column of the schema.
 pub fn a_load_is_restored(schema: &Schema)
-    ensures { (layout : Layout) (csv bytes : List ℕ) (rows : List (List Value)) (old new : Option (List ℕ))
+    ensures { (layout : Layout) (csv bytes : List ℕ) (rows : List (List Value))
+        (old new : Option (List ℕ))
         → rows_of schema.now.columns.items csv ≡ Ok rows → file_of layout schema.now csv ≡ Ok bytes
         → AnswersFile by_dump bytes old new → Appends old new (table_text schema.now rows)
         × (file_of layout schema.now (table_text schema.now rows) ≡ Ok bytes) }

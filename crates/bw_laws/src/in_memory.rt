@@ -1,4 +1,4 @@
-//! What is answered over a table in memory, and over its file.
+//! A table in memory gives the results of its file.
 ghost use Rattle.std.specs.Prelude.{◌≡◌, ℕ, false, List, Option, Some, Result, Err};
 ghost use Rattle.std.specs.Io.KnownBytes.{Appends};
 ghost use Rattle.bw_model.specs.declared.fault.Fault.{Fault};
@@ -14,24 +14,28 @@ ghost use Rattle.bw_laws.specs.OneAnswer.{asked_in};
 
 use bw_cert::one_verdict;
 
-/// A law, which joins `answer_in_memory` to `answer`: over a table in memory that is of these bytes a statement has the
-/// answer that it has over a source of the bytes.
+/// A theorem about `answer_in_memory` and `answer`: over a table in memory that was read from these
+/// bytes, a statement has the same answer as over a source of the bytes.
 ///
-/// What `answer_in_memory` may write is the one text that `answer` may write, whichever programs find the rows of
-/// either (`text`). With the same program file, or without one, what is asked is read in one way: it's the same
-/// question, or the same fault (`asked`). So where a statement or its program file is refused over the table, `answer`
-/// refuses it by the same fault, unless a device or memory fails (`refused`).
+/// What `answer_in_memory` may write is the one text that `answer` may write, whichever programs
+/// select the rows of either (`text`). With the same program file, or without one, the statement is
+/// read in one way: as the same query, or as the same error (`asked`). So if statement or program
+/// file is rejected over the table, `answer` fails with the same error, unless a device or memory
+/// fails (`refused`).
 pub fn a_table_in_memory_is_answered_as_its_file()
-    ensures text { (bytes sql text : List ℕ) (layout : Layout) (schema : Schema) (rows : List (List Value))
-        (program second old new : Option (List ℕ))
-        → IsFileBytes bytes layout schema rows → RowsText (by_statement program sql) schema rows text
+    ensures text { (bytes sql text : List ℕ) (layout : Layout) (schema : Schema)
+        (rows : List (List Value)) (program second old new : Option (List ℕ))
+        → IsFileBytes bytes layout schema rows
+        → RowsText (by_statement program sql) schema rows text
         → AnswersFile (by_statement second sql) bytes old new → Appends old new text }
     ensures asked { (bytes sql : List ℕ) (layout another : Layout) (schema other : Schema)
-        (rows others : List (List Value)) (program : Option (List ℕ)) (given second : Result Query Fault)
+        (rows others : List (List Value)) (program : Option (List ℕ))
+        (given second : Result Query Fault)
         → IsFileBytes bytes layout schema rows → IsFileBytes bytes another other others
         → by_statement program sql schema given → by_statement program sql other second
         → asked_in given ≡ asked_in second }
-    ensures refused { (bytes sql : List ℕ) (layout : Layout) (schema : Schema) (rows : List (List Value))
+    ensures refused { (bytes sql : List ℕ) (layout : Layout) (schema : Schema)
+        (rows : List (List Value))
         (program : Option (List ℕ)) (failures : ℕ) (now : State) (fault second : Fault)
         → IsFileBytes bytes layout schema rows → by_statement program sql schema (Err fault)
         → TableGave (by_statement program sql) (state (Some bytes) 0 failures) now (Err second)

@@ -1,4 +1,4 @@
-//! What is answered with a plan that was kept.
+//! Results with a stored plan.
 ghost use Rattle.std.specs.Prelude.{◌≡◌, ℕ, List, [], Option, Some, Result, Ok};
 ghost use Rattle.bw_model.specs.declared.fault.Fault.{Fault};
 ghost use Rattle.bw_model.specs.declared.query.Query.{Query};
@@ -19,14 +19,14 @@ use bw_cert::{certificates_are_judged_by_what_they_say, one_verdict, valid_exact
 use bw_file::a_file_is_of_one_table;
 use bw_sql::{one_query_of_a_text, schemas_of_one_shape};
 
-/// A law, which joins `plan_text` to `answer`: a query with a kept plan is answered by the plan's program, and never
-/// row by row.
+/// A theorem about `plan_text` and `answer`: a query with a stored plan is scanned by the plan's
+/// program, never row by row.
 ///
-/// `plan_text` succeeds for a schema text and a statement: then a sink that was empty holds a plan for them. `answer`
-/// accepts a plan as the program file of its statement, over every table whose schema that text spells. For the
-/// statement spells a query under that schema, and the file is accepted for each query that it spells. The query is
-/// served by the plan's own program, with the loads and skips of its runs: over any rows, and so over the table of a
-/// file.
+/// If `plan_text` succeeds for a schema text and a statement, a sink that was empty holds a plan
+/// for them. `answer` accepts a plan as the program file of its statement over every table whose
+/// schema that text spells: the statement spells a query under that schema, and the file is
+/// accepted for each query that it spells. The plan's own program serves the query, with the loads
+/// and skips of its runs, over any rows, and so over the table of a file.
 pub fn a_kept_plan_is_used()
     ensures written { (text sql plan : List ℕ) (given : Result (List ℕ) Fault) (before after : ℕ)
         → IsPlanned text sql given
@@ -38,11 +38,13 @@ pub fn a_kept_plan_is_used()
     ensures each { (text sql plan : List ℕ) (schema : Schema) (query : Query) → IsPlan text sql plan
         → IsSchemaText text (schema_shape schema) → IsReadAs schema sql (Ok query)
         → by_statement (Some plan) sql schema (Ok query) }
-    ensures served { (text sql plan : List ℕ) (schema : Schema) (query : Query) (rows : List (List Value))
+    ensures served { (text sql plan : List ℕ) (schema : Schema) (query : Query)
+        (rows : List (List Value))
         (served : Served) → (kept : IsPlan text sql plan) → IsSchemaText text (schema_shape schema)
         → IsServed (Some plan) schema query rows served
         → ByProgram kept.program schema.columns.items rows served }
-    ensures file { (text sql plan bytes : List ℕ) (layout : Layout) (schema : Schema) (rows : List (List Value))
+    ensures file { (text sql plan bytes : List ℕ) (layout : Layout) (schema : Schema)
+        (rows : List (List Value))
         (old new : Option (List ℕ)) (served : Served) → (kept : IsPlan text sql plan)
         → IsFileBytes bytes layout schema rows → IsSchemaText text (schema_shape schema)
         → (answers : AnswersFile (by_statement (Some plan) sql) bytes old new)

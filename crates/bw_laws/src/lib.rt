@@ -1,9 +1,10 @@
-//! Laws that join definitions of several crates, for those who use the store: a statement over a CSV text has one
-//! answer, what is loaded is answered as `direct` answers, a table in memory is answered as its file, a dump is a backup,
-//! a plan that was kept is used, a table file that is cut is refused, a schema text spells one schema or has one fault,
-//! and an inferred schema is spelled by its text. Nothing stands on them.
+//! Theorems across crates, for users of the store: a statement over a CSV text has one answer; a
+//! loaded table gives the answers of `direct`; a table in memory gives the answers of its file; a
+//! dump is a backup; a stored plan is used; a truncated table file is rejected; a schema text
+//! spells one schema or has one error; an inferred schema is spelled by its text. No other crate
+//! depends on them.
 //!
-//! Read `joined.rt` with `specs/Joined.antt` first, and then `as_direct.rt` with `specs/AsDirect.antt`.
+//! Read `joined.rt` with `specs/Joined.antt` first, then `as_direct.rt` with `specs/AsDirect.antt`.
 #![tactic(auto)]
 
 mod as_direct;

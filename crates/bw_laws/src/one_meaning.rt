@@ -1,12 +1,12 @@
-//! What a query means, by what it asks.
+//! Equal queries have equal meanings.
 ghost use Rattle.std.specs.Prelude.{◌≡◌, ℕ, List};
 ghost use Rattle.bw_model.specs.declared.query.Query.{Query};
 ghost use Rattle.bw_model.specs.Row.{Value};
 ghost use Rattle.bw_sql.specs.Asked.{asked};
 ghost use Rattle.bw_answer.specs.Answer.{meaning};
 
-/// A law: two queries that ask the same, by their items and by the trees of their conditions, have the same meaning
-/// over any rows, wherever their parts lie in memory.
+/// A theorem: two queries with the same items and the same trees of conditions have the same
+/// meaning over any rows, wherever their parts lie in memory.
 pub fn one_meaning_of_what_is_asked()
     ensures { (names : List (List ℕ)) (query other : Query) (rows : List (List Value))
         → asked query ≡ asked other → meaning names query rows ≡ meaning names other rows }

@@ -46,4 +46,5 @@ abbrev pub code_at : List Column → ℕ → Value → Option ℕ
 code_at columns column value = slice_index_or (map (λ c. code_of c value) columns) column None
 
 abbrev pub value_at : List Column → ℕ → ℕ → ℤ
-value_at columns column code = slice_index_or (map (λ c. value_of_code c code) columns) column (pos 0)
+value_at columns column code = slice_index_or (map (λ c. value_of_code c code) columns) column
+    (pos 0)

@@ -22,4 +22,5 @@ abbrev pub admits_values : List Column → List Value → Bool
 admits_values [] [] = true
 admits_values [] (value ∷ values) = false
 admits_values (column ∷ columns) [] = false
-admits_values (column ∷ columns) (value ∷ values) = admits_value column value && admits_values columns values
+admits_values (column ∷ columns) (value ∷ values) = admits_value column value
+    && admits_values columns values

@@ -20,7 +20,8 @@ operand_value row Null = None
 abbrev pub truth_step : List Value → Cond-F Truth → Truth
 truth_step row Always = Yes
 truth_step row (Cmp op x y) = compared op (operand_value row x) (operand_value row y)
-truth_step row (Between x y z) = between (operand_value row x) (operand_value row y) (operand_value row z)
+truth_step row (Between x y z) = between (operand_value row x) (operand_value row y)
+    (operand_value row z)
 truth_step row (Among x items) = among (operand_value row x) (map (operand_value row) items.items)
 truth_step row (IsNull x) = truth_from (is_null (operand_value row x))
 truth_step row (And parts) = all_of parts.items
@@ -46,8 +47,10 @@ is_within columns Null = true
 abbrev pub within_step : ℕ → Cond-F Bool → Bool
 within_step columns Always = true
 within_step columns (Cmp op x y) = is_within columns x && is_within columns y
-within_step columns (Between x y z) = is_within columns x && is_within columns y && is_within columns z
-within_step columns (Among x items) = is_within columns x && list_all (is_within columns) items.items
+within_step columns (Between x y z) = is_within columns x && is_within columns y
+    && is_within columns z
+within_step columns (Among x items) = is_within columns x
+    && list_all (is_within columns) items.items
 within_step columns (IsNull x) = is_within columns x
 within_step columns (And parts) = list_all (λ part. part) parts.items
 within_step columns (Or parts) = list_all (λ part. part) parts.items

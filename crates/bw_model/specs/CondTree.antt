@@ -52,7 +52,8 @@ abbrev mutual
   pub tree_truth : List Value → CondTree → Truth
   tree_truth row Always = Yes
   tree_truth row (Cmp op x y) = compared op (operand_value row x) (operand_value row y)
-  tree_truth row (Between x y z) = between (operand_value row x) (operand_value row y) (operand_value row z)
+  tree_truth row (Between x y z) = between (operand_value row x) (operand_value row y)
+      (operand_value row z)
   tree_truth row (Among x items) = among (operand_value row x) (map (operand_value row) items)
   tree_truth row (IsNull x) = truth_from (is_null (operand_value row x))
   tree_truth row (And parts) = all_of (tree_truths row parts)
@@ -69,7 +70,8 @@ abbrev mutual
   pub tree_within : ℕ → CondTree → Bool
   tree_within columns Always = true
   tree_within columns (Cmp op x y) = is_within columns x && is_within columns y
-  tree_within columns (Between x y z) = is_within columns x && is_within columns y && is_within columns z
+  tree_within columns (Between x y z) = is_within columns x && is_within columns y
+      && is_within columns z
   tree_within columns (Among x items) = is_within columns x && list_all (is_within columns) items
   tree_within columns (IsNull x) = is_within columns x
   tree_within columns (And parts) = trees_within columns parts

@@ -30,7 +30,8 @@ place_text (Rec at) = codes " at record " ++ decimal at
 -- `bw: 404 unknown column at byte 7`
 abbrev pub fault_line : Fault → List ℕ
 fault_line fault =
-    ((((codes "bw: " ++ decimal fault.code) ++ codes " ") ++ words_of fault.code) ++ place_text fault.place)
+    ((((codes "bw: " ++ decimal fault.code) ++ codes " ") ++ words_of fault.code)
+    ++ place_text fault.place)
     ++ codes "\n"
 
 -- out of memory

@@ -256,7 +256,8 @@ faults =
 -- the words of a number in the first row that has it, or `fault` if there is none
 abbrev pub words_among : List Listed → ℕ → List ℕ
 words_among [] number = codes "fault"
-words_among (row ∷ rows) number = if number == row.number then row.words else words_among rows number
+words_among (row ∷ rows) number = if number == row.number then row.words
+    else words_among rows number
 
 -- the words of an error, by its number
 unfoldable pub words_of : ℕ → List ℕ
@@ -265,7 +266,8 @@ words_of number = words_among faults number
 -- the kind of place of a number in the first row that has it, or none
 abbrev pub standing_among : List Listed → ℕ → Standing
 standing_among [] number = Unplaced
-standing_among (row ∷ rows) number = if number == row.number then row.standing else standing_among rows number
+standing_among (row ∷ rows) number = if number == row.number then row.standing
+    else standing_among rows number
 
 -- the kind of place of an error, by its number
 unfoldable pub standing_of : ℕ → Standing

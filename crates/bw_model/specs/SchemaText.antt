@@ -42,7 +42,8 @@ abbrev pub signed_digits : Bool → List ℕ → Option ℤ
 signed_digits is_negative digits = if are_digits digits then number_of is_negative digits else None
 
 unfoldable pub bound_of : List ℕ → Option ℤ
-bound_of text = if slice_index text 0 == 45 then signed_digits true (drop 1 text) else signed_digits false text
+bound_of text = if slice_index text 0 == 45 then signed_digits true (drop 1 text)
+    else signed_digits false text
 
 -- the bounds are in order, and less than 2^63 apart
 unfoldable pub is_range : ℤ → ℤ → Bool
@@ -60,7 +61,8 @@ are_not_null negates null = same_text negates (codes "NOT") && same_text null (c
 -- form
 unfoldable pub column_words : List (List ℕ) → Option ColumnShape
 column_words (keyword ∷ name ∷ lo ∷ hi ∷ []) =
-    if not (same_text keyword (codes "COLUMN")) then None else with_bounds name (bound_of lo) (bound_of hi) true
+    if not (same_text keyword (codes "COLUMN")) then None else with_bounds name (bound_of lo)
+    (bound_of hi) true
 column_words (keyword ∷ name ∷ lo ∷ hi ∷ negates ∷ null ∷ []) =
     if not (same_text keyword (codes "COLUMN")) || not (are_not_null negates null) then None
     else with_bounds name (bound_of lo) (bound_of hi) false
@@ -100,7 +102,8 @@ after_room before line column =
 abbrev pub next_column : List (List ℕ) → ℕ → Option ColumnShape → Result ColumnShape Fault
 next_column before line None = Err (at_line SCHEMA_FORM line)
 next_column before line (Some column) =
-    refused_if (nat_le most_columns (length before)) (at_line COLUMN_COUNT line) (after_room before line column)
+    refused_if (nat_le most_columns (length before)) (at_line COLUMN_COUNT line)
+    (after_room before line column)
 
 abbrev pub column_on : List (List ℕ) → NumberedWords → Result ColumnShape Fault
 column_on before line = next_column before line.number (column_words line.words)
@@ -149,11 +152,13 @@ SpellsSchema (line ∷ lines) schema =
 
 -- a text of at most 65,536 bytes whose lines spell a schema
 abbrev pub IsSchemaText : List ℕ → SchemaShape → Type 0
-IsSchemaText text schema = (length text ≤ longest_schema) × SpellsSchema (lines_in (whole text)) schema
+IsSchemaText text schema = (length text ≤ longest_schema)
+    × SpellsSchema (lines_in (whole text)) schema
 
 -- the error is one of 101 to 106, or out of memory
 abbrev pub is_schema_fault : Fault → Bool
-is_schema_fault fault = (nat_le SCHEMA_FORM fault.code && nat_le fault.code SCHEMA_TOO_LONG) || is_memory fault
+is_schema_fault fault = (nat_le SCHEMA_FORM fault.code && nat_le fault.code SCHEMA_TOO_LONG)
+    || is_memory fault
 
 abbrev pub IsSchemaFault : Fault → Type 0
 IsSchemaFault fault = IsTrue (is_schema_fault fault)

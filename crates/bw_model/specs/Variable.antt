@@ -28,7 +28,8 @@ is_nullable columns column = slice_index_or (map (λ c. c.nullable) columns) col
 
 -- a column's null variable
 abbrev pub null_variable : List Column → ℕ → Option ℕ
-null_variable columns column = if is_nullable columns column then Some (first_variable columns column) else None
+null_variable columns column = if is_nullable columns column
+    then Some (first_variable columns column) else None
 
 -- the variable of a column's bit; bit 0 is the least, and is the last variable of its column
 abbrev pub bit_variable : List Column → ℕ → ℕ → ℕ
@@ -50,7 +51,8 @@ low_bits (suc bits) n = has_bit n bits ∷ low_bits bits n
 -- the bits of a value: null has null bit 1 and code bits 0
 abbrev pub value_bits : Column → Value → List Bool
 value_bits column value =
-    (if column.nullable then is_null value ∷ [] else []) ++ low_bits (width_of column) (stored_code column value)
+    (if column.nullable then is_null value ∷ [] else [])
+    ++ low_bits (width_of column) (stored_code column value)
 
 -- the bits of a row, in the order of the variables
 abbrev pub bits_of : List Column → List Value → List Bool
@@ -61,7 +63,8 @@ bits_of (column ∷ columns) (value ∷ values) = value_bits column value ++ bit
 -- the number that `count` variables spell, from the top
 abbrev pub spelled : Assignment → ℕ → ℕ → ℕ
 spelled bits first zero = 0
-spelled bits first (suc count) = (if bits first then 2 ^ count else 0) + spelled bits (suc first) count
+spelled bits first (suc count) = (if bits first then 2 ^ count else 0) + spelled bits
+    (suc first) count
 
 -- the value of a column whose first variable is this: null if its null bit is 1, else the value of
 -- the code that its bits spell, which may be an unused one
@@ -85,5 +88,6 @@ row_of columns bits = row_from columns bits 0
 abbrev pub value_assigned : List Column → Assignment → ℕ → Value
 value_assigned columns bits column =
     if is_nullable columns column && bits (first_variable columns column) then None
-    else Some (value_at columns column (spelled bits (bit_variable columns column (width_at columns column - 1))
+    else Some (value_at columns column
+    (spelled bits (bit_variable columns column (width_at columns column - 1))
     (width_at columns column)))

@@ -301,7 +301,8 @@ pub fn constants_are_listed()
     ensures program { (constant.PROGRAM_FORM ≡ PROGRAM_FORM) × (constant.REGISTER ≡ REGISTER)
         × (constant.COLUMN_OR_BIT ≡ COLUMN_OR_BIT) × (constant.SKIP_TARGET ≡ SKIP_TARGET)
         × (constant.PROGRAM_TOO_LONG ≡ PROGRAM_TOO_LONG) × (constant.NO_RESULT ≡ NO_RESULT)
-        × (constant.NO_NULLS ≡ NO_NULLS) × (constant.PROGRAM_FILE_TOO_LONG ≡ PROGRAM_FILE_TOO_LONG) }
+        × (constant.NO_NULLS ≡ NO_NULLS)
+        × (constant.PROGRAM_FILE_TOO_LONG ≡ PROGRAM_FILE_TOO_LONG) }
     ensures certificate { (constant.NODE ≡ NODE) × (constant.PRODUCT_ROW ≡ PRODUCT_ROW)
         × (constant.CHAIN_ROW ≡ CHAIN_ROW) × (constant.LIMIT ≡ LIMIT)
         × (constant.CERTIFICATE_FORM ≡ CERTIFICATE_FORM)

@@ -17,9 +17,10 @@ pub fn groups_make_the_table()
     ensures first { (rows : List (List Value)) → 0 < length rows
         → groups_of rows ≡ take group_size rows ∷ groups_of (drop group_size rows) }
     ensures table { (rows : List (List Value)) → together (groups_of rows) ≡ rows }
-    ensures count { (rows : List (List Value)) → length (groups_of rows) ≡ (length rows + 511) / 512 }
-    ensures sizes { (rows : List (List Value)) → All (λ group. (1 ≤ length group) × (length group ≤ group_size))
-        (groups_of rows) }
+    ensures count { (rows : List (List Value)) → length (groups_of rows)
+        ≡ (length rows + 511) / 512 }
+    ensures sizes { (rows : List (List Value))
+        → All (λ group. (1 ≤ length group) × (length group ≤ group_size)) (groups_of rows) }
 {}
 
 /// A law: a group has 512 lanes: the assignments of its rows, and then zeros.
@@ -29,27 +30,29 @@ pub fn lanes_are_rows_and_zeros()
     ensures row { (columns : List Column) (rows : List (List Value)) (lane : ℕ) → lane < length rows
         → slice_index_or (lanes_of columns rows) lane no_bits
         ≡ assignment_of (bits_of columns (slice_index_or rows lane [])) }
-    ensures padding { (columns : List Column) (rows : List (List Value)) (lane : ℕ) → length rows ≤ lane
-        → slice_index_or (lanes_of columns rows) lane no_bits ≡ no_bits }
+    ensures padding { (columns : List Column) (rows : List (List Value)) (lane : ℕ)
+        → length rows ≤ lane → slice_index_or (lanes_of columns rows) lane no_bits ≡ no_bits }
 {}
 
 /// A law: a condition's matching rows are those whose bit is 1, and those at its matching
 /// positions. The selections of groups together are the selection of the table.
 pub fn kept_rows_are_selected()
-    ensures bits { (cond : Cond) (rows : List (List Value)) → kept cond rows ≡ picked (selection cond rows) rows }
+    ensures bits { (cond : Cond) (rows : List (List Value)) → kept cond rows
+        ≡ picked (selection cond rows) rows }
     ensures positions { (cond : Cond) (rows : List (List Value))
         → kept cond rows ≡ map (λ position. slice_index_or rows position []) (selected cond rows) }
-    ensures kept { (cond : Cond) (front back : List (List Value)) → kept cond (front ++ back) ≡ kept cond front
-        ++ kept cond back }
+    ensures kept { (cond : Cond) (front back : List (List Value)) → kept cond (front ++ back)
+        ≡ kept cond front ++ kept cond back }
     ensures joined { (front back : List Bool) (position : ℕ)
         → positions_from position (front ++ back) ≡ positions_from position front
         ++ positions_from (position + length front) back }
-    ensures picked { (front back : List Bool) (rows others : List (List Value)) → length front ≡ length rows
+    ensures picked { (front back : List Bool) (rows others : List (List Value))
+        → length front ≡ length rows
         → picked (front ++ back) (rows ++ others) ≡ picked front rows ++ picked back others }
 {}
 
 /// A law: a row that the columns admit has a value for each of them.
 pub fn admitted_rows_have_each_value()
-    ensures { (columns : List Column) (row : List Value) → IsTrue (admits_values columns row) → length row
-        ≡ length columns }
+    ensures { (columns : List Column) (row : List Value) → IsTrue (admits_values columns row)
+        → length row ≡ length columns }
 {}

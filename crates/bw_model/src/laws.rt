@@ -24,7 +24,8 @@ impl Schema {
     pub fn has_names_and_bounds(&self)
         ensures schema { IsSchema (schema_shape self.now) }
         ensures names { IsTrue (list_all is_name (names_of self.now.columns.items)) }
-        ensures ranges { IsTrue (list_all (λ column. is_range column.lo column.hi) self.now.columns.items) }
+        ensures ranges { IsTrue (list_all (λ column. is_range column.lo column.hi)
+            self.now.columns.items) }
     {
         let _name = self.name.as_bytes();
         for column in &self.columns {

@@ -40,7 +40,8 @@ impl Name {
     /// valid name. Allocates no memory.
     pub fn from_bytes(bytes: Vec<u8>) -> Result<Self, Vec<u8>>
         ensures name { IfOk result (λ name. (name ≡ bytes.items) × IsTrue (is_name bytes.items)) }
-        ensures no_name { IfErr result (λ back. (back.items ≡ bytes.items) × (is_name bytes.items ≡ false)) }
+        ensures no_name { IfErr result (λ back. (back.items ≡ bytes.items)
+            × (is_name bytes.items ≡ false)) }
     {
         if is_name(&bytes) {
             Ok(Name { bytes })

@@ -180,10 +180,11 @@ fn is_range(lo: i64, hi: i64) -> bool
 /// Returns the column of a line that follows these columns, or the line's first error.
 #[tactic(auto, using(crate::proofs::SchemaLemmas::list_any_names))]
 fn column_of(alloc: Global, line: &Line, before: &[Column]) -> Result<Column, Fault>
-    ensures column { Gives column_shape result (column_on (names_of before.now) (line_of line.now)) }
+    ensures column { Gives column_shape result
+        (column_on (names_of before.now) (line_of line.now)) }
     ensures room { IfOk result (λ column. length before.now < 64) }
-    ensures apart { IfOk result (λ column. list_any (λ name. same_text name column.name) (names_of before.now)
-        ≡ false) }
+    ensures apart { IfOk result (λ column. list_any (λ name. same_text name column.name)
+        (names_of before.now) ≡ false) }
 {
     let Some(words) = words_of_column(line.words.as_slice()) else {
         return Err(Fault::at_line(code::SCHEMA_FORM, line.number));

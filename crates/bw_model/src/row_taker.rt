@@ -24,7 +24,7 @@ pub trait RowTaker {
         requires room { rows self.old < most_rows }
         ensures takes { OnOk result (takes self.new ≡ takes self.old) }
         ensures rows { OnOk result (rows self.new ≡ rows self.old + 1) }
-        ensures led { OnOk result ((start : Self) → (before : List (List Value)) → led start before self.old
-            → led start (before ++ values_of row.now ∷ []) self.new) }
+        ensures led { OnOk result ((start : Self) → (before : List (List Value))
+            → led start before self.old → led start (before ++ values_of row.now ∷ []) self.new) }
         ensures only_memory { IfErr result (λ fault. fault ≡ no_memory) };
 }

@@ -44,7 +44,8 @@ impl Schema {
     /// A law: the bits of an admitted row spell that row.
     pub fn bits_spell_row(&self)
         ensures { (values : List Value) → IsTrue (admits_values self.now.columns.items values)
-            → row_of self.now.columns.items (assignment_of (bits_of self.now.columns.items values)) ≡ values }
+            → row_of self.now.columns.items (assignment_of (bits_of self.now.columns.items values))
+            ≡ values }
     {}
 
     /// A law: each bit of an admitted row is at its variable.
@@ -52,12 +53,16 @@ impl Schema {
         requires { col < length self.now.columns.items }
         ensures count { (values : List Value) → IsTrue (admits_values self.now.columns.items values)
             → length (bits_of self.now.columns.items values) ≡ variables_of self.now.columns.items }
-        ensures null { (values : List Value) (variable : ℕ) → IsTrue (admits_values self.now.columns.items values)
+        ensures null { (values : List Value) (variable : ℕ)
+            → IsTrue (admits_values self.now.columns.items values)
             → null_variable self.now.columns.items col ≡ Some variable
-            → assignment_of (bits_of self.now.columns.items values) variable ≡ is_null (value_in values col) }
-        ensures code { (values : List Value) (bit : ℕ) → IsTrue (admits_values self.now.columns.items values)
+            → assignment_of (bits_of self.now.columns.items values) variable
+            ≡ is_null (value_in values col) }
+        ensures code { (values : List Value) (bit : ℕ)
+            → IsTrue (admits_values self.now.columns.items values)
             → bit < width_at self.now.columns.items col
-            → assignment_of (bits_of self.now.columns.items values) (bit_variable self.now.columns.items col bit)
+            → assignment_of (bits_of self.now.columns.items values)
+            (bit_variable self.now.columns.items col bit)
             ≡ has_bit (stored_at self.now.columns.items col (value_in values col)) bit }
     {}
 
@@ -66,21 +71,26 @@ impl Schema {
     pub fn bits_spell_stored_codes(&self, col: usize)
         requires { col < length self.now.columns.items }
         ensures below { (values : List Value) → IsTrue (admits_values self.now.columns.items values)
-            → stored_at self.now.columns.items col (value_in values col) < 2 ^ width_at self.now.columns.items col }
-        ensures bits { (values : List Value) (start count : ℕ) → IsTrue (admits_values self.now.columns.items values)
+            → stored_at self.now.columns.items col (value_in values col)
+            < 2 ^ width_at self.now.columns.items col }
+        ensures bits { (values : List Value) (start count : ℕ)
+            → IsTrue (admits_values self.now.columns.items values)
             → start + count ≤ width_at self.now.columns.items col
             → number_spelled self.now.columns.items col start count
             (assignment_of (bits_of self.now.columns.items values))
             ≡ stored_at self.now.columns.items col (value_in values col) / 2 ^ start % 2 ^ count }
-        ensures bytes { (values : List Value) (slice : ℕ) → IsTrue (admits_values self.now.columns.items values)
+        ensures bytes { (values : List Value) (slice : ℕ)
+            → IsTrue (admits_values self.now.columns.items values)
             → slice < slices_at self.now.columns.items col
-            → byte_spelled self.now.columns.items col slice (assignment_of (bits_of self.now.columns.items values))
+            → byte_spelled self.now.columns.items col slice
+            (assignment_of (bits_of self.now.columns.items values))
             ≡ byte_of slice (stored_at self.now.columns.items col (value_in values col)) }
     {}
 
     /// A law: an assignment of zeros spells only zeros.
     pub fn no_bits_spell_zero(&self)
-        ensures { (col start count : ℕ) → number_spelled self.now.columns.items col start count no_bits ≡ 0 }
+        ensures { (col start count : ℕ)
+            → number_spelled self.now.columns.items col start count no_bits ≡ 0 }
     {}
 
     /// A law: the value that an assignment's row has in a column.

@@ -18,11 +18,13 @@ row_bits bytes row plane = slice_index_or (plane_lanes bytes plane) row false
 -- the planes of this many of the lowest bits of codes, from the top one down
 abbrev pub planes_bytes : ℕ → List ℕ → List ℕ
 planes_bytes zero codes = []
-planes_bytes (suc bits) codes = bytes_of_lanes (map (λ code. has_bit code bits) codes) ++ planes_bytes bits codes
+planes_bytes (suc bits) codes = bytes_of_lanes (map (λ code. has_bit code bits) codes)
+    ++ planes_bytes bits codes
 
 -- the numbers that `count` planes spell in the 512 lanes, from the top plane on
 unfoldable pub planes_codes : ℕ → List ℕ → List ℕ
-planes_codes count bytes = map (λ row. spelled (row_bits bytes row) 0 count) (range_with_len 0 group_size)
+planes_codes count bytes = map (λ row. spelled (row_bits bytes row) 0 count)
+    (range_with_len 0 group_size)
 
 -- the codes of the 64 rows whose bits are in one word of each plane
 abbrev pub codes_in_word : ℕ → List ℕ → List ℕ

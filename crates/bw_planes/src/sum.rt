@@ -15,7 +15,8 @@ pub(crate) fn sum_in_word(width: u32, bytes: &[u8], word: usize, rows: u64) -> u
     requires size { length bytes.now ≡ 64 * width }
     requires word { word < 8 }
     ensures sum { result
-        ≡ sum (picked (bits_from_least 64 rows) (codes_in_word word (planes_codes width bytes.now))) }
+        ≡ sum (picked (bits_from_least 64 rows)
+        (codes_in_word word (planes_codes width bytes.now))) }
     ensures bound { result ≤ 2 ^ 69 }
 {
     let few = width.min(32);
@@ -54,7 +55,8 @@ fn word_of(width: u32, bytes: &[u8], word: usize, plane: usize) -> u64
     requires word { word < 8 }
     requires plane { plane < width }
     ensures { bits_from_least 64 result
-        ≡ map (λ code. has_bit code (width - 1 - plane)) (codes_in_word word (planes_codes width bytes.now)) }
+        ≡ map (λ code. has_bit code (width - 1 - plane))
+        (codes_in_word word (planes_codes width bytes.now)) }
 {
     first_word(&bytes[64 * plane + 8 * word..])
 }

@@ -11,17 +11,18 @@ ghost use Rattle.bw_program.specs.ProgramText.{IsProgramText, program_of};
 pub fn runs_go_on()
     ensures begins { (columns : List Column) (lanes : List Assignment) (program : ProgramShape)
         → state_after columns lanes program 0 ≡ start lanes }
-    ensures on { (columns : List Column) (lanes : List Assignment) (program : ProgramShape) (steps more : ℕ)
-        → state_after columns lanes program (steps + more)
+    ensures on { (columns : List Column) (lanes : List Assignment) (program : ProgramShape)
+        (steps more : ℕ) → state_after columns lanes program (steps + more)
         ≡ steps_from columns lanes program (state_after columns lanes program steps) more }
 {}
 
 /// A law: every place but the first is reached by falling through from the place before it, or by a
 /// skip to it that is taken.
 pub fn places_are_reached()
-    ensures { (columns : List Column) (lanes : List Assignment) (program : ProgramShape) (place : ℕ) (state : State)
-        → Reaches columns lanes program place state → 0 < place
-        → FallsThrough columns lanes program place state ⊎ SkipsTo columns lanes program place state }
+    ensures { (columns : List Column) (lanes : List Assignment) (program : ProgramShape) (place : ℕ)
+        (state : State) → Reaches columns lanes program place state → 0 < place
+        → FallsThrough columns lanes program place state
+        ⊎ SkipsTo columns lanes program place state }
 {}
 
 /// A law: a text is read as a program if and only if its lines spell it. So it spells at most one,

@@ -69,7 +69,8 @@ fn instr_after(
 }
 
 fn load_of(schema: &Schema, line: u64, words: &[&[u8]]) -> Result<Instr, Fault>
-    ensures said { result ≡ load_on schema.now.columns.items line (map (λ word. word.now) words.now) }
+    ensures said { result ≡ load_on schema.now.columns.items line
+        (map (λ word. word.now) words.now) }
     ensures fault { IfErr result IsProgramFault }
 {
     let [r, c, b] = words else {
@@ -113,7 +114,8 @@ fn column_on(schema: &Schema, line: u64, word: &[u8]) -> Result<usize, Fault>
 }
 
 fn nulls_of(schema: &Schema, line: u64, words: &[&[u8]]) -> Result<Instr, Fault>
-    ensures said { result ≡ nulls_on schema.now.columns.items line (map (λ word. word.now) words.now) }
+    ensures said { result ≡ nulls_on schema.now.columns.items line
+        (map (λ word. word.now) words.now) }
     ensures fault { IfErr result IsProgramFault }
 {
     let [r, c] = words else {
@@ -174,7 +176,8 @@ fn byte_of(
     line: u64,
     words: &[&[u8]],
 ) -> Result<(Register, ColumnIndex, SliceIndex, u8), Fault>
-    ensures said { result ≡ byte_on schema.now.columns.items line (map (λ word. word.now) words.now) }
+    ensures said { result ≡ byte_on schema.now.columns.items line
+        (map (λ word. word.now) words.now) }
     ensures fault { IfErr result IsProgramFault }
 {
     let [r, c, s, b] = words else {

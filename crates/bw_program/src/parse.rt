@@ -33,12 +33,15 @@ impl Program {
     /// right, the first skip past the end is 504. 801 if memory is refused.
     pub fn parse(alloc: Global, schema: &Schema, text: &[u8]) -> Result<Program, Fault>
         // A text that is read spells the program, and every text that spells one is read.
-        ensures spelled { IfOk result (λ program. IsProgramText schema.now.columns.items text.now program) }
-        ensures accepted { (program : ProgramShape) → IsProgramText schema.now.columns.items text.now program
+        ensures spelled { IfOk result
+            (λ program. IsProgramText schema.now.columns.items text.now program) }
+        ensures accepted { (program : ProgramShape)
+            → IsProgramText schema.now.columns.items text.now program
             → Gives (λ program. program) result (Ok program) }
 
         // A failed call returns the first error of the text.
-        ensures fault { Gives (λ program. program) result (program_of schema.now.columns.items text.now) }
+        ensures fault { Gives (λ program. program) result
+            (program_of schema.now.columns.items text.now) }
         ensures code { IfErr result IsProgramFault }
         ensures fits { IfOk result (λ program. IsTrue (fits schema.now.columns.items program)) }
     {
@@ -55,7 +58,8 @@ pub(crate) struct Placed {
 
 /// Reads a program text line by line.
 fn read_program(alloc: Global, schema: &Schema, text: &[u8]) -> Result<Program, Fault>
-    ensures read { Gives (λ program. program) result (program_of schema.now.columns.items text.now) }
+    ensures read { Gives (λ program. program) result
+        (program_of schema.now.columns.items text.now) }
     ensures code { IfErr result IsProgramFault }
 {
     let mut lines = Lines::new(text);
@@ -82,11 +86,12 @@ fn read_lines(
     placed: &mut Vec<Placed>,
 ) -> Result<Register, Fault>
     requires { placed.old.items ≡ [] }
-    ensures read { IfOk result (λ register. program_on schema.now.columns.items [] (lines_in lines.old) (end_in
-        lines.old)
+    ensures read { IfOk result
+        (λ register. program_on schema.now.columns.items [] (lines_in lines.old) (end_in lines.old)
         ≡ finished placed.new.items (lines_in lines.new) register) }
     ensures fault { IfErr result (λ fault. is_memory fault ≡ false
-        → program_on schema.now.columns.items [] (lines_in lines.old) (end_in lines.old) ≡ Err fault) }
+        → program_on schema.now.columns.items [] (lines_in lines.old) (end_in lines.old)
+        ≡ Err fault) }
     ensures few { OnOk result (length placed.new.items ≤ most_instructions) }
     ensures below { IfOk result (λ register. register < 64) }
     ensures code { IfErr result IsProgramFault }
@@ -110,8 +115,8 @@ fn read_lines(
 /// Fails if a line follows that of the result.
 fn refuse_more(alloc: Global, mut lines: Lines<'_>) -> Result<(), Fault>
     ensures none { OnOk result ((x : ℕ) → last_line (lines_in lines.entry) x ≡ Ok x) }
-    ensures some { IfErr result (λ fault. is_memory fault ≡ false → (x : ℕ) → last_line (lines_in lines.entry) x
-        ≡ Err fault) }
+    ensures some { IfErr result (λ fault. is_memory fault ≡ false → (x : ℕ)
+        → last_line (lines_in lines.entry) x ≡ Err fault) }
     ensures code { IfErr result IsProgramFault }
 {
     let more = lines.next_line(alloc)?;
@@ -137,9 +142,10 @@ fn instrs_of(alloc: Global, placed: &[Placed]) -> Result<Vec<Instr>, AllocError>
 
 /// Fails by the first skip past the end of the instructions.
 fn check_targets(placed: &[Placed]) -> Result<(), Fault>
-    ensures within { OnOk result ((x : ProgramShape) → within_end (length placed.now) placed.now x ≡ Ok x) }
-    ensures past { IfErr result (λ fault. (x : ProgramShape) → within_end (length placed.now) placed.now x
-        ≡ Err fault) }
+    ensures within { OnOk result ((x : ProgramShape) → within_end (length placed.now) placed.now x
+        ≡ Ok x) }
+    ensures past { IfErr result (λ fault. (x : ProgramShape)
+        → within_end (length placed.now) placed.now x ≡ Err fault) }
     ensures code { IfErr result IsProgramFault }
 {
     for each in placed {

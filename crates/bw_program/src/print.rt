@@ -28,7 +28,8 @@ impl Program {
         requires { IsTrue (fits schema.now.columns.items self.now) }
         ensures text { IfOk result
             (λ text. text.items ≡ print_text schema.now.columns.items self.now) }
-        ensures spelled { IfOk result (λ text. IsProgramText schema.now.columns.items text.items self.now) }
+        ensures spelled { IfOk result
+            (λ text. IsProgramText schema.now.columns.items text.items self.now) }
         ensures only_memory { IsOkUnless result no_memory }
     {
         let _ = &self.instrs;

@@ -12,11 +12,13 @@ use Rattle.bw_report.specs.declared.served.Served.{Served}
 -- device's and 8xx memory's
 abbrev pub status_of : Fault → ℕ
 status_of fault =
-    if nat_lt fault.code 600 then 3 else (if nat_lt fault.code 700 then 4 else (if nat_lt fault.code 800 then 5 else 6))
+    if nat_lt fault.code 600 then 3
+    else (if nat_lt fault.code 700 then 4 else (if nat_lt fault.code 800 then 5 else 6))
 
 -- a text was written to a sink, completely or up to a failed write
 abbrev pub IsWritten : Option (List ℕ) → Option (List ℕ) → ℕ → ℕ → List ℕ → Type 0
-IsWritten old new before after text = (outcome : Result (Unit {0}) Fault) × GoesOut old new before after text outcome
+IsWritten old new before after text = (outcome : Result (Unit {0}) Fault)
+    × GoesOut old new before after text outcome
 
 -- the word for who selected a query's rows
 abbrev pub by_text : By → List ℕ

@@ -65,8 +65,8 @@ fn and_place<const N: usize>(line: InlineText<N>, place: Place) -> InlineText<N>
 pub fn report<K: Sink>(fault: &Fault, sink: &mut K) -> u8
     requires { K.failures sink.old < 2 ^ 64 - 1 }
     ensures status { result ≡ status_of fault.now }
-    ensures line { IsWritten (K.taken sink.old) (K.taken sink.new) (K.failures sink.old) (K.failures sink.new)
-        (fault_line fault.now) }
+    ensures line { IsWritten (K.taken sink.old) (K.taken sink.new) (K.failures sink.old)
+        (K.failures sink.new) (fault_line fault.now) }
 {
     let line = line_of(fault);
     let _ = write_whole(sink, line.as_str().as_bytes());
@@ -86,7 +86,8 @@ fn and_words<const N: usize>(line: InlineText<N>, words: &str) -> InlineText<N>
 fn and_count<const N: usize>(line: InlineText<N>, words: &str, count: u64) -> InlineText<N>
     requires { length (inline_text line) + length words.now + 20 < N }
     ensures text { inline_text result ≡ inline_text line.entry ++ with_count words.now count }
-    ensures room { length (inline_text result) ≤ length (inline_text line.entry) + length words.now + 20 }
+    ensures room { length (inline_text result) ≤ length (inline_text line.entry) + length words.now
+        + 20 }
 {
     let line = and_words(line, words);
     and_words(line, Buffer::new().format(count))
@@ -120,8 +121,8 @@ fn by_text(by: By) -> &'static str
 /// count of failures must be less than 2^64 - 1. Errors: 702 if a write fails.
 pub fn stats_line<K: Sink>(served: &Served, sink: &mut K) -> Result<(), Fault>
     requires { K.failures sink.old < 2 ^ 64 - 1 }
-    ensures { GoesOut (K.taken sink.old) (K.taken sink.new) (K.failures sink.old) (K.failures sink.new)
-        (stats_line served.now) result }
+    ensures { GoesOut (K.taken sink.old) (K.taken sink.new) (K.failures sink.old)
+        (K.failures sink.new) (stats_line served.now) result }
 {
     let line = line_of_served(served);
     write_whole(sink, line.as_str().as_bytes())
@@ -149,8 +150,8 @@ fn line_of_accepted(accepted: &Accepted) -> InlineText<LONG_LINE>
 /// write fails.
 pub fn accepted_line<K: Sink>(accepted: &Accepted, sink: &mut K) -> Result<(), Fault>
     requires { K.failures sink.old < 2 ^ 64 - 1 }
-    ensures { GoesOut (K.taken sink.old) (K.taken sink.new) (K.failures sink.old) (K.failures sink.new)
-        (accepted_line accepted.now) result }
+    ensures { GoesOut (K.taken sink.old) (K.taken sink.new) (K.failures sink.old)
+        (K.failures sink.new) (accepted_line accepted.now) result }
 {
     let line = line_of_accepted(accepted);
     write_whole(sink, line.as_str().as_bytes())

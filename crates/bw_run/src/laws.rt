@@ -37,14 +37,16 @@ pub fn runs_begin_with_zeros()
 pub fn instructions_write_their_registers()
     ensures reached { (columns : List Column) (lanes : List Assignment) (program : ProgramShape)
         (place : ℕ) (state : State)
-        → FallsThrough columns lanes program place state → Reaches columns lanes program place state }
+        → FallsThrough columns lanes program place state
+        → Reaches columns lanes program place state }
     ensures written { (columns : List Column) (lanes : List Assignment) (program : ProgramShape)
-        (place : ℕ) (state : State) (through : FallsThrough columns lanes program place state) (register : ℕ)
-        → written_by through.instr ≡ Some register
-        → state.registers register ≡ bits_written columns lanes through.instr through.before.registers }
+        (place : ℕ) (state : State) (through : FallsThrough columns lanes program place state)
+        (register : ℕ) → written_by through.instr ≡ Some register
+        → state.registers register
+        ≡ bits_written columns lanes through.instr through.before.registers }
     ensures others { (columns : List Column) (lanes : List Assignment) (program : ProgramShape)
-        (place : ℕ) (state : State) (through : FallsThrough columns lanes program place state) (register : ℕ)
-        → ¬ (written_by through.instr ≡ Some register)
+        (place : ℕ) (state : State) (through : FallsThrough columns lanes program place state)
+        (register : ℕ) → ¬ (written_by through.instr ≡ Some register)
         → state.registers register ≡ through.before.registers register }
 {}
 
@@ -55,8 +57,8 @@ pub fn skips_leave_registers()
         (place : ℕ) (state : State)
         → SkipsTo columns lanes program place state → Reaches columns lanes program place state }
     ensures same { (columns : List Column) (lanes : List Assignment) (program : ProgramShape)
-        (place : ℕ) (state : State) (skipped : SkipsTo columns lanes program place state) (register : ℕ)
-        → state.registers register ≡ skipped.before.registers register }
+        (place : ℕ) (state : State) (skipped : SkipsTo columns lanes program place state)
+        (register : ℕ) → state.registers register ≡ skipped.before.registers register }
     ensures zero { (columns : List Column) (lanes : List Assignment) (program : ProgramShape)
         (place : ℕ) (state : State) (skipped : SkipsTo columns lanes program place state)
         → state.registers skipped.register ≡ replicate (length lanes) false }
@@ -66,5 +68,6 @@ pub fn skips_leave_registers()
 pub fn registers_hold_all_lanes()
     ensures { (columns : List Column) (lanes : List Assignment) (program : ProgramShape)
         (place : ℕ) (state : State) (register : ℕ)
-        → Reaches columns lanes program place state → length (state.registers register) ≡ length lanes }
+        → Reaches columns lanes program place state → length (state.registers register)
+        ≡ length lanes }
 {}

@@ -23,7 +23,8 @@ inferred_text table csv = inferred table csv >>= λ schema. Ok (schema_text sche
 -- is invalid, the CSV isn't reached.
 abbrev pub IsTextFrom : List ℕ → Arrival → Result (List ℕ) Fault → Type 0
 IsTextFrom table csv given =
-    IsMadeAfter (refused_if (not (is_name table)) (nowhere SCHEMA_NAME) (Ok table)) inferred_text csv given
+    IsMadeAfter (refused_if (not (is_name table)) (nowhere SCHEMA_NAME) (Ok table)) inferred_text
+    csv given
 
 -- an error of the reader's own is at the heading, or at a record after a valid heading and records
 -- that have rows
@@ -46,4 +47,5 @@ pub record InfersExactly (csv : List ℕ) (old new : Option (List ℕ)) : Type 0
 
 -- the error is one of a heading or of the bounds (102 to 105), or of a CSV text
 abbrev pub is_inferring_fault : Fault → Bool
-is_inferring_fault fault = (nat_le SCHEMA_NAME fault.code && nat_le fault.code COLUMN_COUNT) || is_rows_fault fault
+is_inferring_fault fault = (nat_le SCHEMA_NAME fault.code && nat_le fault.code COLUMN_COUNT)
+    || is_rows_fault fault

@@ -28,34 +28,40 @@ has_null column rows = list_any (λ row. is_null (value_in row column)) rows
 -- one of them is null
 abbrev pub column_over : List (List Value) → ℕ → List ℕ → ColumnShape
 column_over rows column name =
-    shape name (or_zero (total (Min column) rows)) (or_zero (total (Max column) rows)) (has_null column rows)
+    shape name (or_zero (total (Min column) rows)) (or_zero (total (Max column) rows))
+    (has_null column rows)
 
 -- the columns of these names, the first of which has this number
 unfoldable pub columns_over : List (List Value) → ℕ → List (List ℕ) → List ColumnShape
 columns_over rows column [] = []
-columns_over rows column (name ∷ names) = column_over rows column name ∷ columns_over rows (suc column) names
+columns_over rows column (name ∷ names) = column_over rows column name
+    ∷ columns_over rows (suc column) names
 
 -- a column, unless its bounds are 2^63 or more apart, which is an error at the heading; and columns
 abbrev pub ranged_column : ColumnShape → Result ColumnShape Fault
-ranged_column column = refused_if (not (is_range column.lo column.hi)) (at_record SCHEMA_RANGE 0) (Ok column)
+ranged_column column = refused_if (not (is_range column.lo column.hi)) (at_record SCHEMA_RANGE 0)
+    (Ok column)
 
 unfoldable pub ranged : List ColumnShape → Result (List ColumnShape) Fault
 ranged [] = Ok []
-ranged (column ∷ columns) = ranged_column column >>= λ first. ranged columns >>= λ rest. Ok (first ∷ rest)
+ranged (column ∷ columns) = ranged_column column >>= λ first. ranged columns
+    >>= λ rest. Ok (first ∷ rest)
 
 abbrev pub table_of : List ℕ → List ColumnShape → SchemaShape
 table_of table columns = record { name = table; columns = columns }
 
 -- the schema of rows of columns of these names
 abbrev pub schema_over : List ℕ → List (List ℕ) → List (List Value) → Result SchemaShape Fault
-schema_over table names rows = ranged (columns_over rows 0 names) >>= λ columns. Ok (table_of table columns)
+schema_over table names rows = ranged (columns_over rows 0 names)
+    >>= λ columns. Ok (table_of table columns)
 
 -- the schema of records, the first of which is the heading and has number 0, or their first error:
 -- the heading, the records after it, and then the bounds
 unfoldable pub inferred_after : List ℕ → List (List (List ℕ)) → Result SchemaShape Fault
 inferred_after table [] = Err (at_record NO_HEADING 0)
 inferred_after table (heading ∷ more) =
-    heading_names heading >>= λ names. bare_rows (length names) 1 more >>= λ rows. schema_over table names rows
+    heading_names heading >>= λ names. bare_rows (length names) 1 more
+    >>= λ rows. schema_over table names rows
 
 -- the schema that is inferred from a text, with this table name and without the byte order mark at
 -- its start, if it has one; or the first error

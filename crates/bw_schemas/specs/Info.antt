@@ -38,13 +38,16 @@ comment word value = line_text (codes "#" ∷ word ∷ value ∷ [])
 -- the header's numbers beside the schema, a comment line each
 abbrev pub facts_text : ℕ → Layout → Schema → ℕ → List ℕ
 facts_text version layout schema rows =
-    comment (codes "rows") (decimal rows) ++ (comment (codes "segments") (decimal (segment_count rows))
-    ++ (comment (codes "layout") (layout_word layout) ++ (comment (codes "version") (decimal version)
+    comment (codes "rows") (decimal rows)
+    ++ (comment (codes "segments") (decimal (segment_count rows))
+    ++ (comment (codes "layout") (layout_word layout)
+    ++ (comment (codes "version") (decimal version)
     ++ comment (codes "bytes") (decimal (file_size version layout schema rows)))))
 
 -- the schema's text, then the comments
 unfoldable pub info_text : ℕ → Layout → Schema → ℕ → List ℕ
-info_text version layout schema rows = schema_text (schema_shape schema) ++ facts_text version layout schema rows
+info_text version layout schema rows = schema_text (schema_shape schema)
+    ++ facts_text version layout schema rows
 
 -- The header of a file was read, and this is its text. It is a schema text, which spells the
 -- table's schema.

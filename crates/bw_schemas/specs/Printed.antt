@@ -16,7 +16,8 @@ not_null_words false = codes "NOT" ∷ codes "NULL" ∷ []
 
 abbrev pub column_line : ColumnShape → List (List ℕ)
 column_line column =
-    codes "COLUMN" ∷ column.name ∷ signed_decimal column.lo ∷ signed_decimal column.hi ∷ not_null_words column.nullable
+    codes "COLUMN" ∷ column.name ∷ signed_decimal column.lo ∷ signed_decimal column.hi
+    ∷ not_null_words column.nullable
 
 unfoldable pub columns_text : List ColumnShape → List ℕ
 columns_text [] = []

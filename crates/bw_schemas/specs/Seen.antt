@@ -19,7 +19,8 @@ nothing = seen None None false
 
 -- the statistics of a column in the rows: its minimum and maximum, and whether a value is null
 abbrev pub seen_in : List (List Value) → ℕ → Seen
-seen_in rows column = seen (total (Min column) rows) (total (Max column) rows) (has_null column rows)
+seen_in rows column = seen (total (Min column) rows) (total (Max column) rows)
+    (has_null column rows)
 
 abbrev pub lesser : Option ℤ → ℤ → ℤ
 lesser None n = n
@@ -48,7 +49,8 @@ with_rows columns (row ∷ rows) = with_rows (with_values columns row) rows
 -- the statistics with the rows of these records more, the first of which has this number, or the
 -- first error
 abbrev pub with_records : List Seen → ℕ → ℕ → List (List (List ℕ)) → Result (List Seen) Fault
-with_records columns width number records = bare_rows width number records >>= λ rows. Ok (with_rows columns rows)
+with_records columns width number records = bare_rows width number records
+    >>= λ rows. Ok (with_rows columns rows)
 
 -- the column of a name and its statistics
 abbrev pub column_seen : List ℕ → Seen → ColumnShape
@@ -62,4 +64,5 @@ columns_seen (name ∷ names) (s ∷ columns) = column_seen name s ∷ columns_s
 -- the columns of these names over the rows of records, the first of which has number 1; or the
 -- first error, in the records and then in the bounds
 abbrev pub columns_after : List (List ℕ) → List (List (List ℕ)) → Result (List ColumnShape) Fault
-columns_after names more = bare_rows (length names) 1 more >>= λ rows. ranged (columns_over rows 0 names)
+columns_after names more = bare_rows (length names) 1 more
+    >>= λ rows. ranged (columns_over rows 0 names)

@@ -35,7 +35,8 @@ pub(crate) fn columns_seen(
 
 /// Returns the column of this name.
 fn column_seen(alloc: Global, name: &Name, seen: &Seen) -> Result<Column, Fault>
-    ensures column { GivesButAside column_shape result (ranged_column (column_seen name.now seen.now)) }
+    ensures column { GivesButAside column_shape result
+        (ranged_column (column_seen name.now seen.now)) }
     ensures name { IfOk result (λ column. column.name ≡ name.now) }
     ensures fault { IfErr result (λ fault. is_inferring_fault fault ≡ true) }
     ensures own { IfErr result (λ fault. is_reader_fault fault ≡ false) }

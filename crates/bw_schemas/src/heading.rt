@@ -18,7 +18,8 @@ use std::alloc::Global;
 /// invalid name, 104 for the name of an earlier column, ignoring case.
 #[tactic(auto, unfolding(crate::specs::Heading::heading_names))]
 pub(crate) fn heading_names(alloc: Global, records: &Records<'_>) -> Result<Vec<Name>, Fault>
-    ensures names { GivesButAside (λ names. names.items) result (heading_names (fields_in records.now)) }
+    ensures names { GivesButAside (λ names. names.items) result
+        (heading_names (fields_in records.now)) }
     ensures some { IfOk result (λ names. 1 ≤ length names.items) }
     ensures few { IfOk result (λ names. length names.items ≤ most_columns) }
     ensures apart { IfOk result (λ names. are_apart names.items ≡ true) }

@@ -68,8 +68,8 @@ pub fn infer<C: Source, K: Sink>(
     // Of the source at most one byte past its limit is read. The call fails by a failed read if and
     // only if the source's count of failures rose. If the table's name is invalid, the source is as
     // it was.
-    ensures csv { LeavesSource (longest_csv + 1) (C.to_come csv_source.old) (C.to_come csv_source.new)
-        (C.failures csv_source.old) (C.failures csv_source.new) result }
+    ensures csv { LeavesSource (longest_csv + 1) (C.to_come csv_source.old)
+        (C.to_come csv_source.new) (C.failures csv_source.old) (C.failures csv_source.new) result }
     ensures unneeded { is_name table.now ≡ false → csv_source.new ≡ csv_source.old }
 {
     if !is_name(table) {
@@ -86,7 +86,8 @@ fn inferred_text(alloc: Global, table: &[u8], csv: &[u8]) -> Result<Vec<u8>, Fau
     ensures text { GivesButAside (λ text. text.items) result (inferred_text table.now csv.now) }
     ensures exact { IfOk result (λ text. SpellsExactly text.items csv.now) }
     ensures fault { IfErr result (λ fault. is_inferring_fault fault ≡ true) }
-    ensures reader { IfErr result (λ fault. is_reader_fault fault ≡ true → StopsInferring csv.now fault) }
+    ensures reader { IfErr result (λ fault. is_reader_fault fault ≡ true
+        → StopsInferring csv.now fault) }
 {
     inferred_schemas_are_exact();
     let schema = infer_schema(alloc, table, csv)?;

@@ -32,15 +32,16 @@ pub fn info<S: Source, K: Sink>(alloc: Global, table: &mut S, sink: &mut K) -> R
     ensures info { (offset : ℕ) × (given : Result (List ℕ) Fault)
         × InfoGave (state (S.to_come table.old) 0 (S.failures table.old))
         (state (S.to_come table.new) offset (S.failures table.new)) given
-        × Wrote none_aside (K.taken sink.old) (K.taken sink.new) (K.failures sink.old) (K.failures sink.new) given
-        result }
+        × Wrote none_aside (K.taken sink.old) (K.taken sink.new) (K.failures sink.old)
+        (K.failures sink.new) given result }
 
     // If the unread bytes are a table file's, its schema, its rows and its length are reported, and
     // only a device or memory can fail.
     ensures file { (bytes : List ℕ) (layout : Layout) (schema : Schema) (rows : List (List Value))
         → S.to_come table.old ≡ Some bytes → IsFileBytes bytes layout schema rows
         → OnOk result (TellsFile bytes layout schema rows (K.taken sink.old) (K.taken sink.new)) }
-    ensures accepted { (bytes : List ℕ) (layout : Layout) (schema : Schema) (rows : List (List Value))
+    ensures accepted { (bytes : List ℕ) (layout : Layout) (schema : Schema)
+        (rows : List (List Value))
         → S.to_come table.old ≡ Some bytes → IsFileBytes bytes layout schema rows
         → IfErr result (λ fault. IsTrue (is_no_verdict fault)) }
     // The call fails by a failed read if and only if the table's count of failures rose.
@@ -58,5 +59,6 @@ pub fn tables_have_their_size()
         → AreRows schema.columns.items rows
         → length (bytes_of_version version layout schema.name schema.columns.items rows)
         ≡ file_size version layout schema (length rows) }
-    ensures segments { (rows : List (List Value)) → length (groups_of rows) ≡ segment_count (length rows) }
+    ensures segments { (rows : List (List Value)) → length (groups_of rows)
+        ≡ segment_count (length rows) }
 {}

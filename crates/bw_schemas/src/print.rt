@@ -40,7 +40,8 @@ fn put_table(alloc: Global, name: &Name, text: &mut Vec<u8>) -> Result<(), Alloc
 
 /// Appends the line of a column.
 fn put_column(alloc: Global, column: &Column, text: &mut Vec<u8>) -> Result<(), AllocError>
-    ensures { OnOk result (text.new.items ≡ text.old.items ++ line_text (column_line (column_shape column.now))) }
+    ensures { OnOk result (text.new.items ≡ text.old.items
+        ++ line_text (column_line (column_shape column.now))) }
 {
     use Piece::{Signed, Word};
     let (name, lo, hi) = (column.name.as_bytes(), Signed(column.lo), Signed(column.hi));

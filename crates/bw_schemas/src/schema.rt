@@ -33,7 +33,8 @@ pub(crate) fn infer_schema(alloc: Global, table: &[u8], text: &[u8]) -> Result<S
     requires { IsTrue (is_name table.now) }
     ensures schema { GivesButAside schema_shape result (inferred table.now text.now) }
     ensures fault { IfErr result (λ fault. is_inferring_fault fault ≡ true) }
-    ensures reader { IfErr result (λ fault. is_reader_fault fault ≡ true → StopsInferring text.now fault) }
+    ensures reader { IfErr result (λ fault. is_reader_fault fault ≡ true
+        → StopsInferring text.now fault) }
 {
     schema_of(alloc, table, without_more_fields(text, MAX_COLUMNS))
 }
@@ -44,7 +45,8 @@ fn schema_of(alloc: Global, table: &[u8], text: &[u8]) -> Result<Schema, Fault>
     requires { IsTrue (is_name table.now) }
     ensures schema { GivesButAside schema_shape result (inferred table.now text.now) }
     ensures fault { IfErr result (λ fault. is_inferring_fault fault ≡ true) }
-    ensures reader { IfErr result (λ fault. is_reader_fault fault ≡ true → StopsInferring text.now fault) }
+    ensures reader { IfErr result (λ fault. is_reader_fault fault ≡ true
+        → StopsInferring text.now fault) }
 {
     let mut records = Records::new(alloc, text);
     if !records.next(0)? {
@@ -132,6 +134,6 @@ fn take_rows(records: &mut Records<'_>, row: &mut Row, columns: &mut Vec<Seen>) 
 /// A law: the schema that is inferred from a CSV text is exact for it: the text has its rows under
 /// the schema, and no column could be narrower.
 pub fn inferred_schemas_are_exact()
-    ensures { (table text : List ℕ) (schema : Schema) → inferred table text ≡ Ok (schema_shape schema)
-        → IsExact schema.columns.items text }
+    ensures { (table text : List ℕ) (schema : Schema) → inferred table text
+        ≡ Ok (schema_shape schema) → IsExact schema.columns.items text }
 {}

@@ -16,12 +16,15 @@ use std::alloc::{AllocError, Global};
 /// Returns the text of a reader's header. The reader must have read the header's bytes, and no
 /// other.
 pub(crate) fn info_text(alloc: Global, reader: &TableReader) -> Result<Vec<u8>, Fault>
-    requires head { bytes_taken reader.now ≡ length (header_bytes (version_in reader.now) (layout_in reader.now)
+    requires head { bytes_taken reader.now
+        ≡ length (header_bytes (version_in reader.now) (layout_in reader.now)
         (schema_in reader.now).name (schema_in reader.now).columns.items (rows_stated reader.now)) }
     requires short { bytes_taken reader.now ≤ 20000 }
     ensures text { IfOk result (λ text. text.items
-        ≡ info_text (version_in reader.now) (layout_in reader.now) (schema_in reader.now) (rows_stated reader.now)) }
-    ensures spelled { IfOk result (λ text. IsSchemaText text.items (schema_shape (schema_in reader.now))) }
+        ≡ info_text (version_in reader.now) (layout_in reader.now) (schema_in reader.now)
+        (rows_stated reader.now)) }
+    ensures spelled { IfOk result
+        (λ text. IsSchemaText text.items (schema_shape (schema_in reader.now))) }
     ensures only_memory { IsOkUnless result no_memory }
 {
     use Piece::{Number, Word};
@@ -63,7 +66,8 @@ fn put_fact<'a>(
     value: Piece<'a>,
     text: &mut Vec<u8>,
 ) -> Result<(), AllocError>
-    ensures { OnOk result (text.new.items ≡ text.old.items ++ comment word.now (piece_text value.entry)) }
+    ensures { OnOk result (text.new.items ≡ text.old.items
+        ++ comment word.now (piece_text value.entry)) }
 {
     push_line(alloc, &[Piece::Word(b"#"), Piece::Word(word), value], text)
 }

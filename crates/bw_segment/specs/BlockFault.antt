@@ -33,7 +33,8 @@ unfoldable pub lanes_fault : ℕ → ℕ → List Bool → List ℕ → Option �
 lanes_fault span count nulls codes =
     or_else (first_fault (λ row. padding_fault (slice_index_or nulls (count + row) false)
     (slice_index codes (count + row))) (group_size - count))
-    (first_fault (λ row. row_fault span (slice_index_or nulls row false) (slice_index codes row)) count)
+    (first_fault (λ row. row_fault span (slice_index_or nulls row false) (slice_index codes row))
+    count)
 
 -- the first error of a column's block
 unfoldable pub block_fault : Packing → List Column → ℕ → ℕ → List ℕ → Option ℕ
@@ -42,14 +43,17 @@ block_fault packing columns column count block =
     (block_codes packing columns column block)
 
 -- In padding and null lanes, the bit states whether the code isn't 0.
-pub record TellsCodes (count : ℕ) (nulls : List Bool) (codes : List ℕ) (used : List Bool) : Type 0 where
+pub record TellsCodes (count : ℕ) (nulls : List Bool) (codes : List ℕ)
+    (used : List Bool) : Type 0 where
   pub padding : (row : ℕ) → count ≤ row → row < group_size → slice_index_or used row false
       ≡ not (slice_index codes row == 0)
-  pub null : (row : ℕ) → row < group_size → slice_index_or nulls row false ≡ true → slice_index_or used row false
+  pub null : (row : ℕ) → row < group_size → slice_index_or nulls row false ≡ true
+      → slice_index_or used row false
       ≡ not (slice_index codes row == 0)
 
 -- The bytes are the first `blocks` blocks of a segment of `count` rows: as long, and each valid.
-pub record AreSound (packing : Packing) (columns : List Column) (count blocks : ℕ) (bytes : List ℕ) : Type 0 where
+pub record AreSound (packing : Packing) (columns : List Column) (count blocks : ℕ)
+    (bytes : List ℕ) : Type 0 where
   pub size : length bytes ≡ bytes_before packing columns blocks
   pub without : (column : ℕ) → column < blocks → block_fault packing columns column count
       (block_at packing columns column bytes) ≡ None

@@ -25,18 +25,23 @@ block_numbered kept number column =
     slice_range (bytes_kept kept column) start (start + size_kept kept column)
 
 unfoldable pub segment_numbered : List ColumnBlocks → ℕ → List ℕ
-segment_numbered kept number = flat_map (block_numbered kept number) (range_with_len 0 (length kept))
+segment_numbered kept number = flat_map (block_numbered kept number)
+    (range_with_len 0 (length kept))
 
 -- the block of a column is between these two places of that segment's bytes
 unfoldable pub stands_numbered : List ColumnBlocks → ℕ → ℕ → ℕ → ℕ → Bool
 stands_numbered kept number column start end =
     nat_lt column (length kept)
-    && nat_le (block_start kept number column + size_kept kept column) (length (bytes_kept kept column))
-    && bytes_eq (slice_range (segment_numbered kept number) start end) (block_numbered kept number column)
+    && nat_le (block_start kept number column + size_kept kept column)
+    (length (bytes_kept kept column))
+    && bytes_eq (slice_range (segment_numbered kept number) start end)
+    (block_numbered kept number column)
 
 -- each column has the blocks of `count` segments
-pub record KeepBlocks (packing : Packing) (columns : List Column) (count : ℕ) (kept : List ColumnBlocks) : Type 0 where
+pub record KeepBlocks (packing : Packing) (columns : List Column) (count : ℕ)
+    (kept : List ColumnBlocks) : Type 0 where
   pub all : length kept ≡ length columns
-  pub sizes : (column : ℕ) → column < length columns → size_kept kept column ≡ block_size packing columns column
+  pub sizes : (column : ℕ) → column < length columns → size_kept kept column
+      ≡ block_size packing columns column
   pub long : (column : ℕ) → column < length columns
       → length (bytes_kept kept column) ≡ count * block_size packing columns column

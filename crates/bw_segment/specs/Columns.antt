@@ -11,8 +11,10 @@ kept_at kept column = slice_index_or kept column (record { codes = []; nulls = [
 
 -- These rows, at most 512, are stored. For each column, the lane of a row has its stored code, and
 -- 1 if the row is null there, else 0. The lanes past the last row have zeros.
-pub record KeepRows (columns : List Column) (rows : List (List Value)) (kept : List ColumnCodes) : Type 0 where
+pub record KeepRows (columns : List Column) (rows : List (List Value))
+    (kept : List ColumnCodes) : Type 0 where
   pub all : length kept ≡ length columns
-  pub codes : (column : ℕ) → column < length columns → (kept_at kept column).codes ≡ stored_codes columns rows column
+  pub codes : (column : ℕ) → column < length columns → (kept_at kept column).codes
+      ≡ stored_codes columns rows column
   pub nulls : (column : ℕ) → column < length columns → (kept_at kept column).nulls
       ≡ map (λ null. if null then 1 else 0) (null_bits rows column)

@@ -23,7 +23,8 @@ pub record IsGroup (meaning : Meaning) : Type 0 where
 
 -- the bit of a variable in each of the group's 512 lanes
 abbrev pub variable_lanes : Meaning → ℕ → List Bool
-variable_lanes meaning variable = map (λ bits. bits variable) (lanes_of meaning.columns meaning.rows)
+variable_lanes meaning variable = map (λ bits. bits variable)
+    (lanes_of meaning.columns meaning.rows)
 
 -- the byte `slice` of a column's padded code in each lane; byte 0 is the least
 abbrev pub byte_lanes : Meaning → ℕ → ℕ → List ℕ
@@ -33,7 +34,8 @@ byte_lanes meaning column slice = map (byte_spelled meaning.columns column slice
 -- the stored code of a column in each of the 512 lanes of these rows; null and padding rows have 0
 unfoldable pub stored_codes : List Column → List (List Value) → ℕ → List ℕ
 stored_codes columns rows column =
-    map (λ row. stored_at columns column (value_in row column)) rows ++ replicate (group_size - length rows) 0
+    map (λ row. stored_at columns column (value_in row column)) rows
+    ++ replicate (group_size - length rows) 0
 
 -- the stored code of a column in each lane of a group
 abbrev pub code_lanes : Meaning → ℕ → List ℕ
@@ -41,8 +43,13 @@ code_lanes meaning column = stored_codes meaning.columns meaning.rows column
 
 -- for each of the 512 lanes, whether its row is null in a column; past the last row none is
 unfoldable pub null_bits : List (List Value) → ℕ → List Bool
-null_bits rows column = map (λ row. is_null (value_in row column)) rows ++ replicate (group_size - length rows) false
+null_bits rows column = map (λ row. is_null (value_in row column)) rows
+    ++ replicate (group_size - length rows) false
 
 -- the meaning of rows of a table of this schema
 abbrev pub meaning_of : Schema → List Row → Meaning
-meaning_of schema rows = record { name = schema.name; columns = schema.columns.items; rows = map values_of rows }
+meaning_of schema rows = record {
+  name = schema.name;
+  columns = schema.columns.items;
+  rows = map values_of rows;
+}

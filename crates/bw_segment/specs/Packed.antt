@@ -15,11 +15,13 @@ pub record IsPlaced (packing : Packing) (placement : Placement) : Type 0 where
 -- each column's block is between the places where this packing has it
 abbrev pub HoldBlocks : (ℕ → ℕ → ℕ → Bool) → Packing → List Column → Type 0
 HoldBlocks holds packing columns = (column : ℕ) → column < length columns
-    → IsTrue (holds column (bytes_before packing columns column) (bytes_before packing columns (column + 1)))
+    → IsTrue (holds column (bytes_before packing columns column)
+    (bytes_before packing columns (column + 1)))
 
 -- The bytes are those of `count` rows of a group: their blocks are valid, and where the placement
 -- has them.
-pub record IsPacked (packing : Packing) (placement : Placement) (count : ℕ) (bytes : List ℕ) : Type 0 where
+pub record IsPacked (packing : Packing) (placement : Placement) (count : ℕ)
+    (bytes : List ℕ) : Type 0 where
   pub law : IsPacking packing
   pub placed : IsPlaced packing placement
   pub sound : IsSound packing placement.schema.columns.items count bytes

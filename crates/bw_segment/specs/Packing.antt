@@ -20,11 +20,13 @@ pub record Packing : Type 0 where
 
 -- The bytes of codes spell these codes, and codes that bytes spell have these bytes.
 pub record IsPacking (packing : Packing) : Type 0 where
-  pub bytes_length : (width : ℕ) (codes : List ℕ) → length codes ≡ group_size → length (packing.bytes width codes)
+  pub bytes_length : (width : ℕ) (codes : List ℕ) → length codes ≡ group_size
+      → length (packing.bytes width codes)
       ≡ packing.size width
   pub codes_length : (width : ℕ) (bytes : List ℕ) → length bytes ≡ packing.size width
       → length (packing.codes width bytes) ≡ group_size
-  pub text_spells : (width : ℕ) (codes : List ℕ) → length codes ≡ group_size → All (λ code. code < 2 ^ width) codes
+  pub text_spells : (width : ℕ) (codes : List ℕ) → length codes ≡ group_size
+      → All (λ code. code < 2 ^ width) codes
       → packing.codes width (packing.bytes width codes) ≡ codes
   pub codes_spelled : (width : ℕ) (bytes : List ℕ) → length bytes ≡ packing.size width
       → All (λ byte. byte < 2 ^ 8) bytes → packing.bytes width (packing.codes width bytes) ≡ bytes
@@ -35,11 +37,13 @@ null_size columns column = if is_nullable columns column then 64 else 0
 
 -- the number of bytes of a column's block, and of those before it
 abbrev pub block_size : Packing → List Column → ℕ → ℕ
-block_size packing columns column = null_size columns column + packing.size (width_at columns column)
+block_size packing columns column = null_size columns column + packing.size
+    (width_at columns column)
 
 abbrev pub bytes_before : Packing → List Column → ℕ → ℕ
 bytes_before packing columns zero = 0
-bytes_before packing columns (suc column) = bytes_before packing columns column + block_size packing columns column
+bytes_before packing columns (suc column) = bytes_before packing columns column
+    + block_size packing columns column
 
 -- the number of bytes of a segment
 abbrev pub segment_size : Packing → List Column → ℕ
@@ -83,7 +87,8 @@ value_in_block packing columns column block row =
 -- this many rows, with the values that the blocks among these bytes spell
 unfoldable pub rows_spelled : Packing → List Column → ℕ → List ℕ → List (List Value)
 rows_spelled packing columns count bytes =
-    map (λ row. map (λ column. value_in_block packing columns column (block_at packing columns column bytes) row)
+    map (λ row. map (λ column. value_in_block packing columns column
+    (block_at packing columns column bytes) row)
     (range_with_len 0 (length columns))) (range_with_len 0 count)
 
 -- the meaning of this many rows, spelled by bytes

@@ -17,11 +17,12 @@ pub trait Blocks {
         requires { IsTrue (holds self.now col start end) }
         ensures { result.now ≡ slice_range (bytes self.now) start end };
 
-    /// Returns the first 64 bytes of the block of a column, which is between these two places of the
-    /// bytes, if they are stored apart too.
+    /// Returns the first 64 bytes of the block of a column, which is between these two places of
+    /// the bytes, if they are stored apart too.
     fn front(&self, col: usize, start: usize, end: usize) -> Option<&[u8]>
         requires { IsTrue (holds self.now col start end) }
-        ensures front { IfSome result (λ front. front.now ≡ take 64 (slice_range (bytes self.now) start end)) }
+        ensures front { IfSome result (λ front. front.now
+            ≡ take 64 (slice_range (bytes self.now) start end)) }
         ensures size { IfSome result (λ front. length front.now ≡ 64) };
 }
 
@@ -29,7 +30,8 @@ pub trait Blocks {
 impl Blocks for SharedBytes {
     ghost bytes = { bytes_in };
 
-    ghost holds = { λ shared col start end. nat_le start end && nat_le end (length (bytes_in shared)) };
+    ghost holds = { λ shared col start end. nat_le start end
+        && nat_le end (length (bytes_in shared)) };
 
     #[inline(always)]
     fn block(&self, _col: usize, start: usize, end: usize) -> &[u8] {

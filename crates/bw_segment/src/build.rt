@@ -67,7 +67,8 @@ impl<L: CodeLayout> PackedSegment<L> {
             → KeepRows placement.now.schema.columns.items rows kept.now
             → bytes.new.items ≡ bytes.old.items
             ++ segment_bytes L.packing placement.now.schema.columns.items rows) }
-        ensures front { OnOk result (take (length bytes.old.items) bytes.new.items ≡ bytes.old.items) }
+        ensures front { OnOk result (take (length bytes.old.items) bytes.new.items
+            ≡ bytes.old.items) }
         ensures refused { OnErr result (bytes.new.items ≡ bytes.old.items) }
         ensures only_memory { IsOkUnless result no_memory }
     {

@@ -4,8 +4,8 @@ ghost use Rattle.bw_segment.specs.Fronts.{AreFronts};
 use bw_model::Fault;
 use std::alloc::Global;
 
-/// The blocks of one column, those of all segments back to back. If they are long, their null planes
-/// are stored a second time, back to back, to be read without the codes between them.
+/// The blocks of one column, those of all segments back to back. If they are long, their null
+/// planes are stored a second time, back to back, to be read without the codes between them.
 #[derive(Drop)]
 pub struct ColumnBlocks {
     pub(crate) size: usize,
@@ -35,8 +35,8 @@ impl ColumnBlocks {
     }
 
     /// Adds a block, and its first 64 bytes apart, if those of all earlier blocks are stored apart.
-    /// Memory grows by the block, or by a sixteenth of the bytes so far if that is more. Errors: 801
-    /// if memory is refused.
+    /// Memory grows by the block, or by a sixteenth of the bytes so far if that is more. Errors:
+    /// 801 if memory is refused.
     #[tactic(auto, using(crate::proofs::FrontLemmas::fronts_kept))]
     pub(crate) fn push(&mut self, block: &[u8]) -> Result<(), Fault>
         ensures size { self.new.size ≡ self.old.size }
@@ -72,7 +72,8 @@ impl ColumnBlocks {
         ensures front { IfSome result (λ front. front.now
             ≡ take 64 (take self.now.size (drop (number * self.now.size) self.now.bytes.items))) }
         ensures size { IfSome result (λ front. length front.now ≡ 64) }
-        ensures room { IfSome result (λ _. number * self.now.size + self.now.size ≤ length self.now.bytes.items) }
+        ensures room { IfSome result (λ _. number * self.now.size + self.now.size
+            ≤ length self.now.bytes.items) }
     {
         let fronts: &[u8] = &self.fronts;
         if number >= fronts.len() / 64 {
@@ -84,7 +85,8 @@ impl ColumnBlocks {
 
     /// Returns whether the first 64 bytes of every block are stored apart.
     fn has_all_fronts(&self) -> bool
-        ensures { IsTrue result → HasFronts self.now.size self.now.bytes.items self.now.fronts.items }
+        ensures { IsTrue result → HasFronts self.now.size self.now.bytes.items
+            self.now.fronts.items }
     {
         let count = self.fronts.len() / 64;
         match count.checked_mul(self.size) {

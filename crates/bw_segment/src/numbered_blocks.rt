@@ -27,7 +27,8 @@ pub fn no_blocks<L: CodeLayout>(
     alloc: Global,
     placement: &Placement,
 ) -> Result<Vec<ColumnBlocks>, Fault>
-    ensures keep { IfOk result (λ kept. KeepBlocks L.packing placement.now.schema.columns.items 0 kept.items) }
+    ensures keep { IfOk result
+        (λ kept. KeepBlocks L.packing placement.now.schema.columns.items 0 kept.items) }
     ensures only_memory { IsOkUnless result no_memory }
 {
     let mut kept = Vec::with_capacity(alloc, placement.schema.columns.len())?;
@@ -48,7 +49,8 @@ pub fn push_blocks<L: CodeLayout>(
     requires { length kept.old ≡ length segment.now.placement.value.schema.columns.items }
     ensures keep { OnOk result ((count : ℕ)
         → KeepBlocks L.packing segment.now.placement.value.schema.columns.items count kept.old
-        → KeepBlocks L.packing segment.now.placement.value.schema.columns.items (count + 1) kept.new) }
+        → KeepBlocks L.packing segment.now.placement.value.schema.columns.items
+        (count + 1) kept.new) }
     ensures last { OnOk result ((count : ℕ)
         → KeepBlocks L.packing segment.now.placement.value.schema.columns.items count kept.old
         → segment_numbered kept.new count ≡ bytes_in segment.now.bytes) }
@@ -109,7 +111,8 @@ impl<'a, L: CodeLayout> PackedSegment<L, NumberedBlocks<'a>> {
         requires sound { IsSound L.packing placement.value.schema.columns.items rows
             (segment_numbered columns.now number) }
         ensures means { ⟦<PackedSegment<L, NumberedBlocks<'a>> as Segment>⟧.meaning result
-            ≡ meaning_spelled L.packing placement.value.schema rows (segment_numbered columns.now number) }
+            ≡ meaning_spelled L.packing placement.value.schema rows
+            (segment_numbered columns.now number) }
     {
         PackedSegment::of_held_blocks(placement, rows, NumberedBlocks { columns, number })
     }

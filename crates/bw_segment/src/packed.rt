@@ -33,7 +33,8 @@ pub struct PackedSegment<L: CodeLayout, B: Blocks = SharedBytes> {
 
 impl<L: CodeLayout, B: Blocks> Segment for PackedSegment<L, B> {
     ghost meaning = { λ segment.
-        meaning_spelled L.packing segment.placement.value.schema segment.rows (B.bytes segment.bytes) };
+        meaning_spelled L.packing segment.placement.value.schema segment.rows
+        (B.bytes segment.bytes) };
 
     fn schema(&self) -> &Schema {
         &self.placement.schema
@@ -115,7 +116,8 @@ impl<L: CodeLayout> PackedSegment<L> {
         requires placed { IsPlaced L.packing placement.value }
         requires some { 1 ≤ rows }
         requires few { rows ≤ group_size }
-        requires sound { IsSound L.packing placement.value.schema.columns.items rows (bytes_in bytes) }
+        requires sound { IsSound L.packing placement.value.schema.columns.items rows
+            (bytes_in bytes) }
         ensures means { ⟦<PackedSegment<L> as Segment>⟧.meaning result
             ≡ meaning_spelled L.packing placement.value.schema rows (bytes_in bytes) }
     {
@@ -163,7 +165,8 @@ impl<L: CodeLayout, B: Blocks> PackedSegment<L, B> {
         requires placed { IsPlaced L.packing placement.value }
         requires some { 1 ≤ rows }
         requires few { rows ≤ group_size }
-        requires sound { IsSound L.packing placement.value.schema.columns.items rows (B.bytes bytes) }
+        requires sound { IsSound L.packing placement.value.schema.columns.items rows
+            (B.bytes bytes) }
         requires held { HoldBlocks (B.holds bytes) L.packing placement.value.schema.columns.items }
         ensures means { ⟦<PackedSegment<L, B> as Segment>⟧.meaning result
             ≡ meaning_spelled L.packing placement.value.schema rows (B.bytes bytes) }
@@ -182,7 +185,8 @@ impl<L: CodeLayout, B: Blocks> PackedSegment<L, B> {
     pub(crate) fn block(&self, col: usize) -> &[u8]
         requires { col < length self.now.placement.value.schema.columns.items }
         ensures block { result.now
-            ≡ block_at L.packing self.now.placement.value.schema.columns.items col (B.bytes self.now.bytes) }
+            ≡ block_at L.packing self.now.placement.value.schema.columns.items col
+            (B.bytes self.now.bytes) }
         ensures size { length result.now
             ≡ block_size L.packing self.now.placement.value.schema.columns.items col }
     {
@@ -197,7 +201,8 @@ impl<L: CodeLayout, B: Blocks> PackedSegment<L, B> {
     fn front(&self, col: usize) -> Option<&[u8]>
         requires { col < length self.now.placement.value.schema.columns.items }
         ensures front { IfSome result (λ front. front.now ≡ take 64
-            (block_at L.packing self.now.placement.value.schema.columns.items col (B.bytes self.now.bytes))) }
+            (block_at L.packing self.now.placement.value.schema.columns.items col
+            (B.bytes self.now.bytes))) }
         ensures size { IfSome result (λ front. length front.now ≡ 64) }
     {
         let placement: &Placement = &self.placement;

@@ -18,7 +18,8 @@ slices_bytes (suc slices) codes = map (byte_of slices) codes ++ slices_bytes sli
 
 -- the numbers that `count` slices spell in the 512 lanes, the most significant first
 unfoldable pub slices_codes : ℕ → List ℕ → List ℕ
-slices_codes count bytes = map (λ row. number_from (λ place. slice_index bytes (512 * place + row)) count)
+slices_codes count bytes = map
+    (λ row. number_from (λ place. slice_index bytes (512 * place + row)) count)
     (range_with_len 0 group_size)
 
 -- the packing of codes as slices, one for each byte

@@ -64,7 +64,8 @@ fn set_above(bytes: &[u8], slices: usize, first: usize, most: u64) -> u8x64
 #[inline(always)]
 fn next_above(set: u8x64, bytes: u8x64, c: u8) -> u8x64
     ensures { map (λ byte. not (byte == 0)) result
-        ≡ zip2 (λ above byte. nat_lt c byte || ((byte == c) && above)) (map (λ byte. not (byte == 0)) set) bytes }
+        ≡ zip2 (λ above byte. nat_lt c byte || ((byte == c) && above))
+        (map (λ byte. not (byte == 0)) set) bytes }
 {
     let byte = u8x64::splat(c);
     bytes.saturating_sub(byte) | bytes.simd_eq(byte).select(set, u8x64::splat(0))

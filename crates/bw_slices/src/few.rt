@@ -14,7 +14,8 @@ pub(crate) fn sum_of_few(width: u32, bytes: &[u8], lanes: &Selection) -> u128
     requires width { (1 ≤ width) × (width ≤ 63) }
     requires size { length bytes.now ≡ 512 * ((width + 7) / 8) }
     requires small { All (λ code. code < 2 ^ width) (slices_codes ((width + 7) / 8) bytes.now) }
-    ensures { result ≡ sum (picked (lanes_of_words lanes.now) (slices_codes ((width + 7) / 8) bytes.now)) }
+    ensures { result ≡ sum (picked (lanes_of_words lanes.now)
+        (slices_codes ((width + 7) / 8) bytes.now)) }
 {
     let mut sum = 0;
     for word in 0..8 {

@@ -1,4 +1,4 @@
--- A query as what it asks for.
+-- A query as its items and its condition, wherever these lie in memory.
 use Rattle.std.specs.Prelude.{List}
 use Rattle.bw_model.specs.declared.query.Item.{Item}
 use Rattle.bw_model.specs.declared.query.Query.{Query}

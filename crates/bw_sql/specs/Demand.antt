@@ -1,4 +1,4 @@
--- What a statement has to meet beside the productions of the grammar.
+-- Demands on a statement beyond the productions of the grammar.
 use Rattle.std.specs.Prelude.{ℕ, ℤ, pos, ◌-ℤ◌, Bool, true, false, not, List, map, length, Option, Some, None, is_some, nat_le}
 use Rattle.std.specs.List.{range_with_len}
 use Rattle.bw_model.specs.declared.column.Column.{Column}
@@ -12,9 +12,9 @@ use Rattle.bw_sql.specs.declared.reader.Refusal.{Refusal}
 use Rattle.bw_sql.specs.declared.reader.Refusal.TheVariants.{UnknownTable, UnknownColumn, Literal, MixedItems, Nesting}
 use Rattle.bw_sql.specs.Limits.{deepest_nesting}
 
--- The name of a table is the schema's, the name of a column is that of one of its columns, 64 bits hold the
--- number of a sign and digits, an item is of the kind of the first (both kinds said by whether they are plain
--- columns), and brackets and NOT may nest so deep.
+-- A table's name is the schema's; a column's name is that of one of its columns; 64 bits hold the
+-- number of a sign and digits; an item is of the first item's kind (each kind given as whether it
+-- is a plain column); brackets and NOTs nest at most this deep.
 pub data Demand : Type 0 where
   NamesTable : List ℕ → Demand
   NamesColumn : List ℕ → Demand
@@ -30,7 +30,7 @@ abbrev pub same_kind : Bool → Bool → Bool
 same_kind true other = other
 same_kind false other = not other
 
--- whether a demand is met by a table's name and its columns, and so under a schema
+-- whether a demand is met under a schema, by the table's name and its columns
 unfoldable pub meets : List ℕ → List Column → Demand → Bool
 meets name columns (NamesTable text) = same_text name text
 meets name columns (NamesColumn text) = is_some (column_named columns text)
@@ -41,7 +41,7 @@ meets name columns (Depth depth) = nat_le depth deepest_nesting
 abbrev pub is_met : Schema → Demand → Bool
 is_met schema demand = meets schema.name schema.columns.items demand
 
--- why a statement is refused that doesn't meet a demand
+-- why a statement that doesn't meet a demand is rejected
 abbrev pub refusal : Demand → Refusal
 refusal (NamesTable text) = UnknownTable
 refusal (NamesColumn text) = UnknownColumn
@@ -49,7 +49,7 @@ refusal (Fits is_negative digits) = Literal
 refusal (OfOneKind first other) = MixedItems
 refusal (Depth depth) = Nesting
 
--- the column that a name names, and the first where it names none
+-- the column of a name, or the first column if there is none of this name
 abbrev pub column_or_first : Option ℕ → ℕ
 column_or_first (Some column) = column
 column_or_first None = 0

@@ -1,4 +1,4 @@
--- What a text is read as by the reading functions, or the fault at which they stop.
+-- The query that the reading functions read from a text, or the error at which they stop.
 use Rattle.std.specs.Prelude.{◌≡◌, ℕ, ◌-◌, List, length, Option, Some, None, Result, Ok, Err, false, slice_get}
 use Rattle.bw_model.specs.FaultTable.{CHARACTER}
 use Rattle.bw_model.specs.declared.fault.Fault.{Fault}
@@ -14,36 +14,37 @@ use Rattle.bw_sql.specs.Reading.{Halt, statement_at}
 use Rattle.bw_sql.specs.Refusal.{code_of}
 use Rattle.bw_sql.specs.Statement.{tokens_of}
 
--- A refusal stands at its token. After the last token the byte that begins no piece comes first (401), and
--- else the refusal stands at the end.
+-- A refusal is at its token. After the last token, a byte that begins no piece is the error (401);
+-- else the refusal is at the end.
 abbrev pub fault_at : Option Spot → Option ℕ → ℕ → Refusal → Fault
 fault_at (Some spot) stop end why = at_byte (code_of why) spot.at
 fault_at None (Some at) end why = at_byte CHARACTER at
 fault_at None None end why = at_byte (code_of why) end
 
--- the token from which on so many are left
+-- the token from which on this many are left
 abbrev pub spot_from : ℕ → List Spot → Option Spot
 spot_from left tokens = slice_get tokens (length tokens - left)
 
--- what was read, once all tokens were cut, or the fault
+-- what was read, if the whole text was cut into tokens; else the error
 abbrev pub judged : List Spot → Option ℕ → ℕ → Result Asked Halt → Result Asked Fault
 judged tokens None end (Ok query) = Ok query
 judged tokens (Some at) end (Ok query) = Err (at_byte CHARACTER at)
 judged tokens stop end (Err halt) = Err (fault_at (spot_from halt.left tokens) stop end halt.why)
 
--- a text is read as what its tokens give
+-- a text is read as its tokens are
 pub record IsRead (schema : Schema) (text : List ℕ) (outcome : Result Asked Fault) : Type 0 where
   pub tokens : List Spot
   pub stop : Option ℕ
   pub cut : IsCut 0 text tokens stop
   pub is : outcome ≡ judged tokens stop (length text) (statement_at schema (tokens_of tokens))
 
--- the answer is what the text is read as, out of memory aside
+-- the result is what the text is read as, unless memory ran out
 abbrev pub Answers : Schema → List ℕ → Result Query Fault → Type 0
 Answers schema text (Ok query) = IsRead schema text (Ok (asked query))
 Answers schema text (Err fault) = is_memory fault ≡ false → IsRead schema text (Err fault)
 
--- the fault of a reader that stopped
+-- the error of a reader that stopped
 abbrev pub IsFaultOf : List Spot → Option ℕ → ℕ → Stop → Fault → Type 0
-IsFaultOf tokens stop end (Refused why left) fault = fault ≡ fault_at (spot_from left tokens) stop end why
+IsFaultOf tokens stop end (Refused why left) fault = fault
+    ≡ fault_at (spot_from left tokens) stop end why
 IsFaultOf tokens stop end OutOfMemory fault = fault ≡ no_memory

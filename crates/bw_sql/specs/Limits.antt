@@ -1,4 +1,4 @@
--- What of a statement is refused for its size: the most that is taken. The numbers are this project's own.
+-- The maximal sizes of a statement. The numbers are this project's own.
 use Rattle.std.specs.Prelude.{ℕ}
 
 -- bytes of a statement

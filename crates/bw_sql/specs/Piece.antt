@@ -1,4 +1,4 @@
--- The pieces of a text: blanks and comments, which are gaps, and tokens. The longest piece is taken.
+-- The pieces of a text: gaps, which are blanks and comments, and tokens. The longest piece counts.
 use Rattle.std.specs.Prelude.{◌≡◌, ◌≤◌, ℕ, Bool, false, List, [], ◌∷◌, ◌++◌, length, Some, None, IsTrue, ◌&&◌, ◌||◌, ◌==◌, not, codes}
 use Rattle.std.specs.List.{list_all}
 use Rattle.bw_model.specs.declared.cond.Op.{Op}
@@ -61,18 +61,21 @@ IsDelimiter bytes (Punct mark) = bytes ≡ mark_spelling mark
 -- the bytes are this piece: a word is a reserved word, ignoring case, or else a name
 abbrev pub IsPiece : List ℕ → Piece → Type 0
 IsPiece bytes Gap = IsGap bytes
-IsPiece bytes (Token (Name text)) = (bytes ≡ text) × IsTrue (is_word bytes) × (keyword_of bytes ≡ None)
+IsPiece bytes (Token (Name text)) = (bytes ≡ text) × IsTrue (is_word bytes)
+    × (keyword_of bytes ≡ None)
 IsPiece bytes (Token (Digits text)) = (bytes ≡ text) × IsTrue (are_digits bytes)
 IsPiece bytes (Token (Reserved word)) = IsTrue (is_word bytes) × (keyword_of bytes ≡ Some word)
 IsPiece bytes (Token (Compare op)) = IsDelimiter bytes (Compare op)
 IsPiece bytes (Token (Punct mark)) = IsDelimiter bytes (Punct mark)
 
--- the text is a thing's bytes and then the rest, and no longer thing begins the text
-pub record IsLongestOf {A : Type 0} (Is : List ℕ → A → Type 0) (text rest : List ℕ) (thing : A) : Type 0 where
+-- the text is a thing's bytes followed by the rest, and no longer thing begins the text
+pub record IsLongestOf {A : Type 0} (Is : List ℕ → A → Type 0) (text rest : List ℕ)
+    (thing : A) : Type 0 where
   pub front : List ℕ
   pub cut : text ≡ front ++ rest
   pub is : Is front thing
-  pub longest : (other after : List ℕ) (any : A) → text ≡ other ++ after → Is other any → length other ≤ length front
+  pub longest : (other after : List ℕ) (any : A) → text ≡ other ++ after → Is other any
+      → length other ≤ length front
 
 -- no thing begins the text
 abbrev pub BeginsNone : {A : Type 0} → (List ℕ → A → Type 0) → List ℕ → Type 0
@@ -92,7 +95,8 @@ BeginsNoDelimiter text = BeginsNone IsDelimiter text
 
 -- a byte that is a delimiter, and two bytes that are one
 abbrev pub is_short_delimiter : ℕ → Bool
-is_short_delimiter c = (c == 40) || (c == 41) || (c == 42) || (c == 43) || (c == 44) || (c == 45) || (c == 59)
+is_short_delimiter c = (c == 40) || (c == 41) || (c == 42) || (c == 43) || (c == 44) || (c == 45)
+    || (c == 59)
     || (c == 60) || (c == 61) || (c == 62)
 
 abbrev pub is_long_delimiter : ℕ → ℕ → Bool

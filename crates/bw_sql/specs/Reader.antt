@@ -1,4 +1,4 @@
--- What the readers answer.
+-- What the readers return.
 use Rattle.std.specs.Prelude.{◌≡◌, ℕ, List, Result, Ok, Err}
 use Rattle.std.specs.Borrow.{Bor}
 use Rattle.bw_sql.specs.declared.reader.Refusal.{Refusal}
@@ -11,18 +11,20 @@ use Rattle.bw_sql.specs.Token.{Lexeme, lexemes}
 abbrev pub refused : Refusal → ℕ → Stop
 refused why left = Refused why left
 
--- reading stops there too, out of memory aside
+-- reading stops there too, unless memory ran out
 abbrev pub Halts : {A : Type 0} → Stop → Result A Halt → Type 0
 Halts (Refused why left) reading = reading ≡ Err (record { why = why; left = left })
 Halts OutOfMemory reading = Unit {0}
 
--- What a reader answered, seen by view, is what reading gives, out of memory aside.
+-- What a reader returned, seen by `view`, is what the reading function returns, unless memory ran
+-- out.
 abbrev pub Reads : {X A : Type 0} → (X → A) → Result X Stop → Result A Halt → Type 0
 Reads view (Ok x) reading = reading ≡ Ok (view x)
 Reads view (Err stop) reading = Halts stop reading
 
--- A reader of some tokens answered what reading them gives: a thing, seen by view, and the tokens after it.
-abbrev pub ReadsFrom : {X A : Type 0} → (X → A) → List Placed → Result (X × Bor (List Placed)) Stop →
-    (List Lexeme → Read A) → Type 0
+-- A reader of these tokens returned what the reading function returns for them: a thing, seen by
+-- `view`, and the tokens after it.
+abbrev pub ReadsFrom : {X A : Type 0} → (X → A) → List Placed →
+    Result (X × Bor (List Placed)) Stop → (List Lexeme → Read A) → Type 0
 ReadsFrom view tokens result reading = Reads (λ read. (view read.0, lexemes read.1.now)) result
     (reading (lexemes tokens))

@@ -1,5 +1,5 @@
--- Reading a statement from its tokens: each reader takes the tokens that are left, and gives what it read and
--- the tokens after it, or where and why it stopped.
+-- Reading a statement from its tokens: each function consumes some of the remaining tokens, and
+-- returns what it read and the tokens after it, or where and why it stopped.
 use Rattle.std.specs.Prelude.{ℕ, ℤ, Bool, true, false, suc, zero, List, [], ◌∷◌, ◌++◌, length, Option, Some, None, Result, Ok, Err, if◌then◌else◌}
 use Rattle.std.specs.Str.{bytes_eq}
 use Rattle.bw_model.specs.declared.cond.Op.{Op}
@@ -32,7 +32,7 @@ use Rattle.bw_sql.specs.Piece.{mark_spelling}
 use Rattle.bw_sql.specs.Words.{word_of, join_of, of_column}
 use Rattle.bw_sql.specs.Token.{Lexeme, Name, Digits, Reserved, Compare, Punct}
 
--- why reading stopped, and how many tokens are left from there on
+-- why reading stopped, and how many tokens are left there
 pub record Halt : Type 0 where
   pub why : Refusal
   pub left : ℕ
@@ -41,7 +41,7 @@ pub record Halt : Type 0 where
 abbrev pub Read : Type 0 → Type 0
 Read A = Result (A × List Lexeme) Halt
 
--- an answer, and then what follows from it, or else the first refusal
+-- a result passed on to the next step, or the first refusal
 infixl 10 ◌>>=◌
 abbrev pub ◌>>=◌ : {A B : Type 0} → Result A Halt → (A → Result B Halt) → Result B Halt
 (Ok x) >>= f = f x
@@ -50,19 +50,19 @@ abbrev pub ◌>>=◌ : {A B : Type 0} → Result A Halt → (A → Result B Halt
 abbrev pub refuse : {A : Type 0} → Refusal → List Lexeme → Result A Halt
 refuse why tokens = Err (record { why = why; left = length tokens })
 
--- what comes first, where it does, and else a refusal
+-- what is first, if it is there, or else a refusal
 abbrev pub wanted : {A : Type 0} → Option A → Refusal → List Lexeme → Result A Halt
 wanted (Some x) why tokens = Ok x
 wanted None why tokens = refuse why tokens
 
--- a reserved word or a mark is known by its spelling
+-- reserved words and marks are compared by their spelling
 abbrev pub same_keyword : Keyword → Keyword → Bool
 same_keyword a b = bytes_eq (spelling a) (spelling b)
 
 abbrev pub same_mark : Mark → Mark → Bool
 same_mark a b = bytes_eq (mark_spelling a) (mark_spelling b)
 
--- the tokens after a reserved word or a mark, where it comes first
+-- the tokens after a reserved word or a mark, if it is first
 unfoldable pub after_keyword : Keyword → List Lexeme → Option (List Lexeme)
 after_keyword word [] = None
 after_keyword word (Reserved found ∷ tokens) = if same_keyword found word then Some tokens else None
@@ -101,7 +101,7 @@ digits_at (Reserved found ∷ tokens) = refuse Syntax (Reserved found ∷ tokens
 digits_at (Compare op ∷ tokens) = refuse Syntax (Compare op ∷ tokens)
 digits_at (Punct found ∷ tokens) = refuse Syntax (Punct found ∷ tokens)
 
--- whether a minus comes first, and the tokens after the sign, where there is one
+-- whether a minus is first, and the tokens after the sign, if there is one
 abbrev pub after_plus : Option (List Lexeme) → List Lexeme → Bool × List Lexeme
 after_plus (Some rest) tokens = (false, rest)
 after_plus None tokens = (false, tokens)
@@ -157,7 +157,8 @@ operand_after None schema tokens =
 unfoldable pub operand_at : Schema → List Lexeme → Read Operand
 operand_at schema tokens = operand_after (after_keyword word.Null tokens) schema tokens
 
--- what is read again and again, as long as what introduces it comes; there are no more of them than tokens
+-- what is read repeatedly, as long as its introducing token is first; there are no more of them
+-- than tokens
 abbrev pub more_after : {A : Type 0} → Option (List Lexeme) → List Lexeme → (List Lexeme → Read A) →
     (List Lexeme → Read (List A)) → Read (List A)
 more_after None tokens one others = Ok ([], tokens)
@@ -166,8 +167,8 @@ more_after (Some next) tokens one others = do
   xs ← others x.1
   Ok (x.0 ∷ xs.0, xs.1)
 
-unfoldable pub repeated : {A : Type 0} → ℕ → (List Lexeme → Option (List Lexeme)) → (List Lexeme → Read A) →
-    List Lexeme → Read (List A)
+unfoldable pub repeated : {A : Type 0} → ℕ → (List Lexeme → Option (List Lexeme)) →
+    (List Lexeme → Read A) → List Lexeme → Read (List A)
 repeated zero after one tokens = Ok ([], tokens)
 repeated (suc n) after one tokens = more_after (after tokens) tokens one (repeated n after one)
 
@@ -177,7 +178,8 @@ with_front front read = do
   Ok (front ++ xs.0, xs.1)
 
 abbrev pub more_operands : Schema → List Lexeme → Read (List Operand)
-more_operands schema tokens = repeated (length tokens) (after_mark mark.Comma) (operand_at schema) tokens
+more_operands schema tokens = repeated (length tokens) (after_mark mark.Comma)
+    (operand_at schema) tokens
 
 -- what follows an operand: a range after BETWEEN, or a list after IN
 abbrev pub range_at : Schema → Operand → List Lexeme → Read CondTree
@@ -200,12 +202,14 @@ list_at schema x tokens = do
   rest ← mark_at mark.Close items.1
   Ok (Among x items.0, rest)
 
-abbrev pub range_or_list_after : Option (List Lexeme) → Schema → Operand → List Lexeme → Read CondTree
+abbrev pub range_or_list_after : Option (List Lexeme) → Schema → Operand → List Lexeme
+    → Read CondTree
 range_or_list_after (Some next) schema x tokens = range_at schema x next
 range_or_list_after None schema x tokens = list_at schema x tokens
 
 unfoldable pub range_or_list_at : Schema → Operand → List Lexeme → Read CondTree
-range_or_list_at schema x tokens = range_or_list_after (after_keyword word.Between tokens) schema x tokens
+range_or_list_at schema x tokens = range_or_list_after (after_keyword word.Between tokens) schema x
+    tokens
 
 -- [ NOT ] NULL after IS
 abbrev pub null_after : Option (List Lexeme) → Operand → List Lexeme → Read CondTree
@@ -238,7 +242,8 @@ abbrev pub after_is : Schema → Operand → Option (List Lexeme) → List Lexem
 after_is schema x (Some next) tokens = null_test_at x next
 after_is schema x None tokens = after_not schema x (after_keyword word.Not tokens) tokens
 
-abbrev pub predicate_after : Schema → Operand → Option (Op × List Lexeme) → List Lexeme → Read CondTree
+abbrev pub predicate_after : Schema → Operand → Option (Op × List Lexeme) → List Lexeme
+    → Read CondTree
 predicate_after schema x (Some next) tokens = do
   y ← operand_at schema next.1
   Ok (Cmp next.0 x y.0, y.1)
@@ -253,14 +258,16 @@ predicate_at schema tokens = do
   predicate_of schema x.0 x.1
 
 -- a truth value, and a test for it after IS
-abbrev pub after_true : Option (List Lexeme) → Option (List Lexeme) → Option (List Lexeme) → List Lexeme → Read Truth
+abbrev pub after_true : Option (List Lexeme) → Option (List Lexeme) → Option (List Lexeme)
+    → List Lexeme → Read Truth
 after_true (Some rest) second third tokens = Ok (Yes, rest)
 after_true None (Some rest) third tokens = Ok (No, rest)
 after_true None None (Some rest) tokens = Ok (Unknown, rest)
 after_true None None None tokens = refuse Syntax tokens
 
 unfoldable pub truth_value_at : List Lexeme → Read Truth
-truth_value_at tokens = after_true (after_keyword word.True tokens) (after_keyword word.False tokens)
+truth_value_at tokens = after_true (after_keyword word.True tokens)
+    (after_keyword word.False tokens)
     (after_keyword word.Unknown tokens) tokens
 
 abbrev pub value_test_at : CondTree → List Lexeme → Read CondTree
@@ -281,8 +288,8 @@ truth_after c None tokens = Ok (c, tokens)
 unfoldable pub truth_test_at : CondTree → List Lexeme → Read CondTree
 truth_test_at c tokens = truth_after c (after_keyword word.Is tokens) tokens
 
--- what stands one level deeper: a condition after `(`, and a test after NOT, given the tokens from the mark
--- or word on and those after it
+-- what is one level deeper: a condition after `(`, and a test after NOT. Each is given the tokens
+-- from that mark or word on, and those after it.
 pub record Nested : Type 0 where
   pub enclosed : List Lexeme → List Lexeme → Read CondTree
   pub negated : List Lexeme → List Lexeme → Read CondTree
@@ -306,16 +313,16 @@ factor_after schema inner None tokens = test_in schema inner tokens
 unfoldable pub factor_in : Schema → Nested → List Lexeme → Read CondTree
 factor_in schema inner tokens = factor_after schema inner (after_keyword word.Not tokens) tokens
 
--- one part, or two and more that a word joins
-abbrev pub series_after : Keyword → (CondTrees → CondTree) → (List Lexeme → Read CondTree) → CondTree →
-    Option (List Lexeme) → List Lexeme → Read CondTree
+-- one part, or two or more that a word joins
+abbrev pub series_after : Keyword → (CondTrees → CondTree) → (List Lexeme → Read CondTree) →
+    CondTree → Option (List Lexeme) → List Lexeme → Read CondTree
 series_after word join one first None tokens = Ok (first, tokens)
 series_after word join one first (Some next) tokens = do
   parts ← with_front (first ∷ []) (repeated (length tokens) (after_keyword word) one tokens)
   Ok (join (trees_of parts.0), parts.1)
 
-abbrev pub series_at : Keyword → (CondTrees → CondTree) → (List Lexeme → Read CondTree) → List Lexeme →
-    Read CondTree
+abbrev pub series_at : Keyword → (CondTrees → CondTree) → (List Lexeme → Read CondTree) →
+    List Lexeme → Read CondTree
 series_at word join one tokens = do
   first ← one tokens
   series_after word join one first.0 (after_keyword word first.1) first.1
@@ -326,7 +333,7 @@ term_in schema inner tokens = series_at word.And And (factor_in schema inner) to
 unfoldable pub condition_in : Schema → Nested → List Lexeme → Read CondTree
 condition_in schema inner tokens = series_at word.Or Or (term_in schema inner) tokens
 
--- so what either connective joins is read: a term's parts are factors, and a condition's are terms
+-- the parts of either connective: a term's are factors, and a condition's are terms
 unfoldable pub part_in : Schema → Nested → Connective → List Lexeme → Read CondTree
 part_in schema inner connective.And = factor_in schema inner
 part_in schema inner connective.Or = term_in schema inner
@@ -338,7 +345,7 @@ abbrev pub more_parts_in : Schema → Nested → Connective → List Lexeme → 
 more_parts_in schema inner c tokens = repeated (length tokens) (after_keyword (word_of c)) (part_in
     schema inner c) tokens
 
--- so many levels of nesting are left
+-- this many levels of nesting are left
 unfoldable pub nested : Schema → ℕ → Nested
 nested schema zero = record {
   enclosed = λ tokens next. refuse Nesting tokens;
@@ -354,7 +361,7 @@ nested schema (suc n) = record {
     Ok (Not c.0, c.1);
 }
 
--- the condition after WHERE, where it comes
+-- the condition after WHERE, if there is one
 abbrev pub after_where : Schema → Option (List Lexeme) → List Lexeme → Read CondTree
 after_where schema None tokens = Ok (Always, tokens)
 after_where schema (Some rest) tokens = condition_in schema (nested schema deepest_nesting) rest
@@ -362,7 +369,7 @@ after_where schema (Some rest) tokens = condition_in schema (nested schema deepe
 unfoldable pub selection_at : Schema → List Lexeme → Read CondTree
 selection_at schema tokens = after_where schema (after_keyword word.Where tokens) tokens
 
--- the end of a statement, after a semicolon, where it comes
+-- the end of a statement, after an optional semicolon
 abbrev pub nothing_left : List Lexeme → Result (Unit {0}) Halt
 nothing_left [] = Ok tt
 nothing_left (t ∷ tokens) = refuse Syntax (t ∷ tokens)
@@ -375,8 +382,8 @@ unfoldable pub end_at : List Lexeme → Result (Unit {0}) Halt
 end_at tokens = nothing_left (after_semicolon (after_mark mark.Semicolon tokens) tokens)
 
 -- the aggregates, by their words
-abbrev pub aggregate_after : Option (List Lexeme) → Option (List Lexeme) → Option (List Lexeme) → Option (List Lexeme)
-    → Option (Aggregate × List Lexeme)
+abbrev pub aggregate_after : Option (List Lexeme) → Option (List Lexeme) → Option (List Lexeme)
+    → Option (List Lexeme) → Option (Aggregate × List Lexeme)
 aggregate_after (Some rest) sum min max = Some (aggregate.Count, rest)
 aggregate_after None (Some rest) min max = Some (aggregate.Sum, rest)
 aggregate_after None None (Some rest) max = Some (aggregate.Min, rest)
@@ -384,7 +391,8 @@ aggregate_after None None None (Some rest) = Some (aggregate.Max, rest)
 aggregate_after None None None None = None
 
 unfoldable pub after_aggregate : List Lexeme → Option (Aggregate × List Lexeme)
-after_aggregate tokens = aggregate_after (after_keyword word.Count tokens) (after_keyword word.Sum tokens)
+after_aggregate tokens = aggregate_after (after_keyword word.Count tokens)
+    (after_keyword word.Sum tokens)
     (after_keyword word.Min tokens) (after_keyword word.Max tokens)
 
 abbrev pub column_of : Schema → Aggregate → List Lexeme → Read Item
@@ -419,11 +427,12 @@ aggregate_item schema None tokens = refuse Syntax tokens
 aggregate_item schema (Some found) tokens = argument_at schema found.0 found.1
 
 unfoldable pub item_at : Schema → List Lexeme → Read Item
-item_at schema tokens = if begins_with_name tokens then plain_item schema tokens else aggregate_item schema
+item_at schema tokens = if begins_with_name tokens then plain_item schema tokens
+    else aggregate_item schema
     (after_aggregate tokens) tokens
 
--- An item of the other kind is refused at its first token, which tells its kind; a column that isn't the
--- schema's comes before.
+-- An item of the other kind is rejected at its first token, which determines its kind; a column
+-- that isn't the schema's is the earlier error.
 abbrev pub mixed_name : Schema → List Lexeme → Result (Unit {0}) Halt
 mixed_name schema tokens = do
   column ← column_at schema tokens
@@ -436,7 +445,8 @@ mixed_aggregate (Some found) tokens = refuse MixedItems tokens
 unfoldable pub of_one_kind : Schema → Bool → List Lexeme → Result (Unit {0}) Halt
 of_one_kind schema true tokens = if begins_with_name tokens then Ok tt else mixed_aggregate
     (after_aggregate tokens) tokens
-of_one_kind schema false tokens = if begins_with_name tokens then mixed_name schema tokens else Ok tt
+of_one_kind schema false tokens = if begins_with_name tokens then mixed_name schema tokens
+    else Ok tt
 
 unfoldable pub next_item_at : Schema → Bool → List Lexeme → Read Item
 next_item_at schema are_columns tokens = do

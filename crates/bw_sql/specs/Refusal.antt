@@ -1,4 +1,4 @@
--- The numbers of a statement's faults.
+-- The numbers of a statement's errors.
 use Rattle.std.specs.Prelude.{ℕ, Bool, IsTrue, ◌&&◌, ◌||◌, nat_le}
 use Rattle.bw_model.specs.FaultTable.{CHARACTER, SYNTAX, UNKNOWN_TABLE, UNKNOWN_COLUMN, LITERAL, MIXED_ITEMS, NESTING}
 use Rattle.bw_sql.specs.declared.reader.Refusal.{Refusal}
@@ -16,7 +16,8 @@ code_of Nesting = NESTING
 
 -- one of 401 to 408, or out of memory
 abbrev pub is_statement_fault : Fault → Bool
-is_statement_fault fault = (nat_le CHARACTER fault.code && nat_le fault.code NESTING) || is_memory fault
+is_statement_fault fault = (nat_le CHARACTER fault.code && nat_le fault.code NESTING)
+    || is_memory fault
 
 abbrev pub IsStatementFault : Fault → Type 0
 IsStatementFault fault = IsTrue (is_statement_fault fault)

@@ -1,4 +1,4 @@
--- What a text says: the query that it spells, or its fault.
+-- What a text means: the query that it spells, or its error.
 use Rattle.std.specs.Prelude.{◌≡◌, ℕ, ◌<◌, ◌≤◌, ◌⊎◌, List, map, length, Option, Some, None, Result, Ok, Err, false, slice_get}
 use Rattle.bw_model.specs.FaultTable.{CHARACTER, STATEMENT_TOO_LONG}
 use Rattle.bw_model.specs.declared.fault.Fault.{Fault}
@@ -25,9 +25,9 @@ pub record Spells (schema : Schema) (text : List ℕ) (query : Asked) : Type 0 w
   pub cut : IsCut 0 text tokens None
   pub spelled : IsQuery schema (tokens_of tokens) query
 
--- The fault of a text that isn't too long: the first at which its tokens are refused, at the byte of its token, or at
--- the end of the text after all tokens; but where a byte begins no piece, 401 there, unless a fault stands at a token
--- before it.
+-- The error of a text that isn't too long: the first at which its tokens are rejected, at that
+-- token's byte, or at the end of the text after all tokens. But if a byte begins no piece, the
+-- error is 401 there, unless there is one at an earlier token.
 pub data IsRefusal (schema : Schema) (text : List ℕ) : Fault → Type 0 where
   token_refused : {tokens : List Spot} {stop : Option ℕ} {why : Refusal} {place : ℕ} {spot : Spot}
       → IsCut 0 text tokens stop →
@@ -37,24 +37,27 @@ pub data IsRefusal (schema : Schema) (text : List ℕ) : Fault → Type 0 where
       IsFirst schema (tokens_of tokens) Syntax (length tokens)
       → IsRefusal schema text (at_byte (code_of Syntax) (length text))
   byte_refused : {tokens : List Spot} {at : ℕ} → IsCut 0 text tokens (Some at) →
-      ((why : Refusal) (place : ℕ) → IsFirst schema (tokens_of tokens) why place → length tokens ≤ place)
-      → IsRefusal schema text (at_byte CHARACTER at)
+      ((why : Refusal) (place : ℕ) → IsFirst schema (tokens_of tokens) why place
+      → length tokens ≤ place) → IsRefusal schema text (at_byte CHARACTER at)
 
--- the fault of a text: 407 at its first byte past the most, where it is too long
+-- the error of a text: 407 at its first byte past the limit, if it is too long
 pub data IsFault (schema : Schema) (text : List ℕ) : Fault → Type 0 where
-  too_long : longest_statement < length text → IsFault schema text (at_byte STATEMENT_TOO_LONG longest_statement)
-  refused : {fault : Fault} → length text ≤ longest_statement → IsRefusal schema text fault → IsFault schema text fault
+  too_long : longest_statement < length text
+      → IsFault schema text (at_byte STATEMENT_TOO_LONG longest_statement)
+  refused : {fault : Fault} → length text ≤ longest_statement → IsRefusal schema text fault
+      → IsFault schema text fault
 
--- a text is read as the query that it spells, or as its fault
+-- a text is read as the query that it spells, or as its error
 abbrev pub IsReadAs : Schema → List ℕ → Result Query Fault → Type 0
 IsReadAs schema text (Ok query) = Spells schema text (asked query)
 IsReadAs schema text (Err fault) = IsFault schema text fault
 
--- so it is by a call, out of memory aside
+-- the same for a call, unless memory ran out
 abbrev pub Parses : Schema → List ℕ → Result Query Fault → Type 0
 Parses schema text (Ok query) = IsReadAs schema text (Ok query)
 Parses schema text (Err fault) = is_memory fault ≡ false → IsReadAs schema text (Err fault)
 
--- a text spells a query or has a fault
+-- a text spells a query or has an error
 abbrev pub SpellsOrFails : Schema → List ℕ → Type 0
-SpellsOrFails schema text = ((query : Asked) × Spells schema text query) ⊎ ((fault : Fault) × IsFault schema text fault)
+SpellsOrFails schema text = ((query : Asked) × Spells schema text query)
+    ⊎ ((fault : Fault) × IsFault schema text fault)

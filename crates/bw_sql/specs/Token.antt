@@ -8,7 +8,7 @@ use Rattle.bw_sql.specs.declared.token.Token.{Token}
 use Rattle.bw_sql.specs.declared.token.Token.TheVariants as token
 use Rattle.bw_sql.specs.declared.token.Placed.{Placed}
 
--- a token, without where its bytes lie in memory
+-- a token, wherever its bytes lie in memory
 pub data Lexeme : Type 0 where
   Name : List ℕ → Lexeme
   Digits : List ℕ → Lexeme

@@ -1,4 +1,4 @@
--- The words of connectives and of aggregates, and what they make.
+-- The words of connectives and of aggregates, and what these build.
 use Rattle.std.specs.Prelude.{ℕ}
 use Rattle.bw_text.specs.declared.keyword.Keyword.{Keyword}
 use Rattle.bw_text.specs.declared.keyword.Keyword.TheVariants as word

@@ -8,7 +8,8 @@
 //! primary = ( cond ) | predicate
 //! ```
 //!
-//! A single part isn't wrapped. Each `(` and each NOT is one level of nesting, and `levels` are left.
+//! A single part isn't wrapped. Each `(` and each NOT is a level of nesting; `levels` counts those
+//! that are still allowed.
 ghost use Rattle.std.specs.Prelude.{◌≡◌, ◌<◌, ◌≤◌, length, map, IfOk};
 ghost use Rattle.bw_model.specs.CondTree.{Test, tree_of, trees_of};
 ghost use Rattle.bw_sql.specs.Reader.{ReadsFrom};
@@ -23,7 +24,7 @@ use bw_model::{Cond, Schema, Truth};
 use bw_text::Keyword;
 use std::alloc::{AllocError, Global};
 
-/// What joins the parts of a condition.
+/// A connective of a condition's parts.
 #[derive(Clone, Copy)]
 enum Connective {
     And,
@@ -31,7 +32,7 @@ enum Connective {
 }
 
 impl Connective {
-    /// The word that stands between the parts.
+    /// Returns the word between the parts.
     fn keyword(self) -> Keyword
         ensures { result ≡ word_of self }
     {
@@ -41,7 +42,7 @@ impl Connective {
         }
     }
 
-    /// The condition that two parts and more make.
+    /// Returns the condition of two or more parts.
     #[tactic(auto, unfolding(bw_model::specs::CondTree::tree_of))]
     fn join(self, parts: Vec<Cond>) -> Cond
         ensures { tree_of result ≡ join_of self (trees_of (map tree_of parts.items)) }
@@ -53,7 +54,7 @@ impl Connective {
     }
 }
 
-/// The condition that has to come.
+/// Reads a condition, which is required here.
 #[cycle(condition)]
 #[tactic(auto, unfolding(crate::specs::Reading::condition_in, crate::specs::Reading::joined_in, crate::specs::Reading::part_in))]
 pub fn condition<'t>(
@@ -69,8 +70,8 @@ pub fn condition<'t>(
     joined(alloc, schema, levels, Connective::Or, tokens)
 }
 
-/// A part that has to come, alone, or it and those that follow after the connective's word, joined: a
-/// condition of terms, or a term of factors.
+/// Reads a required part and those after it, each behind the connective's word: a condition of
+/// terms, or a term of factors.
 #[cycle(condition)]
 #[tactic(auto, unfolding(crate::specs::Reading::joined_in))]
 fn joined<'t>(
@@ -93,7 +94,7 @@ fn joined<'t>(
     Ok((connective.join(parts), rest))
 }
 
-/// The parts, and those that follow after the connective's word.
+/// Reads further parts, each behind the connective's word, and returns them with those before.
 #[cycle(condition)]
 fn more_parts<'t>(
     alloc: Global,
@@ -117,7 +118,7 @@ fn more_parts<'t>(
     Ok((parts, left.tokens))
 }
 
-/// The part that has to come: a factor of a term, or a term of a condition.
+/// Reads a required part: a factor of a term, or a term of a condition.
 #[cycle(condition)]
 #[tactic(auto, unfolding(crate::specs::Reading::part_in, crate::specs::Reading::joined_in, crate::specs::Reading::term_in))]
 fn part<'t>(
@@ -137,7 +138,7 @@ fn part<'t>(
     }
 }
 
-/// The factor that has to come.
+/// Reads a required factor.
 #[cycle(condition)]
 #[tactic(auto, unfolding(crate::specs::Reading::factor_in, bw_model::specs::CondTree::tree_of))]
 fn factor<'t>(
@@ -160,7 +161,7 @@ fn factor<'t>(
     Ok((negation(alloc, cond)?, rest))
 }
 
-/// The test that has to come.
+/// Reads a required test.
 #[cycle(condition)]
 #[tactic(auto, unfolding(crate::specs::Reading::test_in, bw_model::specs::CondTree::tree_of))]
 fn test<'t>(
@@ -177,7 +178,7 @@ fn test<'t>(
     truth_test(alloc, cond, rest)
 }
 
-/// The condition, or a test of its truth, where IS follows.
+/// Returns the condition, or a test of its truth value if IS follows.
 #[tactic(auto, unfolding(crate::specs::Reading::truth_test_at, bw_model::specs::CondTree::tree_of))]
 fn truth_test<'t>(alloc: Global, cond: Cond, tokens: &'t [Placed<'t>]) -> Read<'t, Cond>
     ensures read { ReadsFrom tree_of tokens.now result (truth_test_at (tree_of cond)) }
@@ -193,7 +194,7 @@ fn truth_test<'t>(alloc: Global, cond: Cond, tokens: &'t [Placed<'t>]) -> Read<'
     Ok((negation(alloc, found)?, rest))
 }
 
-/// The test for the truth value whose word has to come.
+/// Reads a truth value's word, which is required here, and returns the test for it.
 fn value_test<'t>(alloc: Global, cond: Cond, tokens: &'t [Placed<'t>]) -> Read<'t, Cond>
     ensures read { ReadsFrom tree_of tokens.now result (value_test_at (tree_of cond)) }
     ensures shorter { IfOk result (λ read. length read.1.now ≤ length tokens.now) }
@@ -202,7 +203,7 @@ fn value_test<'t>(alloc: Global, cond: Cond, tokens: &'t [Placed<'t>]) -> Read<'
     Ok((tested(alloc, cond, t)?, rest))
 }
 
-/// The test whether a condition has a truth value.
+/// Returns the test whether a condition has a truth value.
 #[tactic(auto, unfolding(bw_model::specs::CondTree::tree_of))]
 fn tested(alloc: Global, cond: Cond, t: Truth) -> Result<Cond, AllocError>
     ensures { IfOk result (λ tested. tree_of tested ≡ Test (tree_of cond) t) }
@@ -210,7 +211,7 @@ fn tested(alloc: Global, cond: Cond, t: Truth) -> Result<Cond, AllocError>
     Ok(Cond::Test(Box::new(alloc, cond)?, t))
 }
 
-/// The truth value whose word has to come.
+/// Reads a truth value's word, which is required here.
 #[tactic(auto, unfolding(crate::specs::Reading::truth_value_at))]
 fn truth_value<'t>(tokens: &'t [Placed<'t>]) -> Read<'t, Truth>
     ensures read { ReadsFrom (λ x. x) tokens.now result truth_value_at }
@@ -228,7 +229,7 @@ fn truth_value<'t>(tokens: &'t [Placed<'t>]) -> Read<'t, Truth>
     Err(Stop::at(Refusal::Syntax, tokens))
 }
 
-/// The predicate, or the condition in brackets, that has to come.
+/// Reads a required predicate, or a condition in brackets.
 #[cycle(condition)]
 #[tactic(auto, unfolding(crate::specs::Reading::primary_in, bw_model::specs::CondTree::tree_of))]
 fn primary<'t>(

@@ -1,4 +1,4 @@
-//! What a query asks for:
+//! The select list:
 //!
 //! ```text
 //! list = * | item { , item }
@@ -21,7 +21,7 @@ use bw_model::{Item, Schema};
 use bw_text::Keyword;
 use std::alloc::{AllocError, Global};
 
-/// The list of items that has to come.
+/// Reads the select list, which is required here.
 #[tactic(auto, unfolding(crate::specs::Reading::items_at))]
 pub fn items<'t>(alloc: Global, schema: &Schema, tokens: &'t [Placed<'t>]) -> Read<'t, Vec<Item>>
     ensures { ReadsFrom (λ xs. xs.items) tokens.now result (items_at schema.now) }
@@ -34,7 +34,7 @@ pub fn items<'t>(alloc: Global, schema: &Schema, tokens: &'t [Placed<'t>]) -> Re
     more_items(schema, are_columns, vec![in alloc; first]?, rest)
 }
 
-/// Every column, in the order of the schema.
+/// Returns every column, in the order of the schema.
 fn every_column(alloc: Global, schema: &Schema) -> Result<Vec<Item>, AllocError>
     ensures { IfOk result (λ items. items.items ≡ every_column schema.now.columns.items) }
 {
@@ -43,7 +43,8 @@ fn every_column(alloc: Global, schema: &Schema) -> Result<Vec<Item>, AllocError>
         .collect(alloc)
 }
 
-/// The items, and those that follow after commas, all of one kind.
+/// Reads further items, each behind a comma and all of one kind, and returns them with those
+/// before.
 fn more_items<'t>(
     schema: &Schema,
     are_columns: bool,
@@ -62,7 +63,7 @@ fn more_items<'t>(
     Ok((items, left.tokens))
 }
 
-/// The item of this kind that has to come.
+/// Reads a required item of this kind.
 #[tactic(auto, unfolding(crate::specs::Reading::next_item_at))]
 fn next_item<'t>(schema: &Schema, are_columns: bool, tokens: &'t [Placed<'t>]) -> Read<'t, Item>
     ensures read { ReadsFrom (λ x. x) tokens.now result (next_item_at schema.now are_columns) }
@@ -72,11 +73,12 @@ fn next_item<'t>(schema: &Schema, are_columns: bool, tokens: &'t [Placed<'t>]) -
     item(schema, tokens)
 }
 
-/// Refuses an item that begins as one of the other kind. Its first token tells the kind, and a column
-/// that isn't the schema's comes before.
+/// Rejects an item that begins like one of the other kind. Its first token determines the kind; a
+/// column that isn't the schema's is the earlier error.
 #[tactic(auto, unfolding(crate::specs::Reading::of_one_kind))]
 fn of_one_kind(schema: &Schema, are_columns: bool, tokens: &[Placed<'_>]) -> Result<(), Stop>
-    ensures { Reads (λ same. same) result (of_one_kind schema.now are_columns (lexemes tokens.now)) }
+    ensures { Reads (λ same. same) result
+        (of_one_kind schema.now are_columns (lexemes tokens.now)) }
 {
     if begins_with_name(tokens) {
         if are_columns {
@@ -91,7 +93,7 @@ fn of_one_kind(schema: &Schema, are_columns: bool, tokens: &[Placed<'_>]) -> Res
     Ok(())
 }
 
-/// An aggregate of a column.
+/// Returns an aggregate of a column.
 #[derive(Clone, Copy, PartialEq, Eq)]
 enum Aggregate {
     Count,
@@ -100,7 +102,7 @@ enum Aggregate {
     Max,
 }
 
-/// The aggregate whose word comes first, and the tokens after it.
+/// Returns the aggregate whose word is first, and the tokens after it.
 #[tactic(auto, unfolding(crate::specs::Reading::after_aggregate))]
 fn after_aggregate<'t>(tokens: &'t [Placed<'t>]) -> Option<(Aggregate, &'t [Placed<'t>])>
     ensures is { option_map (λ found. (found.0, lexemes found.1.now)) result
@@ -120,7 +122,7 @@ fn after_aggregate<'t>(tokens: &'t [Placed<'t>]) -> Option<(Aggregate, &'t [Plac
     Some((Aggregate::Max, rest))
 }
 
-/// The item that has to come.
+/// Reads a required item.
 #[tactic(auto, unfolding(crate::specs::Reading::item_at))]
 fn item<'t>(schema: &Schema, tokens: &'t [Placed<'t>]) -> Read<'t, Item>
     ensures read { ReadsFrom (λ x. x) tokens.now result (item_at schema.now) }
@@ -136,7 +138,7 @@ fn item<'t>(schema: &Schema, tokens: &'t [Placed<'t>]) -> Read<'t, Item>
     }
 }
 
-/// The argument of an aggregate, in brackets, which has to come.
+/// Reads an aggregate's argument in brackets, which is required here.
 fn argument<'t>(schema: &Schema, aggregate: Aggregate, tokens: &'t [Placed<'t>]) -> Read<'t, Item>
     ensures read { ReadsFrom (λ x. x) tokens.now result (argument_at schema.now aggregate) }
     ensures shorter { IfOk result (λ read. length read.1.now < length tokens.now) }
@@ -147,7 +149,7 @@ fn argument<'t>(schema: &Schema, aggregate: Aggregate, tokens: &'t [Placed<'t>])
     Ok((item, rest))
 }
 
-/// What an aggregate is taken of: a column, or, where it counts, also the rows.
+/// Reads an aggregate's argument: a column, or for COUNT also `*`.
 #[tactic(auto, unfolding(crate::specs::Reading::aggregated_at))]
 fn aggregated<'t>(schema: &Schema, aggregate: Aggregate, tokens: &'t [Placed<'t>]) -> Read<'t, Item>
     ensures read { ReadsFrom (λ x. x) tokens.now result (aggregated_at schema.now aggregate) }

@@ -13,15 +13,15 @@ use bw_model::Op;
 use bw_text::{Keyword, begins_word, goes_on_in_word};
 use std::alloc::{AllocError, Global};
 
-/// The tokens of a statement, up to its end or to the byte at which cutting stopped, since it begins no
-/// token, blank or comment.
+/// The tokens of a statement, up to its end or to the first byte that begins no token, blank or
+/// comment.
 #[derive(Drop)]
 pub struct Lexed<'a> {
     pub tokens: Vec<Placed<'a>>,
     pub stopped: Option<usize>,
 }
 
-/// What begins a text: a blank or a comment, or a token.
+/// A piece of a text: a blank or a comment, or a token.
 #[derive(Clone, Copy)]
 enum Piece<'a> {
     Gap,
@@ -70,7 +70,7 @@ pub fn has_no_token(text: &[u8]) -> bool
     true
 }
 
-/// The longest piece that begins a text, and what follows it.
+/// Returns the longest piece that begins a text, and the text after it.
 fn first_piece(text: &[u8]) -> Option<(Piece<'_>, &[u8])>
     ensures { MatchOption result (BeginsNoPiece text.now)
         (λ found. IsLongest text.now found.1.now (piece found.0)) }
@@ -93,21 +93,21 @@ fn first_piece(text: &[u8]) -> Option<(Piece<'_>, &[u8])>
     }
 }
 
-/// Whether a byte is a blank, a tab, an LF or a CR.
+/// Returns whether a byte is a space, a tab, an LF or a CR.
 fn is_blank(c: u8) -> bool
     ensures { result ≡ is_blank c }
 {
     c == b' ' || c == b'\t' || c == b'\n' || c == b'\r'
 }
 
-/// Whether two dashes begin a text.
+/// Returns whether two dashes begin a text.
 fn begins_comment(text: &[u8]) -> bool
     ensures { result ≡ begins_comment text.now }
 {
     text.starts_with(b"--")
 }
 
-/// How many bytes of a text, from its first on, go on in a word.
+/// Returns how many bytes at the beginning of a text can go on in a word.
 fn word_len(text: &[u8]) -> usize
     ensures is { result ≡ prefix_len goes_on_in_word text.now }
     ensures within { result ≤ length text.now }
@@ -115,7 +115,7 @@ fn word_len(text: &[u8]) -> usize
     text.iter().take_while(|c| goes_on_in_word(**c)).count()
 }
 
-/// How many digits begin a text.
+/// Returns how many digits begin a text.
 fn digits_len(text: &[u8]) -> usize
     ensures is { result ≡ prefix_len is_ascii_digit text.now }
     ensures within { result ≤ length text.now }
@@ -123,7 +123,7 @@ fn digits_len(text: &[u8]) -> usize
     text.iter().take_while(|c| c.is_ascii_digit()).count()
 }
 
-/// How many bytes of a text come before its first LF.
+/// Returns how many bytes of a text are before its first LF.
 fn comment_len(text: &[u8]) -> usize
     ensures is { result ≡ prefix_len is_in_comment text.now }
     ensures within { result ≤ length text.now }
@@ -131,7 +131,7 @@ fn comment_len(text: &[u8]) -> usize
     text.iter().take_while(|c| **c != b'\n').count()
 }
 
-/// The keyword that a word is, or else a name.
+/// Returns the keyword that a word is, or else a name.
 fn word_token(word: &[u8]) -> Token<'_>
     ensures { lexeme result ≡ word_lexeme word.now }
 {
@@ -141,7 +141,7 @@ fn word_token(word: &[u8]) -> Token<'_>
     }
 }
 
-/// The longest comparison or mark that begins a text, and what follows it.
+/// Returns the longest comparison or mark that begins a text, and the text after it.
 fn delimiter(text: &[u8]) -> Option<(Token<'_>, &[u8])>
     ensures { MatchOption result (BeginsNoDelimiter text.now)
         (λ found. IsLongestDelimiter text.now found.1.now (lexeme found.0)) }
@@ -156,7 +156,7 @@ fn delimiter(text: &[u8]) -> Option<(Token<'_>, &[u8])>
     Some((token, rest))
 }
 
-/// The comparison that two bytes are.
+/// Returns the comparison that two bytes are, if they are one.
 fn long_comparison(first: u8, second: u8) -> Option<Op>
     ensures found { IfSome result (λ op. IsDelimiter (first ∷ second ∷ []) (Compare op)) }
     ensures none { IfNone result (is_long_delimiter first second ≡ false) }
@@ -169,7 +169,7 @@ fn long_comparison(first: u8, second: u8) -> Option<Op>
     }
 }
 
-/// The comparison or mark that a byte is.
+/// Returns the comparison or mark that a byte is, if it is one.
 fn short_delimiter(c: u8) -> Option<Token<'static>>
     ensures found { IfSome result (λ token. IsDelimiter (c ∷ []) (lexeme token)) }
     ensures none { IfNone result (is_short_delimiter c ≡ false) }

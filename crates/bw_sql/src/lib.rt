@@ -1,20 +1,20 @@
 //! The parser of the query language, a profile of SQL-92.
 //!
-//! The contract that the crates above use is that of [`parse`]. A text is cut into tokens by the longest piece
-//! (`specs/Cut.antt`), in one way, as [`one_cut`] says. It is parsed exactly where it isn't too long and its
-//! tokens spell a query by the grammar (`specs/Grammar.antt`), a relation by cases that knows no parser, and to
-//! that query, out of memory aside; a list of tokens spells at most one, as [`one_query`] says. Another text is
-//! refused for its fault: that it is too long, or else the first token with which no statement can go on, as
-//! far as the demands of the fault's number go (`specs/Frontier.antt`). A text has at most one fault, and none
-//! where it spells a query, as [`one_fault`] says, and it has one where it spells none, as
-//! [`query_or_fault`] says. What is parsed names columns of the schema alone, and its lists are as long as
-//! `bw_model` wants them: so it is with all that is spelled.
+//! Crates above use the contract of [`parse`]. A text is cut into tokens in one way, the longest
+//! piece first (`specs/Cut.antt`, [`one_cut`]). It is parsed exactly if it isn't too long and its
+//! tokens spell a query by the grammar, a relation by cases without a parser
+//! (`specs/Grammar.antt`), and to that query, unless memory runs out. A list of tokens spells at
+//! most one query ([`one_query`]). Any other text fails with its error: that it is too long, or
+//! else the first token with which no statement can go on under the demands of the error's number
+//! (`specs/Frontier.antt`). A text has at most one error, and none if it spells a query
+//! ([`one_fault`]); it has one if it spells none ([`query_or_fault`]). A parsed query names only
+//! columns of the schema, and its lists are as long as `bw_model` requires.
 //!
-//! The readers of this crate are proved against reading functions on lists of tokens (`specs/Reading.antt`),
-//! which read what the grammar spells and nothing else, as [`read_as_spelled`] says.
+//! The readers are proved against reading functions on lists of tokens (`specs/Reading.antt`),
+//! which read what the grammar spells and nothing else ([`read_as_spelled`]).
 //!
-//! Read `token.rt` first, and then `statement.rt`, `items.rt`, `condition.rt` and `predicate.rt`, which have
-//! the grammar.
+//! Read `token.rt` first, then the grammar in `statement.rt`, `items.rt`, `condition.rt` and
+//! `predicate.rt`.
 #![tactic(auto)]
 
 ghost use Rattle.std.specs.Prelude.{List, ℕ, Option, ◌≡◌, ◌<◌, ◌≤◌, length, IfOk, IfErr, IsTrue, vec_len};
@@ -53,18 +53,18 @@ use bw_model::{Fault, Query, Schema, code};
 pub use lexer::has_no_token;
 use std::alloc::Global;
 
-/// How many bytes a statement may have.
+/// The maximal length of a statement, in bytes.
 pub const MAX_LEN: usize = 65_536;
 
-/// The query that a statement spells under a schema. Its names are those of the schema, ignoring the case
-/// of ASCII letters.
+/// Returns the query that a statement spells under a schema. Names match the schema's, ignoring the
+/// case of ASCII letters.
 ///
-/// Refuses a statement of more than 65,536 bytes (407, at byte 65536); else, the lowest byte first and at
-/// one byte the lowest number: a byte that is part of no token, blank or comment (401), a token with which
-/// no query can go on, or the end where no query ends (402), a table (403) or a column (404) that isn't the
-/// schema's, a literal that 64 bits don't hold (405, at its sign or first digit), an item of another kind than
-/// the first (406, at its first token), and a bracket or NOT that nests more than 100 deep (408). 801 is out
-/// of memory.
+/// Errors: more than 65,536 bytes (407, at byte 65536). Else the error at the lowest byte, and
+/// there the lowest number: a byte that is part of no token, blank or comment (401); a token with
+/// which no query can go on, or the end of an unfinished query (402); a table (403) or column (404)
+/// that isn't the schema's; a literal that 64 bits don't hold (405, at its sign or first digit); an
+/// item of another kind than the first (406, at its first token); a bracket or NOT nested more than
+/// 100 deep (408). 801 if memory runs out.
 pub fn parse(alloc: Global, schema: &Schema, text: &[u8]) -> Result<Query, Fault>
     ensures read { Parses schema.now text.now result }
     ensures refused { (query : Asked) → Spells schema.now text.now query
@@ -83,7 +83,7 @@ pub fn parse(alloc: Global, schema: &Schema, text: &[u8]) -> Result<Query, Fault
     read(alloc, schema, text)
 }
 
-/// The query that a statement is read as, or the fault at which reading stopped.
+/// Returns the query that a statement is read as, or the error at which reading stopped.
 fn read(alloc: Global, schema: &Schema, text: &[u8]) -> Result<Query, Fault>
     ensures too_long { longest_statement < length text.now
         → result ≡ Err (at_byte STATEMENT_TOO_LONG longest_statement) }
@@ -103,7 +103,7 @@ fn read(alloc: Global, schema: &Schema, text: &[u8]) -> Result<Query, Fault>
     }
 }
 
-/// A text is cut into tokens in one way.
+/// A theorem: a text is cut into tokens in one way.
 #[tactic(auto, using(crate::proofs::Cuts::one_cut_of))]
 pub fn one_cut()
     ensures { (at : ℕ) (text : List ℕ) (tokens others : List Spot) (stop other : Option ℕ)
@@ -111,7 +111,7 @@ pub fn one_cut()
         → (tokens ≡ others) × (stop ≡ other) }
 {}
 
-/// The reading functions read a query from the tokens that spell it, and no other.
+/// A theorem: the reading functions read a query from the tokens that spell it, and no other.
 #[tactic(auto, using(crate::proofs::Spelled::query_read, crate::proofs::Texts::query_spelled))]
 pub fn read_as_spelled()
     ensures read { (schema : Schema) (tokens : List Lexeme) (query : Asked)
@@ -120,20 +120,21 @@ pub fn read_as_spelled()
         → statement_at schema tokens ≡ Ok query → IsQuery schema tokens query }
 {}
 
-/// A list of tokens spells at most one query.
+/// A theorem: a list of tokens spells at most one query.
 #[tactic(auto, using(crate::proofs::Texts::same_query))]
 pub fn one_query()
     ensures { (schema : Schema) (tokens : List Lexeme) (query other : Asked)
         → IsQuery schema tokens query → IsQuery schema tokens other → query ≡ other }
 {}
 
-/// A text spells at most one query.
+/// A theorem: a text spells at most one query.
 pub fn one_query_of_a_text()
     ensures { (schema : Schema) (text : List ℕ) (query other : Asked)
         → Spells schema text query → Spells schema text other → query ≡ other }
 {}
 
-/// Schemas of one shape have the same columns, and a text spells the same query under both.
+/// A theorem: schemas of one shape have the same columns, and a text spells the same query under
+/// both.
 #[tactic(auto, using(crate::proofs::SameNames::columns_too, crate::proofs::SameNames::spells_too))]
 pub fn schemas_of_one_shape()
     ensures columns { (schema other : Schema) → schema_shape schema ≡ schema_shape other
@@ -143,7 +144,7 @@ pub fn schemas_of_one_shape()
         → Spells schema text query → Spells other text query }
 {}
 
-/// A text has at most one fault, and none where it spells a query.
+/// A theorem: a text has at most one error, and none if it spells a query.
 pub fn one_fault()
     ensures one { (schema : Schema) (text : List ℕ) (fault other : Fault)
         → IsFault schema text fault → IsFault schema text other → fault ≡ other }
@@ -151,21 +152,23 @@ pub fn one_fault()
         → Spells schema text query → IsFault schema text fault → ⊥ }
 {}
 
-/// A text's fault stands as the table of faults lists it: at a byte.
+/// A theorem: a text's error is where the table of errors lists it: at a byte.
 #[tactic(auto, using(crate::proofs::StandingLemmas::fault_listed))]
 pub fn faults_stand_as_listed()
     ensures { (schema : Schema) (text : List ℕ) (fault : Fault)
         → IsFault schema text fault → StandsAsListed fault }
 {}
 
-/// Every text spells a query or has a fault.
+/// A theorem: every text spells a query or has an error.
 pub fn query_or_fault()
     ensures { (schema : Schema) (text : List ℕ) → SpellsOrFails schema text }
 {}
 
-/// The fault of a reader that stopped: after the last token, the byte that begins no token comes first.
+/// Returns the error of a reader that stopped. After the last token, a byte that begins no token is
+/// the first error.
 fn refusal(stop: Stop, lexed: &Lexed<'_>, text: &[u8]) -> Fault
-    ensures is { IsFaultOf (spots lexed.now.tokens.items) lexed.now.stopped (length text.now) stop result }
+    ensures is { IsFaultOf (spots lexed.now.tokens.items) lexed.now.stopped
+        (length text.now) stop result }
     ensures fault { IsStatementFault result }
 {
     let Stop::Refused { why, left } = stop else {

@@ -1,4 +1,4 @@
-//! Literals: a sign, where there is one, and digits, of a number that fits 64 bits.
+//! Literals: an optional sign and digits, of a number that fits 64 bits.
 ghost use Rattle.std.specs.Prelude.{◌≡◌, ◌<◌, ◌≤◌, length, IfOk};
 ghost use Rattle.bw_sql.specs.Reader.{ReadsFrom};
 ghost use Rattle.bw_sql.specs.Reading.{literal_at, sign_at, digits_at};
@@ -8,7 +8,7 @@ use crate::reader::{Read, Refusal, Stop, after_mark};
 use crate::token::{Mark, Placed, Token};
 use bw_text::whole_number;
 
-/// The number that a literal spells, and the tokens after it.
+/// Returns the number that a literal spells, and the tokens after it.
 #[tactic(auto, unfolding(crate::specs::Reading::literal_at))]
 pub fn literal<'t>(tokens: &'t [Placed<'t>]) -> Read<'t, i64>
     ensures read { ReadsFrom (λ x. x) tokens.now result literal_at }
@@ -22,7 +22,7 @@ pub fn literal<'t>(tokens: &'t [Placed<'t>]) -> Read<'t, i64>
     }
 }
 
-/// Whether a minus comes first, and the tokens after the sign, where there is one.
+/// Returns whether a minus is first, and the tokens after the sign, if there is one.
 #[tactic(auto, unfolding(crate::specs::Reading::sign_at))]
 fn sign<'t>(tokens: &'t [Placed<'t>]) -> (bool, &'t [Placed<'t>])
     ensures is { (result.0, lexemes result.1.now) ≡ sign_at (lexemes tokens.now) }
@@ -37,7 +37,7 @@ fn sign<'t>(tokens: &'t [Placed<'t>]) -> (bool, &'t [Placed<'t>])
     }
 }
 
-/// The digits that have to come, and the tokens after them.
+/// Reads digits, which are required here.
 #[tactic(auto, unfolding(crate::specs::Reading::digits_at))]
 fn digits<'t>(tokens: &'t [Placed<'t>]) -> Read<'t, &'t [u8]>
     ensures read { ReadsFrom (λ text. text.now) tokens.now result digits_at }

@@ -10,7 +10,7 @@ use crate::token::{Placed, Token};
 use bw_model::{Operand, Schema};
 use bw_text::Keyword;
 
-/// The operand that has to come: a column, a literal or NULL.
+/// Reads a required operand: a column, a literal or NULL.
 #[tactic(auto, unfolding(crate::specs::Reading::operand_at))]
 pub fn operand<'t>(schema: &Schema, tokens: &'t [Placed<'t>]) -> Read<'t, Operand>
     ensures read { ReadsFrom (λ x. x) tokens.now result (operand_at schema.now) }
@@ -27,7 +27,7 @@ pub fn operand<'t>(schema: &Schema, tokens: &'t [Placed<'t>]) -> Read<'t, Operan
     Ok((Operand::Lit(n), rest))
 }
 
-/// The number of the column whose name has to come.
+/// Reads a column's name, which is required here, and returns the column's number.
 #[tactic(auto, unfolding(crate::specs::Reading::column_at))]
 pub fn column<'t>(schema: &Schema, tokens: &'t [Placed<'t>]) -> Read<'t, usize>
     ensures read { ReadsFrom (λ x. x) tokens.now result (column_at schema.now) }
@@ -40,7 +40,7 @@ pub fn column<'t>(schema: &Schema, tokens: &'t [Placed<'t>]) -> Read<'t, usize>
     }
 }
 
-/// Whether a name comes first.
+/// Returns whether a name is first.
 pub fn begins_with_name(tokens: &[Placed<'_>]) -> bool
     ensures { result ≡ begins_with_name (lexemes tokens.now) }
 {

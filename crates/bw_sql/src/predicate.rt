@@ -9,7 +9,7 @@
 //! compare   = = | <> | < | > | <= | >=
 //! ```
 //!
-//! The NOT forms are the negation of the whole.
+//! The NOT forms negate the whole.
 ghost use Rattle.std.specs.Prelude.{◌≡◌, ◌<◌, ◌≤◌, length, IfOk, IfSome};
 ghost use Rattle.std.specs.Option.{option_map};
 ghost use Rattle.bw_model.specs.CondTree.{Not, tree_of};
@@ -24,7 +24,7 @@ use bw_model::{Cond, Op, Operand, Schema};
 use bw_text::Keyword;
 use std::alloc::{AllocError, Global};
 
-/// The predicate that has to come.
+/// Reads a required predicate.
 #[tactic(auto, unfolding(crate::specs::Reading::predicate_at, bw_model::specs::CondTree::tree_of))]
 pub fn predicate<'t>(alloc: Global, schema: &Schema, tokens: &'t [Placed<'t>]) -> Read<'t, Cond>
     ensures read { ReadsFrom tree_of tokens.now result (predicate_at schema.now) }
@@ -34,7 +34,7 @@ pub fn predicate<'t>(alloc: Global, schema: &Schema, tokens: &'t [Placed<'t>]) -
     predicate_of(alloc, schema, x, rest)
 }
 
-/// The predicate of an operand whose rest has to come.
+/// Reads the rest of a predicate, after its first operand.
 #[tactic(auto, unfolding(bw_model::specs::CondTree::tree_of))]
 fn predicate_of<'t>(
     alloc: Global,
@@ -59,7 +59,7 @@ fn predicate_of<'t>(
     range_or_list(alloc, schema, x, tokens)
 }
 
-/// The comparison that comes first, and the tokens after it.
+/// Returns the comparison that is first, and the tokens after it.
 #[tactic(auto, unfolding(crate::specs::Reading::after_comparison))]
 fn after_comparison<'t>(tokens: &'t [Placed<'t>]) -> Option<(Op, &'t [Placed<'t>])>
     ensures is { option_map (λ found. (found.0, lexemes found.1.now)) result
@@ -74,7 +74,7 @@ fn after_comparison<'t>(tokens: &'t [Placed<'t>]) -> Option<(Op, &'t [Placed<'t>
     None
 }
 
-/// The negation of a condition.
+/// Returns the negation of a condition.
 #[tactic(auto, unfolding(bw_model::specs::CondTree::tree_of))]
 pub fn negation(alloc: Global, cond: Cond) -> Result<Cond, AllocError>
     ensures { IfOk result (λ negated. tree_of negated ≡ Not (tree_of cond)) }
@@ -82,7 +82,7 @@ pub fn negation(alloc: Global, cond: Cond) -> Result<Cond, AllocError>
     Ok(Cond::Not(Box::new(alloc, cond)?))
 }
 
-/// The test for null whose `[ NOT ] NULL` has to come.
+/// Reads `[ NOT ] NULL`, which is required here, and returns the test for null.
 #[tactic(auto, unfolding(crate::specs::Reading::null_test_at, bw_model::specs::CondTree::tree_of))]
 fn null_test<'t>(alloc: Global, x: Operand, tokens: &'t [Placed<'t>]) -> Read<'t, Cond>
     ensures read { ReadsFrom tree_of tokens.now result (null_test_at x) }
@@ -96,7 +96,7 @@ fn null_test<'t>(alloc: Global, x: Operand, tokens: &'t [Placed<'t>]) -> Read<'t
     Ok((Cond::IsNull(x), rest))
 }
 
-/// What follows an operand: a range after BETWEEN, or a list after IN.
+/// Reads what follows an operand: a range after BETWEEN, or a list after IN.
 #[tactic(auto, unfolding(crate::specs::Reading::range_or_list_at))]
 fn range_or_list<'t>(
     alloc: Global,
@@ -113,7 +113,7 @@ fn range_or_list<'t>(
     }
 }
 
-/// The bounds of an operand's range, which have to come.
+/// Reads the bounds of an operand's range, which are required here.
 #[tactic(auto, unfolding(bw_model::specs::CondTree::tree_of))]
 fn range<'t>(schema: &Schema, x: Operand, tokens: &'t [Placed<'t>]) -> Read<'t, Cond>
     ensures read { ReadsFrom tree_of tokens.now result (range_at schema.now x) }
@@ -125,7 +125,7 @@ fn range<'t>(schema: &Schema, x: Operand, tokens: &'t [Placed<'t>]) -> Read<'t, 
     Ok((Cond::Between(x, low, high), rest))
 }
 
-/// The list, in brackets after IN, of what an operand may be, which has to come.
+/// Reads the list in brackets after IN, which is required here.
 #[tactic(auto, unfolding(bw_model::specs::CondTree::tree_of))]
 fn list<'t>(alloc: Global, schema: &Schema, x: Operand, tokens: &'t [Placed<'t>]) -> Read<'t, Cond>
     ensures read { ReadsFrom tree_of tokens.now result (list_at schema.now x) }
@@ -138,7 +138,7 @@ fn list<'t>(alloc: Global, schema: &Schema, x: Operand, tokens: &'t [Placed<'t>]
     Ok((Cond::Among(x, items), rest))
 }
 
-/// The operand that has to come, and those that follow after commas.
+/// Reads a required operand and those after it, each behind a comma.
 fn operands<'t>(alloc: Global, schema: &Schema, tokens: &'t [Placed<'t>]) -> Read<'t, Vec<Operand>>
     ensures read { ReadsFrom (λ xs. xs.items) tokens.now result (operands_at schema.now) }
     ensures shorter { IfOk result (λ read. length read.1.now ≤ length tokens.now) }
@@ -147,7 +147,7 @@ fn operands<'t>(alloc: Global, schema: &Schema, tokens: &'t [Placed<'t>]) -> Rea
     more_operands(schema, vec![in alloc; first]?, rest)
 }
 
-/// The operands, and those that follow after commas.
+/// Reads further operands, each behind a comma, and returns them with those before.
 fn more_operands<'t>(
     schema: &Schema,
     mut items: Vec<Operand>,

@@ -1,5 +1,5 @@
-//! What the readers of the grammar share: each takes the tokens that are left, and answers what it read and
-//! the tokens after it, or where and why it stopped.
+//! What the readers of the grammar share: each consumes some of the remaining tokens and returns
+//! what it read and the tokens after it, or where and why it stopped.
 ghost use Rattle.std.specs.Prelude.{◌≡◌, ◌<◌, length, IfOk, IfSome};
 ghost use Rattle.std.specs.Option.{option_map};
 ghost use Rattle.bw_sql.specs.declared.reader.Stop.TheVariants.{OutOfMemory};
@@ -13,7 +13,7 @@ use bw_model::code;
 use bw_text::Keyword;
 use std::alloc::{AllocError, AllocFailed};
 
-/// Why a statement is refused at a token.
+/// Why a statement is rejected at a token.
 #[derive(Clone, Copy, PartialEq, Eq)]
 pub enum Refusal {
     Syntax,
@@ -25,7 +25,7 @@ pub enum Refusal {
 }
 
 impl Refusal {
-    /// Its number among the faults.
+    /// Returns its error number.
     pub fn code(self) -> u16
         ensures { result ≡ code_of self }
     {
@@ -43,13 +43,14 @@ impl Refusal {
 /// Why a reader stopped.
 #[derive(Clone, Copy)]
 pub enum Stop {
-    /// The statement is refused at the token from which on so many are left, and at its end where none is.
+    /// The statement is rejected at the token from which on so many are left, or at its end if none
+    /// is.
     Refused { why: Refusal, left: usize },
     OutOfMemory,
 }
 
 impl Stop {
-    /// A refusal at the first of these tokens.
+    /// Returns a refusal at the first of these tokens.
     pub fn at(why: Refusal, tokens: &[Placed<'_>]) -> Self
         ensures { result ≡ refused why (length tokens.now) }
     {
@@ -60,10 +61,10 @@ impl Stop {
     }
 }
 
-/// What a reader answers: what it read, and the tokens after it.
+/// What a reader returns: what it read, and the tokens after it.
 pub type Read<'t, T> = Result<(T, &'t [Placed<'t>]), Stop>;
 
-/// The tokens that a loop has left.
+/// The tokens that a loop still has to read.
 #[derive(Clone, Copy)]
 pub struct Left<'t> {
     pub tokens: &'t [Placed<'t>],
@@ -85,10 +86,11 @@ impl<T: Drop> From<AllocFailed<T>> for Stop {
     }
 }
 
-/// The tokens after a keyword, where it comes first.
+/// Returns the tokens after a keyword, if it is first.
 #[tactic(auto, unfolding(crate::specs::Reading::after_keyword))]
 pub fn after_keyword<'t>(word: Keyword, tokens: &'t [Placed<'t>]) -> Option<&'t [Placed<'t>]>
-    ensures is { option_map (λ rest. lexemes rest.now) result ≡ after_keyword word (lexemes tokens.now) }
+    ensures is { option_map (λ rest. lexemes rest.now) result
+        ≡ after_keyword word (lexemes tokens.now) }
     ensures shorter { IfSome result (λ rest. length rest.now < length tokens.now) }
 {
     if let Some((first, rest)) = tokens.split_first()
@@ -100,10 +102,11 @@ pub fn after_keyword<'t>(word: Keyword, tokens: &'t [Placed<'t>]) -> Option<&'t 
     None
 }
 
-/// The tokens after a mark, where it comes first.
+/// Returns the tokens after a mark, if it is first.
 #[tactic(auto, unfolding(crate::specs::Reading::after_mark))]
 pub fn after_mark<'t>(mark: Mark, tokens: &'t [Placed<'t>]) -> Option<&'t [Placed<'t>]>
-    ensures is { option_map (λ rest. lexemes rest.now) result ≡ after_mark mark (lexemes tokens.now) }
+    ensures is { option_map (λ rest. lexemes rest.now) result
+        ≡ after_mark mark (lexemes tokens.now) }
     ensures shorter { IfSome result (λ rest. length rest.now < length tokens.now) }
 {
     if let Some((first, rest)) = tokens.split_first()
@@ -115,7 +118,7 @@ pub fn after_mark<'t>(mark: Mark, tokens: &'t [Placed<'t>]) -> Option<&'t [Place
     None
 }
 
-/// The tokens after a keyword, which has to come.
+/// Returns the tokens after a keyword, which is required here.
 #[tactic(auto, unfolding(crate::specs::Reading::keyword_at))]
 pub fn keyword<'t>(word: Keyword, tokens: &'t [Placed<'t>]) -> Result<&'t [Placed<'t>], Stop>
     ensures read { Reads (λ rest. lexemes rest.now) result (keyword_at word (lexemes tokens.now)) }
@@ -127,7 +130,7 @@ pub fn keyword<'t>(word: Keyword, tokens: &'t [Placed<'t>]) -> Result<&'t [Place
     }
 }
 
-/// The tokens after a mark, which has to come.
+/// Returns the tokens after a mark, which is required here.
 #[tactic(auto, unfolding(crate::specs::Reading::mark_at))]
 pub fn mark<'t>(mark: Mark, tokens: &'t [Placed<'t>]) -> Result<&'t [Placed<'t>], Stop>
     ensures read { Reads (λ rest. lexemes rest.now) result (mark_at mark (lexemes tokens.now)) }
@@ -139,7 +142,7 @@ pub fn mark<'t>(mark: Mark, tokens: &'t [Placed<'t>]) -> Result<&'t [Placed<'t>]
     }
 }
 
-/// The name that has to come, and the tokens after it.
+/// Reads a required name, and returns it with the tokens after it.
 #[tactic(auto, unfolding(crate::specs::Reading::name_at))]
 pub fn name<'t>(tokens: &'t [Placed<'t>]) -> Read<'t, &'t [u8]>
     ensures read { ReadsFrom (λ text. text.now) tokens.now result name_at }

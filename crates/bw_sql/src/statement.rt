@@ -18,10 +18,10 @@ use bw_model::{Cond, Query, Schema};
 use bw_text::Keyword;
 use std::alloc::Global;
 
-/// How deep brackets and NOT may nest.
+/// The maximal depth of nested brackets and NOTs.
 const MAX_NESTING: usize = 100;
 
-/// The query that all the tokens spell under a schema.
+/// Returns the query that all tokens spell under a schema.
 #[tactic(auto, unfolding(crate::specs::Reading::statement_at))]
 pub fn statement(alloc: Global, schema: &Schema, tokens: &[Placed<'_>]) -> Result<Query, Stop>
     ensures { Reads asked result (statement_at schema.now (lexemes tokens.now)) }
@@ -33,7 +33,7 @@ pub fn statement(alloc: Global, schema: &Schema, tokens: &[Placed<'_>]) -> Resul
     Ok(Query { items, cond })
 }
 
-/// The table, after FROM, and the condition on its rows.
+/// Reads the table after FROM, and the condition on its rows.
 #[tactic(auto, unfolding(crate::specs::Reading::table_expression_at))]
 fn table_expression<'t>(alloc: Global, schema: &Schema, tokens: &'t [Placed<'t>]) -> Read<'t, Cond>
     ensures { ReadsFrom tree_of tokens.now result (table_expression_at schema.now) }
@@ -43,7 +43,7 @@ fn table_expression<'t>(alloc: Global, schema: &Schema, tokens: &'t [Placed<'t>]
     selection(alloc, schema, rest)
 }
 
-/// The tokens after the schema's name, which has to come.
+/// Returns the tokens after the schema's name, which is required here.
 #[tactic(auto, unfolding(crate::specs::Reading::table_at))]
 fn table<'t>(schema: &Schema, tokens: &'t [Placed<'t>]) -> Result<&'t [Placed<'t>], Stop>
     ensures { Reads (λ rest. lexemes rest.now) result (table_at schema.now (lexemes tokens.now)) }
@@ -56,7 +56,7 @@ fn table<'t>(schema: &Schema, tokens: &'t [Placed<'t>]) -> Result<&'t [Placed<'t
     }
 }
 
-/// The condition after WHERE, or none where WHERE doesn't come.
+/// Reads the condition after WHERE. Without WHERE all rows match.
 #[tactic(auto, unfolding(crate::specs::Reading::selection_at, bw_model::specs::CondTree::tree_of))]
 fn selection<'t>(alloc: Global, schema: &Schema, tokens: &'t [Placed<'t>]) -> Read<'t, Cond>
     ensures { ReadsFrom tree_of tokens.now result (selection_at schema.now) }
@@ -67,7 +67,7 @@ fn selection<'t>(alloc: Global, schema: &Schema, tokens: &'t [Placed<'t>]) -> Re
     }
 }
 
-/// The end of a statement, after a semicolon where there is one.
+/// Reads the end of a statement, after an optional semicolon.
 #[tactic(auto, unfolding(crate::specs::Reading::end_at))]
 fn end(tokens: &[Placed<'_>]) -> Result<(), Stop>
     ensures { Reads (λ ended. ended) result (end_at (lexemes tokens.now)) }

@@ -1,8 +1,8 @@
-//! Tokens of the query language, and where they stand in a statement.
+//! Tokens of the query language, with their places in a statement.
 use bw_model::Op;
 use bw_text::Keyword;
 
-/// A mark that is no comparison.
+/// A punctuation mark that isn't a comparison.
 #[derive(Clone, Copy, PartialEq, Eq)]
 pub enum Mark {
     Open,

@@ -27,7 +27,8 @@ spelling word.Where = codes "WHERE"
 -- the seventeen reserved words
 abbrev pub reserved_words : List Keyword
 reserved_words =
-    word.And ∷ word.Between ∷ word.Count ∷ word.False ∷ word.From ∷ word.In ∷ word.Is ∷ word.Max ∷ word.Min ∷ word.Not
+    word.And ∷ word.Between ∷ word.Count ∷ word.False ∷ word.From ∷ word.In ∷ word.Is ∷ word.Max
+    ∷ word.Min ∷ word.Not
     ∷ word.Null ∷ word.Or ∷ word.Select ∷ word.Sum ∷ word.True ∷ word.Unknown ∷ word.Where ∷ []
 
 -- the reserved word that a text is, ignoring case

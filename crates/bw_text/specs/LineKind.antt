@@ -31,10 +31,12 @@ kind_spelling kind.End = codes "END"
 abbrev pub kinds : List LineKind
 kinds =
     kind.Node ∷ kind.Chain ∷ kind.Row
-    ∷ kind.Condition condition.Compare ∷ kind.Condition condition.CompareColumns ∷ kind.Condition condition.Fixed
+    ∷ kind.Condition condition.Compare ∷ kind.Condition condition.CompareColumns
+    ∷ kind.Condition condition.Fixed
     ∷ kind.Condition condition.NullTest ∷ kind.Condition condition.And ∷ kind.Condition condition.Or
     ∷ kind.Condition condition.Not ∷ kind.Condition condition.Is
-    ∷ kind.Instruction instruction.Load ∷ kind.Instruction instruction.Fill ∷ kind.Instruction instruction.Op
+    ∷ kind.Instruction instruction.Load ∷ kind.Instruction instruction.Fill
+    ∷ kind.Instruction instruction.Op
     ∷ kind.Instruction instruction.Byte ∷ kind.Instruction instruction.Skip
     ∷ kind.Join ∷ kind.Keep ∷ kind.End ∷ []
 

@@ -37,7 +37,8 @@ is_blank c = (c == 32) || (c == 9)
 -- the words of a line, which are separated by spaces and tabs, without the carriage return at its
 -- end, if it has one
 unfoldable pub words_of : List ℕ → List (List ℕ)
-words_of line = filter (λ word. not (is_empty word)) (slice_split is_blank (strip_carriage_return line))
+words_of line = filter (λ word. not (is_empty word))
+    (slice_split is_blank (strip_carriage_return line))
 
 -- the only word; none if there is no word, or several
 abbrev pub only_of : List (List ℕ) → Option (List ℕ)

@@ -27,4 +27,5 @@ natural_of text = if are_digits text then where_64_bits_hold (digits_value text)
 unfoldable pub number_of : Bool → List ℕ → Option ℤ
 number_of true digits = if nat_le (digits_value digits) (2 ^ 63) then Some
     (pos 0 -ℤ pos (digits_value digits)) else None
-number_of false digits = if nat_lt (digits_value digits) (2 ^ 63) then Some (pos (digits_value digits)) else None
+number_of false digits = if nat_lt (digits_value digits) (2 ^ 63)
+    then Some (pos (digits_value digits)) else None

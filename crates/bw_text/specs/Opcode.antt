@@ -19,7 +19,8 @@ opcode_spelling op.Result = codes "RESULT"
 
 abbrev pub opcodes : List Opcode
 opcodes =
-    op.Load ∷ op.Nulls ∷ op.Fill ∷ op.And ∷ op.Or ∷ op.Xor ∷ op.Not ∷ op.ByteLt ∷ op.ByteEq ∷ op.Skip ∷ op.Result ∷ []
+    op.Load ∷ op.Nulls ∷ op.Fill ∷ op.And ∷ op.Or ∷ op.Xor ∷ op.Not ∷ op.ByteLt ∷ op.ByteEq
+    ∷ op.Skip ∷ op.Result ∷ []
 
 -- the opcode that a word spells, ignoring case
 unfoldable pub opcode_of : List ℕ → Option Opcode

@@ -10,11 +10,13 @@ ghost use Rattle.bw_text.specs.Printed.{is_plain_word, line_text};
 /// these words. If its first word begins a comment, it is skipped, and counts.
 pub fn written_lines_are_read()
     ensures said { (number : ℕ) (word : List ℕ) (words : List (List ℕ)) (rest : List ℕ)
-        → IsTrue (is_plain_word word) → begins_comment word ≡ false → IsTrue (list_all is_plain_word words)
+        → IsTrue (is_plain_word word) → begins_comment word ≡ false
+        → IsTrue (list_all is_plain_word words)
         → numbered_from number (cut_lines (line_text (word ∷ words) ++ rest))
         ≡ numbered number (word ∷ words) ∷ numbered_from (number + 1) (cut_lines rest) }
     ensures skipped { (number : ℕ) (word : List ℕ) (words : List (List ℕ)) (rest : List ℕ)
-        → IsTrue (is_plain_word word) → begins_comment word ≡ true → IsTrue (list_all is_plain_word words)
+        → IsTrue (is_plain_word word) → begins_comment word ≡ true
+        → IsTrue (list_all is_plain_word words)
         → numbered_from number (cut_lines (line_text (word ∷ words) ++ rest))
         ≡ numbered_from (number + 1) (cut_lines rest) }
 {}

@@ -70,7 +70,8 @@ impl<'a> Lines<'a> {
     /// Returns the next line, skipped or not, without its line feed, or None at the end of the
     /// text. Allocates no memory.
     pub fn cut_line(&mut self) -> Option<&'a [u8]>
-        ensures line { IfSome result (λ line. cut_lines self.old.text ≡ line.now ∷ cut_lines self.new.text) }
+        ensures line { IfSome result (λ line. cut_lines self.old.text
+            ≡ line.now ∷ cut_lines self.new.text) }
         ensures split { IfSome result (λ line. IsFirstLine self.old.text line.now self.new.text) }
         ensures number { IfSome result (λ line. self.new.number ≡ self.old.number + 1) }
         ensures none { IfNone result ((cut_lines self.old.text ≡ []) × (self.new ≡ self.old)) }
@@ -87,8 +88,8 @@ impl<'a> Lines<'a> {
     /// Returns the next line that isn't skipped, or None at the end of the text. Fails if memory is
     /// refused; no such line is lost then, so the caller may ask again.
     pub fn next_line(&mut self, alloc: Global) -> Result<Option<Line<'a>>, AllocError>
-        ensures line { IfOk result (λ found. IfSome found (λ line. lines_in self.old ≡ line_of line ∷ lines_in
-            self.new)) }
+        ensures line { IfOk result
+            (λ found. IfSome found (λ line. lines_in self.old ≡ line_of line ∷ lines_in self.new)) }
         ensures none { IfOk result (λ found. IfNone found ((lines_in self.old ≡ [])
             × (end_in self.old ≡ self.new.number))) }
         ensures end { OnOk result (end_in self.new ≡ end_in self.old) }
@@ -153,7 +154,8 @@ pub fn only_word(line: &[u8]) -> Option<&[u8]>
 
 /// Returns how many words there are between blanks.
 fn count_words(line: &[u8]) -> usize
-    ensures { result ≡ length (filter (λ word. not (is_empty word)) (slice_split is_blank line.now)) }
+    ensures { result ≡ length
+        (filter (λ word. not (is_empty word)) (slice_split is_blank line.now)) }
 {
     line.split(|c| is_blank(*c))
         .filter(|word| !word.is_empty())

@@ -104,7 +104,8 @@ fn magnitude_of(digits: &[u8]) -> u64
 /// Returns the number that the digits of a short text spell, or None for another text.
 fn short_magnitude(text: &[u8]) -> Option<u64>
     requires { length text.now ≤ 18 }
-    ensures magnitude { result ≡ if are_digits text.now then Some (digits_value text.now) else None }
+    ensures magnitude { result ≡ if are_digits text.now then Some (digits_value text.now)
+        else None }
     ensures small { IfSome result (λ magnitude. magnitude < 2 ^ 63) }
 {
     if text.is_empty() {
@@ -124,7 +125,8 @@ fn short_magnitude(text: &[u8]) -> Option<u64>
 /// Returns the number that the digits of a text spell, or the greatest `u64` if that is less; None
 /// for another text.
 fn long_magnitude(text: &[u8]) -> Option<u64>
-    ensures { result ≡ if are_digits text.now then Some (min (digits_value text.now) (2 ^ 64 - 1)) else None }
+    ensures { result ≡ if are_digits text.now then Some (min (digits_value text.now) (2 ^ 64 - 1))
+        else None }
 {
     if text.is_empty() {
         return None;
@@ -158,7 +160,8 @@ fn with_digit(magnitude: u64, units: u64) -> u64
 #[tactic(auto, unfolding(crate::specs::Number::number_of))]
 pub fn with_sign(is_negative: bool, magnitude: u64) -> i64
     requires { magnitude < 2 ^ 63 }
-    ensures { (digits : List ℕ) → magnitude ≡ digits_value digits → number_of is_negative digits ≡ Some result }
+    ensures { (digits : List ℕ) → magnitude ≡ digits_value digits → number_of is_negative digits
+        ≡ Some result }
 {
     let number = magnitude as i64;
     if is_negative { -number } else { number }

@@ -17,7 +17,8 @@ pub enum Piece<'a> {
 /// Appends a line to a text: its pieces, one blank apart, and a line feed. Fails only if memory is
 /// refused; a part of the line may have been appended then.
 pub fn push_line(alloc: Global, pieces: &[Piece<'_>], text: &mut Vec<u8>) -> Result<(), AllocError>
-    ensures { OnOk result (text.new.items ≡ text.old.items ++ line_text (map piece_text pieces.now)) }
+    ensures { OnOk result (text.new.items ≡ text.old.items
+        ++ line_text (map piece_text pieces.now)) }
 {
     if let Some((first, more)) = pieces.split_first() {
         push_piece(alloc, *first, text)?;
