@@ -34,10 +34,12 @@ pub enum Reads {
     Changed,
 }
 
-/// What ended a command: its fault; the file whose reads failed, if that is the fault; and why a write failed, if that is.
+/// What ended a command: its fault; the program file that it's of, if the command may have many; the file whose reads
+/// failed, if that is the fault; and why a write failed, if that is.
 #[derive(Clone, Copy)]
 pub struct Ended<'a> {
     pub fault: Fault,
+    program: Option<&'a str>,
     unread: Option<(&'a str, Reads)>,
     unwritten: Option<io::Error>,
 }
@@ -47,6 +49,7 @@ impl<'a> Ended<'a> {
     pub fn unread(path: &'a str, error: io::Error) -> Self {
         Ended {
             fault: Fault::new(code::READ_FAILED),
+            program: None,
             unread: Some((path, Reads::Failed(error))),
             unwritten: None,
         }
@@ -59,8 +62,17 @@ impl<'a> Ended<'a> {
             .find(|(_, reads)| !matches!(reads, Reads::Good));
         Ended {
             fault,
+            program: None,
             unread: failed.copied(),
             unwritten: None,
+        }
+    }
+
+    /// The same, where the fault is of one of many program files.
+    pub fn of_program(self, path: Option<&'a str>) -> Self {
+        Ended {
+            program: path,
+            ..self
         }
     }
 
@@ -291,9 +303,9 @@ fn file_of<'a>(words: &Words<'a>, ended: &Ended<'a>) -> Option<&'a str> {
         100..200 => words.schema(),
         200..300 => words.csv(),
         300..400 => words.table(),
-        500..600 => words.program(),
+        500..600 => ended.program.or(words.program()),
         code::NO_PROGRAM => None,
-        600..700 => words.program(),
+        600..700 => ended.program.or(words.program()),
         code::READ_FAILED => ended.unread.map(|(path, _)| path),
         code::WRITE_FAILED => Some(words.out().unwrap_or("standard output")),
         _ => None,
