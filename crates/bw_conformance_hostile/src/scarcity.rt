@@ -10,22 +10,22 @@ use std::test::Fail;
 
 /// How much memory is left in all, in bytes: several times what a call takes, since pieces of it that are given back
 /// are not all joined again.
-const LEFT: usize = 512 * 1024;
+pub const LEFT: usize = 512 * 1024;
 
 /// How much more of it a call may use than the one before.
-const STEP: usize = 16;
+pub const STEP: usize = 16;
 
 /// How many blocks are taken at most: the largest have 8 GiB, of an address space of 2^47 bytes.
 const MAX_BLOCKS: usize = 32_768;
 
-/// Takes blocks of memory, the largest first, until none is left but for a hole.
-fn take_all(alloc: Global) -> Result<Vec<Vec<u8>>, Fail> {
+/// Takes blocks of memory, the largest first, until none is left but for a hole of so many bytes.
+pub fn take_all(alloc: Global, left: usize) -> Result<Vec<Vec<u8>>, Fail> {
     let mut blocks = Vec::with_capacity(alloc, MAX_BLOCKS)?;
     // The C library has blocks of the hole's size from the system, one by one, until the first is given back; the next
     // is of its own heap, and stays there for the calls.
-    let given_back: Vec<u8> = Vec::with_capacity(alloc, LEFT)?;
+    let given_back: Vec<u8> = Vec::with_capacity(alloc, left)?;
     drop(given_back);
-    let hole: Vec<u8> = Vec::with_capacity(alloc, LEFT)?;
+    let hole: Vec<u8> = Vec::with_capacity(alloc, left)?;
     let mut size = 8 << 30;
     for _ in 0..MAX_BLOCKS {
         match Vec::with_capacity(alloc, size) {
@@ -47,7 +47,7 @@ fn check_with_all_memory_taken(
     answer: &[u8],
 ) -> Result<(), Fail> {
     let mut output = Vec::with_capacity(rt.alloc(), 16_384)?;
-    let blocks = take_all(rt.alloc())?;
+    let blocks = take_all(rt.alloc(), LEFT)?;
     let mut refused = 0;
     let mut outcome = Err(Fault::new(code::OUT_OF_MEMORY));
     for step in 1..LEFT / STEP {
