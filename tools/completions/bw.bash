@@ -11,12 +11,12 @@ _bw() {
     case $command:$before in
         load:--layout) words='planes slices' ;;
         infer:--table) return ;;
-        query:--program) ;;
+        query:--program|session:--program) ;;
         :*) words='infer load query session direct dump info plan check --explain --help --version' ;;
         infer:*) words='--table --explain --help' ;;
         load:*) words='--layout --explain --help' ;;
         query:*) words='--program --stats --explain --help' ;;
-        session:*) words='--stats --explain --help' ;;
+        session:*) words='--program --stats --explain --help' ;;
         *) words='--explain --help' ;;
     esac
     if [[ -z $command || $word == -* || $before == --layout ]]; then

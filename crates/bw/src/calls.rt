@@ -1,9 +1,11 @@
 //! The calls of `bw` without what they promise, which nothing here rests on: so what calls them is proved sooner.
 ghost use Rattle.std.specs.Prelude.{◌-◌, ◌^◌, ◌<◌};
+ghost use Rattle.bw_memory.specs.MemoryTable.{schema_of};
+ghost use Rattle.bw_query.specs.ProgramCache.{Serves};
 
 use bw_file::{Layout, Sink, Source};
 use bw_model::Fault;
-use bw_shell::{Accepted, Listener, MemoryTable, Served};
+use bw_shell::{Accepted, Listener, MemoryTable, ProgramCache, Served};
 use std::alloc::Global;
 
 pub fn direct<S: Source, C: Source, K: Sink>(
@@ -68,14 +70,16 @@ pub fn read_table<S: Source>(alloc: Global, table: &mut S) -> Result<MemoryTable
 pub fn answer_all<S: Source, K: Sink, L: Listener>(
     alloc: Global,
     table: &MemoryTable,
+    programs: &mut ProgramCache,
     statements: &mut S,
     out: &mut K,
     listener: &mut L,
 ) -> Result<Option<Fault>, Fault>
+    requires serves { Serves (schema_of table.now).columns.items programs.old }
     requires statements { S.failures statements.old < 2 ^ 64 - 1 }
     requires out { K.failures out.old < 2 ^ 64 - 1 }
 {
-    bw_shell::answer_statements(alloc, table, statements, out, listener)
+    bw_shell::answer_statements(alloc, table, programs, statements, out, listener)
 }
 
 pub fn info<S: Source, K: Sink>(alloc: Global, table: &mut S, out: &mut K) -> Result<(), Fault>

@@ -1,6 +1,8 @@
 //! Runs the command that the command line asks for, and gives the exit status.
 ghost use Rattle.std.specs.Prelude.{◌≡◌, IfOk};
 ghost use Rattle.bw_io.specs.ReadAhead.{read_failures};
+ghost use Rattle.bw_memory.specs.MemoryTable.{schema_of};
+ghost use Rattle.bw_query.specs.ProgramCache.{Serves};
 
 use crate::calls::{answer, answer_all, check, direct, dump, infer, info, load, plan, read_table};
 use crate::in_file::InFile;
@@ -13,8 +15,8 @@ use bw_file::{FromRead, Layout, Source, ToWrite};
 use bw_io::ReadAhead;
 use bw_model::{Fault, MAX_SCHEMA_LEN, code};
 use bw_shell::{
-    By, Input, MAX_PROGRAM_FILE_LEN, MemoryTable, Served, accepted_line, read_limited, report,
-    stats_line,
+    By, Input, MAX_PROGRAM_FILE_LEN, MemoryTable, ProgramCache, Served, accepted_line,
+    read_limited, report, stats_line,
 };
 use std::fs::File;
 use std::io::{self, IsTerminal, Stdin};
@@ -41,6 +43,7 @@ fn run_given(rt: &HostRuntime, words: &[String]) -> u8 {
 fn run_asked(rt: &HostRuntime, asked: Asked<'_>) -> u8 {
     let Asked {
         words,
+        programs,
         is_explained,
     } = asked;
     if let Some(input) = input_as_output(rt, &words) {
@@ -48,7 +51,7 @@ fn run_asked(rt: &HostRuntime, asked: Asked<'_>) -> u8 {
         return USAGE;
     }
     let told = is_explained || rt.stderr().is_terminal();
-    match run_words(rt, words, told) {
+    match run_words(rt, words, &programs, told) {
         Ok(status) => status,
         Err(ended) if told && !is_explained && ended.is_closed_pipe() => status_alone(&ended.fault),
         Err(ended) => tell_fault(rt, &words, &ended, told),
@@ -81,9 +84,14 @@ fn tell_fault(rt: &HostRuntime, words: &Words<'_>, ended: &Ended<'_>, told: bool
 }
 
 /// Runs a command, reports how it was done where that is wanted, and gives the status.
-fn run_words<'a>(rt: &HostRuntime, words: Words<'a>, told: bool) -> Result<u8, Ended<'a>> {
+fn run_words<'a>(
+    rt: &HostRuntime,
+    words: Words<'a>,
+    programs: &[&'a str],
+    told: bool,
+) -> Result<u8, Ended<'a>> {
     match words {
-        Words::Session { stats, table } => return run_session(rt, stats, table, told),
+        Words::Session { stats, table } => return run_session(rt, programs, stats, table, told),
         Words::Direct { schema, csv, sql } => run_direct(rt, schema, csv, sql)?,
         Words::Infer { name, csv } => run_infer(rt, name, csv)?,
         Words::Load {
@@ -184,21 +192,41 @@ fn run_query<'a>(
     Ok(served)
 }
 
-/// Runs `bw session`: the table file is read whole, and then statements from standard input are answered on standard
-/// output. Gives the status of the first one that was refused.
+/// Runs `bw session`: opens the table file, reads the program files and then the table file, and
+/// answers the statements of standard input on standard output. Returns the status of the first
+/// statement that was rejected.
 fn run_session<'a>(
     rt: &HostRuntime,
+    paths: &[&'a str],
     stats: bool,
     table_path: &'a str,
     told: bool,
 ) -> Result<u8, Ended<'a>> {
-    let table = open_table(rt, table_path)?;
+    let file = open(rt, table_path)?;
+    let files = read_programs(rt, paths)?;
+    let table = table_of(rt, table_path, file)?;
+    let mut programs = programs_for(rt, &table, paths, files)?;
+    answer_input(rt, &table, &mut programs, stats, told)
+}
+
+/// Answers the statements of standard input over a table in memory. Returns the status of the first
+/// one that was rejected.
+fn answer_input(
+    rt: &HostRuntime,
+    table: &MemoryTable,
+    programs: &mut ProgramCache,
+    stats: bool,
+    told: bool,
+) -> Result<u8, Ended<'static>>
+    requires { Serves (schema_of table.now).columns.items programs.old }
+{
     let mut teller = Teller::new(rt, table.schema(), stats, told);
     let mut statements = input_ahead(rt)?;
     let mut out = OutStream::new(rt.stdout());
     let done = answer_all(
         rt.alloc(),
-        &table,
+        table,
+        programs,
         &mut statements,
         &mut ToWrite::new(&mut out),
         &mut teller,
@@ -207,9 +235,42 @@ fn run_session<'a>(
     Ok(first.map_or(0, |fault| status_alone(&fault)))
 }
 
+/// Returns the bytes of each program file of a session.
+fn read_programs<'a>(rt: &HostRuntime, paths: &[&'a str]) -> Result<Vec<Vec<u8>>, Ended<'a>> {
+    let mut files = Vec::new(rt.alloc());
+    for path in paths {
+        let file = read_program(rt, path, open(rt, path)?)?;
+        if files.push(file).is_err() {
+            return Err(Ended::of(Fault::new(code::OUT_OF_MEMORY), &[]));
+        }
+    }
+    Ok(files)
+}
+
+/// Returns the programs of these files, for a table's columns.
+fn programs_for<'a>(
+    rt: &HostRuntime,
+    table: &MemoryTable,
+    paths: &[&'a str],
+    files: Vec<Vec<u8>>,
+) -> Result<ProgramCache, Ended<'a>>
+    ensures { IfOk result (λ programs. Serves (schema_of table.now).columns.items programs) }
+{
+    match ProgramCache::new(rt.alloc(), table.schema(), files) {
+        Ok(programs) => Ok(programs),
+        Err(rejected) => {
+            let path = paths.get(rejected.number).copied();
+            Err(Ended::of(rejected.fault, &[]).of_program(path))
+        }
+    }
+}
+
 /// The table of a file, read into memory.
-fn open_table<'a>(rt: &HostRuntime, path: &'a str) -> Result<MemoryTable, Ended<'a>> {
-    let mut file = open(rt, path)?;
+fn table_of<'a>(
+    rt: &HostRuntime,
+    path: &'a str,
+    mut file: InFile,
+) -> Result<MemoryTable, Ended<'a>> {
     let mut source = ahead(rt, &mut file)?;
     let done = read_table(rt.alloc(), &mut source);
     drop(source);
@@ -258,7 +319,10 @@ fn answer_from<'a>(
 fn read_program<'a>(rt: &HostRuntime, path: &'a str, file: InFile) -> Result<Vec<u8>, Ended<'a>> {
     match read_text(rt, path, file, MAX_PROGRAM_FILE_LEN as u32)? {
         Input::Whole(bytes) => Ok(bytes),
-        Input::Over => Err(Ended::of(Fault::new(code::PROGRAM_FILE_TOO_LONG), &[])),
+        Input::Over => {
+            let fault = Fault::new(code::PROGRAM_FILE_TOO_LONG);
+            Err(Ended::of(fault, &[]).of_program(Some(path)))
+        }
     }
 }
 

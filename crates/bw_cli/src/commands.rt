@@ -1,7 +1,7 @@
 //! What the command line may be: `bw direct SCHEMA CSV SQL`, `bw infer [--table NAME] CSV`,
 //! `bw load [--layout planes|slices] SCHEMA CSV OUT`, `bw query [--program FILE] [--stats] TABLE SQL`,
-//! `bw session [--stats] TABLE`, `bw plan SCHEMA SQL`, `bw check SCHEMA SQL FILE`, `bw info TABLE` or `bw dump TABLE`,
-//! each with `--explain` before the command or after it.
+//! `bw session [--program FILE]... [--stats] TABLE`, `bw plan SCHEMA SQL`, `bw check SCHEMA SQL FILE`, `bw info TABLE` or
+//! `bw dump TABLE`, each with `--explain` before the command or after it.
 use crate::words::Words;
 use bw_file::Layout;
 use clap::{Arg, ArgAction, ArgMatches, Command, Error};
@@ -18,6 +18,8 @@ enum Taken {
     Statement,
     /// An option with a value: its name, the value's, and what it is.
     Valued(&'static str, &'static str, &'static str),
+    /// The same, of an option that may be there more than once.
+    Repeated(&'static str, &'static str, &'static str),
     Layout,
     Stats,
 }
@@ -48,6 +50,12 @@ const PROGRAM: Taken = Taken::Valued(
     "program",
     "FILE",
     "A program file to scan by, in place of the planner's program",
+);
+
+const PROGRAMS: Taken = Taken::Repeated(
+    "program",
+    "FILE",
+    "A program file to scan by if it's accepted for a statement; may be given again",
 );
 
 /// A command: its name, what it does, an example of it, and what it takes.
@@ -89,7 +97,7 @@ const COMMANDS: [Told; 9] = [
         name: "session",
         about: "Answers the statements on standard input over a table file that is read once",
         example: "Example: bw session trips.bw < statements.sql",
-        takes: &[Taken::Stats, TABLE],
+        takes: &[PROGRAMS, Taken::Stats, TABLE],
     },
     Told {
         name: "plan",
@@ -167,13 +175,39 @@ fn argument<'a>(alloc: Global, taken: Taken) -> Arg<'a> {
     match taken {
         Taken::File(name, help) => Arg::new(alloc, name).required(true).help(help),
         Taken::Statement => statement(alloc),
-        Taken::Valued(name, value, help) => Arg::new(alloc, name)
-            .long(name)
-            .action(ArgAction::Set)
-            .value_name(value)
-            .help(help),
+        Taken::Valued(name, value, help) => valued(alloc, ArgAction::Set, name, value, help),
+        Taken::Repeated(name, value, help) => valued(alloc, ArgAction::Append, name, value, help),
         Taken::Layout => layout(alloc),
         Taken::Stats => stats(alloc),
+    }
+}
+
+/// An option with a value.
+fn valued<'a>(
+    alloc: Global,
+    action: ArgAction,
+    name: &'static str,
+    value: &'static str,
+    help: &'static str,
+) -> Arg<'a> {
+    Arg::new(alloc, name)
+        .long(name)
+        .action(action)
+        .value_name(value)
+        .help(help)
+}
+
+/// The program files that the command line gives a session.
+pub(crate) fn programs_of<'a>(
+    alloc: Global,
+    matches: &ArgMatches<'a>,
+) -> Result<Vec<&'a str>, AllocError> {
+    match matches.subcommand() {
+        Some(("session", found)) => match found.get_strs("program") {
+            Some(programs) => Vec::from_slice(alloc, programs),
+            None => Ok(Vec::new(alloc)),
+        },
+        _ => Ok(Vec::new(alloc)),
     }
 }
 

@@ -1,7 +1,7 @@
 //! The words that the process was given.
 ghost use Rattle.std.specs.Prelude.{◌≡◌};
 
-use crate::commands::{is_explained, matches_of, words_of};
+use crate::commands::{is_explained, matches_of, programs_of, words_of};
 use crate::words::Words;
 use bw_io::ToWrite;
 use bw_model::{Fault, code};
@@ -13,10 +13,11 @@ use std::{env, io};
 /// The status of a command line that is no use, a call for help among them.
 pub const USAGE: u8 = 2;
 
-/// A command with its words, and whether explanations are asked for.
-#[derive(Clone, Copy)]
+/// A command with its words, the program files of a session, and whether explanations are asked for.
+#[derive(Drop)]
 pub struct Asked<'a> {
     pub words: Words<'a>,
+    pub programs: Vec<&'a str>,
     pub is_explained: bool,
 }
 
@@ -36,17 +37,22 @@ pub fn words_given(rt: &HostRuntime) -> Result<Vec<String>, u8> {
 /// command line asked for in place of it was written.
 pub fn asked_by<'a>(rt: &HostRuntime, words: &'a [String]) -> Result<Asked<'a>, u8> {
     match matches_of(rt.alloc(), words) {
-        Ok(matches) => asked_in(&matches).ok_or(USAGE),
+        Ok(matches) => asked_in(rt, &matches),
         Err(error) => Err(tell(rt, &error)),
     }
 }
 
 /// The command that was found.
-fn asked_in<'a>(matches: &ArgMatches<'a>) -> Option<Asked<'a>> {
-    Some(Asked {
-        words: words_of(matches)?,
-        is_explained: is_explained(matches),
-    })
+fn asked_in<'a>(rt: &HostRuntime, matches: &ArgMatches<'a>) -> Result<Asked<'a>, u8> {
+    let words = words_of(matches).ok_or(USAGE)?;
+    match programs_of(rt.alloc(), matches) {
+        Ok(programs) => Ok(Asked {
+            words,
+            programs,
+            is_explained: is_explained(matches),
+        }),
+        Err(_) => Err(out_of_memory(rt)),
+    }
 }
 
 /// Tells that there is no memory for the command line, and gives the status.

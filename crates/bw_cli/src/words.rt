@@ -25,6 +25,7 @@ pub enum Words<'a> {
         table: &'a str,
         sql: &'a str,
     },
+    /// Its program files, of which there may be many, aren't among these.
     Session {
         stats: bool,
         table: &'a str,
@@ -114,7 +115,7 @@ impl<'a> Words<'a> {
             Words::Infer { .. } => "bw infer [--table NAME] CSV",
             Words::Load { .. } => "bw load [--layout planes|slices] SCHEMA CSV OUT",
             Words::Query { .. } => "bw query [--program FILE] [--stats] TABLE SQL",
-            Words::Session { .. } => "bw session [--stats] TABLE",
+            Words::Session { .. } => "bw session [--program FILE]... [--stats] TABLE",
             Words::Info { .. } => "bw info TABLE",
             Words::Dump { .. } => "bw dump TABLE",
             Words::Plan { .. } => "bw plan SCHEMA SQL",

@@ -102,6 +102,47 @@ impl Source for Endless<'_> {
     }
 }
 
+/// Gives a byte so many times, then a text, and then nothing.
+#[derive(Drop)]
+pub struct Repeated<'a> {
+    pub byte: u8,
+    pub left: usize,
+    pub then: &'a [u8],
+}
+
+impl Source for Repeated<'_> {
+    ghost to_come = { λ _. None };
+
+    ghost failures = { λ _. 0 };
+
+    ghost kept = { λ _. [] };
+
+    fn read(&mut self, buffer: &mut [u8]) -> Result<usize, Failed> {
+        if self.left == 0 {
+            let n = buffer.len().min(self.then.len());
+            buffer[..n].copy_from_slice(&self.then[..n]);
+            self.then = &self.then[n..];
+            return Ok(n);
+        }
+        let n = buffer.len().min(self.left);
+        for byte in buffer[..n].iter_mut() {
+            *byte = self.byte;
+        }
+        self.left -= n;
+        Ok(n)
+    }
+
+    fn share(&self, _count: usize) -> Option<SharedBytes> {
+        None
+    }
+
+    fn pass(&mut self, _count: usize) {}
+
+    fn failures(&self) -> u64 {
+        0
+    }
+}
+
 /// Keeps the bytes that it took.
 #[derive(Drop)]
 pub struct Taker {

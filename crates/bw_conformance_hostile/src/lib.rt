@@ -14,3 +14,5 @@ mod devices;
 mod lengths;
 #[cfg(test)]
 mod scarcity;
+#[cfg(test)]
+mod sessions;

@@ -11,23 +11,24 @@ use std::test::Fail;
 
 /// The memory that is left in all, in bytes: several times what a call uses, since freed pieces
 /// aren't all joined again.
-const LEFT: usize = 512 * 1024;
+pub const LEFT: usize = 512 * 1024;
 
 /// The additional memory of each call, in bytes.
-const STEP: usize = 16;
+pub const STEP: usize = 16;
 
 /// The maximal number of allocated blocks: the largest have 8 GiB, of an address space of 2^47
 /// bytes.
 const MAX_BLOCKS: usize = 32_768;
 
-/// Allocates blocks of memory, the largest first, until nothing but a hole is left.
-fn take_all(alloc: Global) -> Result<Vec<Vec<u8>>, Fail> {
+/// Allocates blocks of memory, the largest first, until nothing but a hole of this many bytes is
+/// left.
+pub fn take_all(alloc: Global, left: usize) -> Result<Vec<Vec<u8>>, Fail> {
     let mut blocks = Vec::with_capacity(alloc, MAX_BLOCKS)?;
     // The C library has blocks of the hole's size from the system, one by one, until the first is
     // given back; the next is of its own heap, and stays there for the calls.
-    let given_back: Vec<u8> = Vec::with_capacity(alloc, LEFT)?;
+    let given_back: Vec<u8> = Vec::with_capacity(alloc, left)?;
     drop(given_back);
-    let hole: Vec<u8> = Vec::with_capacity(alloc, LEFT)?;
+    let hole: Vec<u8> = Vec::with_capacity(alloc, left)?;
     let mut size = 8 << 30;
     for _ in 0..MAX_BLOCKS {
         match Vec::with_capacity(alloc, size) {
@@ -49,7 +50,7 @@ fn check_with_all_memory_taken(
     answer: &[u8],
 ) -> Result<(), Fail> {
     let mut output = Vec::with_capacity(rt.alloc(), 16_384)?;
-    let blocks = take_all(rt.alloc())?;
+    let blocks = take_all(rt.alloc(), LEFT)?;
     let mut refused = 0;
     let mut outcome = Err(Fault::new(code::OUT_OF_MEMORY));
     for step in 1..LEFT / STEP {

@@ -34,11 +34,12 @@ pub enum Reads {
     Changed,
 }
 
-/// Why a command failed: its error; the file whose reads failed, if that is the error; and why a
-/// write failed, if that is.
+/// Why a command failed: its error; the program file that has it, if the command may have several;
+/// the file whose reads failed, if that is the error; and why a write failed, if that is.
 #[derive(Clone, Copy)]
 pub struct Ended<'a> {
     pub fault: Fault,
+    program: Option<&'a str>,
     unread: Option<(&'a str, Reads)>,
     unwritten: Option<io::Error>,
 }
@@ -48,6 +49,7 @@ impl<'a> Ended<'a> {
     pub fn unread(path: &'a str, error: io::Error) -> Self {
         Ended {
             fault: Fault::new(code::READ_FAILED),
+            program: None,
             unread: Some((path, Reads::Failed(error))),
             unwritten: None,
         }
@@ -61,8 +63,17 @@ impl<'a> Ended<'a> {
             .find(|(_, reads)| !matches!(reads, Reads::Good));
         Ended {
             fault,
+            program: None,
             unread: failed.copied(),
             unwritten: None,
+        }
+    }
+
+    /// Adds the program file with the error, of several.
+    pub fn of_program(self, path: Option<&'a str>) -> Self {
+        Ended {
+            program: path,
+            ..self
         }
     }
 
@@ -293,9 +304,9 @@ fn file_of<'a>(words: &Words<'a>, ended: &Ended<'a>) -> Option<&'a str> {
         100..200 => words.schema(),
         200..300 => words.csv(),
         300..400 => words.table(),
-        500..600 => words.program(),
+        500..600 => ended.program.or(words.program()),
         code::NO_PROGRAM => None,
-        600..700 => words.program(),
+        600..700 => ended.program.or(words.program()),
         code::READ_FAILED => ended.unread.map(|(path, _)| path),
         code::WRITE_FAILED => Some(words.out().unwrap_or("standard output")),
         _ => None,

@@ -1,3 +1,4 @@
+pub mod CacheLemmas
 pub mod ItemLemmas
 pub mod ScanLemmas
 pub mod TableExits

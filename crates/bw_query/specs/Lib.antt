@@ -1,6 +1,8 @@
+pub mod Among
 pub mod AnswerText
 pub mod MemoryAnswer
 pub mod Plan
+pub mod ProgramCache
 pub mod Scan
 pub mod Served
 pub mod TableAnswer

@@ -8,14 +8,17 @@
 //! `specs/MemoryAnswer.antt`.
 #![tactic(auto)]
 
+mod file_text;
 mod memory_calls;
 mod memory_text;
 mod plan_call;
+mod program_cache;
 mod scan;
 mod served;
 mod table_calls;
 mod table_text;
 
-pub use memory_calls::answer_in_memory;
+pub use memory_calls::{answer_in_memory, answer_with_programs};
 pub use plan_call::plan_text;
+pub use program_cache::{ProgramCache, RejectedFile};
 pub use table_calls::{answer, dump};

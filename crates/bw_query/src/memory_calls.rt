@@ -1,23 +1,27 @@
 //! Queries answered from a table in memory.
-ghost use Rattle.std.specs.Prelude.{◌≡◌, ◌-◌, ◌^◌, ◌<◌, ℕ, List, Result, Ok, false, IsTrue, IfOk, IfErr};
+ghost use Rattle.std.specs.Prelude.{◌≡◌, ◌-◌, ◌^◌, ◌<◌, ℕ, List, None, Result, Ok, false, IsTrue, IfOk, IfErr};
 ghost use Rattle.bw_model.specs.declared.fault.Fault.{Fault};
 ghost use Rattle.bw_model.specs.declared.query.Query.{Query};
 ghost use Rattle.bw_model.specs.Fault.{is_memory};
 ghost use Rattle.bw_io.specs.Sink.{Wrote, is_write_fault, none_aside};
 ghost use Rattle.bw_memory.specs.MemoryTable.{rows_of, schema_of};
+ghost use Rattle.bw_query.specs.Among.{IsServedAmong};
 ghost use Rattle.bw_query.specs.AnswerText.{text_in};
 ghost use Rattle.bw_query.specs.MemoryAnswer.{AnswersRows, IsMemoryAnswer, RowsText, is_output_fault};
+ghost use Rattle.bw_query.specs.ProgramCache.{Serves, files_of};
 ghost use Rattle.bw_query.specs.Scan.{given_file};
 ghost use Rattle.bw_query.specs.Served.{IsServed};
 ghost use Rattle.bw_query.specs.TableAnswer.{by_statement};
 
 use crate::memory_text::memory_text;
+use crate::program_cache::ProgramCache;
 use crate::served::served_by;
 use crate::table_calls::{AnswerText, prepare};
 use bw_io::{Sink, write_whole};
 use bw_memory::MemoryTable;
 use bw_model::Fault;
 use bw_report::Served;
+use bw_sql::parse;
 use std::alloc::Global;
 
 /// Answers a statement over the rows of a table in memory, and writes the answer as CSV text, as `answer` does over the
@@ -81,6 +85,81 @@ fn answered_in_memory(
     match memory_text(alloc, table, &prepared.query, &prepared.scan) {
         Ok(found) => Ok(AnswerText {
             served: served_by(&prepared.scan, found.scanned),
+            text: found.text,
+        }),
+        Err(fault) => Err(fault),
+    }
+}
+
+/// Answers a statement as [`answer_in_memory`] does, with programs for the conditions of many
+/// statements. The rows are found by the scan that is kept for the statement's condition. If none
+/// is, one is looked for and kept: the program of the first program file that is accepted for the
+/// condition; else the planner's, if it proposes one that the checker accepts; else row by row.
+///
+/// Errors, in this order: the statement's (401 to 408) and the sink's (702); 801 at any time, if
+/// memory is refused. A program file that isn't accepted is no error. Nothing is written on any
+/// error but 702. The programs must serve the table's columns, and the sink's count of errors be
+/// able to rise.
+pub fn answer_with_programs<K: Sink>(
+    alloc: Global,
+    table: &MemoryTable,
+    sql: &[u8],
+    programs: &mut ProgramCache,
+    sink: &mut K,
+) -> Result<Served, Fault>
+    requires serves { Serves (schema_of table.now).columns.items programs.old }
+    requires sink { K.failures sink.old < 2 ^ 64 - 1 }
+    ensures answer { (given : Result (List ℕ) Fault)
+        × IsMemoryAnswer (by_statement None sql.now) (schema_of table.now) (rows_of table.now) given
+        × Wrote none_aside (K.taken sink.old) (K.taken sink.new) (K.failures sink.old) (K.failures sink.new) given
+        result }
+    ensures served { IfOk result (λ served.
+        (found : AnswersRows (by_statement None sql.now) (schema_of table.now) (rows_of table.now)
+        (K.taken sink.old) (K.taken sink.new))
+        × IsServedAmong (files_of programs.old) (schema_of table.now) found.query (rows_of table.now) served) }
+
+    // If the statement spells a query, only the sink or memory can fail.
+    ensures accepted { (query : Query) → by_statement None sql.now (schema_of table.now) (Ok query)
+        → IfErr result (λ fault. IsTrue (is_output_fault fault)) }
+
+    // The programs serve the next statement too, by the same program files.
+    ensures serves { Serves (schema_of table.now).columns.items programs.new }
+    ensures files { files_of programs.new ≡ files_of programs.old }
+{
+    let answered = answered_with_programs(alloc, table, sql, programs)?;
+    write_whole(sink, &answered.text)?;
+    Ok(answered.served)
+}
+
+/// Returns the text of the answer to a statement over the rows of a table in memory. Errors are
+/// those of [`answer_with_programs`], without the sink's.
+fn answered_with_programs(
+    alloc: Global,
+    table: &MemoryTable,
+    sql: &[u8],
+    programs: &mut ProgramCache,
+) -> Result<AnswerText, Fault>
+    requires { Serves (schema_of table.now).columns.items programs.old }
+    ensures answer { IsMemoryAnswer (by_statement None sql.now) (schema_of table.now)
+        (rows_of table.now) (text_in result) }
+    ensures served { IfOk result (λ answered.
+        (found : RowsText (by_statement None sql.now) (schema_of table.now) (rows_of table.now)
+        answered.text.items)
+        × IsServedAmong (files_of programs.old) (schema_of table.now) found.query (rows_of table.now)
+        answered.served) }
+    ensures accepted { (query : Query) → by_statement None sql.now (schema_of table.now) (Ok query)
+        → IfErr result (λ fault. IsTrue (is_memory fault)) }
+    ensures fault { IfErr result (λ fault. is_write_fault fault ≡ false) }
+    ensures serves { Serves (schema_of table.now).columns.items programs.new }
+    ensures files { files_of programs.new ≡ files_of programs.old }
+{
+    let schema = table.schema();
+    let query = parse(alloc, schema, sql)?;
+    let number = programs.find_or_add(alloc, schema, &query.cond)?;
+    let scan = programs.scan(number);
+    match memory_text(alloc, table, &query, scan) {
+        Ok(found) => Ok(AnswerText {
+            served: served_by(scan, found.scanned),
             text: found.text,
         }),
         Err(fault) => Err(fault),

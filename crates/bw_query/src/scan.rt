@@ -1,16 +1,24 @@
 //! Who finds the rows that a query keeps.
-ghost use Rattle.std.specs.Prelude.{◌≡◌, false, IfOk, IfErr, IsTrue, None, Result, length};
+ghost use Rattle.std.specs.Prelude.{◌≡◌, false, IfOk, IfErr, IsTrue, List, None, Result, length};
+ghost use Rattle.bw_model.specs.declared.column.Column.{Column};
 ghost use Rattle.bw_model.specs.declared.cond.Cond.{Cond};
 ghost use Rattle.bw_model.specs.Cond.{names_within};
 ghost use Rattle.bw_model.specs.CondTree.{tree_of};
 ghost use Rattle.bw_model.specs.Fault.{is_memory};
+ghost use Rattle.bw_program.specs.Program.{ProgramShape};
+ghost use Rattle.bw_cert_text.specs.CertificateShape.{CertificateShape};
 ghost use Rattle.bw_cert.specs.Judged.{is_file_fault};
+ghost use Rattle.bw_cert.specs.Valid.{Valid};
 ghost use Rattle.bw_cert.specs.declared.certified.Certified.{Certified};
 ghost use Rattle.bw_model.specs.declared.fault.Fault.{Fault};
 ghost use Rattle.bw_query.specs.declared.scan.Scan.TheVariants.{Program};
+ghost use Rattle.bw_query.specs.Among.{IsChosenAmong, IsYield, texts_of};
 ghost use Rattle.bw_query.specs.Scan.{IsFor, IsChosen, IsScanFault, IsUsable, given_file, scan_by};
 
-use bw_cert::{Certified, certify, check};
+use bw_cert::{
+    Certified, certificates_are_judged_by_what_they_say, certify, check,
+    valid_exactly_where_checked,
+};
 use bw_model::{Cond, Fault, Place, Schema, code};
 use bw_plan::propose;
 use std::alloc::Global;
@@ -48,6 +56,63 @@ pub(crate) fn scan_for(
     match program {
         Some(file) => Ok(Scan::Program(certify(alloc, schema, cond, file)?.certified)),
         None => planned(alloc, schema, cond),
+    }
+}
+
+/// Returns how a condition is to be scanned if there are program files to choose among: by the
+/// program of the first one that is accepted for it; else by the planner's, if it proposes one that
+/// the checker accepts; else row by row. Errors: 801 if memory is refused.
+pub(crate) fn choose(
+    alloc: Global,
+    schema: &Schema,
+    cond: &Cond,
+    files: &[Vec<u8>],
+) -> Result<Scan, Fault>
+    requires { IsTrue (names_within (length schema.now.columns.items) cond.now) }
+    ensures certified { IfOk result (IsFor schema.now.columns.items cond.now) }
+    ensures chosen { IfOk result (IsChosenAmong (texts_of files.now) schema.now.columns.items cond.now) }
+    ensures only_memory { IfErr result (λ fault. IsTrue (is_memory fault)) }
+{
+    for number in 0..files.len() {
+        match certified_by(alloc, schema, cond, &files[number])? {
+            Some(certified) => return Ok(Scan::Program(certified)),
+            None => {}
+        }
+    }
+    planned(alloc, schema, cond)
+}
+
+/// A law: a certificate that is valid for a condition is valid for each equal one.
+pub(crate) fn certificates_are_for_equal_conditions()
+    ensures { (columns : List Column) (cond same : Cond) (program : ProgramShape) (certificate : CertificateShape)
+        → tree_of cond ≡ tree_of same → Valid columns cond program certificate
+        → Valid columns same program certificate }
+{
+    valid_exactly_where_checked();
+    certificates_are_judged_by_what_they_say();
+}
+
+/// Returns the program of a program file, if it's accepted for a condition. Errors: 801 if memory
+/// is refused.
+fn certified_by(
+    alloc: Global,
+    schema: &Schema,
+    cond: &Cond,
+    file: &[u8],
+) -> Result<Option<Certified>, Fault>
+    requires { IsTrue (names_within (length schema.now.columns.items) cond.now) }
+    ensures found { IfOk result (IsYield file.now schema.now.columns.items cond.now) }
+    ensures only_memory { IfErr result (λ fault. IsTrue (is_memory fault)) }
+{
+    match certify(alloc, schema, cond, file) {
+        Ok(found) => Ok(Some(found.certified)),
+        Err(
+            memory @ Fault {
+                code: code::OUT_OF_MEMORY,
+                place: Place::Nowhere,
+            },
+        ) => Err(memory),
+        Err(_) => Ok(None),
     }
 }
 

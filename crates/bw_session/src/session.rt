@@ -2,6 +2,7 @@
 ghost use Rattle.std.specs.Prelude.{◌≡◌, ◌-◌, ◌^◌, ◌<◌, ◌↔◌, IsTrue};
 ghost use Rattle.bw_io.specs.Sink.{is_write_fault};
 ghost use Rattle.bw_memory.specs.MemoryTable.{rows_of, schema_of};
+ghost use Rattle.bw_query.specs.ProgramCache.{Serves};
 ghost use Rattle.bw_session.specs.Session.{Answers, AnswersOne, AsksNothing, EndsLine, first_of};
 
 use crate::listener::Listener;
@@ -9,7 +10,7 @@ use crate::reading::{MAX_LEN, next_statement};
 use bw_io::{Sink, Source, write_whole};
 use bw_memory::MemoryTable;
 use bw_model::{Fault, code};
-use bw_query::answer_in_memory;
+use bw_query::{ProgramCache, answer_with_programs};
 use bw_sql::has_no_token;
 use std::alloc::Global;
 
@@ -19,16 +20,19 @@ use std::alloc::Global;
 /// comments. Each answer is written before the next statement is read. Gives the fault of the first statement that was
 /// refused, if one was.
 ///
-/// A statement is refused as [`answer_in_memory`] does without a program file (401 to 408, 801), which doesn't end the
-/// session. That ends early by a failed read (701) or write (702), and if there is no memory for a statement's text
-/// (801). That each device's count of failures can rise is the caller's condition.
+/// Each statement is answered by [`answer_with_programs`], whose errors (401 to 408, 801) don't end
+/// the session. It ends early by a failed read (701) or write (702), and if there is no memory for a
+/// statement's text (801). The programs must serve the table's columns, and each device's count of
+/// errors be able to rise.
 pub fn answer_statements<S: Source, K: Sink, L: Listener>(
     alloc: Global,
     table: &MemoryTable,
+    programs: &mut ProgramCache,
     input: &mut S,
     sink: &mut K,
     listener: &mut L,
 ) -> Result<Option<Fault>, Fault>
+    requires serves { Serves (schema_of table.now).columns.items programs.old }
     requires input { S.failures input.old < 2 ^ 64 - 1 }
     requires sink { K.failures sink.old < 2 ^ 64 - 1 }
     ensures { Answers (schema_of table.now) (rows_of table.now) (S.to_come input.old) (S.to_come input.new)
@@ -45,7 +49,7 @@ pub fn answer_statements<S: Source, K: Sink, L: Listener>(
             Ok(more) => more,
             Err(fault) => return Err(fault),
         };
-        match answer_one(alloc, table, &statement, sink, listener) {
+        match answer_one(alloc, table, programs, &statement, sink, listener) {
             Ok(fault) => first = first_of(first, fault),
             Err(fault) => return Err(fault),
         }
@@ -60,18 +64,21 @@ pub fn answer_statements<S: Source, K: Sink, L: Listener>(
 fn answer_one<K: Sink, L: Listener>(
     alloc: Global,
     table: &MemoryTable,
+    programs: &mut ProgramCache,
     sql: &[u8],
     sink: &mut K,
     listener: &mut L,
 ) -> Result<Option<Fault>, Fault>
-    requires { K.failures sink.old < 2 ^ 64 - 1 }
-    ensures { AnswersOne (schema_of table.now) (rows_of table.now) sql.now (K.taken sink.old) (K.taken sink.new)
+    requires serves { Serves (schema_of table.now).columns.items programs.old }
+    requires sink { K.failures sink.old < 2 ^ 64 - 1 }
+    ensures answers { AnswersOne (schema_of table.now) (rows_of table.now) sql.now (K.taken sink.old) (K.taken sink.new)
         (K.failures sink.old) (K.failures sink.new) result }
+    ensures serves { Serves (schema_of table.now).columns.items programs.new }
 {
     if asks_nothing(sql) {
         return Ok(None);
     }
-    match answer_in_memory(alloc, table, sql, None, sink) {
+    match answer_with_programs(alloc, table, sql, programs, sink) {
         Ok(served) => {
             listener.note_answer(&served);
             end_line(sink, None)

@@ -2,7 +2,8 @@
 //!
 //! - over a CSV text: [`load`], [`direct`]
 //! - over a table file: [`answer`], [`dump`]
-//! - over a table that is read once, for many statements: [`MemoryTable`], [`answer_in_memory`], [`answer_statements`]
+//! - over a table that is read once, for many statements: [`MemoryTable`], [`answer_in_memory`], [`ProgramCache`],
+//!   [`answer_with_programs`], [`answer_statements`]
 //! - over the texts of a schema, a statement and a program file: [`check_text`], [`plan_text`]
 //! - which write a schema text: [`infer`], [`info`]
 //!
@@ -18,7 +19,9 @@ pub use bw_cert::{MAX_PROGRAM_FILE_LEN, ProgramFile, check_text, split_file};
 pub use bw_csv_calls::{direct, load};
 pub use bw_io::{Input, read_limited};
 pub use bw_memory::MemoryTable;
-pub use bw_query::{answer, answer_in_memory, dump, plan_text};
+pub use bw_query::{
+    ProgramCache, RejectedFile, answer, answer_in_memory, answer_with_programs, dump, plan_text,
+};
 pub use bw_report::{Accepted, By, Served, accepted_line, report, stats_line};
 pub use bw_schemas::{infer, info};
 pub use bw_session::{Listener, answer_statements};

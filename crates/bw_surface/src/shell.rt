@@ -1,9 +1,13 @@
 //! The calls end to end, and what is reported of them.
 ghost use Rattle.std.specs.Prelude.{◌-◌, ◌^◌, ◌<◌};
+ghost use Rattle.bw_memory.specs.MemoryTable.{schema_of};
+ghost use Rattle.bw_query.specs.ProgramCache.{Serves};
 
 use bw_file::{Layout, Sink, Source};
-use bw_model::Fault;
-use bw_shell::{Accepted, By, Input, Listener, MemoryTable, ProgramFile, Served};
+use bw_model::{Fault, Schema};
+use bw_shell::{
+    Accepted, By, Input, Listener, MemoryTable, ProgramCache, ProgramFile, RejectedFile, Served,
+};
 use std::alloc::Global;
 
 pub fn makes_whole(bytes: Vec<u8>) -> Input {
@@ -177,15 +181,46 @@ pub fn calls_answer_in_memory<K: Sink>(
     bw_shell::answer_in_memory(alloc, table, sql, program, sink)
 }
 
+pub fn calls_answer_with_programs<K: Sink>(
+    alloc: Global,
+    table: &MemoryTable,
+    sql: &[u8],
+    programs: &mut ProgramCache,
+    sink: &mut K,
+) -> Result<Served, Fault>
+    requires serves { Serves (schema_of table.now).columns.items programs.old }
+    requires sink { K.failures sink.old < 2 ^ 64 - 1 }
+{
+    bw_shell::answer_with_programs(alloc, table, sql, programs, sink)
+}
+
+pub fn calls_program_cache_new(
+    alloc: Global,
+    schema: &Schema,
+    files: Vec<Vec<u8>>,
+) -> Result<ProgramCache, RejectedFile> {
+    ProgramCache::new(alloc, schema, files)
+}
+
+pub fn tells_rejected_files(rejected: RejectedFile) -> (usize, Fault) {
+    (rejected.number, rejected.fault)
+}
+
+pub fn calls_program_cache_conditions(programs: &ProgramCache) -> usize {
+    programs.conditions()
+}
+
 pub fn calls_answer_statements<S: Source, K: Sink, L: Listener>(
     alloc: Global,
     table: &MemoryTable,
+    programs: &mut ProgramCache,
     input: &mut S,
     sink: &mut K,
     listener: &mut L,
 ) -> Result<Option<Fault>, Fault>
+    requires serves { Serves (schema_of table.now).columns.items programs.old }
     requires input { S.failures input.old < 2 ^ 64 - 1 }
     requires sink { K.failures sink.old < 2 ^ 64 - 1 }
 {
-    bw_shell::answer_statements(alloc, table, input, sink, listener)
+    bw_shell::answer_statements(alloc, table, programs, input, sink, listener)
 }

@@ -5,7 +5,7 @@ use Rattle.bw_session.proofs.SessionLemmas.{begins, ends_as, goes_on_as, input_a
 use Rattle.bw_session.proofs.session.answer_statements.Goals as goal
 
 pub loop-init : goal.loop-init
-loop-init g c = record { so_far = begins _ _ _ _; reads = refl; writes = refl }
+loop-init g c = record { so_far = begins _ _ _ _; reads = refl; writes = refl; serves = c.requires.serves }
 
 pub returns-in-Err : goal.returns-in-Err
 returns-in-Err g c =
@@ -17,7 +17,7 @@ returns-in-Err g c =
 
 pub returns-in-Err-answer_one : goal.returns-in-Err-answer_one
 returns-in-Err-answer_one g c =
-    let failed = c.in-Err-answer_one.ensures in (
+    let failed = c.in-Err-answer_one.ensures.answers in (
       stops_writing _ _ _ _ _ _ _ _ _ _ _ _ c.in-Err-answer_one.fault c.loop.invariant.so_far c.in-Ok.ensures.statement
           failed.1 c.deref.ensures.value failed.0,
       no_reads c.in-Err-answer_one.fault _ _ failed.0 (omega (arith, c.in-Ok.ensures.failed, c.loop.invariant.reads)),
@@ -26,7 +26,7 @@ returns-in-Err-answer_one g c =
 
 pub returns-then-not-more : goal.returns-then-not-more
 returns-then-not-more g c =
-    let wrote = c.in-Ok-answer_one.ensures in (
+    let wrote = c.in-Ok-answer_one.ensures.answers in (
       ends_as _ _ _ _ _ _ _ _ _ _ _ _ _ _ c.loop.invariant.so_far c.in-Ok.ensures.statement c.if-not-more.true wrote.0
           c.deref.ensures.value c.first_of-first.ensures,
       omega (arith, c.in-Ok.ensures.failed, c.loop.invariant.reads),
@@ -35,12 +35,13 @@ returns-then-not-more g c =
 
 pub loop-preserved : goal.loop-preserved
 loop-preserved g c =
-    let wrote = c.in-Ok-answer_one.ensures in
+    let wrote = c.in-Ok-answer_one.ensures.answers in
     record {
       so_far = goes_on_as _ _ _ _ _ _ _ _ _ _ _ _ _ _ c.loop.invariant.so_far c.in-Ok.ensures.statement c.if-not-more.false
           wrote.0 c.deref.ensures.value c.first_of-first.ensures;
       reads = omega (arith, c.in-Ok.ensures.failed, c.loop.invariant.reads);
       writes = omega (arith, wrote.1, c.loop.invariant.writes);
+      serves = c.in-Ok-answer_one.ensures.serves;
     }
 
 pub returns : goal.returns

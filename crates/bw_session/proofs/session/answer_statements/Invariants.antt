@@ -1,5 +1,6 @@
 use Rattle.std.proofs.Common.{◌≡◌}
 use Rattle.bw_memory.specs.MemoryTable.{rows_of, schema_of}
+use Rattle.bw_query.specs.ProgramCache.{Serves}
 use Rattle.bw_session.specs.Session.{SoFar}
 use Rattle.bw_session.proofs.session.answer_statements.Given as goal
 
@@ -10,4 +11,5 @@ invariant-loop g l = record {
       (g.S.Source.to_come l.input) (g.K.Sink.taken l.initial.sink) (g.K.Sink.taken l.sink) l.first;
   reads : g.S.Source.failures l.input ≡ g.S.Source.failures l.initial.input;
   writes : g.K.Sink.failures l.sink ≡ g.K.Sink.failures l.initial.sink;
+  serves : Serves (schema_of l.fn.table).columns.items l.programs;
 }

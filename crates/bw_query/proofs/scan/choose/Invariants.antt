@@ -1,0 +1,7 @@
+use Rattle.std.proofs.Common.{All, take}
+use Rattle.bw_query.specs.Among.{IsRejected, texts_of}
+use Rattle.bw_query.proofs.scan.choose.Given as goal
+
+-- the files so far are rejected
+abbrev pub invariant-loop-number : goal.invariant-loop-number
+invariant-loop-number l = All (IsRejected l.schema.columns.items l.cond) (take l.number (texts_of l.files))
