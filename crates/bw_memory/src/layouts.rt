@@ -1,4 +1,4 @@
-//! What is made for a table in one of the two layouts.
+//! The parts of a table that depend on its layout.
 ghost use Rattle.std.specs.Prelude.{◌≡◌, ℕ, List, length, IfOk, OnOk, IsOkUnless};
 ghost use Rattle.bw_model.specs.Fault.{no_memory};
 ghost use Rattle.bw_segment.specs.ColumnBlocks.{KeepBlocks};
@@ -14,7 +14,7 @@ use bw_slices::Slices;
 use std::alloc::Global;
 use std::rc::Rc;
 
-/// The placement of a table whose schema is an equal one, in a layout.
+/// Returns the placement, in a layout, of a table with an equal schema.
 #[tactic(auto, unfolding(bw_file::specs::Blocks::form_of))]
 pub(crate) fn placement_of(
     alloc: Global,
@@ -34,7 +34,7 @@ pub(crate) fn placement_of(
     Ok(Rc::new(alloc, placement)?)
 }
 
-/// The columns of a table in a layout, without a block.
+/// Returns the columns of a table in a layout, without a block.
 #[tactic(auto, unfolding(bw_file::specs::Blocks::form_of))]
 pub(crate) fn no_columns(
     alloc: Global,
@@ -51,7 +51,7 @@ pub(crate) fn no_columns(
     }
 }
 
-/// Adds the blocks of a segment that was read, each to its column.
+/// Adds the blocks of a segment, each to its column.
 #[tactic(auto, unfolding(bw_file::specs::Blocks::form_of, bw_file::specs::AnySegment::any_meaning))]
 pub(crate) fn push_segment(columns: &mut [ColumnBlocks], segment: &AnySegment) -> Result<(), Fault>
     requires { length columns.old ≡ length (any_meaning segment.now).columns }

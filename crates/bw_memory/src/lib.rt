@@ -1,13 +1,14 @@
-//! Tables in memory, read once from a table file, and asked many times.
+//! Tables in memory, which are read once from a table file and queried many times.
 //!
-//! The contract that the crates above use: [`MemoryTable::read`] refuses what is no table file exactly as
-//! [`bw_file::TableReader`] does, which reads and judges each segment; and it gives the table of the bytes that came.
-//! [`MemoryTable::segment`] lends a segment of it, which means the rows of that number, and judges nothing again.
+//! The contract that the crates above use: [`MemoryTable::read`] rejects exactly what
+//! [`bw_file::TableReader`] rejects, which reads and validates each segment, and returns the table
+//! of the bytes that were read. [`MemoryTable::segment`] borrows a segment, which means the rows of
+//! that number, and validates nothing again.
 //!
-//! The table is kept column by column: all blocks of a column stand back to back, so that what looks at one column
-//! reads no other. It takes a little more memory than the file has bytes.
+//! The table is stored column by column: all blocks of a column are back to back, so a scan of one
+//! column reads no other. It takes a little more memory than the file has bytes.
 //!
-//! Read `specs/MemoryTable.antt` first, and then `table.rt` and `reading.rt`.
+//! Read `specs/MemoryTable.antt` first, then `table.rt` and `reading.rt`.
 //!
 //! ```
 //! let table = MemoryTable::read(rt.alloc(), &mut source)?;

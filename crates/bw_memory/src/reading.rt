@@ -1,4 +1,4 @@
-//! A table read into memory.
+//! Reads a table into memory.
 ghost use Rattle.std.specs.Prelude.{◌≡◌, ◌-◌, ◌^◌, ◌<◌, ℕ, List, [], None, Some, IsTrue, IfOk, IfErr};
 ghost use Rattle.bw_model.specs.declared.schema.Schema.{Schema};
 ghost use Rattle.bw_model.specs.Row.{Value};
@@ -22,11 +22,11 @@ use bw_segment::ColumnBlocks;
 use std::alloc::Global;
 
 impl MemoryTable {
-    /// Reads a table file into memory, judging each of its segments. Memory grows as bytes come, by a sixteenth at
-    /// most, and no header makes it grow.
+    /// Reads a table file into memory, and validates each segment. Memory grows with the bytes that
+    /// are read, by at most a sixteenth at a time; no header makes it grow.
     ///
-    /// Refuses as [`TableReader`] does: 301 to 310 by the file's first fault, 701 where a read fails, and out of memory
-    /// (801). That the source's count of failures can rise is the caller's condition.
+    /// Errors are those of [`TableReader`]: 301 to 310, by the file's first error; 701 if a read
+    /// fails; 801 if memory is refused. The source's count of errors must be able to rise.
     pub fn read<S: Source>(alloc: Global, source: &mut S) -> Result<Self, Fault>
         requires { S.failures source.old < 2 ^ 64 - 1 }
         ensures table { IfOk result (λ table. (offset : ℕ) × CameWhole
@@ -54,7 +54,7 @@ impl MemoryTable {
     }
 }
 
-/// The table of a file whose header was read, and no segment.
+/// Returns the table of a file of which only the header was read.
 fn read_table<S: Source>(
     alloc: Global,
     reader: &mut TableReader,
@@ -88,7 +88,7 @@ fn read_table<S: Source>(
     })
 }
 
-/// Reads all segments, and adds their blocks to the columns. Gives how many they were.
+/// Reads all segments, and adds their blocks to the columns. Returns the number of segments.
 fn read_segments<S: Source>(
     reader: &mut TableReader,
     source: &mut S,

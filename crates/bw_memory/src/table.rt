@@ -12,8 +12,8 @@ use bw_model::{Fault, Schema};
 use bw_segment::{CodeLayout, ColumnBlocks, NumberedBlocks, PackedSegment, Placement, Segment};
 use std::rc::Rc;
 
-/// A table in memory: its schema and its rows, in segments of 512, of which the last may have fewer. All blocks of a
-/// column stand back to back.
+/// A table in memory: its schema and its rows, in segments of 512, of which the last may have
+/// fewer. All blocks of a column are back to back.
 #[derive(Drop)]
 pub struct MemoryTable {
     pub(crate) layout: Layout,
@@ -32,35 +32,36 @@ pub struct MemoryTable {
 impl MemoryTable {
     ghost use Rattle.bw_memory.specs.MemoryTable.{layout_of, meaning_numbered, rows_of, schema_of, segments_in};
 
-    /// The table's schema.
+    /// Returns the table's schema.
     pub fn schema(&self) -> &Schema
         ensures { result.now ≡ schema_of self.now }
     {
         &self.placement.schema
     }
 
-    /// How the table keeps its segments.
+    /// Returns the table's layout.
     pub fn layout(&self) -> Layout
         ensures { result ≡ layout_of self.now }
     {
         self.layout
     }
 
-    /// How many rows the table has.
+    /// Returns the number of rows.
     pub fn rows(&self) -> u32
         ensures { result ≡ length (rows_of self.now) }
     {
         self.rows
     }
 
-    /// How many segments the table has.
+    /// Returns the number of segments.
     pub fn segments(&self) -> u32
         ensures { result ≡ segments_in self.now }
     {
         self.segments
     }
 
-    /// The segment of a number, from 0, in the table's layout. It borrows the columns, and nothing is judged again.
+    /// Returns the segment of this number, from 0, in the table's layout. It borrows the columns,
+    /// and nothing is validated again.
     pub fn segment<'a, L: CodeLayout>(
         &'a self,
         number: u32,

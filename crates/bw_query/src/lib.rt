@@ -1,10 +1,11 @@
-//! Queries answered from table files, and from tables in memory.
+//! Runs queries over table files, and over tables in memory.
 //!
-//! The contract that the crates above use is that of [`answer`] and [`dump`]: where they answer `Ok`, the bytes that
-//! came were read as a table, and the sink has taken the CSV text of the meaning over its rows. [`answer_in_memory`]
-//! does the same over a table that was read before.
+//! The contract that the crates above use is that of [`answer`] and [`dump`]: if they return `Ok`,
+//! the bytes that were read are a table file, and the sink took the CSV text of the meaning over
+//! its rows. [`answer_in_memory`] does the same over a table that was read before, and
+//! [`answer_with_programs`] keeps programs for many statements.
 //!
-//! Read `specs/TableAnswer.antt` first, and then `table_calls.rt`; and `memory_calls.rt` with
+//! Read `specs/TableAnswer.antt` first, then `table_calls.rt`; and `memory_calls.rt` with
 //! `specs/MemoryAnswer.antt`.
 #![tactic(auto)]
 

@@ -1,4 +1,4 @@
-//! Queries answered from a table in memory.
+//! Runs queries over a table in memory.
 ghost use Rattle.std.specs.Prelude.{◌≡◌, ◌-◌, ◌^◌, ◌<◌, ℕ, List, None, Result, Ok, false, IsTrue, IfOk, IfErr};
 ghost use Rattle.bw_model.specs.declared.fault.Fault.{Fault};
 ghost use Rattle.bw_model.specs.declared.query.Query.{Query};
@@ -24,15 +24,15 @@ use bw_report::Served;
 use bw_sql::parse;
 use std::alloc::Global;
 
-/// Answers a statement over the rows of a table in memory, and writes the answer as CSV text, as `answer` does over the
-/// rows of a table file. The rows are found by the program of a program file, where one is given; else by a program of
-/// the planner's, where it has one that the checker accepts; else row by row. Only the columns that the statement needs
-/// are looked at, and nothing is judged again. Tells how the query was served, with the loads and skips of the program's
-/// runs.
+/// Runs a statement over a table in memory, and writes the result as CSV text, as `answer` does
+/// over a table file. The rows are found by the program of a program file, if one is given; else by
+/// the planner's program, if it proposes one that the checker accepts; else row by row. Only the
+/// columns that the statement needs are read, and nothing is validated again. Returns how the query
+/// was served, with the loads and skips of the program's runs.
 ///
-/// Refuses in this order: the statement (401 to 408), the program file (508, 501 to 507, 605, 601 to 604 and 606 to
-/// 610) and the sink (702); and out of memory (801) wherever it comes. Nothing is written on any refusal but 702. That
-/// the sink's count of failures can rise is the caller's condition.
+/// Errors, in this order: the statement's (401 to 408), the program file's (508, 501 to 507, 605,
+/// 601 to 604 and 606 to 610) and the sink's (702); 801 at any time, if memory is refused. Nothing
+/// is written on any error but 702. The sink's count of errors must be able to rise.
 pub fn answer_in_memory<K: Sink>(
     alloc: Global,
     table: &MemoryTable,
@@ -62,8 +62,8 @@ pub fn answer_in_memory<K: Sink>(
     Ok(answered.served)
 }
 
-/// The text of the answer to a statement over the rows of a table in memory. Refuses as [`answer_in_memory`] does, but
-/// for the sink.
+/// Returns the text of the result of a statement over a table in memory. Errors are those of
+/// [`answer_in_memory`], without the sink's.
 fn answered_in_memory(
     alloc: Global,
     table: &MemoryTable,

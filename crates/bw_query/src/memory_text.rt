@@ -1,4 +1,4 @@
-//! The text of an answer over the rows of a table in memory, one segment at a time.
+//! The text of a result over a table in memory, one segment at a time.
 ghost use Rattle.std.specs.Prelude.{◌≡◌, ◌+◌, ◌<◌, ◌≤◌, true, IsTrue, IfOk, IfErr, OnOk, length, vec_len};
 ghost use Rattle.std.specs.List.{list_all};
 ghost use Rattle.bw_model.specs.Column.{names_of};
@@ -25,7 +25,8 @@ use bw_run::Counts;
 use bw_slices::Slices;
 use std::alloc::Global;
 
-/// The text of the answer to a query over the rows of a table in memory. Refuses as 801 alone.
+/// Returns the text of the result of a query over a table in memory. Errors: 801 if memory is
+/// refused.
 pub(crate) fn memory_text(
     alloc: Global,
     table: &MemoryTable,
@@ -50,7 +51,7 @@ pub(crate) fn memory_text(
     })
 }
 
-/// Takes the rows of all segments, and gives what was scanned.
+/// Consumes the rows of all segments, and returns what was scanned.
 fn take_segments(
     table: &MemoryTable,
     scan: &Scan,
@@ -79,7 +80,7 @@ fn take_segments(
     Ok(scanned)
 }
 
-/// Takes the rows of the segment of a number.
+/// Consumes the rows of the segment of this number.
 #[tactic(auto, unfolding(bw_file::specs::Blocks::form_of))]
 fn take_numbered(
     table: &MemoryTable,

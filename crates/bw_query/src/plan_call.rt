@@ -1,4 +1,4 @@
-//! Plans: program files that the planner writes.
+//! Writes program files by the planner.
 ghost use Rattle.std.specs.Prelude.{◌≡◌, ◌-◌, ◌^◌, ◌<◌, ℕ, List, Result, false, length, IfOk, IfErr, IsTrue};
 ghost use Rattle.bw_model.specs.FaultTable.{NO_PROGRAM};
 ghost use Rattle.bw_model.specs.declared.fault.Fault.{Fault};
@@ -19,13 +19,13 @@ use bw_plan::{Proposal, propose};
 use bw_sql::parse;
 use std::alloc::Global;
 
-/// Plans a statement under the schema of a schema text, and writes the plan: the text of a scan program, the line
-/// CERTIFICATE, and the text of a certificate. It's a program file that a check accepts for the same schema and
-/// statement.
+/// Plans a statement under the schema of a schema text, and writes the program file: the text of a
+/// scan program, the line CERTIFICATE, and the text of a certificate. A check accepts it for the
+/// same schema and statement.
 ///
-/// Refuses in this order: the schema text (106, 101 to 105), the statement (401 to 408), a condition for which the
-/// planner has no program that the checker accepts (651), and the sink (702); out of memory (801) wherever it comes.
-/// That the sink's count of failures can rise is the caller's condition.
+/// Errors, in this order: the schema text's (106, 101 to 105), the statement's (401 to 408), 651 if
+/// the planner has no program that the checker accepts, and the sink's (702); 801 at any time, if
+/// memory is refused. The sink's count of errors must be able to rise.
 #[tactic(auto, using(crate::specs::Plan::schema_refused, crate::specs::Plan::statement_refused, crate::specs::Plan::unplanned))]
 pub fn plan_text<K: Sink>(
     alloc: Global,
@@ -44,7 +44,8 @@ pub fn plan_text<K: Sink>(
     write_whole(sink, &file)
 }
 
-/// The program file of a proposal for a condition, once the checker has accepted it as it stands.
+/// Returns the program file of a candidate program for a condition, once the checker has accepted
+/// its text.
 fn plan_of(alloc: Global, schema: &Schema, cond: &Cond) -> Result<Vec<u8>, Fault>
     requires { IsTrue (names_within (length schema.now.columns.items) cond.now) }
     ensures printed { IfOk result (λ file. IsPrinted schema.now.columns.items file.items) }
@@ -59,7 +60,7 @@ fn plan_of(alloc: Global, schema: &Schema, cond: &Cond) -> Result<Vec<u8>, Fault
     }
 }
 
-/// The program file of a proposal for a condition, which nothing has judged yet.
+/// Returns the program file of a candidate program for a condition, which isn't checked yet.
 fn proposed_file(alloc: Global, schema: &Schema, cond: &Cond) -> Result<Vec<u8>, Fault>
     requires { IsTrue (names_within (length schema.now.columns.items) cond.now) }
     ensures printed { IfOk result (λ file. IsPrinted schema.now.columns.items file.items) }
@@ -69,7 +70,7 @@ fn proposed_file(alloc: Global, schema: &Schema, cond: &Cond) -> Result<Vec<u8>,
     file_of(alloc, schema, &proposal)
 }
 
-/// The text of a program, the line CERTIFICATE, and the text of a certificate.
+/// Returns the text of a program, the line CERTIFICATE, and the text of a certificate.
 fn file_of(alloc: Global, schema: &Schema, proposal: &Proposal) -> Result<Vec<u8>, Fault>
     requires program { IsTrue (fits schema.now.columns.items proposal.now.program) }
     requires certificate { IsTrue (has_columns schema.now.columns.items (certificate_fields proposal.now.certificate)) }
@@ -82,7 +83,7 @@ fn file_of(alloc: Global, schema: &Schema, proposal: &Proposal) -> Result<Vec<u8
     Ok(file)
 }
 
-/// Out of memory, or else that there is no plan.
+/// Returns 801 if memory was refused, else 651.
 fn unplanned_unless_memory(fault: Fault) -> Fault
     ensures { is_memory result ≡ false → result ≡ nowhere NO_PROGRAM }
 {

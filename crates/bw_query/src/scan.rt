@@ -1,4 +1,4 @@
-//! Who finds the rows that a query keeps.
+//! Chooses what finds the rows of a query.
 ghost use Rattle.std.specs.Prelude.{◌≡◌, false, IfOk, IfErr, IsTrue, List, None, Result, length};
 ghost use Rattle.bw_model.specs.declared.column.Column.{Column};
 ghost use Rattle.bw_model.specs.declared.cond.Cond.{Cond};
@@ -23,19 +23,20 @@ use bw_model::{Cond, Fault, Place, Schema, code};
 use bw_plan::propose;
 use std::alloc::Global;
 
-/// Who finds the rows that a query keeps: a scan program that was certified for its condition, or the condition itself,
-/// row by row.
+/// What finds the rows of a query: a scan program that was certified for its condition, or the
+/// condition itself, row by row.
 #[derive(Drop)]
 pub(crate) enum Scan {
     Program(Certified),
     Rows,
 }
 
-/// How a query is to be scanned: by the program of a program file, where there is one; else by the planner's, where it
-/// proposes one that the checker accepts; else row by row.
+/// Returns what finds the rows of a query: the program of a program file, if there is one; else the
+/// planner's, if it proposes one that the checker accepts; else row by row.
 ///
-/// Refuses a program file as [`certify`] does (501 to 508, 601 to 610). A proposal that isn't accepted is no fault of
-/// the statement's: it isn't used. Out of memory is 801, in the planner too.
+/// Errors: those of the program file, as [`certify`] returns them (501 to 508, 601 to 610). A
+/// candidate program that isn't accepted is no error: it isn't used. 801 at any time, if memory is
+/// refused, also to the planner.
 pub(crate) fn scan_for(
     alloc: Global,
     schema: &Schema,
@@ -116,7 +117,8 @@ fn certified_by(
     }
 }
 
-/// The planner's program, where it proposes one that the checker accepts; else row by row. Refuses as 801 alone.
+/// Returns the planner's program, if it proposes one that the checker accepts; else row by row.
+/// Errors: 801 if memory is refused.
 fn planned(alloc: Global, schema: &Schema, cond: &Cond) -> Result<Scan, Fault>
     requires { IsTrue (names_within (length schema.now.columns.items) cond.now) }
     ensures certified { IfOk result (IsFor schema.now.columns.items cond.now) }
@@ -127,8 +129,8 @@ fn planned(alloc: Global, schema: &Schema, cond: &Cond) -> Result<Scan, Fault>
     scan_by(accepted(alloc, schema, cond))
 }
 
-/// The planner's program, which the checker has accepted; else the fault that one of the two answered, the planner
-/// (651) or the checker (601 to 610), or out of memory (801).
+/// Returns the planner's program, which the checker has accepted. Errors: 651, the planner's; 601
+/// to 610, the checker's; 801 if memory is refused.
 fn accepted(alloc: Global, schema: &Schema, cond: &Cond) -> Result<Certified, Fault>
     requires { IsTrue (names_within (length schema.now.columns.items) cond.now) }
     ensures certified { IfOk result (λ certified. IsFor schema.now.columns.items cond.now (Program certified)) }
@@ -141,8 +143,8 @@ fn accepted(alloc: Global, schema: &Schema, cond: &Cond) -> Result<Certified, Fa
     }
 }
 
-/// The scan by a program that was found; row by row, where there is none by a fault other than out of memory; and out
-/// of memory as it is.
+/// Returns the scan by a program that was found, or row by row if there is none. Errors: 801 if
+/// memory was refused.
 fn scan_by(found: Result<Certified, Fault>) -> Result<Scan, Fault>
     ensures { result ≡ scan_by found }
 {

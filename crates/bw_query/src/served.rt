@@ -5,7 +5,8 @@ ghost use Rattle.bw_query.specs.Served.{report_of};
 use crate::scan::Scan;
 use bw_report::{By, Served};
 
-/// How many segments were scanned, with how many loads of planes or bytes and how many skips that were taken.
+/// The number of segments that were scanned, of loads of planes or bytes, and of skips that were
+/// taken.
 #[derive(Clone, Copy)]
 pub(crate) struct Scanned {
     pub(crate) segments: u32,
@@ -13,7 +14,7 @@ pub(crate) struct Scanned {
     pub(crate) skips: u64,
 }
 
-/// What is reported of a scan.
+/// Returns what is reported of a scan.
 pub(crate) fn served_by(scan: &Scan, scanned: Scanned) -> Served
     ensures { result ≡ report_of scan.now scanned }
 {

@@ -1,4 +1,4 @@
-//! Queries answered from a table file.
+//! Runs queries over a table file.
 ghost use Rattle.std.specs.Prelude.{◌≡◌, ◌-◌, ◌^◌, ◌<◌, ◌≤◌, ℕ, List, Option, Result, Ok, Err, None, Some, false, length, vec_len, IsTrue, IfOk, IfErr, OnOk};
 ghost use Rattle.std.specs.Io.KnownBytes.{Appends};
 ghost use Rattle.std.specs.List.{list_all};
@@ -33,17 +33,19 @@ use bw_report::Served;
 use bw_sql::{one_query_of_a_text, parse, schemas_of_one_shape};
 use std::alloc::Global;
 
-/// Answers a statement over the rows of a table file, and writes the answer as CSV text: a heading record and then the
-/// records, fields joined by commas and each record ended by a line feed. The rows are found by the program of a
-/// program file, where one is given; else by a program of the planner's, where it has one that the checker accepts;
-/// else row by row. Tells how the query was served, with the loads and skips of the program's runs.
+/// Runs a statement over a table file, and writes the result as CSV text: a heading record and then
+/// the other records, with commas between fields and a line feed after each record. The rows are
+/// found by the program of a program file, if one is given; else by the planner's program, if it
+/// proposes one that the checker accepts; else row by row. Returns how the query was served, with
+/// the loads and skips of the program's runs.
 ///
-/// Refuses in this order: the file's header (301 to 305, 310), the statement (401 to 408), the program file (508, 501
-/// to 507, 605, 601 to 604 and 606 to 610), the file's segments (305 to 309) and the sink (702); a failed read (701) in
-/// the place of what was to be read, and out of memory (801) wherever it comes. Nothing after the header is read before
-/// the statement and the program file are accepted, and nothing is written before the last segment was found good and
-/// the file has ended. One segment is in memory, and the answer's text. That each device's count of failures can rise
-/// is the caller's condition.
+/// Errors, in this order: the file header's (301 to 305, 310), the statement's (401 to 408), the
+/// program file's (508, 501 to 507, 605, 601 to 604 and 606 to 610), the file segments' (305 to
+/// 309) and the sink's (702); a failed read (701) in place of what was to be read, and 801 at any
+/// time, if memory is refused. Nothing after the header is read before the statement and the
+/// program file are accepted. Nothing is written before the last segment was validated and the file
+/// has ended. One segment is in memory, and the result's text. The count of errors of the source
+/// and of the sink must be able to rise.
 pub fn answer<S: Source, K: Sink>(
     alloc: Global,
     table: &mut S,
@@ -84,15 +86,15 @@ pub fn answer<S: Source, K: Sink>(
     Ok(answered.served)
 }
 
-/// The text of an answer, and how it was found.
+/// The text of a result, and how it was found.
 #[derive(Drop)]
 pub(crate) struct AnswerText {
     pub(crate) text: Vec<u8>,
     pub(crate) served: Served,
 }
 
-/// The text of the answer to a statement over the rows of a table file, once the last segment was found good and the
-/// file has ended. Refuses as [`answer`] does, but for the sink.
+/// Returns the text of the result of a statement over a table file, once the last segment was
+/// validated and the file has ended. Errors are those of [`answer`], without the sink's.
 fn answered<S: Source>(
     alloc: Global,
     table: &mut S,
@@ -119,7 +121,7 @@ fn answered<S: Source>(
     answered_after_header(alloc, &mut reader, table, sql, program)
 }
 
-/// The same of a table file whose header was read, and no segment.
+/// Returns the same of a table file of which only the header was read.
 fn answered_after_header<S: Source>(
     alloc: Global,
     reader: &mut TableReader,
@@ -157,15 +159,15 @@ fn answered_after_header<S: Source>(
     }
 }
 
-/// What a statement asks, and who finds its rows.
+/// A query, and what finds its rows.
 #[derive(Drop)]
 pub(crate) struct Prepared {
     pub(crate) query: Query,
     pub(crate) scan: Scan,
 }
 
-/// What a statement asks of the rows of a table of this schema, and who finds them. Refuses the statement (401 to 408),
-/// and then the program file, as [`scan_for`] does.
+/// Returns the query of a statement over a table of this schema, and what finds its rows. Errors:
+/// the statement's (401 to 408), then the program file's, as [`scan_for`] returns them.
 pub(crate) fn prepare(
     alloc: Global,
     schema: &Schema,
@@ -198,11 +200,11 @@ pub(crate) fn prepare(
     Ok(Prepared { query, scan })
 }
 
-/// Writes every row of a table file in every column, as CSV text.
+/// Writes all rows of a table file with all columns, as CSV text.
 ///
-/// Refuses in this order: the file's header (301 to 305, 310), its segments (305 to 309) and the sink (702); 701 where
-/// a read fails, and out of memory (801) wherever it comes. Nothing is written before the last segment was found good
-/// and the file has ended.
+/// Errors, in this order: the file header's (301 to 305, 310), the file segments' (305 to 309) and
+/// the sink's (702); 701 if a read fails, and 801 at any time, if memory is refused. Nothing is
+/// written before the last segment was validated and the file has ended.
 pub fn dump<S: Source, K: Sink>(alloc: Global, table: &mut S, sink: &mut K) -> Result<(), Fault>
     requires table { S.failures table.old < 2 ^ 64 - 1 }
     requires sink { K.failures sink.old < 2 ^ 64 - 1 }
@@ -224,8 +226,8 @@ pub fn dump<S: Source, K: Sink>(alloc: Global, table: &mut S, sink: &mut K) -> R
     write_whole(sink, &text)
 }
 
-/// The text of every row of a table file, once the last segment was found good and the file has ended. Refuses as
-/// [`dump`] does, but for the sink.
+/// Returns the text of all rows of a table file, once the last segment was validated and the file
+/// has ended. Errors are those of [`dump`], without the sink's.
 fn dumped<S: Source>(alloc: Global, table: &mut S) -> Result<Vec<u8>, Fault>
     requires { S.failures table.old < 2 ^ 64 - 1 }
     ensures answer { (offset : ℕ) × TableGave by_dump (state (S.to_come table.old) 0 (S.failures table.old))
@@ -273,7 +275,7 @@ fn dumped_after_header<S: Source>(
     }
 }
 
-/// The query for every row in every column.
+/// Returns the query for all rows and all columns.
 #[tactic(auto, using(bw_model::proofs::CondLemmas::truths))]
 fn every_row(alloc: Global, schema: &Schema) -> Result<Query, Fault>
     ensures every { IfOk result (IsEveryRow schema.now) }

@@ -1,4 +1,4 @@
-//! The text of an answer over the rows of a table file, one segment at a time.
+//! The text of a result over a table file, one segment at a time.
 ghost use Rattle.std.specs.Prelude.{◌≡◌, ◌+◌, ◌-◌, ◌^◌, ◌<◌, ◌≤◌, ◌++◌, ℕ, List, [], None, false, true, IsTrue, IfOk, IfErr, OnOk, length, vec_len};
 ghost use Rattle.std.specs.List.{list_all};
 ghost use Rattle.bw_model.specs.Column.{names_of};
@@ -27,15 +27,15 @@ use bw_run::Counts;
 use bw_segment::Segment;
 use std::alloc::Global;
 
-/// The text of an answer, and what was scanned for it.
+/// The text of a result, and what was scanned for it.
 #[derive(Drop)]
 pub(crate) struct TableText {
     pub(crate) text: Vec<u8>,
     pub(crate) scanned: Scanned,
 }
 
-/// The text of the answer to a query over the rows of a table file, whose header was read, and no segment. It's whole
-/// once the last segment was found good and the file has ended.
+/// Returns the text of the result of a query over a table file of which only the header was read.
+/// It is complete once the last segment was validated and the file has ended.
 pub(crate) fn table_text<S: Source>(
     alloc: Global,
     reader: &mut TableReader,
@@ -68,7 +68,7 @@ pub(crate) fn table_text<S: Source>(
     })
 }
 
-/// The answer to a query over no rows of a table, with memory for so many rows where each is listed.
+/// Returns the result of a query over no rows, with memory for this many rows if each is listed.
 pub(crate) fn empty_answer<'a>(
     alloc: Global,
     schema: &Schema,
@@ -88,7 +88,7 @@ pub(crate) fn empty_answer<'a>(
     Ok(answer)
 }
 
-/// Takes the rows of all segments, and gives what was scanned.
+/// Consumes the rows of all segments, and returns what was scanned.
 fn take_rows<S: Source>(
     reader: &mut TableReader,
     source: &mut S,
@@ -128,7 +128,7 @@ fn take_rows<S: Source>(
     Ok(scanned)
 }
 
-/// Takes the rows of a segment in either layout: the layout is looked at once a segment.
+/// Consumes the rows of a segment in either layout, which is looked up once a segment.
 #[tactic(auto, unfolding(bw_file::specs::AnySegment::any_meaning))]
 fn take_either(
     segment: &AnySegment,
@@ -156,7 +156,7 @@ fn take_either(
     }
 }
 
-/// Takes the rows of a segment: those that a program picks, or each.
+/// Consumes the rows of a segment: those that a program selects, or that match one by one.
 pub(crate) fn take_segment<S: Segment>(
     segment: &S,
     scan: &Scan,
@@ -191,7 +191,8 @@ pub(crate) fn take_segment<S: Segment>(
     }
 }
 
-/// Takes the rows of a segment, each of which is looked at, or their number where nothing else is asked for.
+/// Consumes the rows of a segment that match one by one, or only their number if nothing else is
+/// needed.
 fn take_by_rows<S: Segment>(segment: &S, counts: bool, answer: &mut Answer<'_>) -> Result<(), Fault>
     requires counts { counts ≡ true → CountsRows (asked_by answer.old) }
     requires width { answer.old.width ≡ length (S.meaning segment.now).columns }

@@ -1,4 +1,4 @@
-//! Sessions: statements of a source, answered one after another over a table in memory.
+//! Sessions: the statements of a source, run one after another over a table in memory.
 #![tactic(auto)]
 
 mod listener;

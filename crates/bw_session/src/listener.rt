@@ -1,15 +1,15 @@
-//! Who is told what a session does.
+//! Reports what a session does.
 use bw_model::Fault;
 use bw_report::Served;
 
-/// Is told what a session does beside what it writes. Nothing rests on it.
+/// Receives what a session does, beside what it writes. No result depends on it.
 pub trait Listener {
-    /// The session waits for a statement, of which nothing has come.
+    /// The session waits for a statement, of which nothing was read.
     fn wait(&mut self);
 
-    /// A statement was answered, and is served so.
+    /// A statement was run, and this is how it was served.
     fn note_answer(&mut self, served: &Served);
 
-    /// A statement was refused.
+    /// A statement was rejected.
     fn note_refusal(&mut self, statement: &[u8], fault: &Fault);
 }

@@ -14,11 +14,12 @@ use std::alloc::AllocError;
 /// A statement has at most this many bytes.
 pub(crate) const MAX_LEN: usize = 65_536;
 
-/// Reads the next statement with what ends it: a `;` outside a comment, an empty line or the end of the source. Of one
-/// that is longer than a statement may be, the first bytes are kept, one more than that. Gives whether more may come:
-/// false at the end of the source.
+/// Reads the next statement with what ends it: a `;` outside a comment, an empty line or the end of
+/// the source. Of a statement that is too long, only the first bytes are stored, one more than a
+/// statement may have. Returns false at the end of the source, else true.
 ///
-/// Takes one byte at a time, so that nothing after the statement is taken: hand it a source that reads ahead.
+/// Reads one byte at a time, so that nothing after the statement is read: pass a source that reads
+/// ahead.
 pub(crate) fn next_statement<S: Source>(
     source: &mut S,
     statement: &mut Vec<u8>,
@@ -45,7 +46,7 @@ pub(crate) fn next_statement<S: Source>(
     Err(Fault::new(code::OUT_OF_MEMORY))
 }
 
-/// Reads one byte: none at the end of the source.
+/// Reads one byte. Returns None at the end of the source.
 fn read_byte<S: Source>(source: &mut S) -> Result<Option<u8>, Fault>
     requires { S.failures source.old < 2 ^ 64 - 1 }
     ensures byte { IfOk result (TookByte (S.to_come source.old) (S.to_come source.new)) }
@@ -61,7 +62,7 @@ fn read_byte<S: Source>(source: &mut S) -> Result<Option<u8>, Fault>
     }
 }
 
-/// Keeps a byte of a statement, if no more than it may have are kept.
+/// Stores a byte of a statement, unless it already has one more than it may.
 fn keep_byte(statement: &mut Vec<u8>, byte: u8) -> Result<(), AllocError>
     ensures { OnOk result (statement.new.items ≡ with_byte statement.old.items byte) }
 {

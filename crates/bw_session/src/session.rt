@@ -1,4 +1,4 @@
-//! A session: statements of a source, answered one after another.
+//! Runs a session: the statements of a source, one after another.
 ghost use Rattle.std.specs.Prelude.{◌≡◌, ◌-◌, ◌^◌, ◌<◌, ◌↔◌, IsTrue};
 ghost use Rattle.bw_io.specs.Sink.{is_write_fault};
 ghost use Rattle.bw_memory.specs.MemoryTable.{rows_of, schema_of};
@@ -14,16 +14,16 @@ use bw_query::{ProgramCache, answer_with_programs};
 use bw_sql::has_no_token;
 use std::alloc::Global;
 
-/// Answers the statements of a source over a table in memory, one after another. A statement ends with a `;` outside a
-/// comment, with an empty line, or with the source. The sink takes, statement by statement, the CSV text of its meaning
-/// over the rows and an LF; an LF alone if it is refused; and nothing if it has nothing but blanks, line ends and
-/// comments. Each answer is written before the next statement is read. Gives the fault of the first statement that was
-/// refused, if one was.
+/// Runs the statements of a source over a table in memory, one after another. A statement ends with
+/// a `;` outside a comment, with an empty line, or with the source. For each the sink takes the CSV
+/// text of its meaning over the rows and an LF; an LF alone if it is rejected; nothing if it has
+/// only spaces, tabs, line ends and comments. Each result is written before the next statement is
+/// read. Returns the error of the first rejected statement, if there is one.
 ///
-/// Each statement is answered by [`answer_with_programs`], whose errors (401 to 408, 801) don't end
-/// the session. It ends early by a failed read (701) or write (702), and if there is no memory for a
-/// statement's text (801). The programs must serve the table's columns, and each device's count of
-/// errors be able to rise.
+/// Each statement is run by [`answer_with_programs`], whose errors (401 to 408, 801) don't end the
+/// session. It ends early by a failed read (701) or write (702), and if there is no memory for a
+/// statement's text (801). The programs must serve the table's columns, and the counts of errors of
+/// the source and of the sink must be able to rise.
 pub fn answer_statements<S: Source, K: Sink, L: Listener>(
     alloc: Global,
     table: &MemoryTable,
@@ -60,7 +60,8 @@ pub fn answer_statements<S: Source, K: Sink, L: Listener>(
     Err(Fault::new(code::OUT_OF_MEMORY))
 }
 
-/// Answers a statement, with an LF after its answer, and gives its fault, if it is refused. Refuses as 702 alone.
+/// Runs a statement, and writes its result and an LF. Returns its error if it is rejected. Errors:
+/// 702.
 fn answer_one<K: Sink, L: Listener>(
     alloc: Global,
     table: &MemoryTable,
@@ -93,7 +94,7 @@ fn answer_one<K: Sink, L: Listener>(
     }
 }
 
-/// Writes an LF, and gives back the fault of the statement before it. Refuses as 702 alone.
+/// Writes an LF, and returns the error of the statement before it. Errors: 702.
 fn end_line<K: Sink>(sink: &mut K, fault: Option<Fault>) -> Result<Option<Fault>, Fault>
     requires { K.failures sink.old < 2 ^ 64 - 1 }
     ensures { EndsLine (K.taken sink.old) (K.taken sink.new) (K.failures sink.old) (K.failures sink.new) fault
@@ -105,21 +106,22 @@ fn end_line<K: Sink>(sink: &mut K, fault: Option<Fault>) -> Result<Option<Fault>
     }
 }
 
-/// Whether a write failed.
+/// Returns whether a write failed.
 fn is_write_fault(fault: &Fault) -> bool
     ensures { result ≡ is_write_fault fault.now }
 {
     fault.code == code::WRITE_FAILED
 }
 
-/// Whether a statement asks for nothing: it isn't too long, and has nothing but blanks, line ends and comments.
+/// Returns whether a statement is empty: it isn't too long, and has only spaces, tabs, line ends
+/// and comments.
 fn asks_nothing(sql: &[u8]) -> bool
     ensures { IsTrue result ↔ AsksNothing sql.now }
 {
     sql.len() <= MAX_LEN && has_no_token(sql)
 }
 
-/// The first of two faults, if there is one.
+/// Returns the first of two errors, if there is one.
 fn first_of(first: Option<Fault>, other: Option<Fault>) -> Option<Fault>
     ensures { result ≡ first_of first other }
 {

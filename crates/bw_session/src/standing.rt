@@ -1,11 +1,11 @@
-//! Where a statement stands while its bytes come.
+//! The state of a statement while its bytes are read.
 ghost use Rattle.std.specs.Prelude.{◌≡◌};
 ghost use Rattle.bw_session.specs.Standing.{after, is_ended};
 
-/// Where a statement stands after the bytes that came so far.
+/// The state of a statement after the bytes that were read so far.
 #[derive(Clone, Copy)]
 pub(crate) enum Standing {
-    /// In a line of which only blanks came.
+    /// In a line that has only spaces and tabs so far.
     Blank,
     Text,
     /// After a dash, which may begin a comment.
@@ -16,7 +16,7 @@ pub(crate) enum Standing {
 }
 
 impl Standing {
-    /// Where it stands after one more byte.
+    /// Returns the state after one more byte.
     pub(crate) fn after(self, byte: u8) -> Self
         ensures { result ≡ after self byte }
     {
@@ -33,7 +33,7 @@ impl Standing {
             _ => Standing::Text,
         }
     }
-    /// Whether it ended.
+    /// Returns whether the statement has ended.
     pub(crate) fn is_ended(self) -> bool
         ensures { result ≡ is_ended self }
     {
