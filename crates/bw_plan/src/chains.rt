@@ -1,4 +1,4 @@
-//! Chains: nodes that compare the codes of columns, each worked out once.
+//! Chains: nodes that compare the codes of columns, each computed once.
 use crate::ledger::{Entry, Ledger};
 use crate::nodes::Nodes;
 use crate::products::Cited;
@@ -10,9 +10,9 @@ use bw_program::ColumnIndex;
 /// A certificate has at most this many chains.
 pub(crate) const MAX_CHAINS: u32 = 65_536;
 
-/// A chain: `len` bits of a column's code from bit `start` on are compared with a number, or, where there is a right
-/// column, the `len` low bits of both. It has the number of its node, and that of the chain of one bit less, where it
-/// has bits.
+/// A chain: `len` bits of a column's code from bit `start` are compared with a number, or if there
+/// is a right column, the `len` low bits of both. It has the number of its node, and of the chain
+/// with one bit less, if it has bits.
 #[derive(Clone, Copy)]
 pub(crate) struct Link {
     pub(crate) kind: ChainKind,
@@ -54,7 +54,7 @@ impl Link {
         }
     }
 
-    /// The node that compares so, where that of the bits below the top bit is `lower`.
+    /// Returns the node of the comparison, from that of the bits below the top bit, `lower`.
     fn node_above(self, schema: &Schema, nodes: &mut Nodes, lower: u32) -> Result<u32, Refusal> {
         let place = self.len.saturating_sub(1);
         let left = variable(schema, self.left, self.start.saturating_add(place));
@@ -73,7 +73,8 @@ impl Link {
         nodes.choice(left, low, high)
     }
 
-    /// The same where the left column's bit is known, and the right one may have a variable there.
+    /// Returns the same node if the left column's bit is `x`. The right column may have no variable
+    /// there.
     fn node_right(
         self,
         nodes: &mut Nodes,
@@ -89,12 +90,13 @@ impl Link {
     }
 }
 
-/// The node of a comparison of numbers without bits.
+/// Returns the node of a comparison of numbers without bits.
 fn first_node(kind: ChainKind) -> u32 {
     u32::from(kind == ChainKind::Equal)
 }
 
-/// The node of a comparison of numbers with these top bits, where that of the bits below is `lower`.
+/// Returns the node of a comparison of numbers with top bits `x` and `y`, from that of the bits
+/// below, `lower`.
 fn outcome(kind: ChainKind, x: bool, y: bool, lower: u32) -> u32 {
     match (kind, x, y) {
         (_, false, false) | (_, true, true) => lower,
@@ -103,7 +105,7 @@ fn outcome(kind: ChainKind, x: bool, y: bool, lower: u32) -> u32 {
     }
 }
 
-/// The chain that compares so, with those of fewer bits added where they aren't there.
+/// Returns the chain of a comparison, and adds it and those of fewer bits if they are missing.
 pub(crate) fn chain(
     schema: &Schema,
     nodes: &mut Nodes,
@@ -137,7 +139,7 @@ pub(crate) fn chain(
     last.ok_or(Refusal::NoProgram)
 }
 
-/// The variable of a column's bit, if there is that bit.
+/// Returns the variable of a column's bit, if the column has that bit.
 pub(crate) fn variable(schema: &Schema, column: ColumnIndex, bit: u32) -> Option<u32> {
     let column = column as usize;
     if column >= schema.columns.len() || bit >= schema.width(column) {

@@ -13,31 +13,33 @@ use bw_program::{ColumnIndex, Instr, Register, SliceIndex};
 use bw_text::REGISTERS;
 use std::alloc::Global;
 
-/// A program has at most this many instructions.
+/// The most instructions of a program.
 const MAX_INSTRUCTIONS: usize = 4096;
 
-/// A program without skips looks at so many bytes at most. A look takes some 40 ns a segment, another instruction 3,
-/// and to look up the 512 rows of a segment some 50 microseconds: with more looks that is faster. With skips an
-/// instruction takes 10 ns, so that no program that fits is slower than that.
+/// The most byte comparisons of a program without skips. One takes some 40 ns per segment, another
+/// instruction 3, and the row-by-row fallback some 50 microseconds: with more comparisons it is
+/// faster. With skips an instruction takes 10 ns, so every program that fits is faster than the
+/// fallback.
 const MAX_LOOKS: usize = 1000;
 
-/// All comparisons of two columns from the top down take six times as many nodes at most. A comparison takes six
-/// times the square of the number of its bits.
+/// All comparisons of two columns from the top down take at most six times as many nodes. One takes
+/// six times the square of the number of its bits.
 const MAX_SQUARES: usize = 1000;
 
-/// A condition whose own lines take as many product rows has no skips from part to part: to show these takes several
-/// times as many.
+/// A condition whose own lines take as many product rows has no skips from part to part: to prove
+/// them takes several times as many.
 const MAX_ROWS_TO_SKIP_PARTS: usize = 10_000;
 
-/// The lines of a condition over columns of more bits take so many product rows at most. With more of them a program
-/// takes longer to plan and to check than to look up the rows of a small table.
+/// The most product rows of a condition's lines if its columns have more than `MANY_BITS` bits.
+/// With more, planning and checking take longer than the row-by-row fallback takes for a small
+/// table.
 const MAX_LINE_PRODUCTS: u32 = 24_000;
 
 /// The bits of seven columns of 63 bits.
 const MANY_BITS: u32 = 441;
 
-/// What is known of a register: the node that it holds, whether it's needed, and whether it holds a plane
-/// as it was loaded, which may be wanted again.
+/// What is known of a register: its node, whether it is needed, and whether it contains a plane as
+/// it was loaded, which may be used again.
 #[derive(Clone, Copy)]
 pub(crate) struct RegisterState {
     node: Option<u32>,
@@ -45,15 +47,15 @@ pub(crate) struct RegisterState {
     is_plane: bool,
 }
 
-/// A register that holds nothing.
+/// A register without a known node.
 const UNUSED: RegisterState = RegisterState {
     node: None,
     needed: false,
     is_plane: false,
 };
 
-/// A skip whose target is still to come: its number, the place of its line, the node of its
-/// register, and the nodes of all registers there.
+/// A skip without a target yet: its number, the place of its line, the node of its register, and
+/// the nodes of all registers there.
 #[derive(Clone, Copy)]
 pub(crate) struct Skip {
     number: usize,
@@ -75,8 +77,8 @@ pub(crate) struct Code<'a> {
     pub(crate) edges: Vec<EdgeProducts>,
     /// The order of variables in which registers' nodes are worked out.
     pub(crate) order: VariableOrder,
-    /// The digits of a byte of the column whose codes are compared, and those of its top byte, where
-    /// they are kept.
+    /// The digits of a byte of the column whose codes are compared, and those of its top byte,
+    /// where they are kept.
     pub(crate) digits: Option<Digits>,
     pub(crate) top_digit: Option<Digits>,
     /// Whether skips that leave out but a few instructions are left out themselves.
@@ -89,12 +91,13 @@ pub(crate) struct Code<'a> {
     with_skips: bool,
     /// How many instructions look at a byte.
     looks: usize,
-    /// Whether there are skips from part to part of a condition, which are shown by products of whole diagrams.
+    /// Whether there are skips from part to part of a condition, which are shown by products of
+    /// whole diagrams.
     pub(crate) skips_parts: bool,
 }
 
 impl<'a> Code<'a> {
-    /// No lines and no instructions. There are to be skips.
+    /// Returns no lines and no instructions. There are to be skips.
     pub(crate) fn new(alloc: Global, facts: Facts<'a>) -> Self {
         let extent = facts.extent();
         Code {
@@ -117,8 +120,7 @@ impl<'a> Code<'a> {
         }
     }
 
-    /// Appends the lines of a condition, after which the instructions are to begin, and gives the number of the node
-    /// that is 1 where it is TRUE.
+    /// Appends the lines of a condition, and returns the node that is 1 where it is TRUE.
     pub(crate) fn begin(&mut self, cond: &Cond) -> Result<u32, Refusal> {
         if self.facts.bits() > MANY_BITS {
             self.facts.limit_products(MAX_LINE_PRODUCTS);
@@ -130,7 +132,8 @@ impl<'a> Code<'a> {
         Ok(node)
     }
 
-    /// Begins again, without skips, after the lines of the condition.
+    /// Removes all instructions, and all facts and lines after those of the condition. There are to
+    /// be no skips.
     pub(crate) fn begin_again(&mut self) {
         let (facts, lines) = self.begun;
         self.facts.return_to(facts);
@@ -158,7 +161,7 @@ impl<'a> Code<'a> {
         Ok(())
     }
 
-    /// The node of a register.
+    /// Returns the node of a register.
     pub(crate) fn node(&self, register: Register) -> Result<u32, Refusal> {
         let known = self.registers.get(register as usize).copied();
         known
@@ -166,7 +169,7 @@ impl<'a> Code<'a> {
             .ok_or(Refusal::NoProgram)
     }
 
-    /// Says what a register holds.
+    /// Records the node of a register, which is needed.
     fn hold(&mut self, register: Register, node: u32, is_plane: bool) {
         if let Some(kept) = self.registers.get_mut(register as usize) {
             *kept = RegisterState {
@@ -177,7 +180,7 @@ impl<'a> Code<'a> {
         }
     }
 
-    /// A register that isn't needed, from now on needed: one that holds nothing, if there is one.
+    /// Returns a register that isn't needed, preferably one without a node.
     fn claim(&mut self) -> Result<Register, Refusal> {
         self.meet()?;
         let mut found = None;
@@ -199,7 +202,7 @@ impl<'a> Code<'a> {
         MAX_INSTRUCTIONS.saturating_sub(self.instrs.len())
     }
 
-    /// How many registers aren't needed.
+    /// Returns how many registers aren't needed.
     pub(crate) fn free_registers(&self) -> usize {
         self.registers
             .iter()
@@ -219,7 +222,7 @@ impl<'a> Code<'a> {
         Ok(None)
     }
 
-    /// Lets a register go. Where it holds a plane, that may be wanted again.
+    /// Releases a register. If it contains a plane, that may be used again.
     pub(crate) fn release(&mut self, register: Register) {
         if let Some(kept) = self.registers.get_mut(register as usize) {
             kept.needed = false;
@@ -229,7 +232,7 @@ impl<'a> Code<'a> {
         }
     }
 
-    /// A register that holds one bit in every lane.
+    /// Returns a register with the same bit in every lane.
     pub(crate) fn fill(&mut self, bit: bool) -> Result<Register, Refusal> {
         let register = self.claim()?;
         self.put(Instr::Fill(register, bit), InstructionEntry::Fill)?;
@@ -237,7 +240,7 @@ impl<'a> Code<'a> {
         Ok(register)
     }
 
-    /// A register that holds the plane of a column's bit.
+    /// Returns a register with the plane of a column's bit.
     pub(crate) fn bit(&mut self, column: ColumnIndex, bit: u32) -> Result<Register, Refusal> {
         let node = self.facts.bit(column, bit)?;
         if let Some(register) = self.held(node)? {
@@ -251,7 +254,7 @@ impl<'a> Code<'a> {
         Ok(register)
     }
 
-    /// A register that holds a column's null plane, if it has one.
+    /// Returns a register with a column's null plane, if it has one.
     pub(crate) fn nulls(&mut self, column: ColumnIndex) -> Result<Option<Register>, Refusal> {
         let Some(node) = self.facts.nulls(column)? else {
             return Ok(None);
@@ -266,7 +269,7 @@ impl<'a> Code<'a> {
         Ok(Some(register))
     }
 
-    /// A register that is 1 where a column has a value, if it can have none.
+    /// Returns a register that is 1 where a column has a value, if it is nullable.
     pub(crate) fn values(&mut self, column: ColumnIndex) -> Result<Option<Register>, Refusal> {
         let Some(nulls) = self.facts.nulls(column)? else {
             return Ok(None);
@@ -283,7 +286,7 @@ impl<'a> Code<'a> {
         Ok(Some(register))
     }
 
-    /// A register that is 1 where a byte of a column is less than (equal to) a number.
+    /// Returns a register that is 1 where a byte of a column is less than (equal to) a number.
     pub(crate) fn byte(
         &mut self,
         kind: ChainKind,
@@ -312,7 +315,7 @@ impl<'a> Code<'a> {
         Ok(register)
     }
 
-    /// Makes a register a connective of two.
+    /// Sets a register to a connective of two.
     pub(crate) fn join(
         &mut self,
         op: Connective,
@@ -346,7 +349,7 @@ impl<'a> Code<'a> {
         Ok(register)
     }
 
-    /// Makes a register a connective of itself and another, which is let go.
+    /// Sets a register to a connective of itself and another, which is released.
     pub(crate) fn join_into(
         &mut self,
         op: Connective,
@@ -358,7 +361,7 @@ impl<'a> Code<'a> {
         Ok(())
     }
 
-    /// Makes a register the opposite of one.
+    /// Sets a register to the opposite of one.
     pub(crate) fn oppose(&mut self, to: Register, from: Register) -> Result<(), Refusal> {
         self.meet()?;
         let a = self.node(from)?;
@@ -382,7 +385,7 @@ impl<'a> Code<'a> {
         Ok(self.skips.len())
     }
 
-    /// Goes on where skips meet if a register is zero in every lane.
+    /// Appends a skip, taken if a register is zero in every lane.
     pub(crate) fn skip(&mut self, register: Register) -> Result<(), Refusal> {
         if !self.with_skips {
             return Ok(());
@@ -404,7 +407,7 @@ impl<'a> Code<'a> {
         Ok(())
     }
 
-    /// So many top bits of two columns are compared from the top down, with skips.
+    /// Returns how many top bits of two columns are compared from the top down, with skips.
     pub(crate) fn skipped_bits(&self) -> u32 {
         if !self.with_skips {
             return 0;
@@ -419,13 +422,13 @@ impl<'a> Code<'a> {
         most
     }
 
-    /// Lets the skips from this one on meet before the next instruction.
+    /// Requests that the skips from this one on meet before the next instruction.
     pub(crate) fn meet_from(&mut self, first: usize) {
         self.meeting = self.meeting.min(first);
     }
 
-    /// Lets skips meet here, if some are to. One by which a register that is needed can't be shown
-    /// to hold what it holds from above is taken back.
+    /// Lets skips meet here, if requested. A skip is removed if it can't be proved that every
+    /// needed register has the same value by it as from above.
     pub(crate) fn meet(&mut self) -> Result<(), Refusal> {
         let first = self.meeting;
         self.meeting = usize::MAX;
@@ -449,7 +452,8 @@ impl<'a> Code<'a> {
         Ok(())
     }
 
-    /// Whether by a skip each register that is needed is shown to hold what it holds from above.
+    /// Returns whether every needed register can be proved to have the same value by a skip as from
+    /// above.
     fn can_meet(&mut self, at: usize) -> Result<bool, Refusal> {
         for register in 0..64u8 {
             if !self.can_keep(register, at)? {
@@ -459,7 +463,7 @@ impl<'a> Code<'a> {
         Ok(true)
     }
 
-    /// The same of one register.
+    /// Returns the same of one register.
     fn can_keep(&mut self, register: Register, at: usize) -> Result<bool, Refusal> {
         let Some(node) = self.needed_node(register) else {
             return Ok(true);
@@ -473,13 +477,13 @@ impl<'a> Code<'a> {
         Ok(self.edge(tested, held, node)?.is_some())
     }
 
-    /// The node of a register, if that is needed.
+    /// Returns the node of a register, if the register is needed.
     fn needed_node(&self, register: Register) -> Option<u32> {
         let known = self.registers.get(register as usize)?;
         if known.needed { known.node } else { None }
     }
 
-    /// Takes a skip back, with its instruction and its line: what stands after it moves up by one.
+    /// Removes a skip, its instruction and its line. What comes after moves up by one.
     fn take_back(&mut self, at: usize) {
         let Some((number, line)) = self.skips.get(at).map(|skip| (skip.number, skip.line)) else {
             return;
@@ -511,7 +515,7 @@ impl<'a> Code<'a> {
         }
     }
 
-    /// Gives a skip its target.
+    /// Sets the target of a skip.
     fn aim(&mut self, at: usize, target: usize) {
         let Some(skip) = self.skips.get(at) else {
             return;
@@ -523,7 +527,7 @@ impl<'a> Code<'a> {
         }
     }
 
-    /// Keeps a register where skips meet, if it's needed, or holds the same plane by each way.
+    /// Keeps a register where skips meet, if it is needed or has the same node by each skip.
     fn keep(&mut self, register: Register, first: usize) -> Result<(), Refusal> {
         let Some(kept) = self.registers.get(register as usize).copied() else {
             return Ok(());
@@ -540,7 +544,7 @@ impl<'a> Code<'a> {
         Ok(())
     }
 
-    /// The line of a register that is kept where skips meet.
+    /// Appends the line of a register that is kept where skips meet.
     fn keep_node(&mut self, register: Register, node: u32, first: usize) -> Result<(), Refusal> {
         let through = self.facts.row(self.order, Connective::Xor, node, node)?;
         let begin = self.edges.len();
@@ -552,7 +556,7 @@ impl<'a> Code<'a> {
         Ok(())
     }
 
-    /// Appends the pair of a register that is kept where a skip meets.
+    /// Appends the product rows of a register that is kept where a skip meets.
     fn put_edge(
         &mut self,
         register: Register,
@@ -570,8 +574,8 @@ impl<'a> Code<'a> {
         Ok(())
     }
 
-    /// The rows of a register that holds the same node by a skip as from above, of which one says that the node differs
-    /// from itself nowhere. They show so whatever the skip's own node is.
+    /// Returns the product rows of a register that has the same node by a skip as from above. One
+    /// says that the node differs from itself nowhere, so they suffice whatever the skip's node is.
     fn same(&mut self, tested: u32, differs: u32) -> Result<EdgeProducts, Refusal> {
         let within = self.facts.row(self.order, Connective::Diff, 0, tested)?;
         Ok(EdgeProducts {
@@ -580,7 +584,7 @@ impl<'a> Code<'a> {
         })
     }
 
-    /// Whether a register holds this node by each skip.
+    /// Returns whether a register has this node by each skip.
     fn is_everywhere(&self, register: Register, node: u32, first: usize) -> bool {
         for at in first..self.skips.len() {
             let known = self.skips.get(at);
@@ -592,8 +596,8 @@ impl<'a> Code<'a> {
         true
     }
 
-    /// The rows by which a register that holds a node at a skip may be taken to hold another where skips meet, if they
-    /// show so: the two differ nowhere where the skip's own node is 0.
+    /// Returns the product rows that prove that a register with node `held` at a skip has the value
+    /// of `node` where skips meet, if it has: the two differ nowhere where the skip's node is 0.
     fn edge(&mut self, tested: u32, held: u32, node: u32) -> Result<Option<EdgeProducts>, Refusal> {
         let differs = self.facts.row(self.order, Connective::Xor, held, node)?;
         let within = self
@@ -608,21 +612,22 @@ impl<'a> Code<'a> {
         }))
     }
 
-    /// The nodes of a skip's own register and of another one there, if that is known.
+    /// Returns the node of a skip's own register, and that of another register there, if it is
+    /// known.
     fn at_skip(&self, register: Register, at: usize) -> Option<(u32, u32)> {
         let skip = self.skips.get(at)?;
         let held = skip.nodes.get(register as usize).copied()?;
         Some((skip.tested, held?))
     }
 
-    /// Whether a skip stands among the instructions from a number on.
+    /// Returns whether any instruction from a number on is a skip.
     pub(crate) fn has_skips_from(&self, number: usize) -> bool {
         let rest = self.instrs.get(number..).unwrap_or(&[]);
         rest.iter().any(|instr| matches!(instr, Instr::Skip(..)))
     }
 }
 
-/// The line of a register that a join keeps; none where it isn't one of r0 to r63.
+/// Returns the line of a register that a join keeps, or none if it isn't r0 to r63.
 fn keep_line(
     register: Register,
     node: u32,

@@ -6,8 +6,8 @@ use bw_diagram::ChainKind;
 use bw_model::{Op, Operand, Truth};
 use bw_program::ColumnIndex;
 
-/// A comparison of a column's code with a number: the code is less than (equal to) `limit`, or,
-/// where it is negated, it isn't.
+/// A comparison of a column's code with a number: the code is less than (equal to) `limit`, or
+/// isn't if `negated`.
 #[derive(Clone, Copy)]
 pub(crate) struct LiteralComparison {
     pub(crate) column: ColumnIndex,
@@ -16,8 +16,8 @@ pub(crate) struct LiteralComparison {
     pub(crate) negated: bool,
 }
 
-/// A comparison of the codes of two columns: the left one is less than (equal to) the right one, or,
-/// where it is negated, it isn't.
+/// A comparison of the codes of two columns: the left one is less than (equal to) the right one, or
+/// isn't if `negated`.
 #[derive(Clone, Copy)]
 pub(crate) struct ColumnComparison {
     pub(crate) kind: ChainKind,
@@ -52,13 +52,13 @@ impl ColumnComparison {
         }
     }
 
-    /// The order in which the comparison's nodes test the variables of the two columns.
+    /// Returns the order in which the comparison's nodes test variables.
     pub(crate) fn order(self) -> VariableOrder {
         VariableOrder::Places(self.right)
     }
 }
 
-/// What a comparison is.
+/// A comparison of operands.
 #[derive(Clone, Copy)]
 pub(crate) enum Comparison {
     /// The same truth on every row.
@@ -67,8 +67,9 @@ pub(crate) enum Comparison {
     Columns(ColumnComparison),
 }
 
-/// What a comparison of operands is: a column's code stands for its value. Refused are, as
-/// `NoProgram`, columns that the schema hasn't, and two columns with different least values.
+/// Returns what a comparison of operands means for codes.
+///
+/// Errors: `NoProgram` for columns that the schema lacks, and for two columns of unequal minimums.
 pub(crate) fn compare(
     facts: &Facts<'_>,
     op: Op,
@@ -91,7 +92,7 @@ pub(crate) fn compare(
     }
 }
 
-/// The comparison of a column with a literal.
+/// Returns the comparison of a column with a literal.
 fn with_literal(
     facts: &Facts<'_>,
     op: Op,
@@ -116,7 +117,7 @@ fn with_literal(
     })
 }
 
-/// The comparison of two columns, which have one least value.
+/// Returns the comparison of two columns of the same minimum.
 fn with_column(facts: &Facts<'_>, op: Op, c: usize, d: usize) -> Result<ColumnComparison, Refusal> {
     let (c, d) = (facts.column(c)?, facts.column(d)?);
     if facts.lo(c)? != facts.lo(d)? {

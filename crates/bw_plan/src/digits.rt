@@ -1,13 +1,13 @@
-//! The digits of a byte, of four bits each, for long lists of numbers: whether a byte is a number is
-//! then one AND of two registers, and needs no look at the byte.
+//! The digits of a byte, of four bits each, for long lists of numbers: whether a byte is a number
+//! is then one AND of two registers, and needs no byte comparison.
 use crate::code::Code;
 use crate::refusal::Refusal;
 use crate::sets::groups_from;
 use bw_diagram::{ChainKind, Connective};
 use bw_program::{ColumnIndex, Register, SliceIndex};
 
-/// Registers that are 1 where the upper digit of a byte is 0, 1 and so on, and where the lower one is. A byte of four
-/// bits or fewer has no upper digit.
+/// Registers that are 1 where the upper digit of a byte is 0, 1 and so on, and where the lower one
+/// is. A byte of four bits or fewer has no upper digit.
 #[derive(Clone, Copy)]
 pub(crate) struct Digits {
     slice: SliceIndex,
@@ -15,28 +15,30 @@ pub(crate) struct Digits {
     lower: [Register; 16],
 }
 
-/// A register that is 1 where the upper digit of a byte is this one, and a mask is 1.
+/// A register that is 1 where a byte has this upper digit and a mask is 1.
 #[derive(Clone, Copy)]
 pub(crate) struct Upper {
     digit: u8,
     register: Register,
 }
 
-/// Two digits take 64 instructions, and pay where a byte is compared with so many numbers: a look at it takes ten times
-/// as long as an AND.
+/// Two digits take 64 instructions, and save time if a byte is compared with so many numbers: a
+/// byte comparison takes ten times as long as an AND.
 const MANY_NUMBERS: usize = 48;
 
-/// The same of the digit of a byte of four bits.
+/// The same for the digit of a byte of four bits.
 const SOME_NUMBERS: usize = 10;
 
-/// Two digits are kept where so many registers are free, a third one where all but a few are.
+/// Two digits are kept if so many registers are free.
 const ROOM_FOR_TWO: usize = 48;
 
+/// A third digit is kept if so many registers are free.
 const ROOM_FOR_THREE: usize = 60;
 
 impl Code<'_> {
-    /// Makes the digits of the byte that is compared most often where rows are in no order, if that is often: the
-    /// lowest one with at most nine bits above it that aren't the same in all bounds. Those bits may have digits too.
+    /// Makes the digits of the byte that is compared most often if rows are in no order, if it is
+    /// compared often: the lowest with at most nine bits above it that aren't the same in all
+    /// bounds. These bits may have a digit too.
     pub(crate) fn split_bytes(
         &mut self,
         column: ColumnIndex,
@@ -72,12 +74,12 @@ impl Code<'_> {
         Ok(())
     }
 
-    /// The byte of which both digits are kept.
+    /// Returns the byte of which both digits are kept.
     pub(crate) fn split_slice(&self) -> Option<SliceIndex> {
         self.digits.map(|digits| digits.slice)
     }
 
-    /// Registers that are 1 where the four bits from one on are 0, 1 and so on.
+    /// Returns registers that are 1 where the four bits from `start` are 0, 1 and so on.
     fn digit(&mut self, column: ColumnIndex, start: u32) -> Result<[Register; 16], Refusal> {
         let low = self.two_bits(column, start)?;
         let high = self.two_bits(column, start.saturating_add(2))?;
@@ -91,7 +93,7 @@ impl Code<'_> {
         Ok(made)
     }
 
-    /// Registers that are 1 where the two bits from one on are 0, 1, 2 and 3.
+    /// Returns registers that are 1 where the two bits from `start` are 0, 1, 2 and 3.
     fn two_bits(&mut self, column: ColumnIndex, start: u32) -> Result<[Register; 4], Refusal> {
         let low = self.bit(column, start)?;
         let high = self.bit(column, start.saturating_add(1))?;
@@ -105,7 +107,7 @@ impl Code<'_> {
         Ok([none, first, second, both])
     }
 
-    /// Lets the registers of all digits go.
+    /// Releases the registers of all digits.
     pub(crate) fn forget_digits(&mut self) {
         for digits in [self.digits, self.top_digit] {
             let Some(digits) = digits else {
@@ -124,8 +126,8 @@ impl Code<'_> {
         self.top_digit = None;
     }
 
-    /// A register that is 1 where a byte is a number, and so is a mask, if there is one. `before` is
-    /// kept from number to number, in their order, and let go after them.
+    /// A register that is 1 where a byte is a number, and so is a mask, if there is one. `before`
+    /// is kept from number to number, in their order, and let go after them.
     pub(crate) fn same_byte(
         &mut self,
         column: ColumnIndex,
@@ -144,7 +146,7 @@ impl Code<'_> {
         Ok(same)
     }
 
-    /// The digits of a byte, if they are kept.
+    /// Returns the digits of a byte, if they are kept.
     fn digits_of(&self, slice: SliceIndex) -> Option<Digits> {
         let top = self.top_digit.filter(|digits| digits.slice == slice);
         top.or(self.digits.filter(|digits| digits.slice == slice))

@@ -21,7 +21,7 @@ use bw_program::{ColumnIndex, Instr, Program, Register, SliceIndex};
 use bw_text::{Opcode, Piece, push_line};
 use std::alloc::{AllocError, Global};
 
-/// The program of instructions and a result register, by its text.
+/// Returns the program of instructions and a result register, by its text.
 pub(crate) fn program(
     alloc: Global,
     schema: &Schema,
@@ -98,7 +98,7 @@ fn put_three(
     push_line(alloc, &pieces, text)
 }
 
-/// Appends the line of a comparison of bytes.
+/// Appends the line of a byte comparison.
 fn put_byte(
     alloc: Global,
     schema: &Schema,
@@ -113,12 +113,12 @@ fn put_byte(
     push_line(alloc, &pieces, text)
 }
 
-/// An opcode, as the first piece of a line.
+/// Returns an opcode as the first piece of a line.
 fn word(opcode: Opcode) -> Piece<'static> {
     Piece::Word(opcode.spelling())
 }
 
-/// The name of the column of a number, as a piece of a line; nothing where the schema has no such column.
+/// Returns a column's name as a piece of a line, or nothing if the schema has no such column.
 fn name_of(schema: &Schema, column: ColumnIndex) -> Piece<'_> {
     match schema.columns.get(column as usize) {
         Some(column) => Piece::Word(column.name.as_bytes()),
@@ -126,8 +126,7 @@ fn name_of(schema: &Schema, column: ColumnIndex) -> Piece<'_> {
     }
 }
 
-/// The certificate of facts and lines, whose lines have the numbers that they have in a program
-/// file.
+/// Returns the certificate of facts and lines, numbered as in a program file.
 pub(crate) fn certificate(
     alloc: Global,
     schema: &Schema,
@@ -155,7 +154,7 @@ pub(crate) fn certificate(
     Ok(Certificate::new(nodes, chains, rows, body, end))
 }
 
-/// The lines of nodes, from a number of a line on.
+/// Returns the lines of nodes. The first line has the number `first`.
 fn node_lines(alloc: Global, nodes: &[Branch], first: u64) -> Result<Vec<NodeLine>, Refusal> {
     let mut lines = Vec::with_capacity(alloc, nodes.len())?;
     for node in nodes {
@@ -165,7 +164,7 @@ fn node_lines(alloc: Global, nodes: &[Branch], first: u64) -> Result<Vec<NodeLin
     Ok(lines)
 }
 
-/// The lines of chains.
+/// Returns the lines of chains.
 fn chain_lines(
     alloc: Global,
     schema: &Schema,
@@ -186,7 +185,7 @@ fn chain_lines(
     Ok(lines)
 }
 
-/// The lines of product rows.
+/// Returns the lines of product rows.
 fn product_lines(
     alloc: Global,
     rows: &Ledger<Row>,
@@ -203,7 +202,7 @@ fn product_lines(
     Ok(lines)
 }
 
-/// The lines of the condition, the instructions and the joins.
+/// Returns the lines of the condition, the instructions and the joins.
 fn body_lines(
     alloc: Global,
     entries: &[PlannedLine],
@@ -221,7 +220,7 @@ fn body_lines(
     Ok(lines)
 }
 
-/// The line of a node.
+/// Returns the line of a node.
 fn node_line(line: u64, number: u64, node: Branch) -> NodeLine {
     NodeLine {
         line,
@@ -232,7 +231,7 @@ fn node_line(line: u64, number: u64, node: Branch) -> NodeLine {
     }
 }
 
-/// The line of a product row.
+/// Returns the line of a product row.
 fn row_line(line: u64, number: u64, row: Row) -> ProductLine {
     let reason = match row.reason {
         None => Reason::Shortcut,
@@ -253,7 +252,7 @@ fn row_line(line: u64, number: u64, row: Row) -> ProductLine {
     }
 }
 
-/// The line of a chain.
+/// Returns the line of a chain.
 fn chain_line(
     alloc: Global,
     schema: &Schema,
@@ -292,7 +291,7 @@ fn chain_line(
     })
 }
 
-/// The name of a column, which the schema finds again.
+/// Returns the name of a column, by which the schema finds it.
 fn name(alloc: Global, schema: &Schema, column: ColumnIndex) -> Result<Vec<u8>, Refusal>
     ensures { IfOk result (λ word. IsTrue (is_column schema.now.columns.items word.items)) }
 {

@@ -18,8 +18,8 @@ pub(crate) struct Extent {
     pub(crate) products: usize,
 }
 
-/// The nodes, chains and product rows of a certificate, under a schema. Each stands once, after
-/// those that it follows from, and is added where it is first asked for.
+/// The nodes, chains and product rows of a certificate, under a schema. Each occurs once, after
+/// those it follows from, and is added when it is first requested.
 #[derive(Drop)]
 pub(crate) struct Facts<'a> {
     pub(crate) alloc: Global,
@@ -32,8 +32,8 @@ pub(crate) struct Facts<'a> {
 }
 
 impl<'a> Facts<'a> {
-    /// No facts yet, for a condition, whose columns give the order of variables. A schema has at most 64
-    /// columns, so each has a number that a byte holds: refused is out of memory alone.
+    /// Returns no facts, for a condition whose columns give the order of variables. A schema has at
+    /// most 64 columns, so their numbers fit a byte, and the only error is `NoMemory`.
     pub(crate) fn new(alloc: Global, schema: &'a Schema, cond: &Cond) -> Result<Self, Refusal> {
         Ok(Facts {
             alloc,
@@ -46,7 +46,7 @@ impl<'a> Facts<'a> {
         })
     }
 
-    /// How many there are so far.
+    /// Returns how many there are so far.
     pub(crate) fn extent(&self) -> Extent {
         Extent {
             nodes: self.nodes().len(),
@@ -55,35 +55,37 @@ impl<'a> Facts<'a> {
         }
     }
 
-    /// Drops what came after there were so many.
+    /// Removes what was added since there were so many.
     pub(crate) fn return_to(&mut self, extent: Extent) {
         self.products.truncate(extent.products);
         self.chains.truncate(extent.chains);
         self.nodes.truncate(extent.nodes);
     }
 
-    /// The nodes, of which the first has number 2.
+    /// Returns the nodes. The first has number 2.
     pub(crate) fn nodes(&self) -> &[Branch] {
         self.nodes.as_slice()
     }
 
-    /// The chains, of which the first has number 0.
+    /// Returns the chains. The first has number 0.
     pub(crate) fn chains(&self) -> &Ledger<Link> {
         &self.chains
     }
 
-    /// The product rows, of which the first has number 0.
+    /// Returns the product rows. The first has number 0.
     pub(crate) fn products(&self) -> &Ledger<Row> {
         &self.products
     }
 
-    /// From now on there may be so many product rows.
+    /// Sets the limit of product rows.
     pub(crate) fn limit_products(&mut self, limit: u32) {
         self.products.set_limit(limit);
     }
 
-    /// The product row of a connective of nodes `a` and `b`, whose variables are tested in this
-    /// order. Refused is, as `NoProgram`, what would pass 65,534 nodes or the limit of rows.
+    /// Returns the product row of a connective of nodes `a` and `b`, whose variables are tested in
+    /// this order.
+    ///
+    /// Errors: `NoProgram` past 65,534 nodes or the limit of rows.
     pub(crate) fn row(
         &mut self,
         order: VariableOrder,
@@ -101,9 +103,10 @@ impl<'a> Facts<'a> {
         )
     }
 
-    /// The chain that compares `len` bits of a column's code, at most 63, from bit `start` on, with
-    /// the low bits of a number. Refused are, as `NoProgram`, bits that the column hasn't, and what
-    /// would pass 65,534 nodes or 65,536 chains.
+    /// Returns the chain that compares `len` bits of a column's code, at most 63, from bit `start`,
+    /// with the low bits of a number.
+    ///
+    /// Errors: `NoProgram` if the column lacks the bits, or past 65,534 nodes or 65,536 chains.
     pub(crate) fn bound(
         &mut self,
         kind: ChainKind,
@@ -124,8 +127,10 @@ impl<'a> Facts<'a> {
         })
     }
 
-    /// The chain that compares the codes of two columns, of which the shorter one has zeros above
-    /// its top bit. Refused is, as `NoProgram`, what would pass 65,534 nodes or 65,536 chains.
+    /// Returns the chain that compares the codes of two columns, the shorter one with zeros above
+    /// its top bit.
+    ///
+    /// Errors: `NoProgram` past 65,534 nodes or 65,536 chains.
     pub(crate) fn columns(
         &mut self,
         kind: ChainKind,
@@ -161,8 +166,9 @@ impl<'a> Facts<'a> {
         }
     }
 
-    /// The node that is 1 where a bit of a column's code is 1. Refused are, as `NoProgram`, a bit
-    /// that the column hasn't, and what would pass 65,534 nodes.
+    /// Returns the node that is 1 where a bit of a column's code is 1.
+    ///
+    /// Errors: `NoProgram` if the column lacks the bit, or past 65,534 nodes.
     pub(crate) fn bit(&mut self, column: ColumnIndex, bit: u32) -> Result<u32, Refusal> {
         match chains::variable(self.schema, column, bit) {
             Some(variable) => self.nodes.test(variable, 0, 1),
@@ -170,17 +176,17 @@ impl<'a> Facts<'a> {
         }
     }
 
-    /// How many comparisons of two different columns the condition has.
+    /// Returns how many comparisons of two different columns the condition has.
     pub(crate) fn relations(&self) -> usize {
         self.ranks.relations
     }
 
-    /// How many bits the codes of the condition's columns have.
+    /// Returns how many bits the codes of the condition's columns have.
     pub(crate) fn bits(&self) -> u32 {
         self.ranks.bits
     }
 
-    /// How many bits a column's codes have: none, where there is no such column.
+    /// Returns how many bits a column's codes have, or 0 if there is no such column.
     pub(crate) fn width(&self, column: ColumnIndex) -> u32 {
         let column = column as usize;
         if column < self.schema.columns.len() {
@@ -190,8 +196,9 @@ impl<'a> Facts<'a> {
         }
     }
 
-    /// The least value of a column, whose code is 0. Refused is, as `NoProgram`, a column that the
-    /// schema hasn't.
+    /// Returns the minimum of a column, whose code is 0.
+    ///
+    /// Errors: `NoProgram` if the schema lacks the column.
     pub(crate) fn lo(&self, column: ColumnIndex) -> Result<i64, Refusal> {
         match self.schema.columns.get(column as usize) {
             Some(column) => Ok(column.lo),
@@ -199,8 +206,9 @@ impl<'a> Facts<'a> {
         }
     }
 
-    /// A column's number as instructions hold it. Refused is, as `NoProgram`, a number that is none of
-    /// the schema's columns, of which there are at most 64.
+    /// Returns a column's number as instructions store it.
+    ///
+    /// Errors: `NoProgram` if the schema lacks the column.
     pub(crate) fn column(&self, column: usize) -> Result<ColumnIndex, Refusal> {
         if column >= self.schema.columns.len() {
             return Err(Refusal::NoProgram);

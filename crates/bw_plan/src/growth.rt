@@ -3,7 +3,7 @@ use crate::facts::{Extent, Facts};
 use crate::nodes::MAX_NODES;
 use crate::refusal::Refusal;
 
-/// Before anything is foretold, the first parts take this part of the product rows that there may be.
+/// Nothing is forecast before the first parts have taken this part of the limit of product rows.
 const FIRST_ROWS: usize = 8;
 
 /// How many parts were joined, and which facts there were then.
@@ -13,8 +13,8 @@ struct Mark {
     extent: Extent,
 }
 
-/// The parts of a condition, as they are joined one after another. A part takes as many nodes and product rows as those
-/// before it or more, since what it is joined with has grown.
+/// The parts of a condition, which are joined one after another. A part takes at least as many
+/// nodes and product rows as those before it, since what it is joined with has grown.
 #[derive(Clone, Copy)]
 pub(crate) struct Growth {
     parts: usize,
@@ -26,7 +26,7 @@ pub(crate) struct Growth {
 }
 
 impl Growth {
-    /// So many parts, of which none is joined.
+    /// Returns so many parts, none of them joined.
     pub(crate) fn of(parts: usize, facts: &Facts<'_>) -> Self {
         let start = facts.extent();
         let none = Mark {
@@ -42,8 +42,10 @@ impl Growth {
         }
     }
 
-    /// One part more is joined. Refused is, as `NoProgram`, what would pass the limit of nodes or that of product rows, if
-    /// each part that is left took as many as the last half of the parts so far.
+    /// Records that one more part is joined.
+    ///
+    /// Errors: `NoProgram` if the limit of nodes or of product rows would be passed, if each
+    /// remaining part took as many as the last half of the parts so far.
     pub(crate) fn join(&mut self, facts: &Facts<'_>) -> Result<(), Refusal> {
         self.joined = self.joined.saturating_add(1);
         let now = facts.extent();
@@ -66,7 +68,8 @@ impl Growth {
         Ok(())
     }
 
-    /// How many there will be once all parts are joined, if there are so many now and were so many early.
+    /// How many there will be once all parts are joined, if there are so many now and were so many
+    /// early.
     fn foretold(&self, early: usize, now: usize) -> usize {
         let parts = self.joined.saturating_sub(self.early.joined).max(1);
         let each = now.saturating_sub(early) / parts;

@@ -1,29 +1,31 @@
-//! Facts in the order in which they came, each of which stands once and is found again.
+//! Facts in the order in which they were added, each of which occurs once and can be found.
 use crate::refusal::Refusal;
 use std::alloc::Global;
 
-/// What a ledger has once.
+/// What a ledger contains once.
 pub(crate) trait Entry: Copy {
-    /// Two words of what it is of. Most entries that differ have other ones.
+    /// Returns two words of its key. Most entries with different keys have different words.
     fn words(self) -> [u64; 2];
 
-    /// Whether it is of the same as another.
+    /// Returns whether it has the same key as another.
     fn is_alike(self, other: Self) -> bool;
 }
 
-/// An entry, and the number of the one before it whose words have the same hash, from 1 on, or 0.
+/// An entry, and the number of the one before it with the same hash, plus 1, or 0.
 #[derive(Clone, Copy)]
 struct Slot<T: Entry> {
     entry: T,
     before: u32,
 }
 
-/// Entries in order, numbered from 0 on. Those whose words have one hash are chained from the last to the first. To
-/// find and to add entries is most of the planner's work: beside an `IndexMap` this takes a third of the time.
+/// Entries in order, numbered from 0. Those with one hash are chained from the last to the first.
+/// Most of the planner's work is to find and to add entries: this takes a third of the time of an
+/// `IndexMap`.
 #[derive(Drop)]
 pub(crate) struct Ledger<T: Entry> {
     slots: Vec<Slot<T>>,
-    /// For each hash the number of the last entry that has it, from 1 on, or 0; a power of two of them.
+    /// For each hash the number of the last entry that has it, from 1 on, or 0; a power of two of
+    /// them.
     last: Vec<u32>,
     limit: u32,
 }
@@ -32,7 +34,7 @@ pub(crate) struct Ledger<T: Entry> {
 const FEWEST_HASHES: usize = 256;
 
 impl<T: Entry> Ledger<T> {
-    /// No entries, of which there may be so many.
+    /// Returns no entries, of which there may be so many.
     pub(crate) fn new(alloc: Global, limit: u32) -> Self {
         Ledger {
             slots: Vec::new(alloc),
@@ -41,28 +43,28 @@ impl<T: Entry> Ledger<T> {
         }
     }
 
-    /// From now on there may be so many.
+    /// Sets how many there may be.
     pub(crate) fn set_limit(&mut self, limit: u32) {
         self.limit = limit;
     }
 
-    /// How many there may be.
+    /// Returns how many there may be.
     pub(crate) fn limit(&self) -> usize {
         self.limit as usize
     }
 
-    /// How many there are.
+    /// Returns how many there are.
     pub(crate) fn len(&self) -> usize {
         self.slots.len()
     }
 
-    /// The entry of a number.
+    /// Returns the entry of a number.
     pub(crate) fn get(&self, number: usize) -> Option<T> {
         let slot = self.slots.get(number)?;
         Some(slot.entry)
     }
 
-    /// The number of the entry that is of the same as another, and that entry.
+    /// Returns the entry with the same key as another, and its number.
     pub(crate) fn find(&self, wanted: T) -> Option<(u32, T)> {
         let mut next = *self.last.get(place(wanted, self.last.len()))?;
         for _ in 0..self.slots.len() {
@@ -76,8 +78,9 @@ impl<T: Entry> Ledger<T> {
         None
     }
 
-    /// Adds an entry, of which there is none that is of the same, and gives its number. Refused is, as `NoProgram`, one
-    /// more than there may be.
+    /// Adds an entry with a new key, and returns its number.
+    ///
+    /// Errors: `NoProgram` past the limit.
     pub(crate) fn push(&mut self, entry: T) -> Result<u32, Refusal> {
         let number = u32::try_from(self.slots.len()).unwrap_or(u32::MAX);
         if number >= self.limit {
@@ -96,7 +99,7 @@ impl<T: Entry> Ledger<T> {
         Ok(number)
     }
 
-    /// Drops the entries from this number on.
+    /// Removes the entries from this number on.
     pub(crate) fn truncate(&mut self, number: usize) {
         for _ in 0..self.slots.len().saturating_sub(number) {
             let Some(slot) = self.slots.pop() else {
@@ -126,8 +129,8 @@ impl<T: Entry> Ledger<T> {
     }
 }
 
-/// The place of an entry's hash among so many, a power of two: bits of products with odd numbers (Knuth, The Art of
-/// Computer Programming, 6.4).
+/// Returns the place of an entry's hash among a power of two of them: bits of products with odd
+/// numbers (Knuth, The Art of Computer Programming, 6.4).
 fn place<T: Entry>(entry: T, count: usize) -> usize {
     let [first, second] = entry.words();
     let mixed = first.wrapping_mul(0x9E37_79B9_7F4A_7C15) ^ second;

@@ -4,7 +4,7 @@ ghost use Rattle.std.specs.Prelude.{◌<◌};
 use bw_cert_text::{ConditionEntry, EdgePairs, EdgeProducts, Entry, InstructionEntry, Keep};
 use bw_program::Register;
 
-/// What a line says.
+/// A line's fields.
 #[derive(Clone, Copy)]
 pub(crate) enum PlannedLine {
     Condition(ConditionEntry),
@@ -14,7 +14,8 @@ pub(crate) enum PlannedLine {
     Keep(KeepLine),
 }
 
-/// A line KEEP. Its pairs stand in a list that all lines share, from one place on and before another.
+/// A line KEEP. Its product rows are those from `first` and before `end` in a list that all lines
+/// share.
 #[derive(Clone, Copy)]
 pub(crate) struct KeepLine {
     pub(crate) register: Register,
@@ -26,7 +27,7 @@ pub(crate) struct KeepLine {
 }
 
 impl PlannedLine {
-    /// The same, as a certificate's line says it, with the pairs of all lines.
+    /// Returns the line as a certificate has it. `edges` are the product rows of all lines KEEP.
     pub(crate) fn entry(self, edges: &[EdgeProducts]) -> Entry<'_> {
         match self {
             PlannedLine::Condition(entry) => Entry::Condition(entry),

@@ -1,13 +1,13 @@
-//! Nodes, each of which stands once.
+//! Nodes, each of which occurs once.
 use crate::refusal::Refusal;
 use indexmap::IndexSet;
 use std::alloc::Global;
 
-/// A certificate has at most this many nodes besides the two terminals.
+/// The most nodes of a certificate, besides the two terminals.
 pub(crate) const MAX_NODES: usize = 65_534;
 
-/// A node: the variable that it tests, and the numbers of its children, where the variable is 0 and
-/// where it is 1. Numbers 0 and 1 are the terminals.
+/// A node: the variable it tests, and the numbers of its children, for 0 and for 1. Numbers 0 and 1
+/// are the terminals.
 #[derive(Clone, Copy, PartialEq, Eq, Hash)]
 pub(crate) struct Branch {
     pub(crate) variable: u32,
@@ -15,37 +15,37 @@ pub(crate) struct Branch {
     pub(crate) high: u32,
 }
 
-/// The nodes from number 2 on; 0 and 1 are the terminals.
+/// The nodes from number 2 on.
 #[derive(Drop)]
 pub(crate) struct Nodes {
     set: IndexSet<Branch>,
 }
 
 impl Nodes {
-    /// No nodes but the terminals.
+    /// Returns no nodes but the terminals.
     pub(crate) fn new(alloc: Global) -> Self {
         Nodes {
             set: IndexSet::new(alloc),
         }
     }
 
-    /// Drops the nodes but so many.
+    /// Removes all but the first `count` nodes.
     pub(crate) fn truncate(&mut self, count: usize) {
         self.set.truncate(count);
     }
 
-    /// The nodes, of which the first has number 2.
+    /// Returns the nodes. The first has number 2.
     pub(crate) fn as_slice(&self) -> &[Branch] {
         self.set.as_slice()
     }
 
-    /// The node of a number, if it isn't a terminal.
+    /// Returns the node of a number, if it isn't a terminal.
     pub(crate) fn get(&self, number: u32) -> Option<Branch> {
         let index = (number as usize).checked_sub(2)?;
         self.set.get_index(index).copied()
     }
 
-    /// The number of a node, which is added where it isn't there.
+    /// Returns the number of a node, which is added if it is missing.
     pub(crate) fn test(&mut self, variable: u32, low: u32, high: u32) -> Result<u32, Refusal> {
         let node = Branch {
             variable,
@@ -59,8 +59,8 @@ impl Nodes {
         Ok(index as u32 + 2)
     }
 
-    /// The node with these children that a variable chooses between: where they are one node, that
-    /// node, unless it tests the variable itself.
+    /// Returns the node that tests a variable and has these children. If they are the same node, it
+    /// is that node, unless that tests the same variable.
     pub(crate) fn choice(&mut self, variable: u32, low: u32, high: u32) -> Result<u32, Refusal> {
         let tested = self.get(low).map(|node| node.variable);
         if low == high && tested != Some(variable) {

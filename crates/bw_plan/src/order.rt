@@ -1,11 +1,11 @@
-//! In which order diagrams test variables.
+//! The orders in which diagrams test variables.
 use crate::refusal::Refusal;
 use crate::sequence::{Sequence, sequence_of};
 use bw_model::{Cond, Operand, Schema};
 use bw_program::ColumnIndex;
 use std::alloc::Global;
 
-/// The bit number that a null variable is given, above those of all bits.
+/// The bit number of a null variable, above those of all bits.
 const NULL_BIT: u32 = 64;
 
 /// An order of the variables of a schema, in which the nodes of a product row test them.
@@ -19,7 +19,7 @@ pub(crate) enum VariableOrder {
     Places(u8),
 }
 
-/// Where a variable stands.
+/// The place of a variable in the orders.
 #[derive(Clone, Copy)]
 struct Standing {
     column: ColumnIndex,
@@ -27,7 +27,7 @@ struct Standing {
     rank: u32,
 }
 
-/// Where the variables of a schema stand in its orders.
+/// The places of a schema's variables in its orders.
 #[derive(Drop)]
 pub(crate) struct Ranks {
     standings: Vec<Standing>,
@@ -63,7 +63,7 @@ impl Ranks {
         })
     }
 
-    /// How early a variable is tested.
+    /// Returns how early a variable is tested.
     pub(crate) fn rank(&self, order: VariableOrder, variable: u32) -> u32 {
         let Some(standing) = self.standings.get(variable as usize) else {
             return u32::MAX;
@@ -78,8 +78,8 @@ impl Ranks {
     }
 }
 
-/// For each column, the place of the first of those that it is compared with, and how far it stands
-/// to the right among them.
+/// For each column, the place of the first column that it is compared with, directly or through
+/// others, and how far to the right it is among them.
 #[derive(Drop)]
 struct Groups {
     group: [u8; 64],
@@ -87,7 +87,7 @@ struct Groups {
 }
 
 impl Groups {
-    /// The groups of columns that are compared, left with right.
+    /// Returns the groups of columns that are compared, left with right.
     fn of(sequence: &Sequence, compared: &[(ColumnIndex, ColumnIndex)]) -> Self {
         let mut groups = Groups {
             group: [0; 64],
@@ -108,7 +108,7 @@ impl Groups {
         groups
     }
 
-    /// Puts two columns into one group, the right one further to the right. Answers whether
+    /// Puts two columns into one group, the right one further to the right. Returns whether
     /// anything changed.
     fn bring_together(&mut self, left: usize, right: usize) -> bool {
         if left >= 64 || right >= 64 {
@@ -128,7 +128,7 @@ impl Groups {
         changed
     }
 
-    /// Where the variable of a column's bit stands.
+    /// Returns the place of the variable of a column's bit.
     fn standing(&self, column: ColumnIndex, bit: u32) -> Standing {
         let group = self.group.get(column as usize).copied().unwrap_or(column);
         let level = self.level.get(column as usize).copied().unwrap_or(0);
@@ -169,7 +169,7 @@ fn collect(cond: &Cond, compared: &mut Vec<(ColumnIndex, ColumnIndex)>) -> Resul
     }
 }
 
-/// The same of each of some parts.
+/// Appends the same of each of some parts.
 #[cycle(collect)]
 fn collect_all(
     parts: &[Cond],

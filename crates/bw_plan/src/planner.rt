@@ -18,17 +18,20 @@ use bw_model::{Cond, Fault, Schema};
 use bw_program::{Program, Register};
 use std::alloc::Global;
 
-/// A program for a condition, and a certificate that is to show that it selects the right rows.
+/// A program for a condition, and a certificate that is to prove that it selects the right rows.
 #[derive(Drop)]
 pub struct Proposal {
     pub program: Program,
     pub certificate: Certificate,
 }
 
-/// Proposes a program for a condition, and a certificate for it. Both fit the schema; that they are right is the
-/// checker's to say. Refuses at no place: 651 where a limit of instructions, registers, nodes, chains or rows would be
-/// passed, two columns of unequal lowest values are compared, or looking up the rows one by one takes no longer, and
-/// out of memory (801). That the condition names columns of the schema is the caller's condition.
+/// Proposes a program for a condition, and a certificate for it. Both fit the schema. Whether they
+/// are right is left to the checker. The caller ensures that the condition's columns are the
+/// schema's.
+///
+/// Errors: 651, at no place, if a limit of instructions, registers, nodes, chains or rows would be
+/// passed, if two columns of unequal minimums are compared, or if the row-by-row fallback takes no
+/// longer. 801 if memory is refused.
 pub fn propose(alloc: Global, schema: &Schema, cond: &Cond) -> Result<Proposal, Fault>
     requires { IsTrue (names_within (length schema.now.columns.items) cond.now) }
     ensures program { IfOk result (λ proposal.
@@ -43,8 +46,8 @@ pub fn propose(alloc: Global, schema: &Schema, cond: &Cond) -> Result<Proposal, 
     }
 }
 
-/// A program for a condition: with skips, or if that isn't to be had, without, when it takes fewer instructions and
-/// nodes.
+/// A program for a condition: with skips, or if that isn't to be had, without, when it takes fewer
+/// instructions and nodes.
 fn planned(alloc: Global, schema: &Schema, cond: &Cond) -> Result<Proposal, Refusal>
     ensures program { IfOk result (λ proposal.
         IsTrue (fits schema.now.columns.items proposal.program)) }
@@ -62,7 +65,7 @@ fn planned(alloc: Global, schema: &Schema, cond: &Cond) -> Result<Proposal, Refu
     }
 }
 
-/// The program, with skips or without, and the row that ends the certificate.
+/// Returns the program, with skips or without, and the row that ends the certificate.
 fn program_of(schema: &Schema, cond: &Cond, code: &mut Code<'_>) -> Result<(Program, u32), Refusal>
     ensures { IfOk result (λ made. IsTrue (fits schema.now.columns.items made.0)) }
 {
@@ -104,7 +107,8 @@ fn agreeing(code: &mut Code<'_>, register: Register, wanted: u32) -> Result<u32,
     }
 }
 
-/// The certificate of the instructions, after as many lines as their program has, with the row that ends it.
+/// The certificate of the instructions, after as many lines as their program has, with the row that
+/// ends it.
 fn certified(schema: &Schema, code: Code<'_>, row: u32) -> Result<Certificate, Refusal>
     ensures { IfOk result (λ certificate.
         IsTrue (has_columns schema.now.columns.items (certificate_fields certificate))) }

@@ -1,18 +1,18 @@
-//! Product rows: connectives of nodes, each worked out once.
+//! Product rows: connectives of nodes, each computed once.
 use crate::ledger::{Entry, Ledger};
 use crate::nodes::{Branch, Nodes};
 use crate::order::{Ranks, VariableOrder};
 use crate::refusal::Refusal;
 use bw_diagram::Connective;
 
-/// The planner works out so many product rows for a program at most. A certificate may have more, but to work them out
-/// takes longer than to look up the rows of a small table.
+/// The planner's limit of product rows. A certificate may have more, but computing them takes
+/// longer than the row-by-row fallback takes for a small table.
 pub(crate) const MAX_PRODUCTS: u32 = 80_000;
 
-/// More steps than so many rows take: each is begun, goes on twice, and is asked for twice at most.
+/// More steps than the most rows take: each is begun, continued twice, and requested at most twice.
 const MAX_STEPS: u32 = 1_000_000;
 
-/// What a product row is of: a connective of two nodes by their numbers, worked out in an order of
+/// What a product row computes: a connective of two nodes by their numbers, in an order of
 /// variables.
 #[derive(Clone, Copy)]
 pub(crate) struct Question {
@@ -22,8 +22,8 @@ pub(crate) struct Question {
     pub(crate) b: u32,
 }
 
-/// The numbers of two earlier rows: those of the cofactors by a variable, where it is 0 and where it
-/// is 1. A row with a `Reason` of a certificate would take twice as much memory.
+/// The numbers of two earlier rows: those of the cofactors by a variable, for 0 and for 1. A row
+/// with a certificate's `Reason` would take twice as much memory.
 #[derive(Clone, Copy)]
 pub(crate) struct Cofactors {
     pub(crate) variable: u32,
@@ -31,7 +31,8 @@ pub(crate) struct Cofactors {
     pub(crate) high: u32,
 }
 
-/// A product row: what it is of, the number of its node, and the rows that it follows from, where it isn't a shortcut.
+/// A product row: what it computes, the number of its node, and the rows it follows from, if it
+/// isn't a shortcut.
 #[derive(Clone, Copy)]
 pub(crate) struct Row {
     pub(crate) question: Question,
@@ -40,7 +41,7 @@ pub(crate) struct Row {
 }
 
 impl Row {
-    /// A shortcut.
+    /// Returns a shortcut.
     const fn plain(question: Question, node: u32) -> Self {
         Row {
             question,
@@ -72,15 +73,16 @@ impl Entry for Row {
     }
 }
 
-/// A product row or a chain as a line cites it: its number, from 0 on, and the number of its node.
+/// A product row or a chain as a line references it: its number, from 0, and the number of its
+/// node.
 #[derive(Clone, Copy)]
 pub(crate) struct Cited {
     pub(crate) number: u32,
     pub(crate) node: u32,
 }
 
-/// A row that is being worked out: of what, the variable by which its nodes are split, what the row is of where that
-/// variable is 1, and the row where it is 0, once that is known.
+/// A row that isn't finished: what it computes, the variable that splits its nodes, what the row
+/// for 1 computes, and the row for 0, once it is known.
 #[derive(Clone, Copy)]
 pub(crate) struct Pending {
     question: Question,
@@ -89,14 +91,14 @@ pub(crate) struct Pending {
     low: Option<Cited>,
 }
 
-/// What comes next: a row that is to be found, or one that was.
+/// The next step: a row to find, or one that was found.
 #[derive(Clone, Copy)]
 enum Next {
     Find(Question),
     Found(Cited),
 }
 
-/// The row that answers a question, with those that it follows from added where they aren't there.
+/// Returns the row of a question, and adds it and those it follows from if they are missing.
 pub(crate) fn find_row(
     ranks: &Ranks,
     nodes: &mut Nodes,
@@ -120,8 +122,8 @@ pub(crate) fn find_row(
     Err(Refusal::NoProgram)
 }
 
-/// The row of a question, if it is there or is a shortcut; else first that where the variable by which it is split
-/// is 0.
+/// Returns the row of a question, if it is known or a shortcut; else the question for 0 of the
+/// variable that splits it.
 fn find(
     ranks: &Ranks,
     nodes: &Nodes,
@@ -141,7 +143,7 @@ fn find(
     Ok(Next::Find(low))
 }
 
-/// Goes on with a row that waited for another one, which was found.
+/// Continues a row that waited for another one, which was found.
 fn resume(
     nodes: &mut Nodes,
     rows: &mut Ledger<Row>,
@@ -179,7 +181,7 @@ fn add(rows: &mut Ledger<Row>, row: Row) -> Result<Next, Refusal> {
     Ok(Next::Found(Cited { number, node }))
 }
 
-/// The node of a connective that needs no earlier row, if it is a shortcut.
+/// Returns the node of a connective that follows from no earlier row, if it is one.
 fn shortcut(question: Question) -> Option<u32> {
     let Question { op, a, b, .. } = question;
     match op {
@@ -198,7 +200,8 @@ fn shortcut(question: Question) -> Option<u32> {
     }
 }
 
-/// What a row is of where the first variable that one of its two nodes tests is 0, and the row as it waits for that one.
+/// Returns the question for 0 of the first variable that one of two nodes tests, and the row that
+/// waits for it.
 fn split(ranks: &Ranks, nodes: &Nodes, question: Question) -> Result<(Question, Pending), Refusal> {
     let (a, b) = (nodes.get(question.a), nodes.get(question.b));
     let variable = match (a, b) {
@@ -237,8 +240,8 @@ fn split(ranks: &Ranks, nodes: &Nodes, question: Question) -> Result<(Question, 
     ))
 }
 
-/// What a node of a number is where a variable is 0, and where it is 1: its children, if it tests that variable; else
-/// itself.
+/// Returns the nodes that a node becomes for 0 and for 1 of a variable: its children if it tests
+/// that variable, else itself.
 fn children(node: Option<Branch>, number: u32, variable: u32) -> (u32, u32) {
     match node {
         Some(node) if node.variable == variable => (node.low, node.high),

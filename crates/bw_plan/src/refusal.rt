@@ -26,7 +26,7 @@ impl<T: Drop> From<AllocFailed<T>> for Refusal {
 }
 
 impl Refusal {
-    /// The fault that is reported, which stands nowhere: 651, or 801 for `NoMemory`.
+    /// Returns the error that is reported, at no place: 651, or 801 for `NoMemory`.
     pub(crate) fn fault(self) -> Fault
         ensures { IsRefusal result }
     {

@@ -10,14 +10,14 @@ use bw_program::Register;
 struct Bits {
     /// It is 1 where the bits differ.
     differs: Register,
-    /// Where the bits differ, it is 1 where the left one is 0. It is `differs` itself where only the
-    /// right column has the bit, and none where only the left one has it, or where nothing is asked
-    /// but whether the columns are equal.
+    /// Where the bits differ, it is 1 where the left one is 0. It is `differs` itself where only
+    /// the right column has the bit, and none where only the left one has it, or where nothing is
+    /// asked but whether the columns are equal.
     below: Option<Register>,
 }
 
-/// What the top bits of two columns say: where the left code is less by them, if that is asked, and
-/// where they are equal.
+/// The result of the top bits of two columns: where the left code is less by them, if that is
+/// needed, and where they are equal.
 #[derive(Clone, Copy)]
 struct Tops {
     less: Option<Register>,
@@ -25,9 +25,9 @@ struct Tops {
 }
 
 impl Code<'_> {
-    /// A register that is 1 where the code of a column is less than (equal to) that of another. Their
-    /// top bits are compared from the top down, with skips to where this ends if no row has them
-    /// equal so far, and the bits below from the lowest one up.
+    /// A register that is 1 where the code of a column is less than (equal to) that of another.
+    /// Their top bits are compared from the top down, with skips to where this ends if no row has
+    /// them equal so far, and the bits below from the lowest one up.
     pub(crate) fn relation(&mut self, relation: ColumnComparison) -> Result<Register, Refusal> {
         let left = self.facts.width(relation.left);
         let bits = left.max(self.facts.width(relation.right));
@@ -56,7 +56,7 @@ impl Code<'_> {
         Ok(less)
     }
 
-    /// What the bits of two columns say from the top down to one of them, if there are any.
+    /// Returns the result of the bits of two columns from the top down to `low`, if there are any.
     fn tops(
         &mut self,
         relation: ColumnComparison,
@@ -81,8 +81,8 @@ impl Code<'_> {
         Ok(same.map(|same| Tops { less, same }))
     }
 
-    /// Takes the next bit below into a comparison from the top down: where the code is less by the
-    /// bits so far, if that is asked, and, as the result, where the codes have them equal.
+    /// Adds the next bit below to a comparison from the top down. Updates where the code is less by
+    /// the bits so far, if that is needed, and returns where they are equal.
     fn next_below(
         &mut self,
         relation: ColumnComparison,
@@ -111,8 +111,8 @@ impl Code<'_> {
         Ok(same)
     }
 
-    /// A register that is 1 where so many low bits of a column spell a number that is less than
-    /// (equal to) that of another's.
+    /// Returns a register that is 1 where so many low bits of a column are a number less than
+    /// (equal to) that of another.
     fn lows(&mut self, relation: ColumnComparison, bits: u32) -> Result<Register, Refusal> {
         let made = self.fill(relation.kind == ChainKind::Equal)?;
         for bit in 0..bits {
@@ -134,7 +134,7 @@ impl Code<'_> {
         Ok(made)
     }
 
-    /// The registers of one bit of two columns, of which one has it.
+    /// Returns the registers of one bit of two columns, of which at least one has it.
     fn bits(&mut self, relation: ColumnComparison, bit: u32) -> Result<Bits, Refusal> {
         let on_left = bit < self.facts.width(relation.left);
         let on_right = bit < self.facts.width(relation.right);

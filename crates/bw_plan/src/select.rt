@@ -9,8 +9,8 @@ use bw_diagram::{ChainKind, Connective};
 use bw_program::{ColumnIndex, Register, SliceIndex};
 
 impl Code<'_> {
-    /// A register that is 1 where a column's code has an odd number of bounds above it. The bounds
-    /// are sorted and different.
+    /// Returns a register that is 1 where a column's code has an odd number of bounds above it. The
+    /// bounds are sorted and different.
     pub(crate) fn codes(
         &mut self,
         column: ColumnIndex,
@@ -36,7 +36,7 @@ impl Code<'_> {
         }
     }
 
-    /// A register that is 1 where a column has this code.
+    /// Returns a register that is 1 where a column has this code.
     fn code(
         &mut self,
         column: ColumnIndex,
@@ -54,9 +54,9 @@ impl Code<'_> {
         Ok(same)
     }
 
-    /// A register, `out` if there is one, with the lanes turned round that are 1 in `mask` and whose low bytes, from
-    /// this one down, have an odd number of bounds above them. A new register has these lanes among those of `mask`,
-    /// and in others anything.
+    /// Returns a register, `out` if there is one, with the lanes toggled that are 1 in `mask` and
+    /// whose low bytes, from this one down, have an odd number of bounds above them. A new register
+    /// has these lanes among those of `mask`, and any value in others.
     #[cycle(within)]
     fn within(
         &mut self,
@@ -85,8 +85,8 @@ impl Code<'_> {
         }
     }
 
-    /// The same for the bounds with one byte in common, where the codes have it too. A new register is 0 in other
-    /// lanes.
+    /// Returns the same for the bounds with one byte in common, where the codes have it too. A new
+    /// register is 0 in other lanes.
     #[cycle(within)]
     fn below(
         &mut self,
@@ -125,9 +125,9 @@ impl Code<'_> {
         Ok(Some(out))
     }
 
-    /// Takes those lanes out of a register whose byte is above that of the last bound, and skips where none is left.
-    /// That's so in most segments whose rows are in no order, if few codes remain, and else more than two looks at the
-    /// byte come.
+    /// Removes the lanes from a register whose byte is above that of the last bound, and skips if
+    /// none is left. This saves time in most segments whose rows are in no order, if few codes
+    /// remain and more than two comparisons of the byte follow.
     fn narrow(
         &mut self,
         column: ColumnIndex,
@@ -149,7 +149,7 @@ impl Code<'_> {
         self.skip(same)
     }
 
-    /// A register that is 1 where a byte has an odd number of the bounds' bytes above it.
+    /// Returns a register that is 1 where a byte has an odd number of the bounds' bytes above it.
     fn bytes(
         &mut self,
         column: ColumnIndex,

@@ -1,8 +1,8 @@
-//! In which order the columns of a condition are best tested.
+//! The best order of a condition's columns.
 use bw_model::{Cond, Operand, Schema};
 use bw_program::ColumnIndex;
 
-/// Some columns, the one that is tested first at the front, and how much is compared with them.
+/// Some columns, first the one that is tested first, and how much is compared with them.
 #[derive(Clone, Copy)]
 pub(crate) struct Sequence {
     columns: [ColumnIndex; 64],
@@ -11,7 +11,7 @@ pub(crate) struct Sequence {
 }
 
 impl Sequence {
-    /// No columns.
+    /// Returns no columns.
     fn new() -> Self {
         Sequence {
             columns: [0; 64],
@@ -20,7 +20,7 @@ impl Sequence {
         }
     }
 
-    /// The place of a column, or 64 where it isn't there.
+    /// Returns the place of a column, or 64 if it is missing.
     pub(crate) fn place(&self, column: ColumnIndex) -> u8 {
         for (place, other) in self.columns.iter().enumerate() {
             if place < self.count && *other == column {
@@ -30,7 +30,7 @@ impl Sequence {
         64
     }
 
-    /// How many bits the codes of these columns have.
+    /// Returns how many bits the codes of these columns have.
     pub(crate) fn bits(&self, schema: &Schema) -> u32 {
         let mut bits = 0u32;
         for column in self.columns.iter().take(self.count) {
@@ -42,7 +42,7 @@ impl Sequence {
         bits
     }
 
-    /// Puts a column after the others, if it isn't among them.
+    /// Appends a column, if it is missing.
     fn push(&mut self, column: ColumnIndex) {
         if self.place(column) < 64 {
             return;
@@ -53,7 +53,7 @@ impl Sequence {
         }
     }
 
-    /// Puts the column of an operand after the others, with which so many numbers are compared.
+    /// Appends the column of an operand, which is compared so many times.
     fn push_operand(&mut self, schema: &Schema, operand: Operand, times: usize) {
         let Operand::Col(column) = operand else {
             return;
@@ -70,7 +70,7 @@ impl Sequence {
         }
     }
 
-    /// These columns, and then others.
+    /// Returns these columns, and then others.
     fn then(mut self, others: Self) -> Self {
         for (place, column) in others.columns.iter().enumerate() {
             if place < others.count {
@@ -82,8 +82,8 @@ impl Sequence {
     }
 }
 
-/// The columns of a condition. Where parts are joined, the smaller one comes first: the nodes of the
-/// larger one then stand below it as they are.
+/// Returns the columns of a condition. If parts are joined, the smaller one comes first: the nodes
+/// of the larger one are then unchanged below it.
 #[cycle(sequence)]
 pub(crate) fn sequence_of(schema: &Schema, cond: &Cond) -> Sequence {
     let mut sequence = Sequence::new();
@@ -111,7 +111,7 @@ pub(crate) fn sequence_of(schema: &Schema, cond: &Cond) -> Sequence {
     sequence
 }
 
-/// The columns of some parts.
+/// Returns the columns of some parts.
 #[cycle(sequence)]
 fn sequence_of_all(schema: &Schema, parts: &[Cond]) -> Sequence {
     let mut made = Sequence::new();

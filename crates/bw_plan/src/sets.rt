@@ -139,17 +139,17 @@ fn literal_codes(alloc: Global, items: &[Operand], lo: i64) -> Result<Vec<i128>,
     Ok(codes)
 }
 
-/// A byte of a number.
+/// Returns a byte of a number.
 pub(crate) fn byte_of(number: u64, slice: SliceIndex) -> u8 {
     (number >> (u32::from(slice) * 8).min(63) & 0xff) as u8
 }
 
-/// What a byte leaves of a number: the bytes below it.
+/// Returns the bytes of a number below a byte.
 fn below(number: u64, slice: SliceIndex) -> u64 {
     number % (1 << (u32::from(slice) * 8).min(63))
 }
 
-/// The first of sorted bounds with one byte in common, and the others.
+/// Returns the first of sorted bounds, as many as have one byte in common, and the others.
 pub(crate) fn first_group(bounds: &[u64], slice: SliceIndex) -> (&[u64], &[u64]) {
     let Some((first, others)) = bounds.split_first() else {
         return (bounds, bounds);
@@ -162,7 +162,7 @@ pub(crate) fn first_group(bounds: &[u64], slice: SliceIndex) -> (&[u64], &[u64])
     (bounds, &others[others.len()..])
 }
 
-/// How many groups of sorted bounds have the bits from one on up in common.
+/// Returns how many groups of sorted bounds have the bits from `start` in common.
 pub(crate) fn groups_from(bounds: &[u64], start: u32) -> usize {
     let mut groups = 0usize;
     let mut before = None;
@@ -176,9 +176,9 @@ pub(crate) fn groups_from(bounds: &[u64], start: u32) -> usize {
     groups
 }
 
-/// How many instructions it takes, or a few more, to tell codes that have an odd number of bounds
-/// above them, from a byte down: for each byte that is compared the comparison, an AND and a skip, or
-/// an AND and a skip by its digits, and for each range a comparison, an AND and a XOR.
+/// Returns at least how many instructions test codes by sorted bounds, from a byte down: for each
+/// compared byte a comparison, an AND and a skip, or an AND and a skip by its digits, and for each
+/// range a comparison, an AND and a XOR.
 pub(crate) fn most_instructions(
     bounds: &[u64],
     top: SliceIndex,
@@ -199,7 +199,8 @@ pub(crate) fn most_instructions(
     most
 }
 
-/// Whether bounds that go on below a byte are those of one number, whose last byte is the next.
+/// Returns whether bounds that go on below a byte are those of one number, whose last byte is the
+/// next.
 pub(crate) fn is_soon_done(inner: &[u64], slice: SliceIndex) -> bool {
     slice == 1 && inner.len() <= 2
 }
@@ -212,8 +213,8 @@ pub(crate) fn going_on(group: &[u64], slice: SliceIndex) -> &[u64] {
     }
 }
 
-/// Whether a column of so many bits has, in less than one row of 512, a code with zeros above a byte and no more than
-/// this number in it, where all codes come as often.
+/// Returns whether fewer than one row in 512 has zeros above a byte and at most this number in it,
+/// if all codes of so many bits are equally frequent.
 pub(crate) fn is_rare(byte: u8, slice: SliceIndex, width: u32) -> bool {
     let above = u32::from(slice) * 8;
     let codes = (u64::from(byte) + 1) << above.min(55);

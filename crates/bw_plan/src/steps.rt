@@ -11,12 +11,13 @@ use bw_diagram::Connective;
 use bw_model::{Cond, Op, Operand, Truth};
 use bw_program::ColumnIndex;
 
-/// A list has so many items at most: to plan a longer one takes longer than to look up the rows of a table that isn't
-/// very large.
+/// A list has so many items at most: to plan a longer one takes longer than to look up the rows of
+/// a table that isn't very large.
 const MAX_LIST: usize = 400;
 
-/// A list whose literals take more instructions takes so many product rows at most. With more it takes longer to plan the
-/// list and to scan a million rows for it than to look it up in each of them.
+/// A list whose literals take more instructions takes so many product rows at most. With more it
+/// takes longer to plan the list and to scan a million rows for it than to look it up in each of
+/// them.
 const LONG_LIST: usize = 1200;
 
 const MAX_LONG_LIST_PRODUCTS: usize = 4000;

@@ -265,7 +265,8 @@ impl Code<'_> {
         self.in_set(column, &set, wanted)
     }
 
-    /// The registers of whether a column is one of the literals of a list, if it is a column and there are some.
+    /// The registers of whether a column is one of the literals of a list, if it is a column and
+    /// there are some.
     fn in_list(
         &mut self,
         x: Operand,
@@ -325,7 +326,8 @@ impl Code<'_> {
     }
 
     /// The registers that are 1 where all of some columns have values and a register is 1, and
-    /// where they have values and it is 0. Where there may be an early end, the null planes are left out at one.
+    /// where they have values and it is 0. Where there may be an early end, the null planes are
+    /// left out at one.
     fn sides(
         &mut self,
         held: Register,
@@ -371,7 +373,8 @@ impl Code<'_> {
     }
 }
 
-/// Whether a part is the same comparison as the one before it, so that nothing needs to be done for it.
+/// Whether a part is the same comparison as the one before it, so that nothing needs to be done for
+/// it.
 fn repeats(parts: &[Cond], number: usize) -> bool {
     let before = number.checked_sub(1).and_then(|before| parts.get(before));
     match (before, parts.get(number)) {
@@ -382,7 +385,8 @@ fn repeats(parts: &[Cond], number: usize) -> bool {
     }
 }
 
-/// Whether a part takes but two instructions or three, which takes no longer than to ask whether they may be left out.
+/// Whether a part takes but two instructions or three, which takes no longer than to ask whether
+/// they may be left out.
 fn is_quick(part: &Cond) -> bool {
     match part {
         Cond::Not(part) => matches!(**part, Cond::IsNull(_)),
