@@ -298,7 +298,7 @@ fn program_given<'a>(
     }
 }
 
-/// Answers a statement over the rows of a table file, on standard output.
+/// Run a statement over a table file, on standard output.
 fn answer_from<'a>(
     rt: &HostRuntime,
     path: &'a str,

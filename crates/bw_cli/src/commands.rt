@@ -26,7 +26,7 @@ enum Taken {
 
 const SCHEMA: Taken = Taken::File(
     "SCHEMA",
-    "A file of TABLE and COLUMN lines, as `bw infer` writes one",
+    "A schema file, as written by `bw infer`",
 );
 
 const CSV: Taken = Taken::File(
@@ -34,22 +34,22 @@ const CSV: Taken = Taken::File(
     "A CSV file of whole numbers with a heading; an empty field is null",
 );
 
-const TABLE: Taken = Taken::File("TABLE", "A table file, as `bw load` writes one");
+const TABLE: Taken = Taken::File("TABLE", "A table file, as written by `bw load`");
 
-const OUT: Taken = Taken::File("OUT", "The table file, which is created or replaced");
+const OUT: Taken = Taken::File("OUT", "The table file to create or replace");
 
-const FILE: Taken = Taken::File("FILE", "A program file, as `bw plan` writes one");
+const FILE: Taken = Taken::File("FILE", "A program file, as written by `bw plan`");
 
 const NAME: Taken = Taken::Valued(
     "table",
     "NAME",
-    "The name of the table, which is t unless told otherwise",
+    "The table's name (default: t)",
 );
 
 const PROGRAM: Taken = Taken::Valued(
     "program",
     "FILE",
-    "A program file to scan by, in place of the planner's program",
+    "Scan by this program file instead of the planner's program",
 );
 
 const PROGRAMS: Taken = Taken::Repeated(
@@ -71,55 +71,55 @@ struct Told {
 const COMMANDS: [Told; 9] = [
     Told {
         name: "direct",
-        about: "Answers a statement over the rows of a CSV file",
+        about: "Run a statement over a CSV file",
         example: "Example: bw direct trips.schema trips.csv 'SELECT COUNT(*) FROM trips WHERE cents > 2000'",
         takes: &[SCHEMA, CSV, Taken::Statement],
     },
     Told {
         name: "infer",
-        about: "Writes a schema for the rows of a CSV file",
+        about: "Write a schema for a CSV file",
         example: "Example: bw infer --table trips trips.csv > trips.schema",
         takes: &[NAME, CSV],
     },
     Told {
         name: "load",
-        about: "Writes the table file of the rows of a CSV file",
+        about: "Load a CSV file into a table file",
         example: "Example: bw load trips.schema trips.csv trips.bw",
         takes: &[Taken::Layout, SCHEMA, CSV, OUT],
     },
     Told {
         name: "query",
-        about: "Answers a statement over the rows of a table file",
+        about: "Run a statement over a table file",
         example: "Example: bw query --stats trips.bw 'SELECT MAX(cents) FROM trips WHERE minutes < 10'",
         takes: &[PROGRAM, Taken::Stats, TABLE, Taken::Statement],
     },
     Told {
         name: "session",
-        about: "Answers the statements on standard input over a table file that is read once",
+        about: "Read a table file once, and run the statements on standard input",
         example: "Example: bw session trips.bw < statements.sql",
         takes: &[PROGRAMS, Taken::Stats, TABLE],
     },
     Told {
         name: "plan",
-        about: "Writes a scan program and its certificate for the condition of a statement",
+        about: "Write a scan program and its certificate for a statement's condition",
         example: "Example: bw plan trips.schema 'SELECT COUNT(*) FROM trips WHERE cents > 2000' > cents.prog",
         takes: &[SCHEMA, Taken::Statement],
     },
     Told {
         name: "check",
-        about: "Checks a scan program and its certificate for the condition of a statement",
+        about: "Check a scan program and its certificate for a statement's condition",
         example: "Example: bw check trips.schema 'SELECT COUNT(*) FROM trips WHERE cents > 2000' cents.prog",
         takes: &[SCHEMA, Taken::Statement, FILE],
     },
     Told {
         name: "info",
-        about: "Writes the schema of a table file, and its numbers as comments",
+        about: "Print the schema of a table file, with its sizes as comments",
         example: "Example: bw info trips.bw",
         takes: &[TABLE],
     },
     Told {
         name: "dump",
-        about: "Writes all rows of a table file as CSV",
+        about: "Print all rows of a table file as CSV",
         example: "Example: bw dump trips.bw > trips.csv",
         takes: &[TABLE],
     },
@@ -151,7 +151,7 @@ fn with_command<'a>(
 /// The program, before it has its commands.
 fn program<'a>(alloc: Global) -> Command<'a> {
     Command::new(alloc, "bw")
-        .about("An analytical column store whose answers are proved")
+        .about("A column store for integer tables, with proved answers")
         .version(VERSION)
         .after_help(
             "From a CSV file to answers:\n  bw infer rows.csv > rows.schema\n  bw load rows.schema rows.csv rows.bw\n  \
@@ -313,7 +313,7 @@ fn layout<'a>(alloc: Global) -> Arg<'a> {
         .long("layout")
         .action(ArgAction::Set)
         .value_parser(["planes", "slices"].as_slice())
-        .help("How segments are kept: bit planes, unless told otherwise, or byte slices")
+        .help("How to store segments: as bit planes (the default) or byte slices")
 }
 
 /// The option that each command takes, before its name or after it.
@@ -322,14 +322,14 @@ fn explained<'a>(alloc: Global) -> Arg<'a> {
         .long("explain")
         .action(ArgAction::SetTrue)
         .global(true)
-        .help("Says below a fault's line what is wrong there, as at a terminal")
+        .help("Explain errors below their line, as at a terminal")
 }
 
 fn stats<'a>(alloc: Global) -> Arg<'a> {
     Arg::new(alloc, "stats")
         .long("stats")
         .action(ArgAction::SetTrue)
-        .help("Tells on standard error how the query was served")
+        .help("Print scan statistics to standard error")
 }
 
 /// The statement. It may begin with `-`, as a comment does.
@@ -337,5 +337,5 @@ fn statement<'a>(alloc: Global) -> Arg<'a> {
     Arg::new(alloc, "SQL")
         .required(true)
         .allow_hyphen_values(true)
-        .help("A statement, as 'SELECT COUNT(*) FROM t WHERE a < 8'")
+        .help("A statement, such as 'SELECT COUNT(*) FROM t WHERE a < 8'")
 }

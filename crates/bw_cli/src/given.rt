@@ -26,7 +26,7 @@ pub fn words_given(rt: &HostRuntime) -> Result<Vec<String>, u8> {
     match env::args(rt) {
         Err(error) if error.kind() == io::ErrorKind::OutOfMemory => Err(out_of_memory(rt)),
         Err(_) => {
-            let _ = eprintln!(rt; "error: a word of the command line is not UTF-8");
+            let _ = eprintln!(rt; "error: an argument is not UTF-8");
             Err(USAGE)
         }
         Ok(words) => words.collect(rt.alloc()).map_err(|_| out_of_memory(rt)),
